@@ -1,8 +1,12 @@
 // The bus: where an address leads, loads and stores over the lent memories, the drawing registers,
 // and paper 01's refusals 1 to 5. The functions here are for the crates above; the calls that test
 // their arguments and refuse are those of the crate access.
+pub mod load;
+mod pak;
 pub mod refusals;
 mod registers;
+pub mod store;
+mod vip;
 
 // Why a call is refused: paper 01's refusals, in the order of their numbers (numberOf of specs/Refusal).
 pub enum Refusal {
