@@ -55,10 +55,12 @@ pub reads-half : (m : Memory) (a x y : ℕ) → Reads m 1 (a - a % 2) x → Read
 reads-half m a x y p q =
     record {
       means = sym (half-load m a ∙ rw (← byte-load m (a - a % 2), ← byte-load m (a - a % 2 + 1), ← p .means, ← q .means));
-      fits = omega (arith, p .fits, q .fits) }
+      fits = omega (arith, p .fits, q .fits);
+    }
 
 pub reads-word : (m : Memory) (a x y : ℕ) → Reads m 2 (a - a % 4) x → Reads m 2 (a - a % 4 + 2) y → Reads m 4 a (x + 65536 * y)
 reads-word m a x y p q =
     record {
       means = sym (word-load m a ∙ rw (← p .means, ← q .means));
-      fits = omega (arith, p .fits, q .fits) }
+      fits = omega (arith, p .fits, q .fits);
+    }

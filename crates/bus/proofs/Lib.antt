@@ -6,3 +6,4 @@ pub mod Spans
 mod VipPlaces
 mod VipAccess
 mod PakRam
+mod Accesses

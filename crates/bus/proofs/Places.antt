@@ -76,12 +76,15 @@ below r k h n = omega arith
 four-below : (r : ℕ) → r < 5 → (r ≡ 0 → ⊥) → Four r
 four-below r h n0 =
     elim (ℕ-discrete r 1) [
-      yes e ↦ inl e
-    | no n1 ↦ elim (ℕ-discrete r 2) [
-      yes e ↦ inr (inl e)
-    | no n2 ↦ elim (ℕ-discrete r 3) [
-      yes e ↦ inr (inr (inl e))
-    | no n3 ↦ inr (inr (inr (omega arith))) ] ] ]
+      | yes e ↦ inl e
+      | no n1 ↦ elim (ℕ-discrete r 2) [
+        | yes e ↦ inr (inl e)
+        | no n2 ↦ elim (ℕ-discrete r 3) [
+          | yes e ↦ inr (inr (inl e))
+          | no n3 ↦ inr (inr (inr (omega arith)))
+        ]
+      ]
+    ]
 
 four : (r : ℕ) → r < 8 → (r ≡ 5 → ⊥) → (r ≡ 7 → ⊥) → (r ≡ 0 → ⊥) → (r ≡ 6 → ⊥) → Four r
 four r h n5 n7 n0 n6 = four-below r (below r 5 (below r 6 (below r 7 h n7) n6) n5) n0
@@ -103,12 +106,15 @@ Seven r = (r ≡ 5) ⊎ ((r ≡ 6) ⊎ ((r ≡ 7) ⊎ Four r))
 seven : (r : ℕ) → r < 8 → (r ≡ 0 → ⊥) → Seven r
 seven r h n0 =
     elim (ℕ-discrete r 5) [
-      yes e ↦ inl e
-    | no n5 ↦ elim (ℕ-discrete r 6) [
-      yes e ↦ inr (inl e)
-    | no n6 ↦ elim (ℕ-discrete r 7) [
-      yes e ↦ inr (inr (inl e))
-    | no n7 ↦ inr (inr (inr (four r h n5 n7 n0 n6))) ] ] ]
+      | yes e ↦ inl e
+      | no n5 ↦ elim (ℕ-discrete r 6) [
+        | yes e ↦ inr (inl e)
+        | no n6 ↦ elim (ℕ-discrete r 7) [
+          | yes e ↦ inr (inr (inl e))
+          | no n7 ↦ inr (inr (inr (four r h n5 n7 n0 n6)))
+        ]
+      ]
+    ]
 
 register-seven : (m : Memory) (a v : ℕ) → Seven (regionOf a) → putRegister m a v ≡ m
 unfolding putRegister placeOf

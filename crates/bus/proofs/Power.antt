@@ -29,30 +29,60 @@ at-member : (P : ℕ → Type 0) (n : ℕ) (xs : List ℕ) → AllOf P xs → me
 at-member P n [] a h = absurd (false≢true h)
 at-member P n (x ∷ xs) a h =
     elim (ℕ-discrete n x) [
-      yes e ↦ subst P (sym e) (a .0)
-    | no ne ↦ at-member P n xs (a .1) (simp (ne-eqb n x ne) at h) ]
+      | yes e ↦ subst P (sym e) (a .0)
+      | no ne ↦ at-member P n xs (a .1) (simp (ne-eqb n x ne) at h)
+    ]
 
 power : (least above spare : ℕ) → spare + (above + least) ≡ 27 → Power least (2 ^ (above + least))
 power least above spare e = record { above = above; spare = spare; is = refl; within = e }
 
 rom-powers : AllOf (Power 2) romLengths
-rom-powers =
-    (power 2 8 17 refl,
-    (power 2 9 16 refl,
-    (power 2 10 15 refl,
-    (power 2 11 14 refl,
-    (power 2 12 13 refl,
-    (power 2 13 12 refl,
-    (power 2 14 11 refl,
-    (power 2 15 10 refl,
-    (power 2 16 9 refl,
-    (power 2 17 8 refl,
-    (power 2 18 7 refl,
-    (power 2 19 6 refl,
-    (power 2 20 5 refl,
-    (power 2 21 4 refl,
-    (power 2 22 3 refl,
-    tt)))))))))))))))
+rom-powers = (
+  power 2 8 17 refl,
+  (
+    power 2 9 16 refl,
+    (
+      power 2 10 15 refl,
+      (
+        power 2 11 14 refl,
+        (
+          power 2 12 13 refl,
+          (
+            power 2 13 12 refl,
+            (
+              power 2 14 11 refl,
+              (
+                power 2 15 10 refl,
+                (
+                  power 2 16 9 refl,
+                  (
+                    power 2 17 8 refl,
+                    (
+                      power 2 18 7 refl,
+                      (
+                        power 2 19 6 refl,
+                        (
+                          power 2 20 5 refl,
+                          (
+                            power 2 21 4 refl,
+                            (
+                              power 2 22 3 refl,
+                              tt,
+                            ),
+                          ),
+                        ),
+                      ),
+                    ),
+                  ),
+                ),
+              ),
+            ),
+          ),
+        ),
+      ),
+    ),
+  ),
+)
 
 -- a ROM's length
 pub rom-power : (n : ℕ) → romOk n ≡ true → Power 2 n
@@ -66,7 +96,8 @@ lowered n p =
       above = p .above + 2;
       spare = p .spare;
       is = p .is ∙ ap (λ (k : ℕ). 2 ^ k) (omega arith);
-      within = omega arith }
+      within = omega arith;
+    }
 
 abbrev Filled : ℕ → Type 0
 Filled n = 0 < n → Power 0 n
@@ -76,19 +107,40 @@ lowered-all [] a = tt
 lowered-all (x ∷ xs) a = (λ h. lowered x (a .0), lowered-all xs (a .1))
 
 pak-powers : AllOf Filled pakLengths
-pak-powers =
-    ((λ h. absurd (lt-irrefl 0 h)),
-    ((λ h. power 0 0 27 refl),
-    ((λ h. power 0 1 26 refl),
-    ((λ h. power 0 2 25 refl),
-    ((λ h. power 0 3 24 refl),
-    ((λ h. power 0 4 23 refl),
-    ((λ h. power 0 5 22 refl),
-    ((λ h. power 0 6 21 refl),
-    ((λ h. power 0 7 20 refl),
-    ((λ h. power 0 8 19 refl),
-    ((λ h. power 0 9 18 refl),
-    lowered-all romLengths rom-powers)))))))))))
+pak-powers = (
+  (λ h. absurd (lt-irrefl 0 h)),
+  (
+    (λ h. power 0 0 27 refl),
+    (
+      (λ h. power 0 1 26 refl),
+      (
+        (λ h. power 0 2 25 refl),
+        (
+          (λ h. power 0 3 24 refl),
+          (
+            (λ h. power 0 4 23 refl),
+            (
+              (λ h. power 0 5 22 refl),
+              (
+                (λ h. power 0 6 21 refl),
+                (
+                  (λ h. power 0 7 20 refl),
+                  (
+                    (λ h. power 0 8 19 refl),
+                    (
+                      (λ h. power 0 9 18 refl),
+                      lowered-all romLengths rom-powers,
+                    ),
+                  ),
+                ),
+              ),
+            ),
+          ),
+        ),
+      ),
+    ),
+  ),
+)
 
 -- the length of pak RAM that is not empty
 pub pak-power : (n : ℕ) → pakOk n ≡ true → 0 < n → Power 0 n

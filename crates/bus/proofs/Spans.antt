@@ -45,7 +45,7 @@ unfolding byteOf
 span-half m a at i p = half-load m a ∙ rw (span-first m (a - a % 2) at i 2 (omega arith) p, p 1 (omega arith))
 
 pub span-word : (m : Memory) (a : ℕ) (at : ℕ → Place) (i : ℕ) → Span m (a - a % 4) at i 4
-  → loadOf m 4 a ≡ readPlace m (at i) + 256 * readPlace m (at (i + 1)) + 65536 * (readPlace m (at (i + 2)) + 256 * readPlace m (at (i + 2 + 1)))
+    → loadOf m 4 a ≡ readPlace m (at i) + 256 * readPlace m (at (i + 1)) + 65536 * (readPlace m (at (i + 2)) + 256 * readPlace m (at (i + 2 + 1)))
 span-word m a at i p =
     let s = a - a % 4 in
     word-load m a
@@ -108,13 +108,13 @@ rom-span-word m a here ok j h =
 
 -- in region 0, from what the VIP's own addresses lead to
 pub vip-span-half : (m : Memory) (a i : ℕ) → regionOf a ≡ 0
-  → ((j : ℕ) → (a - a % 2) % 524288 % 4 + j < 4 → vipPlace ((a - a % 2) % 524288 + j) ≡ vramAt (i + j)) → Span m (a - a % 2) vramAt i 2
+    → ((j : ℕ) → (a - a % 2) % 524288 % 4 + j < 4 → vipPlace ((a - a % 2) % 524288 + j) ≡ vramAt (i + j)) → Span m (a - a % 2) vramAt i 2
 vip-span-half m a i here p j h =
     let e : (a - a % 2 + j) % 524288 ≡ (a - a % 2) % 524288 + j = omega arith in
     place-vip (length (m .rom)) (length (m .pak)) (a - a % 2 + j) (region-half a j h ∙ here) ∙ rw e (p j (omega arith))
 
 pub vip-span-word : (m : Memory) (a i : ℕ) → regionOf a ≡ 0
-  → ((j : ℕ) → (a - a % 4) % 524288 % 4 + j < 4 → vipPlace ((a - a % 4) % 524288 + j) ≡ vramAt (i + j)) → Span m (a - a % 4) vramAt i 4
+    → ((j : ℕ) → (a - a % 4) % 524288 % 4 + j < 4 → vipPlace ((a - a % 4) % 524288 + j) ≡ vramAt (i + j)) → Span m (a - a % 4) vramAt i 4
 vip-span-word m a i here p j h =
     let e : (a - a % 4 + j) % 524288 ≡ (a - a % 4) % 524288 + j = omega arith in
     place-vip (length (m .rom)) (length (m .pak)) (a - a % 4 + j) (region-word a j h ∙ here) ∙ rw e (p j (omega arith))

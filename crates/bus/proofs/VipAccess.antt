@@ -39,11 +39,13 @@ module _ (m : Memory) (a r : ℕ) (here : regionOf a ≡ 0) (low : 262144 ≤ a 
       let e : a - a % 2 ≡ a = omega arith in
       record {
         means = sym (byte-load m a ∙ rw (sym (ap (byteOf m) e)) (omega (arith, both, first-fits)));
-        fits = omega arith }
+        fits = omega arith;
+      }
 
   pub register-byte-high : (a % 2 ≡ 0 → ⊥) → Reads m 1 a (r / 256)
   register-byte-high odd =
       let e : a - a % 2 + 1 ≡ a = omega arith in
       record {
         means = sym (byte-load m a ∙ rw (sym (ap (byteOf m) e)) (omega (arith, both, first-fits)));
-        fits = omega (arith, p .fits) }
+        fits = omega (arith, p .fits);
+      }

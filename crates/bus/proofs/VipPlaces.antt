@@ -52,6 +52,7 @@ apart f h (x ∷ xs) all out =
     held : (b t : Bool) → T (pick b t false) → true ≡ b
     held true t h = refl
     held false t h = absurd h
+
     rest : (b t : Bool) → T (pick b t false) → T t
     rest true t h = h
     rest false t h = absurd h
@@ -108,16 +109,18 @@ pub vip-register : (v : ℕ) → 262144 ≤ v → v < 491520 → Alike (vipPlace
 unfolding vipPlace
 vip-register v low high m x =
     elim (decLt v 385024) [
-      yes a ↦ simp (le-ltb v 262144 low, lt-ltb v 385024 a) (quiet-alike v (below-range v a) m x)
-    | no a ↦ elim (decLt v 393216) [
-      yes b ↦
-      let a′ : 385024 ≤ v = omega arith in
-      simp (le-ltb v 262144 low, le-ltb v 385024 a′, lt-ltb v 393216 b) (refl, (refl, register-no-byte m v x))
-    | no b ↦
-      let a′ : 385024 ≤ v = omega arith in
-      let b′ : 393216 ≤ v = omega arith in
-      simp (le-ltb v 262144 low, le-ltb v 385024 a′, le-ltb v 393216 b′, lt-ltb v 491520 high)
-      (quiet-alike v (above-range v b′) m x) ] ]
+      | yes a ↦ simp (le-ltb v 262144 low, lt-ltb v 385024 a) (quiet-alike v (below-range v a) m x)
+      | no a ↦ elim (decLt v 393216) [
+        | yes b ↦
+            let a′ : 385024 ≤ v = omega arith in
+            simp (le-ltb v 262144 low, le-ltb v 385024 a′, lt-ltb v 393216 b) (refl, (refl, register-no-byte m v x))
+        | no b ↦
+            let a′ : 385024 ≤ v = omega arith in
+            let b′ : 393216 ≤ v = omega arith in
+            simp (le-ltb v 262144 low, le-ltb v 385024 a′, le-ltb v 393216 b′, lt-ltb v 491520 high)
+            (quiet-alike v (above-range v b′) m x)
+      ]
+    ]
 
 -- the two bytes of the register at an even address
 module _ (h : ℕ) (even : h % 2 ≡ 0) where
@@ -135,7 +138,7 @@ module _ (h : ℕ) (even : h % 2 ≡ 0) where
       rw (e, f)
 
   pub read-drawing : (m : Memory) → indexOf h drawingAddresses < 13 → getD (m .regs) (indexOf h drawingAddresses) 0 < 65536
-    → readPlace m (registerPlace h) + 256 * readPlace m (registerPlace (h + 1)) ≡ getD (m .regs) (indexOf h drawingAddresses) 0
+      → readPlace m (registerPlace h) + 256 * readPlace m (registerPlace (h + 1)) ≡ getD (m .regs) (indexOf h drawingAddresses) 0
   read-drawing m k fits = rw (register-low, register-high) (simp (lt-ltb _ _ k) (omega arith))
 
   pub read-version : (m : Memory) → 13 ≤ indexOf h drawingAddresses → h ≡ versionAddress → readPlace m (registerPlace h) + 256 * readPlace m (registerPlace (h + 1)) ≡ 2
@@ -148,7 +151,7 @@ module _ (h : ℕ) (even : h % 2 ≡ 0) where
 
 -- a halfword load at an even address between VRAM and the mirror
 pub register-load : (m : Memory) (a : ℕ) → regionOf a ≡ 0 → 262144 ≤ a % 524288 → a % 524288 < 491520 → a % 2 ≡ 0
-  → loadOf m 2 a ≡ readPlace m (registerPlace (a % 524288)) + 256 * readPlace m (registerPlace (a % 524288 + 1))
+    → loadOf m 2 a ≡ readPlace m (registerPlace (a % 524288)) + 256 * readPlace m (registerPlace (a % 524288 + 1))
 unfolding byteOf
 register-load m a here low high even =
     let near : regionOf (a + 1) ≡ 0 = region-next a even ∙ here in
@@ -156,8 +159,13 @@ register-load m a here low high even =
     let high′ : a % 524288 + 1 < 491520 = omega arith in
     let low′ : 262144 ≤ a % 524288 + 1 = omega arith in
     half-load-even m a even
-    ∙ rw (place-vip (length (m .rom)) (length (m .pak)) a here, place-vip (length (m .rom)) (length (m .pak)) (a + 1) near, next,
-      vip-register (a % 524288) low high m 0 .0, vip-register (a % 524288 + 1) low′ high′ m 0 .0)
+    ∙ rw (
+      place-vip (length (m .rom)) (length (m .pak)) a here,
+      place-vip (length (m .rom)) (length (m .pak)) (a + 1) near,
+      next,
+      vip-register (a % 524288) low high m 0 .0,
+      vip-register (a % 524288 + 1) low′ high′ m 0 .0,
+    )
 
 -- a register write at an address between VRAM and the mirror
 pub register-store : (m : Memory) (a v : ℕ) → regionOf a ≡ 0 → 262144 ≤ a % 524288 → a % 524288 < 491520 → putRegister m a v ≡ putDrawing m (registerPlace (a % 524288)) (v % 65536)
@@ -171,7 +179,7 @@ register-byte m a v here low high =
     rw (place-vip (length (m .rom)) (length (m .pak)) a here) (vip-register (a % 524288) low high m (v % 256) .1 .1)
 
 pub write-drawing : (m : Memory) (u x : ℕ) → indexOf (u - u % 2) drawingAddresses < 13
-  → putDrawing m (registerPlace u) x ≡ withRegs m (set (m .regs) (indexOf (u - u % 2) drawingAddresses) (keptOf (indexOf (u - u % 2) drawingAddresses) x))
+    → putDrawing m (registerPlace u) x ≡ withRegs m (set (m .regs) (indexOf (u - u % 2) drawingAddresses) (keptOf (indexOf (u - u % 2) drawingAddresses) x))
 unfolding registerPlace
 write-drawing m u x k = simp (lt-ltb _ _ k)
 

@@ -17,7 +17,8 @@ returns c =
     λ rom wram vram regs.
     record {
       means = sym (pak-read-empty (memoryOf rom wram vram (now (a .pak)) regs) (a .address) (c .before .before .pre .0) (c .if1 .taken));
-      fits = omega arith }
+      fits = omega arith;
+    }
 
 masked-requires : tie.Need-masked-requires
 masked-requires c κs = search needs
@@ -32,10 +33,11 @@ returns-2 c =
     λ rom wram vram regs.
     record {
       means =
-        c .byte-at .ensures .0
-        ∙ rw (c .before .masked .ensures .0)
+          c .byte-at .ensures .0
+          ∙ rw (c .before .masked .ensures .0)
           (sym (pak-read (memoryOf rom wram vram (now (a .pak)) regs) (a .address) (c .before .before .before .before .pre .0) (c .before .before .before .before .pre .1) filled));
-      fits = c .byte-at .ensures .1 }
+      fits = c .byte-at .ensures .1;
+    }
 
 pub byte-spec : {M : Type 1} → statement M
 byte-spec = tie.close (tie.spec returns masked-requires byte-at-requires returns-2)

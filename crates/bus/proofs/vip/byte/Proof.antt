@@ -25,10 +25,11 @@ returns c =
     λ rom wram pak.
     record {
       means =
-        c .byte-at .ensures .0
-        ∙ sym (vram-byte (memoryOf rom wram (now (a .vram)) pak (now (a .regs))) (a .address) (c .before .before .vram-index .result) (b .pre .0)
+          c .byte-at .ensures .0
+          ∙ sym (vram-byte (memoryOf rom wram (now (a .vram)) pak (now (a .regs))) (a .address) (c .before .before .vram-index .result) (b .pre .0)
           (c .before .before .vram-index .ensures .0 (c .before .if1 .taken)));
-      fits = c .byte-at .ensures .1 }
+      fits = c .byte-at .ensures .1;
+    }
 
 sub-register : tie.Need-sub-register
 sub-register c = search needs

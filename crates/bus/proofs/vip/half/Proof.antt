@@ -32,7 +32,8 @@ returns c =
     let m = memoryOf rom wram (now (a .vram)) pak (now (a .regs)) in
     record {
       means = c .half-at .ensures .0 ∙ sym (span-half m (a .address) vramAt i (vip-span-half m (a .address) i (b .pre .0) (c .before .before .vram-index .ensures .0 (c .before .if1 .taken))));
-      fits = c .half-at .ensures .1 }
+      fits = c .half-at .ensures .1;
+    }
 
 register-requires : tie.Need-register-requires
 register-requires c κs =

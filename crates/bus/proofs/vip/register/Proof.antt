@@ -38,7 +38,8 @@ returns c =
     let w : c .wide .result ≡ getD (now (a .regs)) (indexOf h drawingAddresses) 0 = c .wide .ensures .0 ∙ rw i in
     record {
       means = w ∙ sym (register-load m (a .address) (b .pre .0) (b .pre .1) (b .pre .2) (b .pre .3) ∙ read-drawing h even m k (omega (arith, w, c .wide .ensures .1)));
-      fits = c .wide .ensures .1 }
+      fits = c .wide .ensures .1;
+    }
 
 returns-2 : tie.Need-returns-2
 returns-2 c =
@@ -52,7 +53,8 @@ returns-2 c =
     let m = memoryOf rom wram vram pak (now (a .regs)) in
     record {
       means = sym (register-load m (a .address) (b .pre .0) (b .pre .1) (b .pre .2) (b .pre .3) ∙ read-version h even m k (c .if2 .taken));
-      fits = omega arith }
+      fits = omega arith;
+    }
 
 returns-3 : tie.Need-returns-3
 returns-3 c =
@@ -66,7 +68,8 @@ returns-3 c =
     let m = memoryOf rom wram vram pak (now (a .regs)) in
     record {
       means = sym (register-load m (a .address) (b .pre .0) (b .pre .1) (b .pre .2) (b .pre .3) ∙ read-quiet h even m k (c .if2 .left));
-      fits = omega arith }
+      fits = omega arith;
+    }
 
 pub register-spec : {M : Type 1} → statement M
 register-spec =

@@ -38,11 +38,12 @@ cast-result-2 c = search needs
 returns-3 : tie.Need-returns-3
 unfolding mirrorOf
 returns-3 c =
-    let v = c .before .before .args .v in
-    ((λ h j near.
-      let e : v + j - 491520 ≡ v - 491520 + j = omega arith in
-      vip-mirror (v + j) (omega arith) ∙ ap vramAt (rw e (mirror-step (v - 491520) j (omega arith)))),
-    (omega arith, λ h. absurd (omega arith)))
+    let v = c .before .before .args .v in (
+      (λ h j near.
+          let e : v + j - 491520 ≡ v - 491520 + j = omega arith in
+          vip-mirror (v + j) (omega arith) ∙ ap vramAt (rw e (mirror-step (v - 491520) j (omega arith)))),
+      (omega arith, λ h. absurd (omega arith)),
+    )
 
 pub vram-index-spec : {M : Type 1} → statement M
 vram-index-spec =

@@ -33,7 +33,8 @@ returns c =
     let m = memoryOf rom wram (now (a .vram)) pak (now (a .regs)) in
     record {
       means = c .word-at .ensures ∙ sym (span-word m (a .address) vramAt i (vip-span-word m (a .address) i (b .pre .0) (c .before .before .vram-index .ensures .0 (c .before .if1 .taken))));
-      fits = omega arith }
+      fits = omega arith;
+    }
 
 register-requires : tie.Need-register-requires
 register-requires c κs =
