@@ -7,3 +7,4 @@ mod VipPlaces
 mod VipAccess
 mod PakRam
 mod Accesses
+pub mod Accepted
