@@ -8,3 +8,6 @@ mod VipAccess
 mod PakRam
 mod Accesses
 pub mod Accepted
+pub mod Kept
+pub mod Mapped
+pub mod LoadStore

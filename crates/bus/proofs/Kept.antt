@@ -1,0 +1,208 @@
+-- A store keeps every length and every register width, so an accepted machine stays accepted. Assumes nothing.
+use Prim.Native.Nat.{ℕ, zero, suc, _+_, _-_, _*_, _/_, _%_, _^_, _<_, _≤_}
+use mathlib.Core.Bool.{Bool, true, false, false≢true}
+use mathlib.Core.List.{List, [], _∷_}
+use mathlib.Core.Path.{_≡_, refl, sym, ap, subst, _∙_}
+use native.Mathlib.Decide.{ℕ-discrete, decLt}
+use native.Mathlib.Nat.{mod-lt}
+use native.Mathlib.Omega.{arith}
+use borrow.Author.Tests.{lt-ltb, le-ltb}
+use lib.Dec.{ltb}
+use lib.ListN.{length, getD, set, length-set}
+use lib.Pow.{pow-pos}
+use lib.Seq.{getD-set-same, getD-set-other, set-out}
+use Rattle.word.specs.Choose.{pick}
+use Rattle.bus.specs.declared.Verdict.the-variants.{Accepted}
+use Rattle.bus.specs.Registers.{widthOf, keptOf, withinFrom, registersOk}
+use Rattle.bus.specs.Place.{Place, vramAt, wramAt, pakAt, romAt, drawingAt, versionAt, silent, unlisted, unmapped, soundUnit, hardware, nothing, expansion}
+use Rattle.bus.specs.Memory.{Memory, Lengths, verdictOf, putPlace, putDrawing, placeIn, putByte, putRegister, putHalfword, storeByteOf, storeHalfOf, storeWordOf}
+use Rattle.bus.proofs.Accepted.{accepted-lengths, accepted-registers, lengths-accepted}
+
+-- registersOk, register by register
+within-each : (d : List ℕ) (k n : ℕ) → withinFrom d k n ≡ true → (j : ℕ) → j < n → getD d (k + j) 0 < 2 ^ widthOf (k + j)
+within-each d k zero h j less = absurd (omega arith)
+within-each d k (suc n) h j less =
+    elim (decLt (getD d k 0) (2 ^ widthOf k)) [
+      | no large ↦ absurd (false≢true (simp (le-ltb (getD d k 0) (2 ^ widthOf k) (omega arith)) at h))
+      | yes small ↦ elim (ℕ-discrete j 0) [
+        | yes e ↦
+            let f : k + j ≡ k = omega arith in
+            rw f small
+        | no ne ↦
+            let f : k + 1 + (j - 1) ≡ k + j = omega arith in
+            rw f at (within-each d (k + 1) n (simp (lt-ltb (getD d k 0) (2 ^ widthOf k) small) at h) (j - 1) (omega arith))
+      ]
+    ]
+
+each-within : (d : List ℕ) (k n : ℕ) → ((j : ℕ) → j < n → getD d (k + j) 0 < 2 ^ widthOf (k + j)) → withinFrom d k n ≡ true
+each-within d k zero p = refl
+each-within d k (suc n) p =
+    let e : k + 0 ≡ k = omega arith in
+    let first : getD d k 0 < 2 ^ widthOf k = rw e at (p 0 (omega arith)) in
+    simp (lt-ltb (getD d k 0) (2 ^ widthOf k) first) (each-within d (k + 1) n later)
+  where
+    later : (j : ℕ) → j < n → getD d (k + 1 + j) 0 < 2 ^ widthOf (k + 1 + j)
+    later j h =
+        let f : k + 1 + j ≡ k + (j + 1) = omega arith in
+        rw f (p (j + 1) (omega arith))
+
+-- the widths of an accepted record's registers
+pub register-within : (d : List ℕ) → registersOk d ≡ true → (k : ℕ) → k < 13 → getD d k 0 < 2 ^ widthOf k
+unfolding registersOk
+register-within d h k less =
+    let e : 0 + k ≡ k = omega arith in
+    rw e at (within-each d 0 13 h k less)
+
+pub registers-within : (d : List ℕ) → ((k : ℕ) → k < 13 → getD d k 0 < 2 ^ widthOf k) → registersOk d ≡ true
+unfolding registersOk
+registers-within d p = each-within d 0 13 (λ j h. let e : 0 + j ≡ j = omega arith in rw e (p j h))
+
+-- a register that takes a value keeps its width
+set-within : (d : List ℕ) (k v : ℕ) → registersOk d ≡ true → registersOk (set d k (keptOf k v)) ≡ true
+set-within d k v h = registers-within (set d k (keptOf k v)) each
+  where
+    each : (j : ℕ) → j < 13 → getD (set d k (keptOf k v)) j 0 < 2 ^ widthOf j
+    each j less =
+        elim (ℕ-discrete j k) [
+          | no ne ↦ rw (getD-set-other d k j (keptOf k v) 0 ne) (register-within d h j less)
+          | yes e ↦ elim (decLt k (length d)) [
+            | yes inside ↦ rw (e, getD-set-same d k (keptOf k v) 0 inside) (mod-lt v (pow-pos (widthOf k)))
+            | no outside ↦ rw (set-out d k (keptOf k v) (omega arith)) (register-within d h j less)
+          ]
+        ]
+
+-- what a store may not change
+pub record Shape (m n : Memory) : Type 0 where
+  pub same-rom : n .rom ≡ m .rom
+  pub same-wram : length (n .wram) ≡ length (m .wram)
+  pub same-vram : length (n .vram) ≡ length (m .vram)
+  pub same-pak : length (n .pak) ≡ length (m .pak)
+  pub same-regs : length (n .regs) ≡ length (m .regs)
+  pub still-within : registersOk (m .regs) ≡ true → registersOk (n .regs) ≡ true
+
+same : (m : Memory) → Shape m m
+same m =
+    record {
+      same-rom = refl;
+      same-wram = refl;
+      same-vram = refl;
+      same-pak = refl;
+      same-regs = refl;
+      still-within = λ h. h;
+    }
+
+both : (m n o : Memory) → Shape m n → Shape n o → Shape m o
+both m n o p q =
+    record {
+      same-rom = q .same-rom ∙ p .same-rom;
+      same-wram = q .same-wram ∙ p .same-wram;
+      same-vram = q .same-vram ∙ p .same-vram;
+      same-pak = q .same-pak ∙ p .same-pak;
+      same-regs = q .same-regs ∙ p .same-regs;
+      still-within = λ h. q .still-within (p .still-within h);
+    }
+
+place-shape : (m : Memory) (p : Place) (b : ℕ) → Shape m (putPlace m p b)
+place-shape m (vramAt i) b =
+    record {
+      same-rom = refl;
+      same-wram = refl;
+      same-vram = length-set (m .vram) i b;
+      same-pak = refl;
+      same-regs = refl;
+      still-within = λ h. h;
+    }
+place-shape m (wramAt i) b =
+    record {
+      same-rom = refl;
+      same-wram = length-set (m .wram) i b;
+      same-vram = refl;
+      same-pak = refl;
+      same-regs = refl;
+      still-within = λ h. h;
+    }
+place-shape m (pakAt i) b =
+    record {
+      same-rom = refl;
+      same-wram = refl;
+      same-vram = refl;
+      same-pak = length-set (m .pak) i b;
+      same-regs = refl;
+      still-within = λ h. h;
+    }
+place-shape m (romAt i) b = same m
+place-shape m (drawingAt k x) b = same m
+place-shape m (versionAt x) b = same m
+place-shape m silent b = same m
+place-shape m unlisted b = same m
+place-shape m unmapped b = same m
+place-shape m soundUnit b = same m
+place-shape m hardware b = same m
+place-shape m nothing b = same m
+place-shape m expansion b = same m
+
+drawing-shape : (m : Memory) (p : Place) (v : ℕ) → Shape m (putDrawing m p v)
+drawing-shape m (vramAt i) v = same m
+drawing-shape m (wramAt i) v = same m
+drawing-shape m (pakAt i) v = same m
+drawing-shape m (romAt i) v = same m
+drawing-shape m (drawingAt k x) v =
+    record {
+      same-rom = refl;
+      same-wram = refl;
+      same-vram = refl;
+      same-pak = refl;
+      same-regs = length-set (m .regs) k (keptOf k v);
+      still-within = set-within (m .regs) k v;
+    }
+drawing-shape m (versionAt x) v = same m
+drawing-shape m silent v = same m
+drawing-shape m unlisted v = same m
+drawing-shape m unmapped v = same m
+drawing-shape m soundUnit v = same m
+drawing-shape m hardware v = same m
+drawing-shape m nothing v = same m
+drawing-shape m expansion v = same m
+
+pub byte-shape : (m : Memory) (a v : ℕ) → Shape m (putByte m a v)
+unfolding putByte
+byte-shape m a v = place-shape m (placeIn m a) (v % 256)
+
+pub register-shape : (m : Memory) (a v : ℕ) → Shape m (putRegister m a v)
+unfolding putRegister
+register-shape m a v = drawing-shape m (placeIn m a) (v % 65536)
+
+pub halfword-shape : (m : Memory) (a v : ℕ) → Shape m (putHalfword m a v)
+unfolding putHalfword
+halfword-shape m a v =
+    let n = putByte m a v in
+    let o = putByte n (a + 1) (v / 256) in
+    both m o (putRegister o a v) (both m n o (byte-shape m a v) (byte-shape n (a + 1) (v / 256))) (register-shape o a v)
+
+-- a store of each size
+pub store-byte-shape : (m : Memory) (a v : ℕ) → Shape m (storeByteOf m a v)
+unfolding storeByteOf
+store-byte-shape m a v =
+    both m (putByte m a v) (putRegister (putByte m a v) a v) (byte-shape m a v) (register-shape (putByte m a v) a v)
+
+pub store-half-shape : (m : Memory) (a v : ℕ) → Shape m (storeHalfOf m a v)
+unfolding storeHalfOf
+store-half-shape m a v = halfword-shape m (a - a % 2) v
+
+pub store-word-shape : (m : Memory) (a v : ℕ) → Shape m (storeWordOf m a v)
+unfolding storeWordOf
+store-word-shape m a v =
+    let s = a - a % 4 in
+    let n = putHalfword m s v in
+    both m n (putHalfword n (s + 2) (v / 65536)) (halfword-shape m s v) (halfword-shape n (s + 2) (v / 65536))
+
+-- accepted lengths stay accepted, and so does an accepted machine
+pub shape-lengths : (m n : Memory) → Shape m n → Lengths (length (m .rom)) (length (m .wram)) (length (m .vram)) (length (m .pak))
+    → Lengths (length (n .rom)) (length (n .wram)) (length (n .vram)) (length (n .pak))
+shape-lengths m n p h = rw (p .same-rom, p .same-wram, p .same-vram, p .same-pak) h
+
+pub shape-accepted : (m n : Memory) → Shape m n → verdictOf m ≡ Accepted → verdictOf n ≡ Accepted
+shape-accepted m n p e =
+    lengths-accepted (length (n .rom)) (length (n .wram)) (length (n .vram)) (length (n .pak)) (n .regs)
+    (shape-lengths m n p (accepted-lengths (length (m .rom)) (length (m .wram)) (length (m .vram)) (length (m .pak)) (m .regs) e))
+    (p .still-within (accepted-registers (length (m .rom)) (length (m .wram)) (length (m .vram)) (length (m .pak)) (m .regs) e))

@@ -1,0 +1,253 @@
+-- A load after a store: at another place nothing changed, at the same place the stored value is read. Assumes nothing.
+use Prim.Native.Nat.{ℕ, zero, suc, _+_, _-_, _*_, _/_, _%_, _^_, _<_, _≤_}
+use mathlib.Core.List.{List, [], _∷_}
+use mathlib.Core.Logic.{_≢_}
+use mathlib.Core.Path.{_≡_, refl, sym, ap, subst, _∙_}
+use native.Mathlib.Omega.{arith}
+use lib.ListN.{length, getD, set, length-set}
+use lib.Seq.{getD-set-same, getD-set-other}
+use Rattle.word.proofs.RoundTrip.{half-same, word-same}
+use Rattle.word.specs.LittleEndian.{halfAt, wordAt, putHalf, putWord}
+use Rattle.bus.specs.Registers.{keptOf}
+use Rattle.bus.specs.Place.{Place, vramAt, wramAt, pakAt, romAt, drawingAt, versionAt, silent, unlisted, unmapped, soundUnit, hardware, nothing, expansion}
+use Rattle.bus.specs.Memory.{Memory, byteOf, loadOf, readPlace, placeIn, putPlace, putDrawing, putByte, putRegister, putHalfword, storeByteOf, storeHalfOf, storeWordOf, withWram, withVram}
+use Rattle.bus.proofs.Kept.{Shape, byte-shape, register-shape, halfword-shape}
+use Rattle.bus.proofs.Halfwords.{byte-load}
+use Rattle.bus.proofs.Spans.{Span, span-half, span-word, half-wram, half-vram, word-wram, word-vram}
+
+-- what a store to a place may change: its byte, or its whole register
+abbrev pub cellOf : Place → Place
+cellOf (vramAt i) = vramAt i
+cellOf (wramAt i) = wramAt i
+cellOf (pakAt i) = pakAt i
+cellOf (romAt i) = romAt i
+cellOf (drawingAt k x) = drawingAt k 0
+cellOf (versionAt x) = versionAt x
+cellOf silent = silent
+cellOf unlisted = unlisted
+cellOf unmapped = unmapped
+cellOf soundUnit = soundUnit
+cellOf hardware = hardware
+cellOf nothing = nothing
+cellOf expansion = expansion
+
+-- a place of memory that a store changes: one within its memory
+abbrev pub Held : Memory → Place → Type 0
+Held m (vramAt i) = i < length (m .vram)
+Held m (wramAt i) = i < length (m .wram)
+Held m (pakAt i) = i < length (m .pak)
+Held m (romAt i) = ⊥
+Held m (drawingAt k x) = ⊥
+Held m (versionAt x) = ⊥
+Held m silent = ⊥
+Held m unlisted = ⊥
+Held m unmapped = ⊥
+Held m soundUnit = ⊥
+Held m hardware = ⊥
+Held m nothing = ⊥
+Held m expansion = ⊥
+
+read-other-vram : (m : Memory) (i b : ℕ) (q : Place) → cellOf q ≢ vramAt i → readPlace (putPlace m (vramAt i) b) q ≡ readPlace m q
+read-other-vram m i b (vramAt j) ne = getD-set-other (m .vram) i j b 0 (λ e. ne (ap vramAt e))
+read-other-vram m i b (wramAt j) ne = refl
+read-other-vram m i b (pakAt j) ne = refl
+read-other-vram m i b (romAt j) ne = refl
+read-other-vram m i b (drawingAt k x) ne = refl
+read-other-vram m i b (versionAt x) ne = refl
+read-other-vram m i b silent ne = refl
+read-other-vram m i b unlisted ne = refl
+read-other-vram m i b unmapped ne = refl
+read-other-vram m i b soundUnit ne = refl
+read-other-vram m i b hardware ne = refl
+read-other-vram m i b nothing ne = refl
+read-other-vram m i b expansion ne = refl
+
+read-other-wram : (m : Memory) (i b : ℕ) (q : Place) → cellOf q ≢ wramAt i → readPlace (putPlace m (wramAt i) b) q ≡ readPlace m q
+read-other-wram m i b (vramAt j) ne = refl
+read-other-wram m i b (wramAt j) ne = getD-set-other (m .wram) i j b 0 (λ e. ne (ap wramAt e))
+read-other-wram m i b (pakAt j) ne = refl
+read-other-wram m i b (romAt j) ne = refl
+read-other-wram m i b (drawingAt k x) ne = refl
+read-other-wram m i b (versionAt x) ne = refl
+read-other-wram m i b silent ne = refl
+read-other-wram m i b unlisted ne = refl
+read-other-wram m i b unmapped ne = refl
+read-other-wram m i b soundUnit ne = refl
+read-other-wram m i b hardware ne = refl
+read-other-wram m i b nothing ne = refl
+read-other-wram m i b expansion ne = refl
+
+read-other-pak : (m : Memory) (i b : ℕ) (q : Place) → cellOf q ≢ pakAt i → readPlace (putPlace m (pakAt i) b) q ≡ readPlace m q
+read-other-pak m i b (vramAt j) ne = refl
+read-other-pak m i b (wramAt j) ne = refl
+read-other-pak m i b (pakAt j) ne = getD-set-other (m .pak) i j b 0 (λ e. ne (ap pakAt e))
+read-other-pak m i b (romAt j) ne = refl
+read-other-pak m i b (drawingAt k x) ne = refl
+read-other-pak m i b (versionAt x) ne = refl
+read-other-pak m i b silent ne = refl
+read-other-pak m i b unlisted ne = refl
+read-other-pak m i b unmapped ne = refl
+read-other-pak m i b soundUnit ne = refl
+read-other-pak m i b hardware ne = refl
+read-other-pak m i b nothing ne = refl
+read-other-pak m i b expansion ne = refl
+
+-- a byte put elsewhere
+read-other : (m : Memory) (p q : Place) (b : ℕ) → cellOf q ≢ cellOf p → readPlace (putPlace m p b) q ≡ readPlace m q
+read-other m (vramAt i) q b ne = read-other-vram m i b q ne
+read-other m (wramAt i) q b ne = read-other-wram m i b q ne
+read-other m (pakAt i) q b ne = read-other-pak m i b q ne
+read-other m (romAt i) q b ne = refl
+read-other m (drawingAt k x) q b ne = refl
+read-other m (versionAt x) q b ne = refl
+read-other m silent q b ne = refl
+read-other m unlisted q b ne = refl
+read-other m unmapped q b ne = refl
+read-other m soundUnit q b ne = refl
+read-other m hardware q b ne = refl
+read-other m nothing q b ne = refl
+read-other m expansion q b ne = refl
+
+read-other-register : (m : Memory) (k v : ℕ) (q : Place) → cellOf q ≢ drawingAt k 0 → readPlace (putDrawing m (drawingAt k 0) v) q ≡ readPlace m q
+read-other-register m k v (vramAt j) ne = refl
+read-other-register m k v (wramAt j) ne = refl
+read-other-register m k v (pakAt j) ne = refl
+read-other-register m k v (romAt j) ne = refl
+read-other-register m k v (drawingAt j x) ne = rw (getD-set-other (m .regs) k j (keptOf k v) 0 (λ e. ne (ap (λ (n : ℕ). drawingAt n 0) e)))
+read-other-register m k v (versionAt x) ne = refl
+read-other-register m k v silent ne = refl
+read-other-register m k v unlisted ne = refl
+read-other-register m k v unmapped ne = refl
+read-other-register m k v soundUnit ne = refl
+read-other-register m k v hardware ne = refl
+read-other-register m k v nothing ne = refl
+read-other-register m k v expansion ne = refl
+
+-- a register written elsewhere
+drawing-other : (m : Memory) (p q : Place) (v : ℕ) → cellOf q ≢ cellOf p → readPlace (putDrawing m p v) q ≡ readPlace m q
+drawing-other m (vramAt i) q v ne = refl
+drawing-other m (wramAt i) q v ne = refl
+drawing-other m (pakAt i) q v ne = refl
+drawing-other m (romAt i) q v ne = refl
+drawing-other m (drawingAt k x) q v ne = read-other-register m k v q ne
+drawing-other m (versionAt x) q v ne = refl
+drawing-other m silent q v ne = refl
+drawing-other m unlisted q v ne = refl
+drawing-other m unmapped q v ne = refl
+drawing-other m soundUnit q v ne = refl
+drawing-other m hardware q v ne = refl
+drawing-other m nothing q v ne = refl
+drawing-other m expansion q v ne = refl
+
+-- a byte put there
+read-same : (m : Memory) (p : Place) (b : ℕ) → Held m p → readPlace (putPlace m p b) p ≡ b
+read-same m (vramAt i) b h = getD-set-same (m .vram) i b 0 h
+read-same m (wramAt i) b h = getD-set-same (m .wram) i b 0 h
+read-same m (pakAt i) b h = getD-set-same (m .pak) i b 0 h
+read-same m (romAt i) b h = absurd h
+read-same m (drawingAt k x) b h = absurd h
+read-same m (versionAt x) b h = absurd h
+read-same m silent b h = absurd h
+read-same m unlisted b h = absurd h
+read-same m unmapped b h = absurd h
+read-same m soundUnit b h = absurd h
+read-same m hardware b h = absurd h
+read-same m nothing b h = absurd h
+read-same m expansion b h = absurd h
+
+-- a store moves no address to another place
+shape-place : (m n : Memory) → Shape m n → (a : ℕ) → placeIn n a ≡ placeIn m a
+shape-place m n p a = rw (p .same-rom, p .same-pak)
+
+-- two addresses that no store joins
+abbrev pub Apart : Memory → ℕ → ℕ → Type 0
+Apart m b a = cellOf (placeIn m b) ≢ cellOf (placeIn m a)
+
+put-elsewhere : (m : Memory) (a b v : ℕ) → Apart m b a → byteOf (putByte m a v) b ≡ byteOf m b
+unfolding byteOf putByte
+put-elsewhere m a b v ne =
+    rw (shape-place m (putByte m a v) (byte-shape m a v) b) (read-other m (placeIn m a) (placeIn m b) (v % 256) ne)
+
+write-elsewhere : (m : Memory) (a b v : ℕ) → Apart m b a → byteOf (putRegister m a v) b ≡ byteOf m b
+unfolding byteOf putRegister
+write-elsewhere m a b v ne =
+    rw (shape-place m (putRegister m a v) (register-shape m a v) b) (drawing-other m (placeIn m a) (placeIn m b) (v % 65536) ne)
+
+moved : (m n : Memory) → Shape m n → (b a : ℕ) → Apart m b a → Apart n b a
+moved m n p b a ne = rw (shape-place m n p b, shape-place m n p a) ne
+
+-- a store leaves every byte that is apart from those it names
+pub store-byte-elsewhere : (m : Memory) (a b v : ℕ) → Apart m b a → byteOf (storeByteOf m a v) b ≡ byteOf m b
+unfolding storeByteOf
+store-byte-elsewhere m a b v ne =
+    write-elsewhere (putByte m a v) a b v (moved m (putByte m a v) (byte-shape m a v) b a ne) ∙ put-elsewhere m a b v ne
+
+halfword-elsewhere : (m : Memory) (a b v : ℕ) → Apart m b a → Apart m b (a + 1) → byteOf (putHalfword m a v) b ≡ byteOf m b
+unfolding putHalfword
+halfword-elsewhere m a b v ne next =
+    let n = putByte m a v in
+    let o = putByte n (a + 1) (v / 256) in
+    let mn = byte-shape m a v in
+    let no = byte-shape n (a + 1) (v / 256) in
+    write-elsewhere o a b v (moved n o no b a (moved m n mn b a ne))
+    ∙ put-elsewhere n (a + 1) b (v / 256) (moved m n mn b (a + 1) next)
+    ∙ put-elsewhere m a b v ne
+
+pub store-half-elsewhere : (m : Memory) (a b v : ℕ) → Apart m b (a - a % 2) → Apart m b (a - a % 2 + 1) → byteOf (storeHalfOf m a v) b ≡ byteOf m b
+unfolding storeHalfOf
+store-half-elsewhere m a b v ne next = halfword-elsewhere m (a - a % 2) b v ne next
+
+pub store-word-elsewhere : (m : Memory) (a b v : ℕ) → ((j : ℕ) → j < 4 → Apart m b (a - a % 4 + j)) → byteOf (storeWordOf m a v) b ≡ byteOf m b
+unfolding storeWordOf
+store-word-elsewhere m a b v ne =
+    let s = a - a % 4 in
+    let n = putHalfword m s v in
+    let mn = halfword-shape m s v in
+    let e : s + 0 ≡ s = omega arith in
+    let f : s + 3 ≡ s + 2 + 1 = omega arith in
+    let third : Apart m b (s + 2) = ne 2 (omega arith) in
+    let fourth : Apart m b (s + 2 + 1) = rw f at (ne 3 (omega arith)) in
+    halfword-elsewhere n (s + 2) b (v / 65536) (moved m n mn b (s + 2) third) (moved m n mn b (s + 2 + 1) fourth)
+    ∙ halfword-elsewhere m s b v (rw e at (ne 0 (omega arith))) (ne 1 (omega arith))
+
+-- a place of memory is no register
+held-plain : (m n : Memory) (p : Place) (v : ℕ) → Held m p → putDrawing n p v ≡ n
+held-plain m n (vramAt i) v h = refl
+held-plain m n (wramAt i) v h = refl
+held-plain m n (pakAt i) v h = refl
+held-plain m n (romAt i) v h = refl
+held-plain m n (drawingAt k x) v h = absurd h
+held-plain m n (versionAt x) v h = refl
+held-plain m n silent v h = refl
+held-plain m n unlisted v h = refl
+held-plain m n unmapped v h = refl
+held-plain m n soundUnit v h = refl
+held-plain m n hardware v h = refl
+held-plain m n nothing v h = refl
+held-plain m n expansion v h = refl
+
+-- a byte store is read back where memory holds it
+pub store-byte-same : (m : Memory) (a v : ℕ) → Held m (placeIn m a) → loadOf (storeByteOf m a v) 1 a ≡ v % 256
+unfolding storeByteOf byteOf putRegister putByte
+store-byte-same m a v h =
+    let e = shape-place m (putByte m a v) (byte-shape m a v) a in
+    byte-load (storeByteOf m a v) a
+    ∙ rw (e, held-plain m (putByte m a v) (placeIn m a) (v % 65536) h, e) (read-same m (placeIn m a) (v % 256) h)
+
+-- halfword and word stores are read back from WRAM and VRAM
+module _ (m : Memory) (a i v : ℕ) where
+  pub store-half-wram : Span m (a - a % 2) wramAt i 2 → i + 1 < length (m .wram) → loadOf (storeHalfOf m a v) 2 a ≡ v % 65536
+  store-half-wram p h =
+      rw (half-wram m a i v p) (span-half (withWram m (putHalf (m .wram) i v)) a wramAt i p ∙ half-same (m .wram) i v h)
+
+  pub store-half-vram : Span m (a - a % 2) vramAt i 2 → i + 1 < length (m .vram) → loadOf (storeHalfOf m a v) 2 a ≡ v % 65536
+  store-half-vram p h =
+      rw (half-vram m a i v p) (span-half (withVram m (putHalf (m .vram) i v)) a vramAt i p ∙ half-same (m .vram) i v h)
+
+  pub store-word-wram : Span m (a - a % 4) wramAt i 4 → i + 3 < length (m .wram) → loadOf (storeWordOf m a v) 4 a ≡ v % 4294967296
+  store-word-wram p h =
+      rw (word-wram m a i v p) (span-word (withWram m (putWord (m .wram) i v)) a wramAt i p ∙ word-same (m .wram) i v h)
+
+  pub store-word-vram : Span m (a - a % 4) vramAt i 4 → i + 3 < length (m .vram) → loadOf (storeWordOf m a v) 4 a ≡ v % 4294967296
+  store-word-vram p h =
+      rw (word-vram m a i v p) (span-word (withVram m (putWord (m .vram) i v)) a vramAt i p ∙ word-same (m .vram) i v h)
