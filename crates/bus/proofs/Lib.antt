@@ -1,4 +1,5 @@
 mod OneOf
+mod Indices
 mod Power
 pub mod Places
 pub mod Halfwords

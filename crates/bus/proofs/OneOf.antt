@@ -1,11 +1,12 @@
--- What the arms of a match on a number tell of definitions that go by a list of numbers.
--- `OneOf n xs` is what an arm `a | b | .. =>` hands over, `NoneOf A n xs` what `_` hands over after an arm
--- for each number of xs, on top of A. Assumes nothing.
-use Prim.Native.Nat.{ℕ, suc}
-use mathlib.Core.Bool.{Bool, true, false}
+-- What tests of a number tell of definitions that go by a list of numbers. `OneOf n xs` is what an arm
+-- `a | b | .. =>` of a match hands over. Assumes nothing.
+use Prim.Native.Nat.{ℕ, zero, suc, _<_}
+use mathlib.Core.Bool.{Bool, true, false, true≢false}
 use mathlib.Core.List.{List, [], _∷_}
 use mathlib.Core.Logic.{_⊎_, inl, inr}
 use mathlib.Core.Path.{_≡_, refl, sym, subst, ap, _∙_}
+use native.Mathlib.Decide.{ℕ-discrete}
+use native.Mathlib.Omega.{arith}
 use borrow.Author.Tests.{ne-eqb}
 use lib.Dec.{T}
 use lib.ListN.{length}
@@ -21,9 +22,9 @@ abbrev pub every : (ℕ → Bool) → List ℕ → Bool
 every f [] = true
 every f (x ∷ xs) = pick (f x) (every f xs) false
 
-first : (f : ℕ → Bool) (b t : Bool) → T (pick b t false) → b ≡ true
-first f true t h = refl
-first f false t h = absurd h
+first : (b t : Bool) → T (pick b t false) → b ≡ true
+first true t h = refl
+first false t h = absurd h
 
 later : (b t : Bool) → T (pick b t false) → T t
 later true t h = h
@@ -32,8 +33,8 @@ later false t h = absurd h
 -- what holds of every number of the arm holds of n
 pub arm-test : (f : ℕ → Bool) (n : ℕ) (xs : List ℕ) → T (every f xs) → OneOf n xs → f n ≡ true
 arm-test f n [] h o = absurd o
-arm-test f n (x ∷ []) h o = ap f o ∙ first f (f x) true h
-arm-test f n (x ∷ y ∷ ys) h (inl e) = ap f e ∙ first f (f x) (every f (y ∷ ys)) h
+arm-test f n (x ∷ []) h o = ap f o ∙ first (f x) true h
+arm-test f n (x ∷ y ∷ ys) h (inl e) = ap f e ∙ first (f x) (every f (y ∷ ys)) h
 arm-test f n (x ∷ y ∷ ys) h (inr o) = arm-test f n (y ∷ ys) (later (f x) (every f (y ∷ ys)) h) o
 
 -- a number that no arm names stands not in their list
@@ -42,16 +43,22 @@ rest-member n [] h = refl
 rest-member n (x ∷ []) h = simp (ne-eqb n x h)
 rest-member n (x ∷ y ∷ ys) h = simp (ne-eqb n x (λ e. h (inl e))) (rest-member n (y ∷ ys) (λ o. h (inr o)))
 
-abbrev pub NoneOf : Type 0 → ℕ → List ℕ → Type 0
-NoneOf A n [] = A
-NoneOf A n (x ∷ xs) = NoneOf (A × (n ≡ x → ⊥)) n xs
+-- a number that fails a test which every number listed passes has no index
+pub apart : (f : ℕ → Bool) (n : ℕ) (xs : List ℕ) → T (every f xs) → f n ≡ false → indexOf n xs ≡ length xs
+apart f n [] all out = refl
+apart f n (x ∷ xs) all out =
+    simp (ne-eqb n x (λ e. true≢false (sym (first (f x) (every f xs) all) ∙ ap f (sym e) ∙ out)))
+    (ap suc (apart f n xs (later (f x) (every f xs) all) out))
 
-absent : (A : Type 0) (n : ℕ) (xs : List ℕ) → NoneOf A n xs → A × (indexOf n xs ≡ length xs)
-absent A n [] h = (h, refl)
-absent A n (x ∷ xs) h =
-    let r = absent (A × (n ≡ x → ⊥)) n xs h in
-    (r .0 .0, simp (ne-eqb n x (r .0 .1)) (ap suc (r .1)))
+-- whether a test holds of every number below n
+abbrev pub everyBelow : (ℕ → Bool) → ℕ → Bool
+everyBelow f zero = true
+everyBelow f (suc n) = pick (f n) (everyBelow f n) false
 
--- a number with no arm of its own has no index
-pub rest-index : (n : ℕ) (xs : List ℕ) → NoneOf (Unit {0}) n xs → indexOf n xs ≡ length xs
-rest-index n xs h = absent (Unit {0}) n xs h .1
+pub below-test : (f : ℕ → Bool) (n q : ℕ) → T (everyBelow f n) → q < n → f q ≡ true
+below-test f zero q all h = absurd (omega arith)
+below-test f (suc n) q all h =
+    elim (ℕ-discrete q n) [
+      | yes e ↦ ap f e ∙ first (f n) (everyBelow f n) all
+      | no ne ↦ below-test f n q (later (f n) (everyBelow f n) all) (omega arith)
+    ]

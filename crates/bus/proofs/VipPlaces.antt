@@ -13,7 +13,7 @@ use Rattle.word.specs.Choose.{pick, member, indexOf}
 use Rattle.bus.specs.Registers.{drawingAddresses, silentAddresses, versionAddress, keptOf}
 use Rattle.bus.specs.Place.{Place, vramAt, drawingAt, versionAt, silent, unlisted, unmapped, mirrorOf, vipPlace, registerPlace, regionOf, placeOf}
 use Rattle.bus.specs.Memory.{Memory, byteOf, loadOf, readPlace, putPlace, putDrawing, placeIn, putByte, putRegister, withRegs}
-use Rattle.bus.proofs.OneOf.{every}
+use Rattle.bus.proofs.OneOf.{apart}
 use Rattle.bus.proofs.Places.{place-vip, region-next}
 use Rattle.bus.proofs.Halfwords.{half-load-even}
 
@@ -42,20 +42,6 @@ mirror-step k j h =
 -- 0x5E000 to 0x5FFFF
 abbrev inRange : ℕ → Bool
 inRange x = pick (leb 385024 x) (ltb x 393216) false
-
-apart : (f : ℕ → Bool) (h : ℕ) (xs : List ℕ) → T (every f xs) → f h ≡ false → indexOf h xs ≡ length xs
-apart f h [] all out = refl
-apart f h (x ∷ xs) all out =
-    simp (ne-eqb h x (λ e. true≢false (held (f x) (every f xs) all ∙ ap f (sym e) ∙ out)))
-    (ap suc (apart f h xs (rest (f x) (every f xs) all) out))
-  where
-    held : (b t : Bool) → T (pick b t false) → true ≡ b
-    held true t h = refl
-    held false t h = absurd h
-
-    rest : (b t : Bool) → T (pick b t false) → T t
-    rest true t h = h
-    rest false t h = absurd h
 
 -- outside 0x5E000 to 0x5FFFF no address is a register's
 quiet-read : (m : Memory) (b : Bool) → readPlace m (pick b silent unlisted) ≡ 0

@@ -4,26 +4,25 @@ ghost use Prim.Native.Nat.{_<_, _≤_, _+_, _-_, _%_};
 ghost use Rattle.word.specs.Choose.{indexOf};
 ghost use Rattle.bus.specs.Registers.{drawingAddresses, keptOf};
 
-// Which drawing register stands at address h of the VIP; 13 where none does.
+// Which drawing register stands at an even address h of the VIP; 13 where none does: SPT0 to SPT3 from
+// 0x5F848 on, the others from 0x5F860 on.
 pub fn index(h: u32) -> usize
+    requires { ⌜ h % 2 ≡ 0 ⌝ }
     ensures { λ r. ⌜ r ≡ indexOf h drawingAddresses ⌝ }
 {
-    match h {
-        0x5F848 => 0,
-        0x5F84A => 1,
-        0x5F84C => 2,
-        0x5F84E => 3,
-        0x5F860 => 4,
-        0x5F862 => 5,
-        0x5F864 => 6,
-        0x5F866 => 7,
-        0x5F868 => 8,
-        0x5F86A => 9,
-        0x5F86C => 10,
-        0x5F86E => 11,
-        0x5F870 => 12,
-        _ => 13,
+    if h < 0x5F848 {
+        return 13;
     }
+    if h < 0x5F850 {
+        return ((h - 0x5F848) / 2) as usize;
+    }
+    if h < 0x5F860 {
+        return 13;
+    }
+    if h < 0x5F872 {
+        return ((h - 0x5F860) / 2 + 4) as usize;
+    }
+    13
 }
 
 // What register k keeps of a value written to it.

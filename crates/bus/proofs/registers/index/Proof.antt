@@ -1,68 +1,36 @@
--- `bus::registers::index` meets its contract: each arm is one entry of 000's list of addresses.
+-- `bus::registers::index` meets its contract: each test says which run of addresses h stands in.
 -- Assumes nothing.
-use mathlib.Core.Path.{refl, sym}
-use Rattle.bus.specs.Registers.{drawingAddresses}
-use Rattle.bus.proofs.OneOf.{rest-index}
+use borrow.Author.Needs.{needs}
 use Rattle.bus.proofs.registers.index.Statement.{statement}
 use Rattle.bus.proofs.registers.index.Tie as tie
+use mathlib.Core.Path.{sym}
+use Rattle.bus.proofs.Indices.{index-before, index-first, index-between, index-second, index-after}
 
 returns : tie.Need-returns
-returns c = rw (c .match .keys1)
+returns c = sym (index-before (c .before .args .h) (c .if1 .taken))
+
+cast-result : tie.Need-cast-result
+cast-result c = search needs
 
 returns-2 : tie.Need-returns-2
-returns-2 c = rw (c .match .keys2)
+returns-2 c = sym (index-first (c .before .before .args .h) (c .before .before .pre) (c .before .if1 .left) (c .if2 .taken))
 
 returns-3 : tie.Need-returns-3
-returns-3 c = rw (c .match .keys3)
+returns-3 c = sym (index-between (c .before .before .before .args .h) (c .before .if2 .left) (c .if3 .taken))
+
+add-result : tie.Need-add-result
+add-result c = search needs
+
+cast-result-2 : tie.Need-cast-result-2
+cast-result-2 c = search needs
 
 returns-4 : tie.Need-returns-4
-returns-4 c = rw (c .match .keys4)
+returns-4 c = sym (index-second (c .before .before .before .before .args .h) (c .before .before .before .before .pre) (c .before .if3 .left) (c .if4 .taken))
 
 returns-5 : tie.Need-returns-5
-returns-5 c = rw (c .match .keys5)
-
-returns-6 : tie.Need-returns-6
-returns-6 c = rw (c .match .keys6)
-
-returns-7 : tie.Need-returns-7
-returns-7 c = rw (c .match .keys7)
-
-returns-8 : tie.Need-returns-8
-returns-8 c = rw (c .match .keys8)
-
-returns-9 : tie.Need-returns-9
-returns-9 c = rw (c .match .keys9)
-
-returns-10 : tie.Need-returns-10
-returns-10 c = rw (c .match .keys10)
-
-returns-11 : tie.Need-returns-11
-returns-11 c = rw (c .match .keys11)
-
-returns-12 : tie.Need-returns-12
-returns-12 c = rw (c .match .keys12)
-
-returns-13 : tie.Need-returns-13
-returns-13 c = rw (c .match .keys13)
-
-returns-14 : tie.Need-returns-14
-returns-14 c = sym (rest-index (c .before .args .h) drawingAddresses (c .match .rest))
+returns-5 c = sym (index-after (c .before .before .before .before .args .h) (c .if4 .left))
 
 pub index-spec : {M : Type 1} → statement M
 index-spec =
     tie.close
-    (tie.spec
-    returns
-    returns-2
-    returns-3
-    returns-4
-    returns-5
-    returns-6
-    returns-7
-    returns-8
-    returns-9
-    returns-10
-    returns-11
-    returns-12
-    returns-13
-    returns-14)
+    (tie.spec returns cast-result returns-2 returns-3 add-result cast-result-2 returns-4 returns-5)
