@@ -105,7 +105,7 @@ pub fn store_byte(
         }
         Verdict::Refused(refusal) => Stored {
             verdict: Verdict::Refused(refusal),
-            drawing,
+            drawing: Drawing { regs },
         },
     }
 }
@@ -135,7 +135,7 @@ pub fn store_half(
         }
         Verdict::Refused(refusal) => Stored {
             verdict: Verdict::Refused(refusal),
-            drawing,
+            drawing: Drawing { regs },
         },
     }
 }
@@ -165,7 +165,7 @@ pub fn store_word(
         }
         Verdict::Refused(refusal) => Stored {
             verdict: Verdict::Refused(refusal),
-            drawing,
+            drawing: Drawing { regs },
         },
     }
 }
