@@ -1,0 +1,4 @@
+pub mod Refusal
+pub mod Registers
+pub mod Place
+pub mod Memory

@@ -1,0 +1,37 @@
+// The bus: where an address leads, loads and stores over the lent memories, the drawing registers,
+// and paper 01's refusals 1 to 5. The functions here are for the crates above; the calls that test
+// their arguments and refuse are those of the crate access.
+pub mod load;
+mod pak;
+pub mod refusals;
+mod registers;
+pub mod store;
+mod vip;
+
+// Why a call is refused: paper 01's refusals, in the order of their numbers (numberOf of specs/Refusal).
+pub enum Refusal {
+    RomLength,
+    WramLength,
+    VramLength,
+    PakLength,
+    State,
+    NotModelled,
+    Frame,
+    Index,
+}
+
+// Whether a call's memories and registers are accepted.
+pub enum Verdict {
+    Accepted,
+    Refused(Refusal),
+}
+
+// The drawing registers: SPT0 to SPT3, GPLT0 to GPLT3, JPLT0 to JPLT3, BKCOL.
+pub struct Drawing {
+    pub regs: [u16; 13],
+}
+
+// What an access read.
+pub struct Loaded {
+    pub value: u32,
+}
