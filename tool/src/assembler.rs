@@ -15,37 +15,29 @@ pub struct Source<'a> {
     pub bytes: &'a [(&'a str, &'a [u8])],
 }
 
-/// An assembled program: its bytes from the origin on, and the address of each label.
-pub struct Program {
-    pub bytes: Vec<u8>,
-    pub labels: HashMap<String, i64>,
-}
-
 type Symbols = HashMap<String, i64>;
 
-/// Assembles in two passes: the first places the labels, the second writes.
-pub fn assemble(source: &Source) -> Result<Program, String> {
+/// The program's bytes from the origin on, in two passes: the first places the labels, the second writes.
+pub fn assemble(source: &Source) -> Result<Vec<u8>, String> {
     let mut symbols: Symbols = source.symbols.iter().map(|&(n, v)| (n.to_string(), v)).collect();
     for &(name, bytes) in source.bytes {
         symbols.insert(format!("{name}_size"), bytes.len() as i64);
     }
-    let mut labels = HashMap::new();
     let mut bytes = Vec::new();
     for writing in [false, true] {
         bytes.clear();
         for (number, line) in source.text.lines().enumerate() {
-            let mut place = Place { source, symbols: &mut symbols, labels: &mut labels, bytes: &mut bytes, writing };
+            let mut place = Place { source, symbols: &mut symbols, bytes: &mut bytes, writing };
             place.line(line).map_err(|e| format!("line {}: {e}: {}", number + 1, line.trim()))?;
         }
     }
-    Ok(Program { bytes, labels })
+    Ok(bytes)
 }
 
 /// A pass at one line.
 struct Place<'a> {
     source: &'a Source<'a>,
     symbols: &'a mut Symbols,
-    labels: &'a mut HashMap<String, i64>,
     bytes: &'a mut Vec<u8>,
     writing: bool,
 }
@@ -65,7 +57,8 @@ impl Place<'_> {
             return Ok(());
         }
         let (word, operands) = rest.split_once(char::is_whitespace).unwrap_or((rest, ""));
-        let operands: Vec<&str> = operands.split(',').map(str::trim).filter(|o| !o.is_empty()).collect();
+        let operands: Vec<&str> =
+            operands.split(',').map(str::trim).filter(|o| !o.is_empty()).collect();
         if let Some(directive) = word.strip_prefix('.') {
             return self.directive(directive, &operands);
         }
@@ -81,7 +74,6 @@ impl Place<'_> {
             return Err(format!("`{name}` is named twice"));
         }
         self.symbols.insert(name.to_string(), address);
-        self.labels.insert(name.to_string(), address);
         Ok(())
     }
 
@@ -113,14 +105,17 @@ impl Place<'_> {
             }
             ("org", [address]) => {
                 let ahead = self.value(address)? - self.address();
-                let ahead = within(ahead, 0, 0x100_0000).map_err(|_| "`.org` lies behind".to_string())?;
+                let ahead =
+                    within(ahead, 0, 0x100_0000).map_err(|_| "`.org` lies behind".to_string())?;
                 self.bytes.resize(self.bytes.len() + ahead as usize, 0);
             }
             ("bytes", [name]) => {
                 let named = self.source.bytes.iter().find(|(n, _)| n == name);
                 self.bytes.extend_from_slice(named.ok_or(format!("no bytes named `{name}`"))?.1);
             }
-            _ => return Err(format!("`.{directive}` with {} operands is not known", operands.len())),
+            _ => {
+                return Err(format!("`.{directive}` with {} operands is not known", operands.len()))
+            }
         }
         Ok(())
     }
@@ -148,7 +143,8 @@ impl Place<'_> {
 
     fn term(&self, text: &str) -> Result<i64, String> {
         if let Some(digits) = text.strip_prefix("0x") {
-            return i64::from_str_radix(digits, 16).map_err(|_| format!("`{text}` is not a number"));
+            return i64::from_str_radix(digits, 16)
+                .map_err(|_| format!("`{text}` is not a number"));
         }
         if text.starts_with(|c: char| c.is_ascii_digit()) {
             return text.parse().map_err(|_| format!("`{text}` is not a number"));
@@ -181,7 +177,8 @@ impl Place<'_> {
     fn memory(&self, text: &str) -> Result<(u16, u16), String> {
         let (before, after) = text.split_once('[').ok_or(format!("`{text}` is not disp[reg]"))?;
         let base = register(after.strip_suffix(']').ok_or(format!("`{text}` has no `]`"))?)?;
-        let disp = if before.trim().is_empty() { 0 } else { self.immediate(before, -0x8000, 0x7FFF)? };
+        let disp =
+            if before.trim().is_empty() { 0 } else { self.immediate(before, -0x8000, 0x7FFF)? };
         Ok((disp, base))
     }
 
@@ -389,8 +386,8 @@ mod tests {
     use super::*;
 
     fn halves(text: &str) -> Result<Vec<u16>, String> {
-        let program = assemble(&Source { text, origin: 0x0700_0000, symbols: &[], bytes: &[] })?;
-        Ok(program.bytes.chunks(2).map(|b| u16::from_le_bytes([b[0], b[1]])).collect())
+        let bytes = assemble(&Source { text, origin: 0x0700_0000, symbols: &[], bytes: &[] })?;
+        Ok(bytes.chunks(2).map(|b| u16::from_le_bytes([b[0], b[1]])).collect())
     }
 
     #[test]

@@ -84,7 +84,8 @@ impl Given<'_> {
             2 => Refusal::WramLength { given: wram },
             3 => Refusal::VramLength { given: vram },
             4 => Refusal::PakLength { given: pak },
-            5 => fault(self.processor, self.drawing).expect("a register that breaks refusal 5's rule"),
+            5 => fault(self.processor, self.drawing)
+                .expect("a register that breaks refusal 5's rule"),
             7 => Refusal::Frame { given: self.frame },
             _ => last,
         }

@@ -126,8 +126,8 @@ fill:
     MOV 1, r9
     JAL place
 
-; 160 stars at random cells: r10 = r10 * 1103515245 + 12345.
-    MOVEA 160, r0, r8
+; 900 stars at random cells, of eight kinds: r10 = r10 * 1103515245 + 12345.
+    MOVEA 900, r0, r8
     LI 20261115, r10
     LI 1103515245, r11
     LI sky_map, r7
@@ -140,7 +140,7 @@ star:
     AND r14, r12
     ADD r7, r12
     MOV r10, r13
-    SHR 30, r13
+    SHR 29, r13
     ADDI first_star, r13, r13
     ST.H r13, 0[r12]
     ADD -1, r8

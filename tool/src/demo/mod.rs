@@ -27,7 +27,7 @@ pub fn rom() -> Result<Vec<u8>, String> {
     let subtitle = characters.cells(&art::text("REFERENCE MODEL"));
     let mut header = b"STUVELGRANA DEMO    ".to_vec();
     header.resize(32, 0);
-    let program = assemble(&Source {
+    assemble(&Source {
         text: include_str!("demo.s"),
         origin: 0x0700_0000,
         symbols: &[
@@ -49,8 +49,7 @@ pub fn rom() -> Result<Vec<u8>, String> {
             ("subtitle", &subtitle),
             ("header", &header),
         ],
-    })?;
-    Ok(program.bytes)
+    })
 }
 
 #[cfg(test)]
