@@ -10,9 +10,15 @@
 //!
 //! Three layers: [`bus`], [`processor`] over it, and drawing over lent VRAM.
 
+pub mod arithmetic;
 pub mod bus;
+pub mod exception;
+pub mod instruction;
 pub mod number;
+pub mod processor;
 pub mod refusal;
 
 pub use bus::{DrawingRegisters, Memories, ReadMemories};
+pub use exception::Cause;
+pub use processor::{Mode, Processor, Ran, StepAnswer};
 pub use refusal::Refusal;
