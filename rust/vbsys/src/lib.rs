@@ -9,6 +9,9 @@ pub const VERSION: u32 = 1;
 /// `VB_MISUSE`: a mode above 2.
 pub const MISUSE: u32 = 255;
 
+/// The static library that is linked.
+pub const ARCHIVE: &str = env!("VB_ARCHIVE");
+
 /// Values of [`Processor::mode`].
 pub const RUNNING: u32 = 0;
 pub const HALTED: u32 = 1;
