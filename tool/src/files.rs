@@ -103,6 +103,10 @@ impl Staged {
         if folder.is_dir() {
             return Ok(());
         }
+        if folder.exists() {
+            let message = format!("{} is a file, not a folder", folder.display());
+            return Err(std::io::Error::other(message));
+        }
         if let Some(parent) = folder.parent().filter(|p| !p.as_os_str().is_empty()) {
             self.make(parent)?;
         }

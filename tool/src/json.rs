@@ -3,8 +3,9 @@
 use std::fmt;
 
 pub enum Json {
+    Null,
     Bool(bool),
-    Number(u64),
+    Number(i128),
     Text(String),
     List(Vec<Json>),
     Object(Vec<(String, Json)>),
@@ -19,13 +20,14 @@ pub fn text(value: impl ToString) -> Json {
     Json::Text(value.to_string())
 }
 
-pub fn number(value: impl Into<u64>) -> Json {
+pub fn number(value: impl Into<i128>) -> Json {
     Json::Number(value.into())
 }
 
 impl fmt::Display for Json {
     fn fmt(&self, f: &mut fmt::Formatter) -> fmt::Result {
         match self {
+            Json::Null => f.write_str("null"),
             Json::Bool(value) => write!(f, "{value}"),
             Json::Number(value) => write!(f, "{value}"),
             Json::Text(value) => quoted(f, value),
@@ -68,11 +70,14 @@ mod tests {
     #[test]
     fn values_print_as_json() {
         let value = object([
-            ("a", number(1u64)),
+            ("a", number(1)),
             ("b", Json::List(vec![Json::Bool(true), text("say \"x\\y\"\n")])),
             ("c", object([])),
+            ("d", Json::Null),
+            ("e", number(-1)),
         ]);
-        let expected = r#"{"a": 1, "b": [true, "say \"x\\y\"\u000a"], "c": {}}"#;
+        let expected =
+            r#"{"a": 1, "b": [true, "say \"x\\y\"\u000a"], "c": {}, "d": null, "e": -1}"#;
         assert_eq!(value.to_string(), expected);
     }
 }

@@ -199,6 +199,9 @@ mod tests {
         let grey = pattern().marked(&pattern(), 1);
         let wrong = Picture::of_png(&grey).err().unwrap();
         assert!(wrong.contains("has red 0x2A; it must be 00, 55, AA or FF"), "{wrong}");
-        assert!(Picture::of_png(&wide[..100]).err().unwrap().contains("cannot be read"));
+        assert!(Picture::of_png(&pattern().png(1)[..100])
+            .err()
+            .unwrap()
+            .contains("cannot be read"));
     }
 }

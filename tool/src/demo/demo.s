@@ -126,8 +126,8 @@ fill:
     MOV 1, r9
     JAL place
 
-; 900 stars at random cells, of eight kinds: r10 = r10 * 1103515245 + 12345.
-    MOVEA 900, r0, r8
+; 700 stars at random cells, of eight kinds: r10 = r10 * 1103515245 + 12345.
+    MOVEA 700, r0, r8
     LI 20261115, r10
     LI 1103515245, r11
     LI sky_map, r7
