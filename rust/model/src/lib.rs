@@ -8,15 +8,22 @@
 //! and R1 to R8 are the rulings on the places where they differ
 //! (docs/DECISIONS.md).
 //!
-//! Three layers: [`bus`], [`processor`] over it, and drawing over lent VRAM.
+//! Three layers: [`bus`], [`processor`] over it, and [`drawing`] over lent VRAM.
+//! [`answers`] explains a drawn pixel.
 
+pub mod answers;
 pub mod arithmetic;
+pub mod background;
 pub mod bus;
+pub mod character;
+pub mod drawing;
 pub mod exception;
 pub mod instruction;
 pub mod number;
+pub mod object;
 pub mod processor;
 pub mod refusal;
+pub mod world;
 
 pub use bus::{DrawingRegisters, Memories, ReadMemories};
 pub use exception::Cause;
