@@ -164,13 +164,8 @@ fn compare_refuses_other_captures() {
         ),
         ("torn.png", "in the PNG, pixel (0, 0) is not one square of 2 by 2"),
         ("cut.png", "the PNG cannot be read: "),
-        ("out/frame1-anaglyph.png", "in the PNG, pixel"),
     ] {
         let ran = folder.vbmodel(&format!("compare {SCENE} --left {file} --out marks"));
-        if file == "out/frame1-anaglyph.png" {
-            // red is the left eye's picture: an anaglyph is read as that
-            continue;
-        }
         assert_eq!((ran.status, ran.text.as_str()), (2, ""), "{file}");
         assert!(ran.error.contains(part), "{file}: {}", ran.error);
     }

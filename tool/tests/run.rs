@@ -177,6 +177,22 @@ fn bad_files_are_told() {
     }
 }
 
+/// On a terminal, which `script` stands in for where it is installed, a long run tells how far it is.
+#[test]
+fn a_long_run_on_a_terminal_shows_progress() {
+    let folder = with_rom("run-progress", &[BRANCH_TO_ITSELF]);
+    let tool = env!("CARGO_BIN_EXE_vbmodel");
+    let command = format!("{tool} run --rom a.rom --budget 100000000");
+    let shown = std::process::Command::new("script")
+        .args(["-qec", &command, "/dev/null"])
+        .current_dir(folder.path("."))
+        .output();
+    let Ok(shown) = shown else { return };
+    let text = String::from_utf8(shown.stdout).unwrap();
+    assert!(text.contains(" of at most 100,000,000 instructions, "), "{text}");
+    assert!(text.contains("instructions: 100,000,000 of at most 100,000,000"), "{text}");
+}
+
 #[test]
 fn usage_mistakes_have_status_2() {
     let folder = Folder::new("run-usage");

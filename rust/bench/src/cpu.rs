@@ -73,7 +73,11 @@ pub fn rows() -> Vec<Row> {
             rom[..bytes.len()].copy_from_slice(&bytes);
             wram[0x8000..0x8000 + bytes.len()].copy_from_slice(&bytes);
             let what = format!("{what}; code in {place}");
-            rows.push(Row { what, library: library(&rom, &mut wram, pc), model: model(&rom, &mut wram, pc) });
+            rows.push(Row {
+                what,
+                library: library(&rom, &mut wram, pc),
+                model: model(&rom, &mut wram, pc),
+            });
         }
     }
     rows

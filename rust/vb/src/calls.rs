@@ -2,7 +2,7 @@
 
 use vbsys::{Memories, ReadMemories};
 
-use crate::records::{Drawing, Machine, Processor};
+use crate::records::{Drawing, Machine, Mode, Processor};
 use crate::refusal::{fault, Refusal};
 
 /// What a step did.
@@ -70,25 +70,25 @@ pub enum Stop {
 
 /// What a call was given, to tell a refusal's number by.
 struct Given<'a> {
+    /// ROM, WRAM, VRAM, pak RAM.
     lengths: [usize; 4],
     processor: Option<&'a Processor>,
     drawing: &'a Drawing,
-    frame: u32,
 }
 
 impl Given<'_> {
-    fn refusal(&self, number: u32, last: Refusal) -> Refusal {
+    /// `own` is the refusal of the call's own subject: 6, 7 or 8.
+    fn refusal(&self, number: u32, own: &[Refusal]) -> Refusal {
         let [rom, wram, vram, pak] = self.lengths;
-        match number {
-            1 => Refusal::RomLength { given: rom },
-            2 => Refusal::WramLength { given: wram },
-            3 => Refusal::VramLength { given: vram },
-            4 => Refusal::PakLength { given: pak },
-            5 => fault(self.processor, self.drawing)
-                .expect("a register that breaks refusal 5's rule"),
-            7 => Refusal::Frame { given: self.frame },
-            _ => last,
-        }
+        let told = match number {
+            1 => Some(Refusal::RomLength { given: rom }),
+            2 => Some(Refusal::WramLength { given: wram }),
+            3 => Some(Refusal::VramLength { given: vram }),
+            4 => Some(Refusal::PakLength { given: pak }),
+            5 => fault(self.processor, self.drawing),
+            _ => own.iter().find(|refusal| refusal.number() == number).cloned(),
+        };
+        told.unwrap_or_else(|| unreachable!("the call has no refusal {number}"))
     }
 }
 
@@ -131,8 +131,7 @@ impl Machine {
     }
 
     fn bus_refusal(&self, lengths: [usize; 4], number: u32) -> Refusal {
-        let given = Given { lengths, processor: None, drawing: &self.drawing, frame: 0 };
-        given.refusal(number, Refusal::Frame { given: 0 })
+        Given { lengths, processor: None, drawing: &self.drawing }.refusal(number, &[])
     }
 
     /// Stores the low byte of `value`; at a register of the VIP its low halfword.
@@ -204,28 +203,25 @@ impl Machine {
         self.drawing = (&done.drawing).into();
         let stop = match self.processor.mode {
             _ if done.refusal == 6 => Stop::NotModelled(self.refusal(memories, 6)),
-            crate::Mode::Running => Stop::Budget,
-            crate::Mode::Halted => Stop::Halted,
-            crate::Mode::Fatal => Stop::Fatal,
+            Mode::Running => Stop::Budget,
+            Mode::Halted => Stop::Halted,
+            Mode::Fatal => Stop::Fatal,
         };
         Ok(Ran { count: done.count, stop })
     }
 
     fn refusal(&self, memories: &Memories, number: u32) -> Refusal {
-        let given = Given {
-            lengths: lengths(memories),
-            processor: Some(&self.processor),
-            drawing: &self.drawing,
-            frame: 0,
-        };
-        given.refusal(number, self.not_modelled(memories, number))
+        let own = if number == 6 { vec![self.not_modelled(memories)] } else { Vec::new() };
+        let processor = Some(&self.processor);
+        Given { lengths: lengths(memories), processor, drawing: &self.drawing }
+            .refusal(number, &own)
     }
 
-    fn not_modelled(&self, memories: &Memories, number: u32) -> Refusal {
+    fn not_modelled(&self, memories: &Memories) -> Refusal {
         let Memories { rom, wram, vram, pak } = memories;
         let read = ReadMemories { rom, wram, vram, pak };
         let pc = self.processor.pc;
-        let halfword = if number == 6 { self.load_half(&read, pc).unwrap_or(0) } else { 0 };
+        let halfword = self.load_half(&read, pc).expect("an accepted machine");
         Refusal::NotModelled { pc, halfword }
     }
 }
@@ -234,21 +230,24 @@ impl Drawing {
     /// Draws strip 0 to 27 of frame 0 or 1, both eyes.
     pub fn draw_strip(&self, vram: &mut [u8], frame: u32, strip: u32) -> Result<(), Refusal> {
         let number = vbsys::draw_strip(vram, self.into(), frame, strip);
-        self.drawn(vram.len(), number, frame, Refusal::Strip { given: strip })
+        self.drawn(
+            vram.len(),
+            number,
+            &[Refusal::Frame { given: frame }, Refusal::Strip { given: strip }],
+        )
     }
 
     /// Draws frame 0 or 1, both eyes.
     pub fn draw_frame(&self, vram: &mut [u8], frame: u32) -> Result<(), Refusal> {
         let number = vbsys::draw_frame(vram, self.into(), frame);
-        self.drawn(vram.len(), number, frame, Refusal::Frame { given: frame })
+        self.drawn(vram.len(), number, &[Refusal::Frame { given: frame }])
     }
 
-    fn drawn(&self, vram: usize, number: u32, frame: u32, last: Refusal) -> Result<(), Refusal> {
+    fn drawn(&self, vram: usize, number: u32, own: &[Refusal]) -> Result<(), Refusal> {
         if number == 0 {
             return Ok(());
         }
-        let given = Given { lengths: [0, 0, vram, 0], processor: None, drawing: self, frame };
-        Err(given.refusal(number, last))
+        Err(Given { lengths: [0, 0, vram, 0], processor: None, drawing: self }.refusal(number, own))
     }
 }
 

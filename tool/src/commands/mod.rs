@@ -9,7 +9,7 @@ pub mod why;
 use std::path::PathBuf;
 
 use clap::Args;
-use vb::{Drawing, Refusal, VRAM_LENGTH};
+use vb::{Drawing, Refusal};
 
 use crate::failure::Failure;
 use crate::files::Input;
@@ -54,7 +54,6 @@ impl Read {
     pub fn drawn(&self, frame: u32) -> Result<Vec<u8>, Failure> {
         let mut vram = self.vram.bytes.clone();
         self.drawing.draw_frame(&mut vram, frame).map_err(|refusal| self.failure(&refusal))?;
-        debug_assert_eq!(vram.len(), VRAM_LENGTH);
         Ok(vram)
     }
 

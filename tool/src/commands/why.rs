@@ -84,7 +84,7 @@ impl Told<'_> {
             format!(
                 "computed by the independent model; the proved library draws {}{}",
                 self.library,
-                if self.library == shade { ", the same" } else { ": THEY DIFFER" }
+                if self.library == shade { ", the same" } else { ": they differ" }
             ),
             String::new(),
             "what covers it, in drawing order:".to_string(),

@@ -1,9 +1,11 @@
 //! The demo: a small program for the console and its art, assembled into a ROM image of 64 KiB.
 
 mod art;
+mod characters;
+mod letters;
 
 use crate::assembler::{assemble, Source};
-use art::{Characters, Picture};
+use characters::{Characters, Picture};
 
 /// The ROM image of the demo. It is run from reset and halts for each frame.
 pub fn rom() -> Result<Vec<u8>, String> {
@@ -23,8 +25,8 @@ pub fn rom() -> Result<Vec<u8>, String> {
     let moon = characters.cells(&art::moon());
     let sea = characters.cells(&art::sea(372.0));
     let range = characters.cells(&art::mountains());
-    let title = characters.cells(&art::text("STUVELGRANA"));
-    let subtitle = characters.cells(&art::text("REFERENCE MODEL"));
+    let title = characters.cells(&letters::text("STUVELGRANA"));
+    let subtitle = characters.cells(&letters::text("REFERENCE MODEL"));
     let mut header = b"STUVELGRANA DEMO    ".to_vec();
     header.resize(32, 0);
     assemble(&Source {
