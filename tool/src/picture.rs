@@ -146,8 +146,7 @@ impl Sheet {
     fn png(&self, scale: usize) -> Vec<u8> {
         let mut pixels = Vec::with_capacity(self.indices.len() * scale * scale);
         for row in self.indices.chunks(self.width) {
-            let wide: Vec<u8> =
-                row.iter().flat_map(|&i| std::iter::repeat(i).take(scale)).collect();
+            let wide: Vec<u8> = row.iter().flat_map(|&i| std::iter::repeat_n(i, scale)).collect();
             (0..scale).for_each(|_| pixels.extend_from_slice(&wide));
         }
         let mut bytes = Vec::new();

@@ -1,6 +1,6 @@
 //! `vbmodel demo`: a small program for the console, run from reset; both frames drawn and written.
 
-use std::path::PathBuf;
+use std::path::{Path, PathBuf};
 use std::time::Instant;
 
 use clap::Args;
@@ -36,10 +36,9 @@ pub fn run(options: &Options) -> Result<Report, Failure> {
     let (mut wram, mut vram) = (vec![0; WRAM_LENGTH], vec![0; VRAM_LENGTH]);
     let mut machine = Machine::reset();
     let mut outputs = Outputs::default();
-    let mut lines = vec![format!(
-        "ran    the demo's program from reset, out of a ROM of {} bytes",
-        grouped(rom.len() as u64)
-    )];
+    let length = grouped(rom.len() as u64);
+    let mut lines =
+        vec![format!("ran the demo's program from reset, out of a ROM of {length} bytes")];
     for frame in 0..2 {
         let mut memories = Memories { rom: &rom, wram: &mut wram, vram: &mut vram, pak: &mut [] };
         let count = to_halt(&mut machine, &mut memories)?;
@@ -48,11 +47,15 @@ pub fn run(options: &Options) -> Result<Report, Failure> {
             outputs.add(options.out.join(name), png);
         }
         lines.push(format!(
-            "frame {frame}: {:>9} instructions to HALT at 0x{:08X}, then drawn for both eyes",
+            "  frame {frame}: {:>9} instructions to HALT at 0x{:08X}, then drawn for both eyes",
             grouped(count),
             machine.processor.pc - 2
         ));
     }
+    lines.push(
+        "  between them the tool sets the halted processor running: no interrupt is modelled"
+            .into(),
+    );
     let records = [
         ("rom.bin", rom),
         ("wram.bin", wram),
@@ -65,11 +68,12 @@ pub fn run(options: &Options) -> Result<Report, Failure> {
     }
     outputs.write()?;
     lines.extend(where_they_are(&options.out));
-    lines.push(format!("took   {} ms", begun.elapsed().as_millis()));
+    lines.push(format!("took {} ms", begun.elapsed().as_millis()));
     Ok(Report { text: lines.join("\n") + "\n", json: object([]), status: 0 })
 }
 
-/// Runs to the next HALT. The console's frame interrupt would end the one before; here the machine is woken by hand.
+/// Runs to the next HALT. On the console the frame interrupt would end the one before; interrupts are not modelled,
+/// and the machine is set running by hand.
 fn to_halt(machine: &mut Machine, memories: &mut Memories) -> Result<u64, Failure> {
     machine.processor.mode = Mode::Running;
     let ran = machine.run(memories, BUDGET).map_err(refused)?;
@@ -83,15 +87,23 @@ fn refused(refusal: Refusal) -> Failure {
     Failure::refused(&refusal, refusal.to_string())
 }
 
-fn where_they_are(out: &std::path::Path) -> Vec<String> {
+fn where_they_are(out: &Path) -> Vec<String> {
     let at = |name: &str| out.join(name).display().to_string();
-    let (vram, drawing) = (at("vram.bin"), at("drawing.bin"));
+    let row = |what: &str, view: &str| {
+        let (first, second) = (format!("frame0-{view}.png"), format!("frame1-{view}.png"));
+        format!("  {what:<13} {:<32} {}", at(&first), at(&second))
+    };
     vec![
-        format!("left   {}, {}", at("frame0-left.png"), at("frame1-left.png")),
-        format!("right  {}, {}", at("frame0-right.png"), at("frame1-right.png")),
-        format!("beside {}, {}", at("frame0-side-by-side.png"), at("frame1-side-by-side.png")),
-        format!("red/cyan {}, {}", at("frame0-anaglyph.png"), at("frame1-anaglyph.png")),
+        "pictures".to_string(),
+        row("left eye", "left"),
+        row("right eye", "right"),
+        row("side by side", "side-by-side"),
+        row("red/cyan", "anaglyph"),
         format!("memories and records after frame 1: {}", at("*.bin")),
-        format!("next   vbmodel why left 192 120 --vram {vram} --drawing {drawing}"),
+        format!(
+            "next: vbmodel why left 192 120 --vram {} --drawing {}",
+            at("vram.bin"),
+            at("drawing.bin")
+        ),
     ]
 }

@@ -63,7 +63,7 @@ pub fn ball(eye: f64, turn: f64) -> Picture {
         let around = (turns(lx, -nz) + turn).fract() * 12.0;
         let up = turns(ly, (1.0 - ly * ly).max(0.0).sqrt());
         let up = (up + 0.25).fract() * 12.0;
-        let bright = (around as usize + up as usize) % 2 == 0;
+        let bright = (around as usize + up as usize).is_multiple_of(2);
         let shade = if bright { 0.42 + 0.62 * light } else { 0.34 * light };
         let glint = ((light - 0.93) / 0.07).max(0.0);
         dithered(shade + glint, column, row, 1)
@@ -133,7 +133,7 @@ pub fn mountains() -> Picture {
         for (peak, height) in PEAKS {
             let away = column as f64 - peak;
             let top = height - 0.8 * away.abs() + rough * away.abs().min(6.0) / 6.0;
-            if up <= top && best.map_or(true, |(b, _, _)| top > b) {
+            if up <= top && best.is_none_or(|(b, _, _)| top > b) {
                 best = Some((top, away, height));
             }
         }
@@ -189,8 +189,8 @@ pub fn boat() -> Picture {
         if column == 11 {
             return 2;
         }
-        let main = row >= 2 && row < 23 && column > 11 && x < 12.0 + (y - 1.0) * 0.48;
-        let jib = row >= 5 && row < 22 && column < 11 && x > 10.0 - (y - 4.0) * 0.52;
+        let main = (2..23).contains(&row) && column > 11 && x < 12.0 + (y - 1.0) * 0.48;
+        let jib = (5..22).contains(&row) && column < 11 && x > 10.0 - (y - 4.0) * 0.52;
         match (main, jib) {
             (true, _) => 3,
             (_, true) => 2,

@@ -7,7 +7,7 @@ pub fn text(line: &str) -> Picture {
     Picture::of(8 * line.len(), 8, |column, row| {
         let letter = line.as_bytes()[column / 8];
         let lit = |x: usize, y: usize| {
-            x < 8 && y < 8 && glyph(letter)[y].as_bytes().get(x).map_or(false, |b| *b == b'#')
+            x < 8 && y < 8 && glyph(letter)[y].as_bytes().get(x).is_some_and(|b| *b == b'#')
         };
         let x = column % 8;
         match lit(x, row) {
