@@ -3,6 +3,8 @@
 //! pictures, and conversions between the library's records and the model's.
 
 pub mod access;
+#[cfg(target_os = "linux")]
+pub mod fence;
 pub mod machine;
 #[cfg(feature = "processor")]
 pub mod program;
