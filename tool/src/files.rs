@@ -1,7 +1,7 @@
 //! Files in, and files out: all of them whole, or none.
 
 use std::fs;
-use std::io::Write;
+use std::io::{Read, Write};
 use std::path::{Path, PathBuf};
 
 use vb::grouped;
@@ -20,18 +20,18 @@ pub struct Input {
 impl Input {
     pub fn read(path: &Path) -> Result<Input, Failure> {
         let failed = |error: std::io::Error| Failure::bad(format!("{}: {error}", path.display()));
-        let about = fs::metadata(path).map_err(failed)?;
-        if about.is_dir() {
+        if path.is_dir() {
             return Err(Failure::bad(format!("{}: is a folder, not a file", path.display())));
         }
-        if about.len() > LARGEST {
-            return Err(Failure::bad(format!(
-                "{} ({} bytes): no memory of the console has more than 16,777,216 bytes",
-                path.display(),
-                grouped(about.len())
-            )));
+        let mut bytes = Vec::new();
+        let file = fs::File::open(path).map_err(failed)?;
+        file.take(LARGEST + 1).read_to_end(&mut bytes).map_err(failed)?;
+        if bytes.len() as u64 > LARGEST {
+            let least = grouped(LARGEST);
+            let rule = "no memory of the console has more than 16,777,216 bytes";
+            return Err(Failure::bad(format!("{} (over {least} bytes): {rule}", path.display())));
         }
-        Ok(Input { path: path.to_path_buf(), bytes: fs::read(path).map_err(failed)? })
+        Ok(Input { path: path.to_path_buf(), bytes })
     }
 
     /// The file, its length, and what is wrong with it.

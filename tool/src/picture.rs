@@ -91,36 +91,42 @@ impl Picture {
         let mut buffer = vec![0; reader.output_buffer_size()];
         let frame = reader.next_frame(&mut buffer).map_err(broken)?;
         let step = frame.color_type.samples();
-        let red = |x: usize, y: usize| buffer[y * frame.line_size + x * step];
+        let colour = |x: usize, y: usize| {
+            let at = y * frame.line_size + x * step;
+            let others = if step < 3 { [buffer[at]; 2] } else { [buffer[at + 1], buffer[at + 2]] };
+            [buffer[at], others[0], others[1]]
+        };
         let mut values = Vec::with_capacity(COLUMNS * ROWS);
         for y in 0..ROWS {
             for x in 0..COLUMNS {
-                values.push(pixel_of(x, y, scale, red)?);
+                values.push(pixel_of(x, y, scale, colour)?);
             }
         }
         Ok(Picture { values })
     }
 }
 
-/// The value of pixel (x, y) whose square must be of one shade.
+/// The value of pixel (x, y) whose square must be of one shade of red or grey.
 fn pixel_of(
     x: usize,
     y: usize,
     scale: usize,
-    red: impl Fn(usize, usize) -> u8,
+    colour: impl Fn(usize, usize) -> [u8; 3],
 ) -> Result<u8, String> {
-    let shade = red(scale * x, scale * y);
+    let [red, green, blue] = colour(scale * x, scale * y);
     for i in 0..scale * scale {
-        if red(scale * x + i % scale, scale * y + i / scale) != shade {
+        if colour(scale * x + i % scale, scale * y + i / scale) != [red, green, blue] {
             return Err(format!(
                 "in the PNG, pixel ({x}, {y}) is not one square of {scale} by {scale}"
             ));
         }
     }
-    match SHADES.iter().position(|&s| s == shade) {
+    let shade = SHADES.iter().position(|&shade| shade == red);
+    match shade.filter(|_| [green, blue] == [0; 2] || [green, blue] == [red; 2]) {
         Some(value) => Ok(value as u8),
         None => Err(format!(
-            "in the PNG, pixel ({x}, {y}) has red 0x{shade:02X}; it must be 00, 55, AA or FF (values 0 to 3)"
+            "in the PNG, pixel ({x}, {y}) has the colour {red:02X}{green:02X}{blue:02X}; it must be red or grey of \
+             00, 55, AA or FF (values 0 to 3)"
         )),
     }
 }
@@ -197,7 +203,13 @@ mod tests {
         assert!(wrong.starts_with("the PNG has 768 by 224 pixels"), "{wrong}");
         let grey = pattern().marked(&pattern(), 1);
         let wrong = Picture::of_png(&grey).err().unwrap();
-        assert!(wrong.contains("has red 0x2A; it must be 00, 55, AA or FF"), "{wrong}");
+        assert!(
+            wrong.contains("has the colour 2A2A2A; it must be red or grey of 00, 55, AA or FF"),
+            "{wrong}"
+        );
+        let both = pattern().anaglyph(&Picture::of_image(&[0xFF; IMAGE_LENGTH]), 1);
+        let wrong = Picture::of_png(&both).err().unwrap();
+        assert!(wrong.contains("pixel (0, 0) has the colour 00FFFF"), "{wrong}");
         assert!(Picture::of_png(&pattern().png(1)[..100])
             .err()
             .unwrap()

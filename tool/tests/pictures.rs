@@ -164,6 +164,7 @@ fn compare_refuses_other_captures() {
         ),
         ("torn.png", "in the PNG, pixel (0, 0) is not one square of 2 by 2"),
         ("cut.png", "the PNG cannot be read: "),
+        ("out/frame1-anaglyph.png", "it must be red or grey of 00, 55, AA or FF (values 0 to 3)"),
     ] {
         let ran = folder.vbmodel(&format!("compare {SCENE} --left {file} --out marks"));
         assert_eq!((ran.status, ran.text.as_str()), (2, ""), "{file}");

@@ -166,6 +166,7 @@ fn bad_files_are_told() {
     for (arguments, message) in [
         ("--rom none.rom", "none.rom: No such file or directory (os error 2)"),
         ("--rom folder", "folder: is a folder, not a file"),
+        ("--rom /dev/zero", "/dev/zero (over 67,108,864 bytes): no memory of the console has more than 16,777,216 bytes"),
         ("--rom a.rom --processor short.processor", "short.processor (171 bytes): the record has 171 bytes; it must have 172"),
         ("--rom a.rom --processor mode.processor", "mode.processor (172 bytes): the mode is 3; it must be 0 (running), 1 (halted) or 2 (fatal)"),
         ("--rom a.rom --drawing long.drawing", "long.drawing (27 bytes): the record has 27 bytes; it must have 26"),

@@ -19,7 +19,7 @@ use crate::picture::Picture;
   vbmodel why left 191 98 --vram out/vram.bin --drawing out/drawing.bin
 
 A capture is a raw frame buffer of 24,576 bytes (rows 224 to 255 are not compared), or a PNG of 384 by 224 pixels, or
-2 to 16 times that, with red 00, 55, AA or FF for the values 0 to 3. The PNG that marks the differences shows the
+2 to 16 times that, in red or grey of 00, 55, AA and FF for the values 0 to 3. The PNG that marks the differences shows the
 model's picture in grey, yellow where the capture is brighter and cyan where it is darker.
 
 Exit status: 0 equal; 1 different; 2 refused or bad input, and then nothing is written.")]
