@@ -121,7 +121,8 @@ fn every_character() {
     }
 }
 
-/// A refused lookup has length 0; where the empty part begins is free.
+/// A refused lookup has length 0, and its offset is 0 by vb.h ("Where refused,
+/// the other answers are 0").
 #[test]
 fn refused_characters() {
     for length in [0, 262_143, 262_144, 262_145, 524_288] {
@@ -137,7 +138,8 @@ fn refused_characters() {
             let model = model::character::character(&vram, number);
             assert_eq!(model.err().map_or(0, model::Refusal::number), expected);
             if expected != 0 {
-                assert_eq!(part.length, 0, "character {number}, VRAM {length}");
+                let place = (part.offset, part.length);
+                assert_eq!(place, (0, 0), "character {number}, VRAM {length}");
             }
         }
     }

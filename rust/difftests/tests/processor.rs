@@ -125,7 +125,11 @@ impl Tally {
             Ok(StepAnswer::Trapped(_)) => self.duplexed += 1,
             Ok(StepAnswer::TurnedFatal(_)) => self.fatal += 1,
             Ok(_) => {}
-            Err(_) => self.refused += 1,
+            Err(refusal) => {
+                let number = refusal.number();
+                assert_eq!(number, 6, "a step left a machine that isn't accepted: {before:X?}");
+                self.refused += 1;
+            }
         }
     }
 
