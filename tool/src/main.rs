@@ -1,4 +1,5 @@
 //! The bench's tool: runs, draws and compares the console reference model.
+#![forbid(unsafe_code)]
 
 mod assembler;
 mod commands;

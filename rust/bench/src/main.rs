@@ -4,6 +4,8 @@
 //!
 //! `cargo run --release --offline --manifest-path rust/Cargo.toml -p bench [-- bus|cpu|draw]`
 
+#![forbid(unsafe_code)]
+
 mod bus;
 mod cpu;
 mod draw;
