@@ -45,6 +45,13 @@ fn print(title: &str, unit: &str, rows: &[Row]) {
     }
 }
 
+/// What Linux calls the processor.
+fn processor() -> String {
+    let about = std::fs::read_to_string("/proc/cpuinfo").unwrap_or_default();
+    let line = about.lines().find(|line| line.starts_with("model name"));
+    line.and_then(|line| line.split_once(": ")).map_or("unknown", |(_, name)| name).to_string()
+}
+
 fn main() {
     let asked = std::env::args().nth(1).unwrap_or_else(|| "all".to_string());
     let wants = |part: &str| asked == part || asked == "all";
@@ -52,7 +59,8 @@ fn main() {
         eprintln!("usage: bench [bus|cpu|draw]");
         std::process::exit(2);
     }
-    println!("Release build; both sides on the same buffers, which are not cleared between calls; best of 7 rounds.");
+    println!("Processor: {}. Release build.", processor());
+    println!("Both sides on the same buffers, not cleared between calls; best of 7 rounds.");
     if wants("bus") {
         print("Bus: one checked call", "ns", &bus::rows());
     }

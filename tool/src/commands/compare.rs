@@ -16,7 +16,7 @@ use crate::picture::Picture;
 #[command(after_help = "Example: a picture against the model's, then the pixel that differs
   vbmodel demo
   vbmodel compare --vram out/vram.bin --drawing out/drawing.bin --frame 1 --left out/frame0-left.png
-  vbmodel why left 191 98 --vram out/vram.bin --drawing out/drawing.bin
+  vbmodel why left 220 40 --vram out/vram.bin --drawing out/drawing.bin
 
 A capture is a raw frame buffer of 24,576 bytes (rows 224 to 255 are not compared), or a PNG of 384 by 224 pixels, or
 2 to 16 times that, in red or grey of 00, 55, AA and FF for the values 0 to 3. The PNG that marks the differences shows the
