@@ -89,18 +89,8 @@ impl Place<'_> {
                 let value = self.value(value)?;
                 self.symbols.insert(name.to_string(), value);
             }
-            ("half", values) => {
-                for value in values {
-                    let value = within(self.value(value)?, -0x8000, 0xFFFF)?;
-                    self.bytes.extend_from_slice(&(value as u16).to_le_bytes());
-                }
-            }
-            ("word", values) => {
-                for value in values {
-                    let value = within(self.value(value)?, -0x8000_0000, 0xFFFF_FFFF)?;
-                    self.bytes.extend_from_slice(&(value as u32).to_le_bytes());
-                }
-            }
+            ("half", values) => self.numbers(values, 2, -0x8000, 0xFFFF)?,
+            ("word", values) => self.numbers(values, 4, -0x8000_0000, 0xFFFF_FFFF)?,
             ("space", [count]) => {
                 let count = within(self.value(count)?, 0, 0x100_0000)?;
                 self.bytes.resize(self.bytes.len() + count as usize, 0);
@@ -122,6 +112,21 @@ impl Place<'_> {
             _ => {
                 return Err(format!("`.{directive}` with {} operands is not known", operands.len()))
             }
+        }
+        Ok(())
+    }
+
+    /// Numbers of `length` bytes each, lowest byte first.
+    fn numbers(
+        &mut self,
+        values: &[&str],
+        length: usize,
+        low: i64,
+        high: i64,
+    ) -> Result<(), String> {
+        for value in values {
+            let value = within(self.value(value)?, low, high)?;
+            self.bytes.extend_from_slice(&value.to_le_bytes()[..length]);
         }
         Ok(())
     }

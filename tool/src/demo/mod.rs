@@ -9,49 +9,49 @@ use characters::{Characters, Picture};
 
 /// The ROM image of the demo. It is run from reset and halts for each frame.
 pub fn rom() -> Result<Vec<u8>, String> {
-    let mut characters = Characters::default();
-    characters.add(&Picture::of(8, 8, |_, _| 0));
-    let first_star = characters.add(&art::stars());
-    let first_plank = characters.add(&art::planks());
-    let first_ball = characters.add(&art::ball(-20.0, 0.0));
-    characters.add(&art::ball(20.0, 0.0));
-    characters.add(&art::ball(-20.0, 0.03));
-    characters.add(&art::ball(20.0, 0.03));
-    let first_shadow = characters.add(&art::shadow());
-    let first_boat = characters.add(&art::boat());
-    let first_wing = characters.add(&art::wing());
-    let first_post = characters.add(&art::post());
-    characters.add(&art::lamp());
-    let moon = characters.cells(&art::moon());
-    let sea = characters.cells(&art::sea(372.0));
-    let range = characters.cells(&art::mountains());
-    let title = characters.cells(&letters::text("STUVELGRANA"));
-    let subtitle = characters.cells(&letters::text("REFERENCE MODEL"));
-    let mut header = b"STUVELGRANA DEMO    ".to_vec();
-    header.resize(32, 0);
+    let (symbols, named) = art();
+    let bytes: Vec<(&str, &[u8])> =
+        named.iter().map(|(name, bytes)| (*name, bytes.as_slice())).collect();
     assemble(&Source {
         text: include_str!("demo.s"),
         origin: 0x0700_0000,
-        symbols: &[
-            ("first_star", i64::from(first_star)),
-            ("first_plank", i64::from(first_plank)),
-            ("first_ball", i64::from(first_ball)),
-            ("first_shadow", i64::from(first_shadow)),
-            ("first_boat", i64::from(first_boat)),
-            ("first_wing", i64::from(first_wing)),
-            ("first_post", i64::from(first_post)),
-        ],
-        bytes: &[
-            ("characters", &characters.bytes()),
-            ("wave", &art::wave()),
-            ("moon", &moon),
-            ("sea", &sea),
-            ("range", &range),
-            ("title", &title),
-            ("subtitle", &subtitle),
-            ("header", &header),
-        ],
+        symbols: &symbols,
+        bytes: &bytes,
     })
+}
+
+/// The numbers of the first character of each object picture, and the bytes that the program copies.
+#[allow(clippy::type_complexity)]
+fn art() -> (Vec<(&'static str, i64)>, Vec<(&'static str, Vec<u8>)>) {
+    let mut characters = Characters::default();
+    characters.add(&Picture::of(8, 8, |_, _| 0));
+    let mut first = |name: &'static str, pictures: &[Picture]| {
+        let numbers: Vec<u16> = pictures.iter().map(|picture| characters.add(picture)).collect();
+        (name, i64::from(numbers[0]))
+    };
+    let balls = [(-20.0, 0.0), (20.0, 0.0), (-20.0, 0.03), (20.0, 0.03)];
+    let symbols = vec![
+        first("first_star", &[art::stars()]),
+        first("first_plank", &[art::planks()]),
+        first("first_ball", &balls.map(|(eye, turn)| art::ball(eye, turn))),
+        first("first_shadow", &[art::shadow()]),
+        first("first_boat", &[art::boat()]),
+        first("first_wing", &[art::wing()]),
+        first("first_post", &[art::post(), art::lamp()]),
+    ];
+    let mut header = b"STUVELGRANA DEMO    ".to_vec();
+    header.resize(32, 0);
+    let mut bytes = vec![
+        ("header", header),
+        ("wave", art::wave()),
+        ("moon", characters.cells(&art::moon())),
+        ("sea", characters.cells(&art::sea(372.0))),
+        ("range", characters.cells(&art::mountains())),
+        ("title", characters.cells(&letters::text("STUVELGRANA"))),
+        ("subtitle", characters.cells(&letters::text("REFERENCE MODEL"))),
+    ];
+    bytes.push(("characters", characters.bytes()));
+    (symbols, bytes)
 }
 
 #[cfg(test)]
