@@ -16,6 +16,11 @@ use crate::json::object;
 /// More instructions than a frame of the demo takes.
 const BUDGET: u64 = 5_000_000;
 
+/// The files of memories and records.
+const NAMES: [&str; 5] = ["rom.bin", "wram.bin", "vram.bin", "processor.bin", "drawing.bin"];
+const WOKEN: &str =
+    "  between them the tool sets the halted processor running: no interrupt is modelled";
+
 #[derive(Args)]
 #[command(after_help = "Example: the pictures in a folder of your choice, three times as large
   vbmodel demo --out pictures --scale 3
@@ -52,18 +57,9 @@ pub fn run(options: &Options) -> Result<Report, Failure> {
             machine.processor.pc - 2
         ));
     }
-    lines.push(
-        "  between them the tool sets the halted processor running: no interrupt is modelled"
-            .into(),
-    );
-    let records = [
-        ("rom.bin", rom),
-        ("wram.bin", wram),
-        ("vram.bin", vram),
-        ("processor.bin", machine.processor.to_bytes()),
-        ("drawing.bin", machine.drawing.to_bytes()),
-    ];
-    for (name, bytes) in records {
+    lines.push(WOKEN.to_string());
+    let (processor, drawing) = (machine.processor.to_bytes(), machine.drawing.to_bytes());
+    for (name, bytes) in NAMES.into_iter().zip([rom, wram, vram, processor, drawing]) {
         outputs.add(options.out.join(name), bytes);
     }
     outputs.write()?;
