@@ -16,7 +16,7 @@ use crate::json::{number, object, text, Json};
   vbmodel why left 192 120 --vram out/vram.bin --drawing out/drawing.bin
 
 The answer is computed by the independent model, which shares no code with the proved library; the library's own value
-of the pixel is printed beside it. Frames 0 and 1 have the same pixels, so no frame is named.
+of the pixel is printed beside it. One memory gives frames 0 and 1 the same pixels, so no frame is named.
 Exit status: 0 answered; 2 refused or bad input.")]
 pub struct Options {
     /// Which eye's picture
