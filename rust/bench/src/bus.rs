@@ -1,0 +1,77 @@
+//! A checked word load and store, 1,024 calls at a time over changing addresses.
+
+use std::hint::black_box;
+
+use crate::{least, Row};
+
+const CALLS: u32 = 1024;
+
+struct Buffers {
+    rom: Vec<u8>,
+    wram: Vec<u8>,
+    vram: Vec<u8>,
+}
+
+pub fn rows() -> Vec<Row> {
+    let mut lent = Buffers { rom: vec![0; 1 << 20], wram: vec![0; 65_536], vram: vec![0; 262_144] };
+    vec![
+        load("word load from WRAM", 0x0500_0000, &lent),
+        load("word load from a ROM of 1 MiB", 0x0700_0000, &lent),
+        store("word store to WRAM", 0x0500_0000, &mut lent),
+        store("word store to VRAM", 0x0002_0000, &mut lent),
+    ]
+}
+
+/// An address of 64 KiB from `base` on; neighbours lie far apart.
+fn address(base: u32, call: u32) -> u32 {
+    base + call.wrapping_mul(0x9E4C) % 0x1_0000
+}
+
+fn load(what: &str, base: u32, lent: &Buffers) -> Row {
+    let Buffers { rom, wram, vram } = lent;
+    let library = vbsys::ReadMemories { rom, wram, vram, pak: &[] };
+    let model = model::ReadMemories { rom, wram, vram, pak: &[] };
+    let (first, second) = (vbsys::Drawing::default(), model::DrawingRegisters::default());
+    Row {
+        what: what.to_string(),
+        library: least(|| {
+            for call in 0..CALLS {
+                black_box(vbsys::load_word(library, first, black_box(address(base, call))));
+            }
+            u64::from(CALLS)
+        }),
+        model: least(|| {
+            for call in 0..CALLS {
+                let _ = black_box(model::bus::load_word(
+                    &model,
+                    &second,
+                    black_box(address(base, call)),
+                ));
+            }
+            u64::from(CALLS)
+        }),
+    }
+}
+
+fn store(what: &str, base: u32, lent: &mut Buffers) -> Row {
+    let Buffers { rom, wram, vram } = lent;
+    let first = vbsys::Drawing::default();
+    let mut second = model::DrawingRegisters::default();
+    let library = least(|| {
+        let mut memories = vbsys::Memories { rom, wram, vram, pak: &mut [] };
+        for call in 0..CALLS {
+            let at = black_box(address(base, call));
+            black_box(vbsys::store_word(&mut memories, first, at, call));
+        }
+        u64::from(CALLS)
+    });
+    let model = least(|| {
+        let mut memories = model::Memories { rom, wram, vram, pak: &mut [] };
+        for call in 0..CALLS {
+            let at = black_box(address(base, call));
+            let _ = black_box(model::bus::store_word(&mut memories, &mut second, at, call));
+        }
+        u64::from(CALLS)
+    });
+    Row { what: what.to_string(), library, model }
+}

@@ -1,0 +1,73 @@
+//! Times the library, through its C interface, beside the independent model:
+//! the same input, the same buffers, which are not cleared between calls. A
+//! figure is the best of several rounds.
+//!
+//! `cargo run --release --offline --manifest-path rust/Cargo.toml -p bench [-- bus|cpu|draw]`
+
+#![forbid(unsafe_code)]
+
+mod bus;
+mod cpu;
+mod draw;
+
+use std::time::{Duration, Instant};
+
+/// A row of the table: what was timed, then the library's and the model's figure.
+pub struct Row {
+    pub what: String,
+    pub library: f64,
+    pub model: f64,
+}
+
+/// The least time of a unit, in nanoseconds: `work` does some units and gives their number.
+pub fn least(mut work: impl FnMut() -> u64) -> f64 {
+    const ROUNDS: u32 = 7;
+    const LENGTH: Duration = Duration::from_millis(60);
+    work();
+    let mut best = f64::INFINITY;
+    for _ in 0..ROUNDS {
+        let begun = Instant::now();
+        let mut units = 0;
+        while units == 0 || begun.elapsed() < LENGTH {
+            units += work();
+        }
+        best = best.min(begun.elapsed().as_nanos() as f64 / units as f64);
+    }
+    best
+}
+
+fn print(title: &str, unit: &str, rows: &[Row]) {
+    println!("\n{title}\n");
+    println!("| | library, {unit} | independent model, {unit} |");
+    println!("|---|---:|---:|");
+    for Row { what, library, model } in rows {
+        println!("| {what} | {library:.1} | {model:.1} |");
+    }
+}
+
+/// What Linux calls the processor.
+fn processor() -> String {
+    let about = std::fs::read_to_string("/proc/cpuinfo").unwrap_or_default();
+    let line = about.lines().find(|line| line.starts_with("model name"));
+    line.and_then(|line| line.split_once(": ")).map_or("unknown", |(_, name)| name).to_string()
+}
+
+fn main() {
+    let asked = std::env::args().nth(1).unwrap_or_else(|| "all".to_string());
+    let wants = |part: &str| asked == part || asked == "all";
+    if !["all", "bus", "cpu", "draw"].contains(&asked.as_str()) {
+        eprintln!("usage: bench [bus|cpu|draw]");
+        std::process::exit(2);
+    }
+    println!("Processor: {}. Release build.", processor());
+    println!("Both sides on the same buffers, not cleared between calls; best of 7 rounds.");
+    if wants("bus") {
+        print("Bus: one checked call", "ns", &bus::rows());
+    }
+    if wants("cpu") {
+        print("Processor: one run", "million instructions a second", &cpu::rows());
+    }
+    if wants("draw") {
+        print("Drawing: one frame, both eyes", "µs", &draw::rows());
+    }
+}

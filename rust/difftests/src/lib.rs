@@ -1,0 +1,15 @@
+//! What the differential tests share: a generator of random numbers, machines
+//! held twice, bus accesses and steps made on both, random programs and
+//! pictures, and conversions between the library's records and the model's.
+
+pub mod access;
+#[cfg(target_os = "linux")]
+pub mod fence;
+pub mod machine;
+#[cfg(feature = "processor")]
+pub mod program;
+pub mod random;
+#[cfg(feature = "drawing")]
+pub mod scene;
+#[cfg(feature = "processor")]
+pub mod twin;

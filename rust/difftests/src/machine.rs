@@ -1,0 +1,117 @@
+//! A machine held twice, once for the library and once for the model, and the
+//! comparison of all that either could have changed.
+
+use crate::random::Random;
+
+/// Lent memories. Each vector is allocated at exactly the length it lends.
+#[derive(Clone, Debug, PartialEq, Eq)]
+pub struct Buffers {
+    pub rom: Box<[u8]>,
+    pub wram: Box<[u8]>,
+    pub vram: Box<[u8]>,
+    pub pak: Box<[u8]>,
+}
+
+impl Buffers {
+    pub fn zeroed(rom: usize, wram: usize, vram: usize, pak: usize) -> Buffers {
+        let room = |length: usize| vec![0u8; length].into_boxed_slice();
+        Buffers { rom: room(rom), wram: room(wram), vram: room(vram), pak: room(pak) }
+    }
+
+    /// Memories of accepted lengths with random contents.
+    pub fn random(random: &mut Random, rom: usize, pak: usize) -> Buffers {
+        let mut buffers = Buffers::zeroed(rom, 65_536, 262_144, pak);
+        random.fill(&mut buffers.rom);
+        random.fill(&mut buffers.wram);
+        random.fill(&mut buffers.vram);
+        random.fill(&mut buffers.pak);
+        buffers
+    }
+
+    pub fn lend_library(&mut self) -> vbsys::Memories<'_> {
+        vbsys::Memories {
+            rom: &self.rom,
+            wram: &mut self.wram,
+            vram: &mut self.vram,
+            pak: &mut self.pak,
+        }
+    }
+
+    pub fn lend_library_to_read(&self) -> vbsys::ReadMemories<'_> {
+        vbsys::ReadMemories { rom: &self.rom, wram: &self.wram, vram: &self.vram, pak: &self.pak }
+    }
+
+    pub fn lend_model(&mut self) -> model::Memories<'_> {
+        model::Memories {
+            rom: &self.rom,
+            wram: &mut self.wram,
+            vram: &mut self.vram,
+            pak: &mut self.pak,
+        }
+    }
+
+    pub fn lend_model_to_read(&self) -> model::ReadMemories<'_> {
+        model::ReadMemories { rom: &self.rom, wram: &self.wram, vram: &self.vram, pak: &self.pak }
+    }
+
+    /// Stops the test at the first byte of any memory that differs.
+    pub fn expect_equal(&self, model: &Buffers, what: &dyn Fn() -> String) {
+        expect_same_bytes("ROM", &self.rom, &model.rom, what);
+        expect_same_bytes("WRAM", &self.wram, &model.wram, what);
+        expect_same_bytes("VRAM", &self.vram, &model.vram, what);
+        expect_same_bytes("pak RAM", &self.pak, &model.pak, what);
+    }
+}
+
+/// Stops the test at the first byte that differs.
+pub fn expect_same_bytes(name: &str, library: &[u8], model: &[u8], what: &dyn Fn() -> String) {
+    if library == model {
+        return;
+    }
+    assert_eq!(library.len(), model.len());
+    let differ = |at: &usize| library[*at] != model[*at];
+    let at = (0..library.len()).find(differ).expect("some byte differs");
+    let count = (0..library.len()).filter(differ).count();
+    panic!(
+        "{name}: {count} bytes differ, the first at 0x{at:X}: the library has 0x{:02X}, \
+         the model 0x{:02X}; {}",
+        library[at],
+        model[at],
+        what()
+    );
+}
+
+/// The drawing registers as the library has them.
+pub fn to_library(drawing: &model::DrawingRegisters) -> vbsys::Drawing {
+    vbsys::Drawing {
+        spt: drawing.spt,
+        gplt: drawing.gplt,
+        jplt: drawing.jplt,
+        bkcol: drawing.bkcol,
+    }
+}
+
+/// The drawing registers as the model has them.
+pub fn to_model(drawing: &vbsys::Drawing) -> model::DrawingRegisters {
+    model::DrawingRegisters {
+        spt: drawing.spt,
+        gplt: drawing.gplt,
+        jplt: drawing.jplt,
+        bkcol: drawing.bkcol,
+    }
+}
+
+/// Random registers within their widths.
+pub fn random_drawing(random: &mut Random) -> model::DrawingRegisters {
+    model::DrawingRegisters {
+        spt: [0; 4].map(|_: u16| random.half() & 0x3FF),
+        gplt: [0; 4].map(|_: u16| random.half() & 0xFF),
+        jplt: [0; 4].map(|_: u16| random.half() & 0xFF),
+        bkcol: random.half() & 3,
+    }
+}
+
+/// The number a refusal has at the C boundary; 0 for none.
+pub fn number_of<T>(answer: &Result<T, model::Refusal>) -> u32 {
+    answer.as_ref().err().map_or(0, |refusal| refusal.number())
+}

@@ -1,0 +1,181 @@
+//! The library touches no byte outside what it is lent, and writes no ROM: the
+//! buffers lie between pages that may not be touched, at exactly their length.
+
+#![cfg(target_os = "linux")]
+
+use difftests::access::{biased_address, biased_value};
+use difftests::fence::{Fenced, Side};
+use difftests::machine::{random_drawing, to_library, to_model, Buffers};
+use difftests::random::Random;
+use model::{bus, DrawingRegisters, Memories, ReadMemories, Refusal};
+
+/// Four fenced memories; ROM may not be written.
+struct Lent {
+    rom: Fenced,
+    wram: Fenced,
+    vram: Fenced,
+    pak: Fenced,
+}
+
+impl Lent {
+    fn new(buffers: &Buffers, side: Side) -> Lent {
+        let mut rom = Fenced::new(&buffers.rom, side);
+        rom.forbid_writing();
+        Lent {
+            rom,
+            wram: Fenced::new(&buffers.wram, side),
+            vram: Fenced::new(&buffers.vram, side),
+            pak: Fenced::new(&buffers.pak, side),
+        }
+    }
+
+    fn read(&self) -> vbsys::ReadMemories<'_> {
+        vbsys::ReadMemories {
+            rom: self.rom.bytes(),
+            wram: self.wram.bytes(),
+            vram: self.vram.bytes(),
+            pak: self.pak.bytes(),
+        }
+    }
+
+    fn write(&mut self) -> vbsys::Memories<'_> {
+        vbsys::Memories {
+            rom: self.rom.bytes(),
+            wram: self.wram.bytes_mut(),
+            vram: self.vram.bytes_mut(),
+            pak: self.pak.bytes_mut(),
+        }
+    }
+
+    fn expect_equal(&self, model: &Buffers) {
+        assert!(self.rom.bytes() == &*model.rom, "ROM differs");
+        assert!(self.wram.bytes() == &*model.wram, "WRAM differs");
+        assert!(self.vram.bytes() == &*model.vram, "VRAM differs");
+        assert!(self.pak.bytes() == &*model.pak, "pak RAM differs");
+    }
+}
+
+const LENGTHS: [(usize, usize); 5] =
+    [(1_024, 0), (1_024, 1), (2_048, 2), (1_024, 4), (4_096, 8_192)];
+
+type Load = fn(vbsys::ReadMemories, vbsys::Drawing, u32) -> vbsys::Loaded;
+type ModelLoad = fn(&ReadMemories, &DrawingRegisters, u32) -> Result<u32, Refusal>;
+type Store = fn(&mut vbsys::Memories, vbsys::Drawing, u32, u32) -> vbsys::Stored;
+type ModelStore = fn(&mut Memories, &mut DrawingRegisters, u32, u32) -> Result<(), Refusal>;
+
+/// The calls of each width, the library's beside the model's.
+const WIDTHS: [(Load, ModelLoad, Store, ModelStore); 3] = [
+    (vbsys::load_byte, bus::load_byte, vbsys::store_byte, bus::store_byte),
+    (vbsys::load_half, bus::load_half, vbsys::store_half, bus::store_half),
+    (vbsys::load_word, bus::load_word, vbsys::store_word, bus::store_word),
+];
+
+#[test]
+fn loads_and_stores() {
+    let mut random = Random::new(0xFE_0001);
+    for side in [Side::Start, Side::End] {
+        for (rom, pak) in LENGTHS {
+            let mut model = Buffers::random(&mut random, rom, pak);
+            let mut lent = Lent::new(&model, side);
+            let mut drawing = random_drawing(&mut random);
+            for _ in 0..20_000 {
+                let address = biased_address(&mut random, rom, pak);
+                let value = biased_value(&mut random);
+                let registers = to_library(&drawing);
+                let (load, model_load, store, model_store) = random.pick(&WIDTHS);
+                if random.one_in(2) {
+                    let loaded = load(lent.read(), registers, address);
+                    let expected = model_load(&model.lend_model_to_read(), &drawing, address);
+                    assert_eq!(Ok(loaded.value), expected);
+                } else {
+                    let stored = store(&mut lent.write(), registers, address, value);
+                    model_store(&mut model.lend_model(), &mut drawing, address, value).unwrap();
+                    assert_eq!(to_model(&stored.drawing), drawing);
+                }
+            }
+            lent.expect_equal(&model);
+        }
+    }
+}
+
+/// Refused calls look at no byte either.
+#[test]
+fn refused_lengths() {
+    let good = [1_024usize, 65_536, 262_144, 4];
+    let bad: [&[usize]; 4] = [
+        &[0, 1, 512, 1_023, 1_025, 4_095],
+        &[0, 1, 65_535, 65_537],
+        &[0, 1, 262_143, 262_145],
+        &[3, 5, 4_095, 4_097],
+    ];
+    let registers = vbsys::Drawing::default();
+    for side in [Side::Start, Side::End] {
+        for subject in 0..4 {
+            for &length in bad[subject] {
+                let mut lengths = good;
+                lengths[subject] = length;
+                let [rom, wram, vram, pak] = lengths;
+                let mut lent = Lent::new(&Buffers::zeroed(rom, wram, vram, pak), side);
+                for region in 0..8 {
+                    let address = region << 24 | 0xFF_FFFC;
+                    let loaded = vbsys::load_word(lent.read(), registers, address);
+                    let stored = vbsys::store_word(&mut lent.write(), registers, address, 1);
+                    let number = subject as u32 + 1;
+                    assert_eq!((loaded.refusal, stored.refusal), (number, number));
+                }
+            }
+        }
+    }
+}
+
+#[cfg(feature = "processor")]
+#[test]
+fn runs() {
+    use difftests::program::load_program;
+    use difftests::twin::{processor_to_library, Twin};
+    let mut random = Random::new(0xFE_0002);
+    for side in [Side::Start, Side::End] {
+        for (rom, pak) in LENGTHS {
+            for _ in 0..60 {
+                let buffers = Buffers::random(&mut random, rom, pak);
+                let drawing = random_drawing(&mut random);
+                let mut twin = Twin::new(buffers, Default::default(), drawing);
+                load_program(&mut random, &mut twin, 150);
+                let mut lent = Lent::new(&twin.model, side);
+                let processor = processor_to_library(&twin.processor);
+                let registers = to_library(&twin.drawing);
+                let ran = vbsys::run(&mut lent.write(), processor, registers, 500);
+                let expected = twin.run(500, &|| "a run between fences".into());
+                assert_eq!(
+                    (ran.count, ran.processor),
+                    (expected.count, processor_to_library(&twin.processor))
+                );
+                lent.expect_equal(&twin.model);
+            }
+        }
+    }
+}
+
+#[cfg(feature = "drawing")]
+#[test]
+fn drawings() {
+    use difftests::scene::{crowded, draw_by_library, draw_by_model, Draw};
+    let mut random = Random::new(0xFE_0003);
+    for side in [Side::Start, Side::End] {
+        for _ in 0..40 {
+            let mut scene = crowded(&mut random, 12);
+            let mut lent = Fenced::new(&scene.vram, side);
+            let draw = if random.one_in(2) {
+                Draw::Frame { frame: random.below(2) }
+            } else {
+                Draw::Strip { frame: random.below(2), strip: random.below(28) }
+            };
+            assert_eq!(draw_by_library(draw, lent.bytes_mut(), &scene.drawing), 0);
+            assert_eq!(draw_by_model(draw, &mut scene.vram, &scene.drawing), 0);
+            assert!(lent.bytes() == &*scene.vram, "{draw:?}");
+            for number in [0, 511, 512, 2_047, 2_048] {
+                vbsys::character(lent.bytes(), number);
+            }
+        }
+    }
+}

@@ -1,0 +1,31 @@
+//! An independent model of the console, written from the papers alone.
+//!
+//! It shares no code and no definition with the proved library; the
+//! differential tests hold the two against each other. Signed quantities are
+//! signed integers, and each formula stands as the paper prints it.
+//!
+//! "01" is the build specification, "000" the Scroll, "001" the measurements,
+//! and R1 to R8 are the rulings on the places where they differ
+//! (docs/DECISIONS.md).
+//!
+//! Three layers: [`bus`], [`processor`] over it, and [`drawing`] over lent VRAM.
+//! [`answers`] explains a drawn pixel.
+
+pub mod answers;
+pub mod arithmetic;
+pub mod background;
+pub mod bus;
+pub mod character;
+pub mod drawing;
+pub mod exception;
+pub mod instruction;
+pub mod number;
+pub mod object;
+pub mod processor;
+pub mod refusal;
+pub mod world;
+
+pub use bus::{DrawingRegisters, Memories, ReadMemories};
+pub use exception::Cause;
+pub use processor::{Mode, Processor, Ran, StepAnswer};
+pub use refusal::Refusal;

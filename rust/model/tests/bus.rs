@@ -1,0 +1,149 @@
+//! 01's worked rows about the bus, and facts of 000's memory map.
+
+use model::bus::{
+    load_byte, load_half, load_word, place_of, store_byte, store_half, store_word, Place,
+};
+use model::{DrawingRegisters, Memories, ReadMemories};
+
+struct Machine {
+    rom: Vec<u8>,
+    wram: Vec<u8>,
+    vram: Vec<u8>,
+    pak: Vec<u8>,
+    drawing: DrawingRegisters,
+}
+
+impl Machine {
+    fn new(rom: usize, pak: usize) -> Machine {
+        Machine {
+            rom: vec![0; rom],
+            wram: vec![0; 65_536],
+            vram: vec![0; 262_144],
+            pak: vec![0; pak],
+            drawing: DrawingRegisters::default(),
+        }
+    }
+
+    fn read(&self) -> ReadMemories<'_> {
+        ReadMemories { rom: &self.rom, wram: &self.wram, vram: &self.vram, pak: &self.pak }
+    }
+
+    fn byte(&self, address: u32) -> u32 {
+        load_byte(&self.read(), &self.drawing, address).unwrap()
+    }
+
+    fn half(&self, address: u32) -> u32 {
+        load_half(&self.read(), &self.drawing, address).unwrap()
+    }
+
+    fn word(&self, address: u32) -> u32 {
+        load_word(&self.read(), &self.drawing, address).unwrap()
+    }
+
+    fn store(&mut self, bytes: u32, address: u32, value: u32) {
+        let mut memories = Memories {
+            rom: &self.rom,
+            wram: &mut self.wram,
+            vram: &mut self.vram,
+            pak: &mut self.pak,
+        };
+        let call = match bytes {
+            1 => store_byte,
+            2 => store_half,
+            _ => store_word,
+        };
+        call(&mut memories, &mut self.drawing, address, value).unwrap();
+    }
+}
+
+#[test]
+fn rows_of_the_worked_table() {
+    assert_eq!(place_of(0xFFFF_FFF0, 1_024, 0), Place::Rom(0x3F0));
+    assert_eq!(place_of(0x0501_2345, 1_024, 0), Place::Wram(0x2345));
+    assert_eq!(place_of(0x000F_A010, 1_024, 0), Place::Vram(0xE010));
+}
+
+#[test]
+fn a_halfword_at_an_odd_address_is_the_one_before() {
+    let mut machine = Machine::new(1_024, 0);
+    machine.store(2, 0x0500_0001, 0xABCD);
+    assert_eq!(machine.wram[..3], [0xCD, 0xAB, 0]);
+    assert_eq!(machine.half(0x0500_0001), 0xABCD);
+    assert_eq!(machine.word(0x0500_0003), 0xABCD);
+}
+
+#[test]
+fn character_tables_and_their_mirrors() {
+    for (mirror, table) in [
+        (0x78000, 0x6000),
+        (0x79FFF, 0x7FFF),
+        (0x7A000, 0xE000),
+        (0x7BFFF, 0xFFFF),
+        (0x7C000, 0x16000),
+        (0x7DFFF, 0x17FFF),
+        (0x7E000, 0x1E000),
+        (0x7FFFF, 0x1FFFF),
+        (0x00F8_0000 + 0x7E000, 0x1E000),
+    ] {
+        assert_eq!(place_of(mirror, 1_024, 0), Place::Vram(table), "{mirror:X}");
+    }
+    assert_eq!(place_of(0x77FFF, 1_024, 0), Place::Unmapped);
+}
+
+#[test]
+fn unmapped_ranges_and_regions() {
+    for address in [0x40000, 0x5DFFF, 0x60000, 0x77FFF, 0x8005_DFFE] {
+        assert_eq!(place_of(address, 1_024, 0), Place::Unmapped, "{address:X}");
+    }
+    for address in [0x0100_0000, 0x0200_0000, 0x0300_0000, 0x0400_0000, 0xF4FF_FFFF] {
+        assert_eq!(place_of(address, 1_024, 0), Place::Absent, "{address:X}");
+    }
+}
+
+#[test]
+fn registers_keep_their_widths() {
+    let mut machine = Machine::new(1_024, 0);
+    for address in (0x5E000..0x60000).step_by(2) {
+        machine.store(2, address, 0xFFFF);
+    }
+    let full = DrawingRegisters { spt: [0x3FF; 4], gplt: [0xFF; 4], jplt: [0xFF; 4], bkcol: 3 };
+    assert_eq!(machine.drawing, full);
+    assert!(machine.drawing.within_widths());
+    assert_eq!(machine.half(0x5F844), 2);
+    assert_eq!(machine.half(0x5F802), 0);
+    assert_eq!(machine.word(0x5F848), 0x03FF_03FF);
+    assert_eq!(machine.byte(0x5F849), 3);
+}
+
+#[test]
+fn a_byte_write_to_a_register_takes_sixteen_bits_of_the_source() {
+    let mut machine = Machine::new(1_024, 0);
+    machine.store(1, 0x5F84A, 0xFFFF_FE56);
+    assert_eq!(machine.drawing.spt[1], 0x256);
+    machine.store(1, 0x5F84D, 0x0000_0123);
+    assert_eq!(machine.drawing.spt[2], 0x123);
+    machine.store(4, 0x00D5_F84C, 0x0001_0002);
+    assert_eq!(machine.drawing.spt[2..], [2, 1]);
+}
+
+#[test]
+fn pak_ram_of_one_and_two_bytes() {
+    let mut machine = Machine::new(1_024, 1);
+    machine.store(4, 0x0600_0000, 0x4433_2211);
+    assert_eq!(machine.pak, [0x44]);
+    assert_eq!(machine.word(0x06AB_CDEC), 0x4444_4444);
+    let mut machine = Machine::new(1_024, 2);
+    machine.store(4, 0x0600_0000, 0x4433_2211);
+    assert_eq!(machine.pak, [0x33, 0x44]);
+    assert_eq!(machine.byte(0x0600_0003), 0x44);
+    let mut machine = Machine::new(1_024, 0);
+    machine.store(4, 0x0600_0000, 0x4433_2211);
+    assert_eq!(machine.word(0x0600_0000), 0);
+}
+
+#[test]
+fn rom_is_read_only() {
+    let mut machine = Machine::new(1_024, 0);
+    machine.store(4, 0x0700_0000, 0xFFFF_FFFF);
+    assert_eq!(machine.word(0x0700_0000), 0);
+}

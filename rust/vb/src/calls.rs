@@ -1,0 +1,262 @@
+//! The calls of the library. The library decides; a refusal's number is told with what the caller gave.
+
+use vbsys::{Memories, ReadMemories};
+
+use crate::records::{Drawing, Machine, Mode, Processor};
+use crate::refusal::{fault, Refusal};
+
+/// What a step did.
+#[derive(Clone, Copy, Debug, PartialEq, Eq)]
+pub enum Answer {
+    /// An instruction ended, HALT among them.
+    Ended,
+    /// It raised an exception, and its handler is next.
+    Trapped(Cause),
+    /// It raised one with NP set.
+    TurnedFatal(Cause),
+    /// Nothing was done.
+    WasHalted,
+    /// Nothing was done.
+    WasFatal,
+}
+
+/// Why an instruction raised an exception.
+#[derive(Clone, Copy, Debug, PartialEq, Eq)]
+pub enum Cause {
+    ZeroDivisor,
+    Illegal,
+    /// TRAP with its vector, 0 to 31.
+    Trap(u8),
+}
+
+impl Cause {
+    /// The exception's code.
+    pub fn code(self) -> u32 {
+        match self {
+            Cause::ZeroDivisor => 0xFF80,
+            Cause::Illegal => 0xFF90,
+            Cause::Trap(vector) => 0xFFA0 + u32::from(vector),
+        }
+    }
+
+    fn of(code: u32) -> Cause {
+        match code {
+            0xFF80 => Cause::ZeroDivisor,
+            0xFF90 => Cause::Illegal,
+            0xFFA0..=0xFFBF => Cause::Trap((code - 0xFFA0) as u8),
+            _ => unreachable!("no exception has the code 0x{code:X}"),
+        }
+    }
+}
+
+/// What a run did.
+#[derive(Clone, Debug, PartialEq, Eq)]
+pub struct Ran {
+    /// How many instructions ended.
+    pub count: u64,
+    pub stop: Stop,
+}
+
+/// Why a run ended.
+#[derive(Clone, Debug, PartialEq, Eq)]
+pub enum Stop {
+    /// The budget is used up, and the machine could go on.
+    Budget,
+    Halted,
+    Fatal,
+    /// The next instruction is not modelled (refusal 6): records and memories are as after the counted ones.
+    NotModelled(Refusal),
+}
+
+/// What a call was given, to tell a refusal's number by.
+struct Given<'a> {
+    /// ROM, WRAM, VRAM, pak RAM.
+    lengths: [usize; 4],
+    processor: Option<&'a Processor>,
+    drawing: &'a Drawing,
+}
+
+impl Given<'_> {
+    /// `own` is the refusal of the call's own subject: 6, 7 or 8.
+    fn refusal(&self, number: u32, own: &[Refusal]) -> Refusal {
+        let [rom, wram, vram, pak] = self.lengths;
+        let told = match number {
+            1 => Some(Refusal::RomLength { given: rom }),
+            2 => Some(Refusal::WramLength { given: wram }),
+            3 => Some(Refusal::VramLength { given: vram }),
+            4 => Some(Refusal::PakLength { given: pak }),
+            5 => fault(self.processor, self.drawing),
+            _ => own.iter().find(|refusal| refusal.number() == number).cloned(),
+        };
+        told.unwrap_or_else(|| unreachable!("the call has no refusal {number}"))
+    }
+}
+
+fn lengths(memories: &Memories) -> [usize; 4] {
+    [memories.rom.len(), memories.wram.len(), memories.vram.len(), memories.pak.len()]
+}
+
+impl Machine {
+    /// The state after reset; no memory is touched.
+    pub fn reset() -> Machine {
+        let machine = vbsys::reset();
+        Machine { processor: (&machine.processor).into(), drawing: (&machine.drawing).into() }
+    }
+
+    /// The byte at an address.
+    pub fn load_byte(&self, memories: &ReadMemories, address: u32) -> Result<u8, Refusal> {
+        let loaded = vbsys::load_byte(*memories, (&self.drawing).into(), address);
+        self.loaded(memories, loaded).map(|value| value as u8)
+    }
+
+    /// The halfword at an address, whose bit 0 is dropped.
+    pub fn load_half(&self, memories: &ReadMemories, address: u32) -> Result<u16, Refusal> {
+        let loaded = vbsys::load_half(*memories, (&self.drawing).into(), address);
+        self.loaded(memories, loaded).map(|value| value as u16)
+    }
+
+    /// The word at an address, whose bits 0 and 1 are dropped.
+    pub fn load_word(&self, memories: &ReadMemories, address: u32) -> Result<u32, Refusal> {
+        let loaded = vbsys::load_word(*memories, (&self.drawing).into(), address);
+        self.loaded(memories, loaded)
+    }
+
+    fn loaded(&self, memories: &ReadMemories, loaded: vbsys::Loaded) -> Result<u32, Refusal> {
+        if loaded.refusal == 0 {
+            return Ok(loaded.value);
+        }
+        let ReadMemories { rom, wram, vram, pak } = memories;
+        let lengths = [rom.len(), wram.len(), vram.len(), pak.len()];
+        Err(self.bus_refusal(lengths, loaded.refusal))
+    }
+
+    fn bus_refusal(&self, lengths: [usize; 4], number: u32) -> Refusal {
+        Given { lengths, processor: None, drawing: &self.drawing }.refusal(number, &[])
+    }
+
+    /// Stores the low byte of `value`; at a register of the VIP its low halfword.
+    pub fn store_byte(
+        &mut self,
+        memories: &mut Memories,
+        address: u32,
+        value: u32,
+    ) -> Result<(), Refusal> {
+        let stored = vbsys::store_byte(memories, (&self.drawing).into(), address, value);
+        self.stored(memories, stored)
+    }
+
+    /// Stores the low halfword of `value`.
+    pub fn store_half(
+        &mut self,
+        memories: &mut Memories,
+        address: u32,
+        value: u32,
+    ) -> Result<(), Refusal> {
+        let stored = vbsys::store_half(memories, (&self.drawing).into(), address, value);
+        self.stored(memories, stored)
+    }
+
+    /// Stores a word.
+    pub fn store_word(
+        &mut self,
+        memories: &mut Memories,
+        address: u32,
+        value: u32,
+    ) -> Result<(), Refusal> {
+        let stored = vbsys::store_word(memories, (&self.drawing).into(), address, value);
+        self.stored(memories, stored)
+    }
+
+    fn stored(&mut self, memories: &Memories, stored: vbsys::Stored) -> Result<(), Refusal> {
+        if stored.refusal != 0 {
+            return Err(self.bus_refusal(lengths(memories), stored.refusal));
+        }
+        self.drawing = (&stored.drawing).into();
+        Ok(())
+    }
+
+    /// Does one instruction.
+    pub fn step(&mut self, memories: &mut Memories) -> Result<Answer, Refusal> {
+        let done = vbsys::step(memories, (&self.processor).into(), (&self.drawing).into());
+        if done.refusal != 0 {
+            return Err(self.refusal(memories, done.refusal));
+        }
+        self.processor = (&done.processor).into();
+        self.drawing = (&done.drawing).into();
+        Ok(match done.answer {
+            vbsys::ENDED => Answer::Ended,
+            vbsys::TRAPPED => Answer::Trapped(Cause::of(done.code)),
+            vbsys::TURNED_FATAL => Answer::TurnedFatal(Cause::of(done.code)),
+            vbsys::WAS_HALTED => Answer::WasHalted,
+            vbsys::WAS_FATAL => Answer::WasFatal,
+            answer => unreachable!("vb.h names no answer {answer}"),
+        })
+    }
+
+    /// Does at most `budget` instructions.
+    pub fn run(&mut self, memories: &mut Memories, budget: u64) -> Result<Ran, Refusal> {
+        let done = vbsys::run(memories, (&self.processor).into(), (&self.drawing).into(), budget);
+        if done.refusal != 0 && done.refusal != 6 {
+            return Err(self.refusal(memories, done.refusal));
+        }
+        self.processor = (&done.processor).into();
+        self.drawing = (&done.drawing).into();
+        let stop = match self.processor.mode {
+            _ if done.refusal == 6 => Stop::NotModelled(self.refusal(memories, 6)),
+            Mode::Running => Stop::Budget,
+            Mode::Halted => Stop::Halted,
+            Mode::Fatal => Stop::Fatal,
+        };
+        Ok(Ran { count: done.count, stop })
+    }
+
+    fn refusal(&self, memories: &Memories, number: u32) -> Refusal {
+        let own = if number == 6 { vec![self.not_modelled(memories)] } else { Vec::new() };
+        let processor = Some(&self.processor);
+        Given { lengths: lengths(memories), processor, drawing: &self.drawing }
+            .refusal(number, &own)
+    }
+
+    fn not_modelled(&self, memories: &Memories) -> Refusal {
+        let Memories { rom, wram, vram, pak } = memories;
+        let read = ReadMemories { rom, wram, vram, pak };
+        let pc = self.processor.pc;
+        let halfword = self.load_half(&read, pc).expect("an accepted machine");
+        Refusal::NotModelled { pc, halfword }
+    }
+}
+
+impl Drawing {
+    /// Draws strip 0 to 27 of frame 0 or 1, both eyes.
+    pub fn draw_strip(&self, vram: &mut [u8], frame: u32, strip: u32) -> Result<(), Refusal> {
+        let number = vbsys::draw_strip(vram, self.into(), frame, strip);
+        self.drawn(
+            vram.len(),
+            number,
+            &[Refusal::Frame { given: frame }, Refusal::Strip { given: strip }],
+        )
+    }
+
+    /// Draws frame 0 or 1, both eyes.
+    pub fn draw_frame(&self, vram: &mut [u8], frame: u32) -> Result<(), Refusal> {
+        let number = vbsys::draw_frame(vram, self.into(), frame);
+        self.drawn(vram.len(), number, &[Refusal::Frame { given: frame }])
+    }
+
+    fn drawn(&self, vram: usize, number: u32, own: &[Refusal]) -> Result<(), Refusal> {
+        if number == 0 {
+            return Ok(());
+        }
+        Err(Given { lengths: [0, 0, vram, 0], processor: None, drawing: self }.refusal(number, own))
+    }
+}
+
+/// The 16 bytes of a character, a part of `vram`.
+pub fn character(vram: &[u8], character: u32) -> Result<&[u8], Refusal> {
+    let part = vbsys::character(vram, character);
+    match part.refusal {
+        0 => Ok(&vram[part.offset as usize..(part.offset + part.length) as usize]),
+        3 => Err(Refusal::VramLength { given: vram.len() }),
+        _ => Err(Refusal::Character { given: character }),
+    }
+}

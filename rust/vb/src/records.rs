@@ -1,0 +1,244 @@
+//! The machine's records, and their bytes in files.
+
+use std::fmt;
+
+use crate::{DRAWING_LENGTH, PROCESSOR_LENGTH};
+
+/// What the processor is doing.
+#[derive(Clone, Copy, Debug, PartialEq, Eq, Hash)]
+pub enum Mode {
+    Running,
+    Halted,
+    Fatal,
+}
+
+impl Mode {
+    /// The mode of vb.h's number.
+    pub fn of(number: u32) -> Option<Mode> {
+        match number {
+            vbsys::RUNNING => Some(Mode::Running),
+            vbsys::HALTED => Some(Mode::Halted),
+            vbsys::FATAL => Some(Mode::Fatal),
+            _ => None,
+        }
+    }
+
+    pub fn number(self) -> u32 {
+        match self {
+            Mode::Running => vbsys::RUNNING,
+            Mode::Halted => vbsys::HALTED,
+            Mode::Fatal => vbsys::FATAL,
+        }
+    }
+}
+
+impl fmt::Display for Mode {
+    fn fmt(&self, f: &mut fmt::Formatter) -> fmt::Result {
+        f.write_str(match self {
+            Mode::Running => "running",
+            Mode::Halted => "halted",
+            Mode::Fatal => "fatal",
+        })
+    }
+}
+
+/// The processor's registers and mode.
+#[derive(Clone, Copy, Debug, PartialEq, Eq)]
+pub struct Processor {
+    pub regs: [u32; 32],
+    pub pc: u32,
+    pub eipc: u32,
+    pub eipsw: u32,
+    pub fepc: u32,
+    pub fepsw: u32,
+    pub ecr: u32,
+    pub psw: u32,
+    /// System register 25, ADTRE.
+    pub sr25: u32,
+    pub sr29: u32,
+    pub sr31: u32,
+    pub mode: Mode,
+}
+
+/// The VIP's registers that drawing uses.
+#[derive(Clone, Copy, Debug, Default, PartialEq, Eq)]
+pub struct Drawing {
+    /// The last object of each group, 10 bits.
+    pub spt: [u16; 4],
+    /// The background palettes, 8 bits.
+    pub gplt: [u16; 4],
+    /// The object palettes, 8 bits.
+    pub jplt: [u16; 4],
+    /// The background colour, 2 bits.
+    pub bkcol: u16,
+}
+
+/// The whole state that goes by value.
+#[derive(Clone, Copy, Debug, PartialEq, Eq)]
+pub struct Machine {
+    pub processor: Processor,
+    pub drawing: Drawing,
+}
+
+/// Why bytes are no record.
+#[derive(Clone, Copy, Debug, PartialEq, Eq)]
+pub enum RecordError {
+    Length { given: usize, wanted: usize },
+    Mode { given: u32 },
+}
+
+impl fmt::Display for RecordError {
+    fn fmt(&self, f: &mut fmt::Formatter) -> fmt::Result {
+        match self {
+            RecordError::Length { given, wanted } => {
+                write!(f, "the record has {given} bytes; it must have {wanted}")
+            }
+            RecordError::Mode { given } => {
+                write!(f, "the mode is {given}; it must be 0 (running), 1 (halted) or 2 (fatal)")
+            }
+        }
+    }
+}
+
+impl std::error::Error for RecordError {}
+
+impl Processor {
+    /// Reads a record of 172 bytes. Which values a register may hold is left to the calls.
+    pub fn from_bytes(bytes: &[u8]) -> Result<Processor, RecordError> {
+        if bytes.len() != PROCESSOR_LENGTH {
+            return Err(RecordError::Length { given: bytes.len(), wanted: PROCESSOR_LENGTH });
+        }
+        let word = |n: usize| {
+            u32::from_le_bytes([bytes[4 * n], bytes[4 * n + 1], bytes[4 * n + 2], bytes[4 * n + 3]])
+        };
+        let mode = Mode::of(word(42)).ok_or(RecordError::Mode { given: word(42) })?;
+        Ok(Processor {
+            regs: std::array::from_fn(word),
+            pc: word(32),
+            eipc: word(33),
+            eipsw: word(34),
+            fepc: word(35),
+            fepsw: word(36),
+            ecr: word(37),
+            psw: word(38),
+            sr25: word(39),
+            sr29: word(40),
+            sr31: word(41),
+            mode,
+        })
+    }
+
+    pub fn to_bytes(&self) -> Vec<u8> {
+        let mut words = self.regs.to_vec();
+        words.extend(self.system().map(|(_, value)| value));
+        words.push(self.mode.number());
+        words.iter().flat_map(|word| word.to_le_bytes()).collect()
+    }
+
+    /// PC and the system registers by name, in the record's order.
+    pub fn system(&self) -> [(&'static str, u32); 10] {
+        [
+            ("pc", self.pc),
+            ("eipc", self.eipc),
+            ("eipsw", self.eipsw),
+            ("fepc", self.fepc),
+            ("fepsw", self.fepsw),
+            ("ecr", self.ecr),
+            ("psw", self.psw),
+            ("sr25", self.sr25),
+            ("sr29", self.sr29),
+            ("sr31", self.sr31),
+        ]
+    }
+}
+
+impl Drawing {
+    /// Reads a record of 26 bytes. Which values a register may hold is left to the calls.
+    pub fn from_bytes(bytes: &[u8]) -> Result<Drawing, RecordError> {
+        if bytes.len() != DRAWING_LENGTH {
+            return Err(RecordError::Length { given: bytes.len(), wanted: DRAWING_LENGTH });
+        }
+        let half = |n: usize| u16::from_le_bytes([bytes[2 * n], bytes[2 * n + 1]]);
+        Ok(Drawing {
+            spt: std::array::from_fn(half),
+            gplt: std::array::from_fn(|n| half(4 + n)),
+            jplt: std::array::from_fn(|n| half(8 + n)),
+            bkcol: half(12),
+        })
+    }
+
+    pub fn to_bytes(&self) -> Vec<u8> {
+        self.registers().iter().flat_map(|(_, value, _)| value.to_le_bytes()).collect()
+    }
+
+    /// Each register's name, value and width in bits, in the record's order.
+    pub fn registers(&self) -> [(&'static str, u16, u32); 13] {
+        [
+            ("SPT0", self.spt[0], 10),
+            ("SPT1", self.spt[1], 10),
+            ("SPT2", self.spt[2], 10),
+            ("SPT3", self.spt[3], 10),
+            ("GPLT0", self.gplt[0], 8),
+            ("GPLT1", self.gplt[1], 8),
+            ("GPLT2", self.gplt[2], 8),
+            ("GPLT3", self.gplt[3], 8),
+            ("JPLT0", self.jplt[0], 8),
+            ("JPLT1", self.jplt[1], 8),
+            ("JPLT2", self.jplt[2], 8),
+            ("JPLT3", self.jplt[3], 8),
+            ("BKCOL", self.bkcol, 2),
+        ]
+    }
+}
+
+/// The boundary's form of the records.
+impl From<&Processor> for vbsys::Processor {
+    fn from(p: &Processor) -> Self {
+        vbsys::Processor {
+            regs: p.regs,
+            pc: p.pc,
+            eipc: p.eipc,
+            eipsw: p.eipsw,
+            fepc: p.fepc,
+            fepsw: p.fepsw,
+            ecr: p.ecr,
+            psw: p.psw,
+            sr25: p.sr25,
+            sr29: p.sr29,
+            sr31: p.sr31,
+            mode: p.mode.number(),
+        }
+    }
+}
+
+impl From<&vbsys::Processor> for Processor {
+    /// The library gives back no mode but 0 to 2.
+    fn from(p: &vbsys::Processor) -> Self {
+        Processor {
+            regs: p.regs,
+            pc: p.pc,
+            eipc: p.eipc,
+            eipsw: p.eipsw,
+            fepc: p.fepc,
+            fepsw: p.fepsw,
+            ecr: p.ecr,
+            psw: p.psw,
+            sr25: p.sr25,
+            sr29: p.sr29,
+            sr31: p.sr31,
+            mode: Mode::of(p.mode).expect("a mode of vb.h"),
+        }
+    }
+}
+
+impl From<&Drawing> for vbsys::Drawing {
+    fn from(d: &Drawing) -> Self {
+        vbsys::Drawing { spt: d.spt, gplt: d.gplt, jplt: d.jplt, bkcol: d.bkcol }
+    }
+}
+
+impl From<&vbsys::Drawing> for Drawing {
+    fn from(d: &vbsys::Drawing) -> Self {
+        Drawing { spt: d.spt, gplt: d.gplt, jplt: d.jplt, bkcol: d.bkcol }
+    }
+}

@@ -1,0 +1,135 @@
+//! Paper 01's refusals, each with what was given.
+
+use std::fmt;
+
+use crate::records::{Drawing, Processor};
+
+/// Why a call did nothing: paper 01's numbers 1 to 8, 8 told apart by its subject.
+#[derive(Clone, Debug, PartialEq, Eq)]
+pub enum Refusal {
+    /// 1
+    RomLength { given: usize },
+    /// 2
+    WramLength { given: usize },
+    /// 3
+    VramLength { given: usize },
+    /// 4
+    PakLength { given: usize },
+    /// 5: a register holds what it cannot hold.
+    State { register: &'static str, given: u32, allowed: &'static str },
+    /// 6: the first halfword of the instruction at PC.
+    NotModelled { pc: u32, halfword: u16 },
+    /// 7
+    Frame { given: u32 },
+    /// 8
+    Strip { given: u32 },
+    /// 8
+    Character { given: u32 },
+}
+
+impl Refusal {
+    /// Paper 01's number.
+    pub fn number(&self) -> u32 {
+        match self {
+            Refusal::RomLength { .. } => 1,
+            Refusal::WramLength { .. } => 2,
+            Refusal::VramLength { .. } => 3,
+            Refusal::PakLength { .. } => 4,
+            Refusal::State { .. } => 5,
+            Refusal::NotModelled { .. } => 6,
+            Refusal::Frame { .. } => 7,
+            Refusal::Strip { .. } | Refusal::Character { .. } => 8,
+        }
+    }
+}
+
+impl fmt::Display for Refusal {
+    fn fmt(&self, f: &mut fmt::Formatter) -> fmt::Result {
+        write!(f, "refusal {}: ", self.number())?;
+        match self {
+            Refusal::RomLength { given } => write!(
+                f,
+                "ROM has {} bytes; its length must be a power of two from 1,024 to 16,777,216",
+                grouped(*given as u64)
+            ),
+            Refusal::WramLength { given } => {
+                write!(f, "WRAM has {} bytes; it must have 65,536", grouped(*given as u64))
+            }
+            Refusal::VramLength { given } => {
+                write!(f, "VRAM has {} bytes; it must have 262,144", grouped(*given as u64))
+            }
+            Refusal::PakLength { given } => write!(
+                f,
+                "pak RAM has {} bytes; its length must be 0 or a power of two up to 16,777,216",
+                grouped(*given as u64)
+            ),
+            Refusal::State { register, given, allowed } => {
+                write!(f, "{register} is 0x{given:08X}; {allowed}")
+            }
+            Refusal::NotModelled { pc, halfword } => write!(
+                f,
+                "the instruction 0x{halfword:04X} at 0x{pc:08X} is not modelled; left out are opcodes 011111 (bit \
+                 strings), 111010 (CAXI), 111110 (floating and extended) and LDSR or STSR of register 24"
+            ),
+            Refusal::Frame { given } => {
+                write!(f, "frame {given} was asked for; frames are 0 and 1")
+            }
+            Refusal::Strip { given } => {
+                write!(f, "strip {given} was asked for; strips are 0 to 27")
+            }
+            Refusal::Character { given } => {
+                write!(f, "character {given} was asked for; characters are 0 to 2,047")
+            }
+        }
+    }
+}
+
+impl std::error::Error for Refusal {}
+
+/// A whole number with commas between thousands.
+pub fn grouped(number: u64) -> String {
+    let digits = number.to_string();
+    let mut out = String::new();
+    for (i, digit) in digits.chars().enumerate() {
+        if i > 0 && (digits.len() - i) % 3 == 0 {
+            out.push(',');
+        }
+        out.push(digit);
+    }
+    out
+}
+
+/// Which register makes refusal 5, in the order of paper 01's row: the processor's, where a call is given one, then
+/// the drawing registers.
+pub(crate) fn fault(processor: Option<&Processor>, drawing: &Drawing) -> Option<Refusal> {
+    processor.and_then(processor_fault).or_else(|| drawing_fault(drawing))
+}
+
+fn processor_fault(p: &Processor) -> Option<Refusal> {
+    let odd = |value: u32| value % 2 != 0;
+    let outside = |value: u32| value & !0x000F_F3FF != 0;
+    let rows: [(&'static str, u32, bool, &'static str); 9] = [
+        ("general register 0", p.regs[0], p.regs[0] != 0, "it must be 0"),
+        ("PC", p.pc, odd(p.pc), "it must be even"),
+        ("EIPC", p.eipc, odd(p.eipc), "it must be even"),
+        ("FEPC", p.fepc, odd(p.fepc), "it must be even"),
+        ("system register 25", p.sr25, odd(p.sr25), "it must be even"),
+        ("EIPSW", p.eipsw, outside(p.eipsw), "it may have bits of 0x000FF3FF only"),
+        ("FEPSW", p.fepsw, outside(p.fepsw), "it may have bits of 0x000FF3FF only"),
+        ("PSW", p.psw, outside(p.psw), "it may have bits of 0x000FF3FF only"),
+        ("system register 31", p.sr31, p.sr31 > 0x8000_0000, "it must be at most 0x80000000"),
+    ];
+    let (register, given, _, allowed) = *rows.iter().find(|row| row.2)?;
+    Some(Refusal::State { register, given, allowed })
+}
+
+fn drawing_fault(drawing: &Drawing) -> Option<Refusal> {
+    let (register, given, width) =
+        *drawing.registers().iter().find(|(_, value, width)| value >> width != 0)?;
+    let allowed = match width {
+        10 => "it must be at most 0x3FF (10 bits)",
+        8 => "it must be at most 0xFF (8 bits)",
+        _ => "it must be at most 3 (2 bits)",
+    };
+    Some(Refusal::State { register, given: u32::from(given), allowed })
+}

@@ -1,0 +1,271 @@
+//! The C interface of the console reference model: the declarations of
+//! include/vb.h and thin safe wrappers over slices.
+//!
+//! This is the one module with foreign functions. A slice passes as pointer,
+//! then length; the borrow checker keeps the lent buffers apart.
+
+/// `VB_VERSION`: the layouts below are this version's.
+pub const VERSION: u32 = 1;
+/// `VB_MISUSE`: a mode above 2.
+pub const MISUSE: u32 = 255;
+
+/// The static library that is linked.
+pub const ARCHIVE: &str = env!("VB_ARCHIVE");
+
+/// Values of [`Processor::mode`].
+pub const RUNNING: u32 = 0;
+pub const HALTED: u32 = 1;
+pub const FATAL: u32 = 2;
+
+/// Values of [`Stepped::answer`].
+pub const ENDED: u32 = 0;
+pub const TRAPPED: u32 = 1;
+pub const TURNED_FATAL: u32 = 2;
+pub const WAS_HALTED: u32 = 3;
+pub const WAS_FATAL: u32 = 4;
+
+/// `vb_processor`
+#[repr(C)]
+#[derive(Clone, Copy, Debug, Default, PartialEq, Eq)]
+pub struct Processor {
+    pub regs: [u32; 32],
+    pub pc: u32,
+    pub eipc: u32,
+    pub eipsw: u32,
+    pub fepc: u32,
+    pub fepsw: u32,
+    pub ecr: u32,
+    pub psw: u32,
+    pub sr25: u32,
+    pub sr29: u32,
+    pub sr31: u32,
+    pub mode: u32,
+}
+
+/// `vb_drawing`
+#[repr(C)]
+#[derive(Clone, Copy, Debug, Default, PartialEq, Eq)]
+pub struct Drawing {
+    pub spt: [u16; 4],
+    pub gplt: [u16; 4],
+    pub jplt: [u16; 4],
+    pub bkcol: u16,
+}
+
+/// `vb_loaded`
+#[repr(C)]
+#[derive(Clone, Copy, Debug, Default, PartialEq, Eq)]
+pub struct Loaded {
+    pub refusal: u32,
+    pub value: u32,
+}
+
+/// `vb_stored`
+#[repr(C)]
+#[derive(Clone, Copy, Debug, Default, PartialEq, Eq)]
+pub struct Stored {
+    pub refusal: u32,
+    pub drawing: Drawing,
+}
+
+/// `vb_stepped`
+#[repr(C)]
+#[derive(Clone, Copy, Debug, Default, PartialEq, Eq)]
+pub struct Stepped {
+    pub refusal: u32,
+    pub answer: u32,
+    pub code: u32,
+    pub processor: Processor,
+    pub drawing: Drawing,
+}
+
+/// `vb_ran`
+#[repr(C)]
+#[derive(Clone, Copy, Debug, Default, PartialEq, Eq)]
+pub struct Ran {
+    pub refusal: u32,
+    pub count: u64,
+    pub processor: Processor,
+    pub drawing: Drawing,
+}
+
+/// `vb_machine`
+#[repr(C)]
+#[derive(Clone, Copy, Debug, Default, PartialEq, Eq)]
+pub struct Machine {
+    pub processor: Processor,
+    pub drawing: Drawing,
+}
+
+/// `vb_part`
+#[repr(C)]
+#[derive(Clone, Copy, Debug, Default, PartialEq, Eq)]
+pub struct Part {
+    pub refusal: u32,
+    pub offset: u64,
+    pub length: u64,
+}
+
+/// The lent memories of a load.
+#[derive(Clone, Copy, Debug)]
+pub struct ReadMemories<'a> {
+    pub rom: &'a [u8],
+    pub wram: &'a [u8],
+    pub vram: &'a [u8],
+    pub pak: &'a [u8],
+}
+
+/// The lent memories of a store, a step or a run.
+#[derive(Debug)]
+pub struct Memories<'a> {
+    pub rom: &'a [u8],
+    pub wram: &'a mut [u8],
+    pub vram: &'a mut [u8],
+    pub pak: &'a mut [u8],
+}
+
+/// Declares a load of vb.h and its wrapper.
+macro_rules! load {
+    ($wrapper:ident, $function:ident) => {
+        extern "C" {
+            fn $function(
+                rom: *const u8,
+                rom_len: usize,
+                wram: *const u8,
+                wram_len: usize,
+                vram: *const u8,
+                vram_len: usize,
+                pak: *const u8,
+                pak_len: usize,
+                drawing: Drawing,
+                address: u32,
+            ) -> Loaded;
+        }
+
+        #[doc = concat!("`", stringify!($function), "`")]
+        pub fn $wrapper(memories: ReadMemories, drawing: Drawing, address: u32) -> Loaded {
+            let ReadMemories { rom, wram, vram, pak } = memories;
+            // SAFETY: each pointer is lent with its slice's own length.
+            unsafe {
+                $function(
+                    rom.as_ptr(),
+                    rom.len(),
+                    wram.as_ptr(),
+                    wram.len(),
+                    vram.as_ptr(),
+                    vram.len(),
+                    pak.as_ptr(),
+                    pak.len(),
+                    drawing,
+                    address,
+                )
+            }
+        }
+    };
+}
+
+load!(load_byte, vb_load_byte);
+load!(load_half, vb_load_half);
+load!(load_word, vb_load_word);
+
+/// Declares a call of vb.h that is lent memories to write, and its wrapper.
+macro_rules! on_memories {
+    ($wrapper:ident, $function:ident ($($name:ident: $kind:ty),*) -> $answer:ty) => {
+        extern "C" {
+            fn $function(
+                rom: *const u8,
+                rom_len: usize,
+                wram: *mut u8,
+                wram_len: usize,
+                vram: *mut u8,
+                vram_len: usize,
+                pak: *mut u8,
+                pak_len: usize,
+                $($name: $kind),*
+            ) -> $answer;
+        }
+
+        #[doc = concat!("`", stringify!($function), "`")]
+        pub fn $wrapper(memories: &mut Memories, $($name: $kind),*) -> $answer {
+            let Memories { rom, wram, vram, pak } = memories;
+            // SAFETY: each pointer is lent with its slice's own length; ROM is
+            // only read, and the others are borrowed mutably and apart.
+            unsafe {
+                $function(
+                    rom.as_ptr(),
+                    rom.len(),
+                    wram.as_mut_ptr(),
+                    wram.len(),
+                    vram.as_mut_ptr(),
+                    vram.len(),
+                    pak.as_mut_ptr(),
+                    pak.len(),
+                    $($name),*
+                )
+            }
+        }
+    };
+}
+
+on_memories!(store_byte, vb_store_byte(drawing: Drawing, address: u32, value: u32) -> Stored);
+on_memories!(store_half, vb_store_half(drawing: Drawing, address: u32, value: u32) -> Stored);
+on_memories!(store_word, vb_store_word(drawing: Drawing, address: u32, value: u32) -> Stored);
+
+#[cfg(feature = "processor")]
+mod processor {
+    use super::{Drawing, Machine, Memories, Processor, Ran, Stepped};
+
+    on_memories!(step, vb_step(processor: Processor, drawing: Drawing) -> Stepped);
+    on_memories!(run, vb_run(processor: Processor, drawing: Drawing, budget: u64) -> Ran);
+
+    extern "C" {
+        fn vb_reset() -> Machine;
+    }
+
+    /// `vb_reset`
+    pub fn reset() -> Machine {
+        // SAFETY: nothing is lent.
+        unsafe { vb_reset() }
+    }
+}
+
+#[cfg(feature = "processor")]
+pub use processor::{reset, run, step};
+
+#[cfg(feature = "drawing")]
+mod drawing {
+    use super::{Drawing, Part};
+
+    extern "C" {
+        fn vb_draw_strip(
+            vram: *mut u8,
+            vram_len: usize,
+            drawing: Drawing,
+            frame: u32,
+            strip: u32,
+        ) -> u32;
+        fn vb_draw_frame(vram: *mut u8, vram_len: usize, drawing: Drawing, frame: u32) -> u32;
+        fn vb_character(vram: *const u8, vram_len: usize, character: u32) -> Part;
+    }
+
+    /// `vb_draw_strip`
+    pub fn draw_strip(vram: &mut [u8], drawing: Drawing, frame: u32, strip: u32) -> u32 {
+        // SAFETY: the pointer is lent with its slice's own length.
+        unsafe { vb_draw_strip(vram.as_mut_ptr(), vram.len(), drawing, frame, strip) }
+    }
+
+    /// `vb_draw_frame`
+    pub fn draw_frame(vram: &mut [u8], drawing: Drawing, frame: u32) -> u32 {
+        // SAFETY: the pointer is lent with its slice's own length.
+        unsafe { vb_draw_frame(vram.as_mut_ptr(), vram.len(), drawing, frame) }
+    }
+
+    /// `vb_character`
+    pub fn character(vram: &[u8], character: u32) -> Part {
+        // SAFETY: the pointer is lent with its slice's own length.
+        unsafe { vb_character(vram.as_ptr(), vram.len(), character) }
+    }
+}
+
+#[cfg(feature = "drawing")]
+pub use drawing::{character, draw_frame, draw_strip};

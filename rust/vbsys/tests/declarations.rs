@@ -1,0 +1,136 @@
+//! Holds every foreign declaration of this crate against include/vb.h: the
+//! functions by name, their answers, and each argument's type and name.
+
+use std::collections::BTreeMap;
+
+const SOURCE: &str = include_str!("../src/lib.rs");
+const HEADER: &str = include_str!("../../../include/vb.h");
+
+/// The answer's type, then each argument's type and name, in C's words.
+type Signature = (String, Vec<(String, String)>);
+type Signatures = BTreeMap<String, Signature>;
+
+fn words(text: &str) -> String {
+    text.split_whitespace().collect::<Vec<_>>().join(" ")
+}
+
+/// What stands between the first `open` after `from` and the `close` that belongs to it.
+fn block(text: &str, from: usize, open: char, close: char) -> &str {
+    let start = from + text[from..].find(open).expect("an opening bracket") + 1;
+    let mut depth = 1;
+    for (i, c) in text[start..].char_indices() {
+        depth += i32::from(c == open) - i32::from(c == close);
+        if depth == 0 {
+            return &text[start..start + i];
+        }
+    }
+    panic!("no closing bracket");
+}
+
+/// The type of this crate in C's words.
+fn c_type(rust: &str) -> String {
+    match rust {
+        "*const u8" => "const uint8_t *".into(),
+        "*mut u8" => "uint8_t *".into(),
+        "usize" => "size_t".into(),
+        "u32" => "uint32_t".into(),
+        "u64" => "uint64_t".into(),
+        name if name.starts_with(char::is_uppercase) => format!("vb_{}", name.to_lowercase()),
+        other => panic!("vb.h has no type for {other}"),
+    }
+}
+
+fn rust_signatures(declarations: &str, into: &mut Signatures) {
+    for declaration in declarations.split(';').map(words).filter(|text| !text.is_empty()) {
+        let text = declaration.strip_prefix("fn ").expect("a function");
+        let (name, _) = text.split_once('(').expect("arguments");
+        let arguments = block(text, 0, '(', ')').split(',').map(str::trim);
+        let arguments = arguments.filter(|text| !text.is_empty()).map(|argument| {
+            let (name, kind) = argument.split_once(':').expect("name: type");
+            (c_type(kind.trim()), name.trim().to_string())
+        });
+        let (_, answer) = text.split_once("->").expect("an answer");
+        let signature = (c_type(answer.trim()), arguments.collect());
+        assert!(into.insert(name.to_string(), signature).is_none(), "{name} is declared twice");
+    }
+}
+
+/// What this crate declares: in its two macros, once for each use, and directly.
+fn declared() -> Signatures {
+    let mut signatures = Signatures::new();
+    let mut direct = SOURCE.to_string();
+    for name in ["load", "on_memories"] {
+        let at = SOURCE.find(&format!("macro_rules! {name} ")).expect("the macro");
+        let body = block(SOURCE, at, '{', '}');
+        direct = direct.replace(body, "");
+        let inside = block(body, body.find("extern \"C\"").expect("declarations"), '{', '}');
+        for (at, _) in SOURCE.match_indices(&format!("{name}!(")) {
+            let used = words(block(SOURCE, at, '(', ')'));
+            let (_, function) = used.split_once(", ").expect("wrapper, function");
+            let named = function.split(['(', ' ']).next().expect("a name");
+            let mut text = inside.replace("$function", named);
+            if let Some((head, answer)) = function.split_once("->") {
+                text = text.replace("$($name: $kind),*", block(head, 0, '(', ')'));
+                text = text.replace("$answer", answer.trim());
+            }
+            rust_signatures(&text, &mut signatures);
+        }
+    }
+    for (at, _) in direct.match_indices("extern \"C\"") {
+        rust_signatures(block(&direct, at, '{', '}'), &mut signatures);
+    }
+    signatures
+}
+
+/// The header without its comments, its two lists of memories written out.
+fn plain_header() -> String {
+    let mut text = HEADER.replace("\\\n", " ");
+    while let Some(start) = text.find("/*") {
+        let end = start + text[start..].find("*/").expect("the comment's end") + 2;
+        text.replace_range(start..end, " ");
+    }
+    for name in ["VB_READ_MEMORIES", "VB_MEMORIES"] {
+        let define = format!("#define {name} ");
+        let start = text.find(&define).expect("the list of memories");
+        let end = start + text[start..].find('\n').expect("a line's end");
+        let list = text[start + define.len()..end].to_string();
+        text.replace_range(start..end, "");
+        text = text.replace(name, &list);
+    }
+    text.lines().filter(|line| !line.starts_with('#')).collect::<Vec<_>>().join("\n")
+}
+
+fn promised() -> Signatures {
+    let header = plain_header();
+    let prototypes =
+        header.split(';').map(words).filter(|text| text.contains("(") && !text.contains('{'));
+    let prototype = |text: String| {
+        let (head, _) = text.split_once('(').expect("arguments");
+        let (answer, name) = head.rsplit_once(' ').expect("an answer and a name");
+        let arguments = block(&text, 0, '(', ')').split(',').map(str::trim);
+        let arguments = arguments.filter(|text| *text != "void").map(|argument| {
+            let at = argument.rfind([' ', '*']).expect("type and name") + 1;
+            (argument[..at].trim().to_string(), argument[at..].to_string())
+        });
+        (name.to_string(), (answer.to_string(), arguments.collect()))
+    };
+    prototypes.map(prototype).collect()
+}
+
+#[test]
+fn declarations_are_those_of_the_header() {
+    let (here, there) = (declared(), promised());
+    assert!(there.len() >= 12, "vb.h has at least the base's twelve functions: {there:?}");
+    assert_eq!(here.keys().collect::<Vec<_>>(), there.keys().collect::<Vec<_>>());
+    for (name, signature) in &there {
+        assert_eq!(&here[name], signature, "{name}");
+    }
+}
+
+#[test]
+fn no_other_module_has_foreign_functions() {
+    for text in [include_str!("../../vb/src/lib.rs"), include_str!("../../model/src/lib.rs")] {
+        assert!(!text.contains("extern \"C\""));
+    }
+    assert!(include_str!("../../vb/src/lib.rs").contains("#![forbid(unsafe_code)]"));
+}

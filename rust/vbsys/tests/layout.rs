@@ -1,0 +1,123 @@
+//! Holds the layouts of this crate against include/vb.h: a C compiler prints
+//! the sizes, offsets and constants it sees there.
+
+use std::collections::BTreeMap;
+use std::fs;
+use std::mem::{align_of, offset_of, size_of};
+use std::path::{Path, PathBuf};
+use std::process::Command;
+
+use vbsys::{Drawing, Loaded, Machine, Part, Processor, Ran, Stepped, Stored};
+
+/// One line of the C program: a name, and the expression whose value it has.
+struct Fact {
+    expression: String,
+    here: usize,
+}
+
+fn size(name: &str, here: usize) -> Fact {
+    Fact { expression: format!("sizeof({name})"), here }
+}
+
+fn constant(name: &str, here: u32) -> Fact {
+    Fact { expression: format!("(size_t)({name})"), here: here as usize }
+}
+
+macro_rules! fields {
+    ($facts:ident, $kind:ty, $name:literal, $($field:ident),*) => {
+        $facts.push(size($name, size_of::<$kind>()));
+        $($facts.push(Fact {
+            expression: format!("offsetof({}, {})", $name, stringify!($field)),
+            here: offset_of!($kind, $field),
+        });)*
+    };
+}
+
+fn facts() -> Vec<Fact> {
+    let mut facts = Vec::new();
+    fields!(
+        facts,
+        Processor,
+        "vb_processor",
+        regs,
+        pc,
+        eipc,
+        eipsw,
+        fepc,
+        fepsw,
+        ecr,
+        psw,
+        sr25,
+        sr29,
+        sr31,
+        mode
+    );
+    fields!(facts, Drawing, "vb_drawing", spt, gplt, jplt, bkcol);
+    fields!(facts, Loaded, "vb_loaded", refusal, value);
+    fields!(facts, Stored, "vb_stored", refusal, drawing);
+    fields!(facts, Stepped, "vb_stepped", refusal, answer, code, processor, drawing);
+    fields!(facts, Ran, "vb_ran", refusal, count, processor, drawing);
+    fields!(facts, Machine, "vb_machine", processor, drawing);
+    fields!(facts, Part, "vb_part", refusal, offset, length);
+    facts.push(constant("VB_VERSION", vbsys::VERSION));
+    facts.push(constant("VB_MISUSE", vbsys::MISUSE));
+    facts.push(constant("VB_RUNNING", vbsys::RUNNING));
+    facts.push(constant("VB_HALTED", vbsys::HALTED));
+    facts.push(constant("VB_FATAL", vbsys::FATAL));
+    facts.push(constant("VB_ENDED", vbsys::ENDED));
+    facts.push(constant("VB_TRAPPED", vbsys::TRAPPED));
+    facts.push(constant("VB_TURNED_FATAL", vbsys::TURNED_FATAL));
+    facts.push(constant("VB_WAS_HALTED", vbsys::WAS_HALTED));
+    facts.push(constant("VB_WAS_FATAL", vbsys::WAS_FATAL));
+    facts
+}
+
+fn program(facts: &[Fact]) -> String {
+    let mut text = String::from("#include \"vb.h\"\n#include <stdio.h>\nint main(void) {\n");
+    for fact in facts {
+        let expression = &fact.expression;
+        text += &format!("    printf(\"{expression}=%zu\\n\", {expression});\n");
+    }
+    text + "    return 0;\n}\n"
+}
+
+fn compile_and_run(text: &str) -> String {
+    let include = Path::new(env!("CARGO_MANIFEST_DIR")).join("../../include");
+    let room = PathBuf::from(env!("CARGO_TARGET_TMPDIR"));
+    let (source, binary) = (room.join("layout.c"), room.join("layout"));
+    fs::write(&source, text).expect("the temporary directory can be written");
+    let compiler = std::env::var("CC").unwrap_or_else(|_| "cc".into());
+    let compiled = Command::new(&compiler)
+        .args(["-std=c99", "-Wall", "-Werror", "-I"])
+        .arg(include)
+        .arg(&source)
+        .arg("-o")
+        .arg(&binary)
+        .status()
+        .unwrap_or_else(|error| panic!("{compiler} cannot be run: {error}"));
+    assert!(compiled.success(), "include/vb.h does not compile");
+    let output = Command::new(&binary).output().expect("the program runs");
+    String::from_utf8(output.stdout).expect("it prints text")
+}
+
+#[test]
+fn layouts_are_those_of_the_header() {
+    let facts = facts();
+    let printed = compile_and_run(&program(&facts));
+    let there: BTreeMap<&str, usize> = printed
+        .lines()
+        .map(|line| line.split_once('=').expect("name=value"))
+        .map(|(name, value)| (name, value.parse().expect("a number")))
+        .collect();
+    assert_eq!(there.len(), facts.len());
+    for fact in &facts {
+        assert_eq!(there[fact.expression.as_str()], fact.here, "{}", fact.expression);
+    }
+}
+
+#[test]
+fn layouts_have_no_surprises() {
+    assert_eq!(size_of::<Processor>(), 43 * 4);
+    assert_eq!(size_of::<Drawing>(), 13 * 2);
+    assert_eq!(align_of::<Ran>(), 8);
+}

@@ -1,0 +1,114 @@
+//! include/vb.h: "A pointer may be null only with length 0."
+
+use std::ptr::{null, null_mut};
+
+use vbsys::{Drawing, Loaded, Stored};
+
+/// The four memories of a call, for reading.
+type Pointers = [(*const u8, usize); 4];
+
+extern "C" {
+    fn vb_load_word(
+        rom: *const u8,
+        rom_len: usize,
+        wram: *const u8,
+        wram_len: usize,
+        vram: *const u8,
+        vram_len: usize,
+        pak: *const u8,
+        pak_len: usize,
+        drawing: Drawing,
+        address: u32,
+    ) -> Loaded;
+    fn vb_store_word(
+        rom: *const u8,
+        rom_len: usize,
+        wram: *mut u8,
+        wram_len: usize,
+        vram: *mut u8,
+        vram_len: usize,
+        pak: *mut u8,
+        pak_len: usize,
+        drawing: Drawing,
+        address: u32,
+        value: u32,
+    ) -> Stored;
+}
+
+fn load(memories: Pointers, address: u32) -> Loaded {
+    let [rom, wram, vram, pak] = memories;
+    // SAFETY: each pointer is null with length 0 or lent with its length.
+    unsafe {
+        vb_load_word(
+            rom.0,
+            rom.1,
+            wram.0,
+            wram.1,
+            vram.0,
+            vram.1,
+            pak.0,
+            pak.1,
+            Drawing::default(),
+            address,
+        )
+    }
+}
+
+#[test]
+fn empty_pak_ram_may_be_null() {
+    let (rom, wram, vram) = (vec![7u8; 1_024], vec![8u8; 65_536], vec![9u8; 262_144]);
+    let memories = [
+        (rom.as_ptr(), rom.len()),
+        (wram.as_ptr(), wram.len()),
+        (vram.as_ptr(), vram.len()),
+        (null(), 0),
+    ];
+    assert_eq!(load(memories, 0x0600_0000), Loaded { refusal: 0, value: 0 });
+    assert_eq!(load(memories, 0x0500_0000), Loaded { refusal: 0, value: 0x0808_0808 });
+}
+
+#[test]
+fn a_store_to_null_pak_ram_writes_nothing() {
+    let (rom, mut wram, mut vram) = (vec![7u8; 1_024], vec![8u8; 65_536], vec![9u8; 262_144]);
+    // SAFETY: pak RAM is null with length 0; the others are lent with their lengths.
+    let stored = unsafe {
+        vb_store_word(
+            rom.as_ptr(),
+            rom.len(),
+            wram.as_mut_ptr(),
+            wram.len(),
+            vram.as_mut_ptr(),
+            vram.len(),
+            null_mut(),
+            0,
+            Drawing::default(),
+            0x0600_0000,
+            0x1234_5678,
+        )
+    };
+    assert_eq!(stored, Stored::default());
+    assert!(wram.iter().all(|&byte| byte == 8) && vram.iter().all(|&byte| byte == 9));
+}
+
+#[test]
+fn null_memories_of_length_0_are_refused() {
+    let rom = vec![7u8; 1_024];
+    assert_eq!(load([(null(), 0); 4], 0), Loaded { refusal: 1, value: 0 });
+    let memories = [(rom.as_ptr(), rom.len()), (null(), 0), (null(), 0), (null(), 0)];
+    assert_eq!(load(memories, 0), Loaded { refusal: 2, value: 0 });
+}
+
+#[cfg(feature = "drawing")]
+#[test]
+fn null_vram_of_length_0_is_refused() {
+    extern "C" {
+        fn vb_draw_frame(vram: *mut u8, vram_len: usize, drawing: Drawing, frame: u32) -> u32;
+        fn vb_character(vram: *const u8, vram_len: usize, character: u32) -> vbsys::Part;
+    }
+    // SAFETY: null is passed with length 0.
+    let (frame, part) = unsafe {
+        (vb_draw_frame(null_mut(), 0, Drawing::default(), 2), vb_character(null(), 0, 0))
+    };
+    assert_eq!(frame, 3);
+    assert_eq!((part.refusal, part.length), (3, 0));
+}

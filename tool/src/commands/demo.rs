@@ -1,0 +1,105 @@
+//! `vbmodel demo`: a small program for the console, run from reset; both frames drawn and written.
+
+use std::path::{Path, PathBuf};
+use std::time::Instant;
+
+use clap::Args;
+use vb::{grouped, Machine, Memories, Mode, Refusal, Stop, VRAM_LENGTH, WRAM_LENGTH};
+
+use super::draw::{Eyes, Views};
+use super::Report;
+use crate::demo::rom;
+use crate::failure::Failure;
+use crate::files::Outputs;
+use crate::json::object;
+
+/// More instructions than a frame of the demo takes.
+const BUDGET: u64 = 5_000_000;
+
+/// The files of memories and records.
+const NAMES: [&str; 5] = ["rom.bin", "wram.bin", "vram.bin", "processor.bin", "drawing.bin"];
+const WOKEN: &str =
+    "  between them the tool sets the halted processor running: no interrupt is modelled";
+
+#[derive(Args)]
+#[command(after_help = "Example: the pictures in a folder of your choice, three times as large
+  vbmodel demo --out pictures --scale 3
+
+Exit status: 0 drawn and written; 2 where the folder cannot be written.")]
+pub struct Options {
+    /// The folder for pictures, memories and records
+    #[arg(long, value_name = "FOLDER", default_value = "out")]
+    out: PathBuf,
+    /// PNG pixels to a pixel's side, 1 to 16
+    #[arg(long, value_name = "N", default_value_t = 2, value_parser = clap::value_parser!(u64).range(1..=16))]
+    scale: u64,
+}
+
+pub fn run(options: &Options) -> Result<Report, Failure> {
+    let begun = Instant::now();
+    let rom = rom().map_err(Failure::bad)?;
+    let (mut wram, mut vram) = (vec![0; WRAM_LENGTH], vec![0; VRAM_LENGTH]);
+    let mut machine = Machine::reset();
+    let mut outputs = Outputs::default();
+    let length = grouped(rom.len() as u64);
+    let mut lines =
+        vec![format!("ran the demo's program from reset, out of a ROM of {length} bytes")];
+    for frame in 0..2 {
+        let mut memories = Memories { rom: &rom, wram: &mut wram, vram: &mut vram, pak: &mut [] };
+        let count = to_halt(&mut machine, &mut memories)?;
+        machine.drawing.draw_frame(&mut vram, frame).map_err(refused)?;
+        for (name, png) in Views::of(&vram, frame).files(frame, Eyes::All, options.scale as usize) {
+            outputs.add(options.out.join(name), png);
+        }
+        lines.push(format!(
+            "  frame {frame}: {:>9} instructions to HALT at 0x{:08X}, then drawn for both eyes",
+            grouped(count),
+            machine.processor.pc - 2
+        ));
+    }
+    lines.push(WOKEN.to_string());
+    let (processor, drawing) = (machine.processor.to_bytes(), machine.drawing.to_bytes());
+    for (name, bytes) in NAMES.into_iter().zip([rom, wram, vram, processor, drawing]) {
+        outputs.add(options.out.join(name), bytes);
+    }
+    outputs.write()?;
+    lines.extend(where_they_are(&options.out));
+    lines.push(format!("took {} ms", begun.elapsed().as_millis()));
+    Ok(Report { text: lines.join("\n") + "\n", json: object([]), status: 0 })
+}
+
+/// Runs to the next HALT. On the console the frame interrupt would end the one before; interrupts are not modelled,
+/// and the machine is set running by hand.
+fn to_halt(machine: &mut Machine, memories: &mut Memories) -> Result<u64, Failure> {
+    machine.processor.mode = Mode::Running;
+    let ran = machine.run(memories, BUDGET).map_err(refused)?;
+    match ran.stop {
+        Stop::Halted => Ok(ran.count),
+        stop => Err(Failure::bad(format!("the demo's program did not halt: {stop:?}"))),
+    }
+}
+
+fn refused(refusal: Refusal) -> Failure {
+    Failure::refused(&refusal, refusal.to_string())
+}
+
+fn where_they_are(out: &Path) -> Vec<String> {
+    let at = |name: &str| out.join(name).display().to_string();
+    let row = |what: &str, view: &str| {
+        let (first, second) = (format!("frame0-{view}.png"), format!("frame1-{view}.png"));
+        format!("  {what:<13} {:<32} {}", at(&first), at(&second))
+    };
+    vec![
+        "pictures".to_string(),
+        row("left eye", "left"),
+        row("right eye", "right"),
+        row("side by side", "side-by-side"),
+        row("red/cyan", "anaglyph"),
+        format!("memories and records after frame 1: {}", at("*.bin")),
+        format!(
+            "next: vbmodel why left 192 120 --vram {} --drawing {}",
+            at("vram.bin"),
+            at("drawing.bin")
+        ),
+    ]
+}

@@ -1,0 +1,140 @@
+//! The tool driven from the command line, each test in a folder of its own.
+#![allow(dead_code)]
+
+use std::fs;
+use std::path::{Path, PathBuf};
+use std::process::{Command, Output};
+
+pub const WIDTH: usize = 384;
+pub const HEIGHT: usize = 224;
+
+/// A temporary folder, removed at the end.
+pub struct Folder(PathBuf);
+
+impl Folder {
+    pub fn new(name: &str) -> Folder {
+        let path = Path::new(env!("CARGO_TARGET_TMPDIR")).join(name);
+        let _ = fs::remove_dir_all(&path);
+        fs::create_dir_all(&path).unwrap();
+        Folder(path)
+    }
+
+    pub fn path(&self, name: &str) -> PathBuf {
+        self.0.join(name)
+    }
+
+    pub fn write(&self, name: &str, bytes: &[u8]) {
+        fs::write(self.path(name), bytes).unwrap();
+    }
+
+    pub fn read(&self, name: &str) -> Vec<u8> {
+        fs::read(self.path(name)).unwrap_or_else(|error| panic!("{name}: {error}"))
+    }
+
+    /// What lies in the folder, by name; folders with a slash.
+    pub fn names(&self) -> Vec<String> {
+        let mut names: Vec<String> = fs::read_dir(&self.0)
+            .unwrap()
+            .map(|entry| {
+                let entry = entry.unwrap();
+                let slash = if entry.path().is_dir() { "/" } else { "" };
+                format!("{}{slash}", entry.file_name().to_string_lossy())
+            })
+            .collect();
+        names.sort();
+        names
+    }
+
+    /// Runs the tool here with arguments as one types them.
+    pub fn vbmodel(&self, arguments: &str) -> Ran {
+        let output = Command::new(env!("CARGO_BIN_EXE_vbmodel"))
+            .args(arguments.split_whitespace())
+            .current_dir(&self.0)
+            .output()
+            .unwrap();
+        Ran::of(output)
+    }
+
+    /// Runs the demo into `out` and leaves its files there.
+    pub fn with_demo(name: &str) -> Folder {
+        let folder = Folder::new(name);
+        assert_eq!(folder.vbmodel("demo --scale 1").status, 0);
+        folder
+    }
+
+    /// Runs a command that must be refused with this message, and leave the folder as it was.
+    pub fn refused(&self, arguments: &str, message: &str) {
+        let before = self.names();
+        let ran = self.vbmodel(arguments);
+        assert_eq!((ran.status, ran.error.trim_end()), (2, message), "vbmodel {arguments}");
+        assert_eq!(ran.text, "", "vbmodel {arguments}");
+        assert_eq!(self.names(), before, "vbmodel {arguments} wrote something");
+    }
+}
+
+impl Drop for Folder {
+    fn drop(&mut self) {
+        let _ = fs::remove_dir_all(&self.0);
+    }
+}
+
+pub struct Ran {
+    pub status: i32,
+    pub text: String,
+    pub error: String,
+}
+
+impl Ran {
+    fn of(output: Output) -> Ran {
+        Ran {
+            status: output.status.code().unwrap_or(-1),
+            text: String::from_utf8(output.stdout).unwrap(),
+            error: String::from_utf8(output.stderr).unwrap(),
+        }
+    }
+}
+
+/// A PNG read back: width, height, and red, green and blue of each pixel.
+#[derive(PartialEq, Eq)]
+pub struct Rgb {
+    pub width: usize,
+    pub height: usize,
+    pub pixels: Vec<[u8; 3]>,
+}
+
+impl Rgb {
+    pub fn read(bytes: &[u8]) -> Rgb {
+        let mut decoder = png::Decoder::new(bytes);
+        decoder.set_transformations(png::Transformations::EXPAND);
+        let mut reader = decoder.read_info().unwrap();
+        let mut buffer = vec![0; reader.output_buffer_size()];
+        let frame = reader.next_frame(&mut buffer).unwrap();
+        assert_eq!(frame.color_type, png::ColorType::Rgb);
+        let pixels = buffer[..frame.buffer_size()].chunks(3).map(|p| [p[0], p[1], p[2]]).collect();
+        Rgb { width: frame.width as usize, height: frame.height as usize, pixels }
+    }
+
+    pub fn at(&self, x: usize, y: usize) -> [u8; 3] {
+        self.pixels[y * self.width + x]
+    }
+
+    /// A PNG of values 0 to 3 in red.
+    pub fn png(width: usize, values: &[u8]) -> Vec<u8> {
+        let mut bytes = Vec::new();
+        let height = values.len() / width;
+        let mut encoder = png::Encoder::new(&mut bytes, width as u32, height as u32);
+        encoder.set_color(png::ColorType::Indexed);
+        encoder.set_depth(png::BitDepth::Eight);
+        encoder.set_palette(vec![0, 0, 0, 0x55, 0, 0, 0xAA, 0, 0, 0xFF, 0, 0]);
+        let mut writer = encoder.write_header().unwrap();
+        writer.write_image_data(values).unwrap();
+        writer.finish().unwrap();
+        bytes
+    }
+}
+
+/// The value of a pixel in an image of VRAM, as paper 01 places it.
+pub fn pixel(vram: &[u8], frame: usize, eye: usize, x: usize, y: usize) -> u8 {
+    let at = 0x8000 * frame + 0x10000 * eye + 64 * x + 2 * (y / 8);
+    (u16::from_le_bytes([vram[at], vram[at + 1]]) >> (2 * (y % 8)) & 3) as u8
+}
