@@ -1,11 +1,10 @@
-//! Endless loops; one run of 200,000 instructions at a time. r10 counts the
-//! turns, r12 points to WRAM.
+//! Endless loops; one run of 100,000 instructions at a time (the model: 20,000).
+//! r10 counts the turns, r12 points to WRAM.
 
 use crate::{least, Row};
 
-const BUDGET: u64 = 200_000;
-/// The model is slower; its rounds are shorter.
-const MODEL_BUDGET: u64 = 50_000;
+const BUDGET: u64 = 100_000;
+const MODEL_BUDGET: u64 = 20_000;
 
 struct Loop {
     what: &'static str,

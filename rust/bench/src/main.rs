@@ -1,6 +1,6 @@
 //! Times the library, through its C interface, beside the independent model:
 //! the same input, the same buffers, which are not cleared between calls. A
-//! figure is the best of several rounds.
+//! figure is the least of many rounds.
 //!
 //! `cargo run --release --offline --manifest-path rust/Cargo.toml -p bench [-- bus|cpu|draw]`
 
@@ -19,19 +19,23 @@ pub struct Row {
     pub model: f64,
 }
 
-/// The least time of a unit, in nanoseconds: `work` does some units and gives their number.
+/// The least time of a unit, in nanoseconds: `work` does some units and gives their number. Rounds are short, so that
+/// some of them are not interrupted where other programs use the machine too.
 pub fn least(mut work: impl FnMut() -> u64) -> f64 {
-    const ROUNDS: u32 = 7;
-    const LENGTH: Duration = Duration::from_millis(60);
+    const ROUND: Duration = Duration::from_millis(1);
+    const WHOLE: Duration = Duration::from_millis(400);
     work();
+    let begun = Instant::now();
     let mut best = f64::INFINITY;
-    for _ in 0..ROUNDS {
-        let begun = Instant::now();
+    let mut rounds = 0;
+    while rounds < 5 || begun.elapsed() < WHOLE {
+        let start = Instant::now();
         let mut units = 0;
-        while units == 0 || begun.elapsed() < LENGTH {
+        while units == 0 || start.elapsed() < ROUND {
             units += work();
         }
-        best = best.min(begun.elapsed().as_nanos() as f64 / units as f64);
+        best = best.min(start.elapsed().as_nanos() as f64 / units as f64);
+        rounds += 1;
     }
     best
 }
@@ -60,7 +64,9 @@ fn main() {
         std::process::exit(2);
     }
     println!("Processor: {}. Release build.", processor());
-    println!("Both sides on the same buffers, not cleared between calls; best of 7 rounds.");
+    println!(
+        "Both sides on the same buffers, not cleared between calls; the least of many rounds."
+    );
     if wants("bus") {
         print("Bus: one checked call", "ns", &bus::rows());
     }
