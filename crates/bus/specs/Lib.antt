@@ -1,0 +1,5 @@
+pub mod Refusal
+pub mod Registers
+pub mod Place
+pub mod Memory
+pub mod Access

@@ -1,0 +1,147 @@
+-- The lent memories with the drawing registers, and what loads and stores mean: paper 01, "Addresses".
+-- A load is the little-endian number of its bytes, at every size. A store is a composition of steps
+-- that are total: put a byte (nothing at a register), put a register (nothing elsewhere).
+use Prim.Native.Nat.{ℕ, zero, suc, _+_, _-_, _*_, _/_, _%_, _^_}
+use mathlib.Core.Bool.{Bool, true, false}
+use mathlib.Core.List.{List, [], _∷_}
+use mathlib.Core.Path.{_≡_}
+use lib.ListN.{getD, set, length}
+use Rattle.word.specs.LittleEndian.{littleEndian}
+use Rattle.bus.specs.Registers.{version, keptOf, registersOk}
+use Rattle.bus.specs.Place.{Place, vramAt, wramAt, pakAt, romAt, drawingAt, versionAt, silent, unlisted, unmapped, soundUnit, hardware, nothing, expansion, placeOf}
+use Rattle.bus.specs.Refusal.{romOk, wramOk, vramOk, pakOk, unless}
+use Rattle.bus.specs.declared.Verdict.{Verdict}
+use Rattle.bus.specs.declared.Verdict.the-variants.{Accepted}
+use Rattle.bus.specs.declared.Refusal.the-variants.{RomLength, WramLength, VramLength, PakLength, State}
+
+-- the lent memories, each a list of bytes, and the drawing registers
+pub record Memory : Type 0 where
+  pub rom : List ℕ
+  pub wram : List ℕ
+  pub vram : List ℕ
+  pub pak : List ℕ
+  pub regs : List ℕ
+
+abbrev pub memoryOf : List ℕ → List ℕ → List ℕ → List ℕ → List ℕ → Memory
+memoryOf rom wram vram pak regs =
+    record { rom = rom; wram = wram; vram = vram; pak = pak; regs = regs }
+
+abbrev pub withWram : Memory → List ℕ → Memory
+withWram m xs = memoryOf (m .rom) xs (m .vram) (m .pak) (m .regs)
+
+abbrev pub withVram : Memory → List ℕ → Memory
+withVram m xs = memoryOf (m .rom) (m .wram) xs (m .pak) (m .regs)
+
+abbrev pub withPak : Memory → List ℕ → Memory
+withPak m xs = memoryOf (m .rom) (m .wram) (m .vram) xs (m .regs)
+
+abbrev pub withRegs : Memory → List ℕ → Memory
+withRegs m xs = memoryOf (m .rom) (m .wram) (m .vram) (m .pak) xs
+
+-- refusals 1 to 5, as far as memories and drawing registers are their subject
+unfoldable pub verdictOf : Memory → Verdict
+verdictOf m =
+    unless (romOk (length (m .rom))) RomLength
+    (unless (wramOk (length (m .wram))) WramLength
+    (unless (vramOk (length (m .vram))) VramLength
+    (unless (pakOk (length (m .pak))) PakLength (unless (registersOk (m .regs)) State Accepted))))
+
+-- the lengths that refusals 1 to 4 accept
+pub record Lengths (rom wram vram pak : ℕ) : Type 0 where
+  pub rom-ok : romOk rom ≡ true
+  pub wram-ok : wram ≡ 65536
+  pub vram-ok : vram ≡ 262144
+  pub pak-ok : pakOk pak ≡ true
+
+-- the place of an address in a memory
+abbrev pub placeIn : Memory → ℕ → Place
+placeIn m a = placeOf (length (m .rom)) (length (m .pak)) a
+
+-- what a byte of a place reads: pak RAM that is empty reads 0, and so does everything with no memory behind it
+abbrev pub readPlace : Memory → Place → ℕ
+readPlace m (vramAt i) = getD (m .vram) i 0
+readPlace m (wramAt i) = getD (m .wram) i 0
+readPlace m (pakAt i) = getD (m .pak) i 0
+readPlace m (romAt i) = getD (m .rom) i 0
+readPlace m (drawingAt k b) = getD (m .regs) k 0 / 256 ^ b % 256
+readPlace m (versionAt b) = version / 256 ^ b % 256
+readPlace m silent = 0
+readPlace m unlisted = 0
+readPlace m unmapped = 0
+readPlace m soundUnit = 0
+readPlace m hardware = 0
+readPlace m nothing = 0
+readPlace m expansion = 0
+
+-- the byte at an address
+unfoldable pub byteOf : Memory → ℕ → ℕ
+byteOf m a = readPlace m (placeIn m a)
+
+-- the n bytes from an address on, lowest first
+abbrev pub bytesFrom : Memory → ℕ → ℕ → List ℕ
+bytesFrom m a zero = []
+bytesFrom m a (suc n) = byteOf m a ∷ bytesFrom m (a + 1) n
+
+-- an access of `size` bytes (1, 2 or 4) drops the address bits below its size
+abbrev pub alignedOf : ℕ → ℕ → ℕ
+alignedOf size a = a - a % size
+
+-- what a load of `size` bytes gives
+unfoldable pub loadOf : Memory → ℕ → ℕ → ℕ
+loadOf m size a = littleEndian (bytesFrom m (alignedOf size a) size)
+
+-- a byte put at a place of VRAM, WRAM or pak RAM; nothing elsewhere
+abbrev pub putPlace : Memory → Place → ℕ → Memory
+putPlace m (vramAt i) b = withVram m (set (m .vram) i b)
+putPlace m (wramAt i) b = withWram m (set (m .wram) i b)
+putPlace m (pakAt i) b = withPak m (set (m .pak) i b)
+putPlace m (romAt i) b = m
+putPlace m (drawingAt k x) b = m
+putPlace m (versionAt x) b = m
+putPlace m silent b = m
+putPlace m unlisted b = m
+putPlace m unmapped b = m
+putPlace m soundUnit b = m
+putPlace m hardware b = m
+putPlace m nothing b = m
+putPlace m expansion b = m
+
+-- a value written to the drawing register of a place, which keeps its width; nothing elsewhere
+abbrev pub putDrawing : Memory → Place → ℕ → Memory
+putDrawing m (vramAt i) v = m
+putDrawing m (wramAt i) v = m
+putDrawing m (pakAt i) v = m
+putDrawing m (romAt i) v = m
+putDrawing m (drawingAt k x) v = withRegs m (set (m .regs) k (keptOf k v))
+putDrawing m (versionAt x) v = m
+putDrawing m silent v = m
+putDrawing m unlisted v = m
+putDrawing m unmapped v = m
+putDrawing m soundUnit v = m
+putDrawing m hardware v = m
+putDrawing m nothing v = m
+putDrawing m expansion v = m
+
+-- the low 8 bits of v stored at one address, where there is memory
+unfoldable pub putByte : Memory → ℕ → ℕ → Memory
+putByte m a v = putPlace m (placeIn m a) (v % 256)
+
+-- the low 16 bits of v written to the register that holds an address, where there is one
+unfoldable pub putRegister : Memory → ℕ → ℕ → Memory
+putRegister m a v = putDrawing m (placeIn m a) (v % 65536)
+
+-- a byte store: memory takes the low 8 bits of the source, a register its low 16 bits
+unfoldable pub storeByteOf : Memory → ℕ → ℕ → Memory
+storeByteOf m a v = putRegister (putByte m a v) a v
+
+-- a halfword stored from an even address on, lowest byte first
+unfoldable pub putHalfword : Memory → ℕ → ℕ → Memory
+putHalfword m a v = putRegister (putByte (putByte m a v) (a + 1) (v / 256)) a v
+
+-- a halfword store
+unfoldable pub storeHalfOf : Memory → ℕ → ℕ → Memory
+storeHalfOf m a v = putHalfword m (alignedOf 2 a) v
+
+-- a word store is two halfword stores, low one first
+unfoldable pub storeWordOf : Memory → ℕ → ℕ → Memory
+storeWordOf m a v = putHalfword (putHalfword m (alignedOf 4 a) v) (alignedOf 4 a + 2) (v / 65536)

@@ -1,0 +1,68 @@
+-- Where the byte at an address leads: paper 01, "Addresses". The place tells apart what reads alike, so that
+-- later requests can speak of it: a register of 000 that the model keeps silent, an address of the register
+-- range where 000 lists none, and the ranges of the VIP with nothing behind them.
+use Prim.Native.Nat.{ℕ, _+_, _-_, _*_, _/_, _%_, _^_}
+use mathlib.Core.List.{List, [], _∷_}
+use lib.ListN.{getD, length}
+use lib.Dec.{ltb, eqb}
+use Rattle.word.specs.Choose.{pick, member, indexOf}
+use Rattle.bus.specs.Registers.{drawingAddresses, silentAddresses, versionAddress}
+
+pub data Place : Type 0 where
+  -- byte i of a lent memory
+  vramAt : ℕ → Place
+  wramAt : ℕ → Place
+  pakAt : ℕ → Place
+  romAt : ℕ → Place
+  -- byte b (0 low, 1 high) of drawing register k
+  drawingAt : ℕ → ℕ → Place
+  -- byte b of VER
+  versionAt : ℕ → Place
+  -- a register of 000 that reads 0 and ignores writes
+  silent : Place
+  -- an address of the register range where 000 lists no register
+  unlisted : Place
+  -- the VIP's other ranges
+  unmapped : Place
+  -- regions 1, 2, 3 and 4
+  soundUnit : Place
+  hardware : Place
+  nothing : Place
+  expansion : Place
+
+-- the register that holds byte v of the VIP, 0x5E000 to 0x5FFFF: registers are halfwords
+unfoldable pub registerPlace : ℕ → Place
+registerPlace v =
+    let h = v - v % 2 in
+    let k = indexOf h drawingAddresses in
+    pick (ltb k 13) (drawingAt k (v % 2))
+    (pick (eqb h versionAddress) (versionAt (v % 2)) (pick (member h silentAddresses) silent unlisted))
+
+-- the character mirror: where 0x78000 + k leads in VRAM
+unfoldable pub mirrorOf : ℕ → ℕ
+mirrorOf k = 0x6000 + k / 0x2000 * 0x8000 + k % 0x2000
+
+-- region 0, by the 19 bits that the VIP keeps
+unfoldable pub vipPlace : ℕ → Place
+vipPlace v =
+    pick (ltb v 0x40000) (vramAt v)
+    (pick (ltb v 0x5E000) unmapped
+    (pick (ltb v 0x60000) (registerPlace v) (pick (ltb v 0x78000) unmapped (vramAt (mirrorOf (v - 0x78000))))))
+
+-- bits 24 to 26
+unfoldable pub regionOf : ℕ → ℕ
+regionOf a = a % 2 ^ 27 / 2 ^ 24
+
+-- the place of address a, with ROM and pak RAM of the lengths given
+unfoldable pub placeOf : ℕ → ℕ → ℕ → Place
+placeOf romLength pakLength a =
+    let b = a % 2 ^ 27 in
+    getD (vipPlace (b % 2 ^ 19)
+    ∷ soundUnit
+    ∷ hardware
+    ∷ nothing
+    ∷ expansion
+    ∷ wramAt (b % 65536)
+    ∷ pakAt (b % pakLength)
+    ∷ romAt (b % romLength)
+    ∷ []) (regionOf a) nothing
