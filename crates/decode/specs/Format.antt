@@ -4,6 +4,7 @@
 use Prim.Native.Nat.{ℕ, _+_, _*_, _/_, _%_}
 use mathlib.Core.Bool.{Bool, true, false}
 use lib.Dec.{eqb, ltb}
+use Rattle.word.specs.Choose.{pick}
 use Rattle.decode.specs.declared.RegisterOperation.{RegisterOperation}
 use Rattle.decode.specs.declared.ImmediateOperation.{ImmediateOperation}
 use Rattle.decode.specs.declared.LongOperation.{LongOperation}
@@ -25,10 +26,6 @@ reg2Of f = f / 32 % 32
 abbrev pub disp26Of : ℕ → ℕ → ℕ
 disp26Of f s = f % 1024 * 65536 + s / 2 * 2
 
-abbrev pub pickDecoded : Bool → Decoded → Decoded → Decoded
-pickDecoded true a b = a
-pickDecoded false a b = b
-
 -- Format I
 abbrev pub register : RegisterOperation → ℕ → Decoded
 register op f = Modelled (Register op (lowOf f) (reg2Of f))
@@ -43,10 +40,10 @@ setf f = Modelled (Setf (f % 16) (reg2Of f))
 
 -- LDSR and STSR, not modelled where they name register 24
 abbrev pub ldsr : ℕ → Decoded
-ldsr f = pickDecoded (eqb (lowOf f) 24) NotModelled (Modelled (Ldsr (reg2Of f) (lowOf f)))
+ldsr f = pick (eqb (lowOf f) 24) NotModelled (Modelled (Ldsr (reg2Of f) (lowOf f)))
 
 abbrev pub stsr : ℕ → Decoded
-stsr f = pickDecoded (eqb (lowOf f) 24) NotModelled (Modelled (Stsr (lowOf f) (reg2Of f)))
+stsr f = pick (eqb (lowOf f) 24) NotModelled (Modelled (Stsr (lowOf f) (reg2Of f)))
 
 -- Format III: the condition in bits 12-9, the displacement in bits 8-0, bit 0 cleared
 abbrev pub branch : ℕ → Decoded
@@ -76,10 +73,6 @@ store w f s = Modelled (Store w s (lowOf f) (reg2Of f))
 abbrev pub output : Width → ℕ → ℕ → Decoded
 output w f s = Modelled (Out w s (lowOf f) (reg2Of f))
 
-abbrev pub pickBool : Bool → Bool → Bool → Bool
-pickBool true a b = a
-pickBool false a b = b
-
 -- Formats IV to VII have two halfwords: opcodes from 101000 up, but for the two illegal ones there
 abbrev pub twoOf : ℕ → Bool
-twoOf f = pickBool (ltb (f / 1024) 40) false (pickBool (eqb (f / 1024) 50) false (pickBool (eqb (f / 1024) 54) false true))
+twoOf f = pick (ltb (f / 1024) 40) false (pick (eqb (f / 1024) 50) false (pick (eqb (f / 1024) 54) false true))
