@@ -2,4 +2,3 @@ pub mod Refusal
 pub mod Registers
 pub mod Place
 pub mod Memory
-pub mod Access

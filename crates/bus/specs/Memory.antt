@@ -1,7 +1,7 @@
 -- The lent memories with the drawing registers, and what loads and stores mean: paper 01, "Addresses".
 -- A load is the little-endian number of its bytes, at every size. A store is a composition of steps
 -- that are total: put a byte (nothing at a register), put a register (nothing elsewhere).
-use Prim.Native.Nat.{ℕ, zero, suc, _+_, _-_, _*_, _/_, _%_, _^_}
+use Prim.Native.Nat.{ℕ, zero, suc, _+_, _-_, _*_, _/_, _%_, _^_, _<_}
 use mathlib.Core.Bool.{Bool, true, false}
 use mathlib.Core.List.{List, [], _∷_}
 use mathlib.Core.Path.{_≡_}
@@ -89,6 +89,11 @@ alignedOf size a = a - a % size
 -- what a load of `size` bytes gives
 unfoldable pub loadOf : Memory → ℕ → ℕ → ℕ
 loadOf m size a = littleEndian (bytesFrom m (alignedOf size a) size)
+
+-- what a load's value is: the definition's, and within its size
+pub record Reads (m : Memory) (size a value : ℕ) : Type 0 where
+  pub means : value ≡ loadOf m size a
+  pub fits : value < 256 ^ size
 
 -- a byte put at a place of VRAM, WRAM or pak RAM; nothing elsewhere
 abbrev pub putPlace : Memory → Place → ℕ → Memory

@@ -1,6 +1,6 @@
 -- The drawing registers: SPT0 to SPT3, GPLT0 to GPLT3, JPLT0 to JPLT3 and BKCOL, a list of 13 halfwords in that order.
 -- Paper 01, "Addresses" (widths) and refusal 5; paper 000, "I/O Registers" (addresses).
-use Prim.Native.Nat.{ℕ, _+_, _%_, _^_}
+use Prim.Native.Nat.{ℕ, zero, suc, _+_, _%_, _^_}
 use mathlib.Core.Bool.{Bool, true, false}
 use mathlib.Core.List.{List, [], _∷_}
 use lib.ListN.{getD}
@@ -74,11 +74,11 @@ widthOf k = pick (ltb k 4) 10 (pick (ltb k 12) 8 2)
 abbrev pub keptOf : ℕ → ℕ → ℕ
 keptOf k v = v % 2 ^ widthOf k
 
--- whether each of the registers named is within its width
-abbrev pub withinAll : List ℕ → List ℕ → Bool
-withinAll d [] = true
-withinAll d (k ∷ ks) = pick (ltb (getD d k 0) (2 ^ widthOf k)) (withinAll d ks) false
+-- whether each of the n registers from k on is within its width
+abbrev pub withinFrom : List ℕ → ℕ → ℕ → Bool
+withinFrom d k zero = true
+withinFrom d k (suc n) = pick (ltb (getD d k 0) (2 ^ widthOf k)) (withinFrom d (k + 1) n) false
 
--- 5, of the drawing registers: no register exceeds its width
+-- 5, of the drawing registers: none of the 13 exceeds its width
 unfoldable pub registersOk : List ℕ → Bool
-registersOk d = withinAll d (0 ∷ 1 ∷ 2 ∷ 3 ∷ 4 ∷ 5 ∷ 6 ∷ 7 ∷ 8 ∷ 9 ∷ 10 ∷ 11 ∷ 12 ∷ [])
+registersOk d = withinFrom d 0 13

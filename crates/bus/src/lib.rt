@@ -1,7 +1,14 @@
 // The bus: where an address leads, loads and stores over the lent memories, the drawing registers,
-// and paper 01's refusals.
+// and paper 01's refusals 1 to 5. The functions here are for the crates above; the calls that test
+// their arguments and refuse are those of the crate access.
+pub mod load;
+mod pak;
+pub mod refusals;
+mod registers;
+pub mod store;
+mod vip;
 
-// Why a call is refused: paper 01's refusals, in the order of their numbers (numberOf in specs/Refusal).
+// Why a call is refused: paper 01's refusals, in the order of their numbers (numberOf of specs/Refusal).
 pub enum Refusal {
     RomLength,
     WramLength,
@@ -27,16 +34,4 @@ pub struct Drawing {
 // What an access read.
 pub struct Loaded {
     pub value: u32,
-}
-
-// The answer of a checked load.
-pub enum Load {
-    Value(Loaded),
-    Refused(Refusal),
-}
-
-// The answer of a checked store: the drawing registers afterwards beside the verdict.
-pub struct Stored {
-    pub verdict: Verdict,
-    pub drawing: Drawing,
 }
