@@ -4,7 +4,7 @@
 use Prim.Native.Nat.{ℕ, _/_}
 use mathlib.Core.List.{List, [], _∷_, _++_}
 use lib.ListN.{getD, replicate}
-use Rattle.decode.specs.Format.{lowOf, reg2Of, register, immediate, setf, ldsr, stsr, branch, jr, jal, long, load, input, store, output}
+use Rattle.decode.specs.Format.{lowOf, reg2Of, register, signed, unsigned, setf, ldsr, stsr, branch, jr, jal, longSigned, longUnsigned, movhi, load, input, store, output}
 use Rattle.decode.specs.declared.RegisterOperation.{RegisterOperation}
 use Rattle.decode.specs.declared.ImmediateOperation.{ImmediateOperation}
 use Rattle.decode.specs.declared.LongOperation.{LongOperation}
@@ -49,21 +49,21 @@ shortRows f =
     -- 001111 I NOT
     register RegisterOperation.Not f ∷
     -- 010000 II MOV
-    immediate ImmediateOperation.Mov f ∷
+    signed ImmediateOperation.Mov f ∷
     -- 010001 II ADD
-    immediate ImmediateOperation.Add f ∷
+    signed ImmediateOperation.Add f ∷
     -- 010010 II SETF
     setf f ∷
     -- 010011 II CMP
-    immediate ImmediateOperation.Cmp f ∷
+    signed ImmediateOperation.Cmp f ∷
     -- 010100 II SHL
-    immediate ImmediateOperation.Shl f ∷
+    unsigned ImmediateOperation.Shl f ∷
     -- 010101 II SHR
-    immediate ImmediateOperation.Shr f ∷
+    unsigned ImmediateOperation.Shr f ∷
     -- 010110 II CLI
     Modelled Cli ∷
     -- 010111 II SAR
-    immediate ImmediateOperation.Sar f ∷
+    unsigned ImmediateOperation.Sar f ∷
     -- 011000 II TRAP
     Modelled (Trap (lowOf f)) ∷
     -- 011001 II RETI
@@ -90,21 +90,21 @@ branchRows f = replicate 8 (branch f)
 unfoldable pub longRows : ℕ → ℕ → List Decoded
 longRows f s =
     -- 101000 V MOVEA
-    long LongOperation.Movea f s ∷
+    longSigned LongOperation.Movea f s ∷
     -- 101001 V ADDI
-    long LongOperation.Addi f s ∷
+    longSigned LongOperation.Addi f s ∷
     -- 101010 IV JR
     jr f s ∷
     -- 101011 IV JAL
     jal f s ∷
     -- 101100 V ORI
-    long LongOperation.Ori f s ∷
+    longUnsigned LongOperation.Ori f s ∷
     -- 101101 V ANDI
-    long LongOperation.Andi f s ∷
+    longUnsigned LongOperation.Andi f s ∷
     -- 101110 V XORI
-    long LongOperation.Xori f s ∷
+    longUnsigned LongOperation.Xori f s ∷
     -- 101111 V MOVHI
-    long LongOperation.Movhi f s ∷
+    movhi f s ∷
     -- 110000 VI LD.B
     load Width.Byte f s ∷
     -- 110001 VI LD.H

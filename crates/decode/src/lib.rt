@@ -1,11 +1,13 @@
 // Halfwords to instructions, as document 000's formats and its list of instructions by opcode give them.
 // Fields come normalised: a jump's or branch's displacement has bit 0 clear, SETF's condition four bits,
-// and unused bits are absent. Immediates and displacements are the fields as stored, not yet sign-extended.
+// and unused bits are absent. Immediates and displacements are words: sign- or zero-extended as 000 says for each.
+mod format;
+
 ghost use mathlib.Core.Path.{_≡_};
 ghost use Prim.Native.Nat.{_<_, _≤_, _/_, _-_};
 ghost use mathlib.Core.Bool.{true};
 ghost use lib.ListN.{getD};
-ghost use Rattle.decode.specs.Format.{register, immediate, long, load, input, store, output, ldsr, stsr, setf, branch, jr, jal, twoOf};
+ghost use Rattle.decode.specs.Format.{branch, twoOf};
 ghost use Rattle.decode.specs.Opcode.{decodeOf, shortRows, longRows};
 
 // What Format I does with reg1 and reg2, in the order of the opcodes.
@@ -159,7 +161,7 @@ pub fn decode(first: u16, second: u16) -> Decoded
         return short(f);
     }
     if f < 40960 {
-        return branch(f);
+        return format::branch(f);
     }
     long_form(f, s)
 }
@@ -187,14 +189,14 @@ fn short(f: u32) -> Decoded
     ensures { λ r. ⌜ r ≡ getD (shortRows f) (f / 1024) Decoded.NotModelled ⌝ }
 {
     match f / 1024 {
-        0 => register(RegisterOperation::Mov, f),
-        1 => register(RegisterOperation::Add, f),
-        2 => register(RegisterOperation::Sub, f),
-        3 => register(RegisterOperation::Cmp, f),
-        4 => register(RegisterOperation::Shl, f),
-        5 => register(RegisterOperation::Shr, f),
+        0 => format::register(RegisterOperation::Mov, f),
+        1 => format::register(RegisterOperation::Add, f),
+        2 => format::register(RegisterOperation::Sub, f),
+        3 => format::register(RegisterOperation::Cmp, f),
+        4 => format::register(RegisterOperation::Shl, f),
+        5 => format::register(RegisterOperation::Shr, f),
         6 => Decoded::Modelled(Instruction::Jmp { reg1: f % 32 }),
-        7 => register(RegisterOperation::Sar, f),
+        7 => format::register(RegisterOperation::Sar, f),
         8 => Decoded::Modelled(Instruction::Mul {
             reg1: f % 32,
             reg2: f / 32 % 32,
@@ -211,24 +213,24 @@ fn short(f: u32) -> Decoded
             reg1: f % 32,
             reg2: f / 32 % 32,
         }),
-        12 => register(RegisterOperation::Or, f),
-        13 => register(RegisterOperation::And, f),
-        14 => register(RegisterOperation::Xor, f),
-        15 => register(RegisterOperation::Not, f),
-        16 => immediate(ImmediateOperation::Mov, f),
-        17 => immediate(ImmediateOperation::Add, f),
-        18 => setf(f),
-        19 => immediate(ImmediateOperation::Cmp, f),
-        20 => immediate(ImmediateOperation::Shl, f),
-        21 => immediate(ImmediateOperation::Shr, f),
+        12 => format::register(RegisterOperation::Or, f),
+        13 => format::register(RegisterOperation::And, f),
+        14 => format::register(RegisterOperation::Xor, f),
+        15 => format::register(RegisterOperation::Not, f),
+        16 => format::signed(ImmediateOperation::Mov, f),
+        17 => format::signed(ImmediateOperation::Add, f),
+        18 => format::setf(f),
+        19 => format::signed(ImmediateOperation::Cmp, f),
+        20 => format::unsigned(ImmediateOperation::Shl, f),
+        21 => format::unsigned(ImmediateOperation::Shr, f),
         22 => Decoded::Modelled(Instruction::Cli),
-        23 => immediate(ImmediateOperation::Sar, f),
+        23 => format::unsigned(ImmediateOperation::Sar, f),
         24 => Decoded::Modelled(Instruction::Trap { vector: f % 32 }),
         25 => Decoded::Modelled(Instruction::Reti),
         26 => Decoded::Modelled(Instruction::Halt),
         27 => Decoded::Modelled(Instruction::Illegal),
-        28 => ldsr(f),
-        29 => stsr(f),
+        28 => format::ldsr(f),
+        29 => format::stsr(f),
         30 => Decoded::Modelled(Instruction::Sei),
         31 => Decoded::NotModelled,
         _ => Decoded::NotModelled,
@@ -241,174 +243,30 @@ fn long_form(f: u32, s: u32) -> Decoded
     ensures { λ r. ⌜ r ≡ getD (longRows f s) (f / 1024 - 40) Decoded.NotModelled ⌝ }
 {
     match f / 1024 {
-        40 => long(LongOperation::Movea, f, s),
-        41 => long(LongOperation::Addi, f, s),
-        42 => jr(f, s),
-        43 => jal(f, s),
-        44 => long(LongOperation::Ori, f, s),
-        45 => long(LongOperation::Andi, f, s),
-        46 => long(LongOperation::Xori, f, s),
-        47 => long(LongOperation::Movhi, f, s),
-        48 => load(Width::Byte, f, s),
-        49 => load(Width::Half, f, s),
+        40 => format::long_signed(LongOperation::Movea, f, s),
+        41 => format::long_signed(LongOperation::Addi, f, s),
+        42 => format::jr(f, s),
+        43 => format::jal(f, s),
+        44 => format::long_unsigned(LongOperation::Ori, f, s),
+        45 => format::long_unsigned(LongOperation::Andi, f, s),
+        46 => format::long_unsigned(LongOperation::Xori, f, s),
+        47 => format::movhi(f, s),
+        48 => format::load(Width::Byte, f, s),
+        49 => format::load(Width::Half, f, s),
         50 => Decoded::Modelled(Instruction::Illegal),
-        51 => load(Width::Word, f, s),
-        52 => store(Width::Byte, f, s),
-        53 => store(Width::Half, f, s),
+        51 => format::load(Width::Word, f, s),
+        52 => format::store(Width::Byte, f, s),
+        53 => format::store(Width::Half, f, s),
         54 => Decoded::Modelled(Instruction::Illegal),
-        55 => store(Width::Word, f, s),
-        56 => input(Width::Byte, f, s),
-        57 => input(Width::Half, f, s),
+        55 => format::store(Width::Word, f, s),
+        56 => format::input(Width::Byte, f, s),
+        57 => format::input(Width::Half, f, s),
         58 => Decoded::NotModelled,
-        59 => input(Width::Word, f, s),
-        60 => output(Width::Byte, f, s),
-        61 => output(Width::Half, f, s),
+        59 => format::input(Width::Word, f, s),
+        60 => format::output(Width::Byte, f, s),
+        61 => format::output(Width::Half, f, s),
         62 => Decoded::NotModelled,
-        63 => output(Width::Word, f, s),
+        63 => format::output(Width::Word, f, s),
         _ => Decoded::NotModelled,
     }
-}
-
-// Format I: reg1 and reg2.
-fn register(op: RegisterOperation, f: u32) -> Decoded
-    ensures { λ r. ⌜ r ≡ register op f ⌝ }
-{
-    Decoded::Modelled(Instruction::Register {
-        op,
-        reg1: f % 32,
-        reg2: f / 32 % 32,
-    })
-}
-
-// Format II: a five-bit immediate and reg2.
-fn immediate(op: ImmediateOperation, f: u32) -> Decoded
-    ensures { λ r. ⌜ r ≡ immediate op f ⌝ }
-{
-    Decoded::Modelled(Instruction::Immediate {
-        op,
-        imm: f % 32,
-        reg2: f / 32 % 32,
-    })
-}
-
-// Format II with a condition, of which the top bit is ignored.
-fn setf(f: u32) -> Decoded
-    ensures { λ r. ⌜ r ≡ setf f ⌝ }
-{
-    Decoded::Modelled(Instruction::Setf {
-        cond: f % 16,
-        reg2: f / 32 % 32,
-    })
-}
-
-// LDSR, but for register 24, the cache control word.
-fn ldsr(f: u32) -> Decoded
-    ensures { λ r. ⌜ r ≡ ldsr f ⌝ }
-{
-    if f % 32 == 24 {
-        return Decoded::NotModelled;
-    }
-    Decoded::Modelled(Instruction::Ldsr {
-        reg2: f / 32 % 32,
-        id: f % 32,
-    })
-}
-
-// STSR, but for register 24, the cache control word.
-fn stsr(f: u32) -> Decoded
-    ensures { λ r. ⌜ r ≡ stsr f ⌝ }
-{
-    if f % 32 == 24 {
-        return Decoded::NotModelled;
-    }
-    Decoded::Modelled(Instruction::Stsr {
-        id: f % 32,
-        reg2: f / 32 % 32,
-    })
-}
-
-// Format III: a condition and a nine-bit displacement.
-fn branch(f: u32) -> Decoded
-    ensures { λ r. ⌜ r ≡ branch f ⌝ }
-{
-    Decoded::Modelled(Instruction::Bcond {
-        cond: f / 512 % 16,
-        disp: f % 512 / 2 * 2,
-    })
-}
-
-// Format IV: a 26-bit displacement, its high ten bits in the first halfword.
-fn jr(f: u32, s: u32) -> Decoded
-    requires { ⌜ s < 65536 ⌝ }
-    ensures { λ r. ⌜ r ≡ jr f s ⌝ }
-{
-    Decoded::Modelled(Instruction::Jr {
-        disp: f % 1024 * 65536 + s / 2 * 2,
-    })
-}
-
-fn jal(f: u32, s: u32) -> Decoded
-    requires { ⌜ s < 65536 ⌝ }
-    ensures { λ r. ⌜ r ≡ jal f s ⌝ }
-{
-    Decoded::Modelled(Instruction::Jal {
-        disp: f % 1024 * 65536 + s / 2 * 2,
-    })
-}
-
-// Format V: a sixteen-bit immediate, reg1 and reg2.
-fn long(op: LongOperation, f: u32, s: u32) -> Decoded
-    ensures { λ r. ⌜ r ≡ long op f s ⌝ }
-{
-    Decoded::Modelled(Instruction::Long {
-        op,
-        imm: s,
-        reg1: f % 32,
-        reg2: f / 32 % 32,
-    })
-}
-
-// Format VI: a sixteen-bit displacement, the base register reg1 and the data register reg2.
-fn load(width: Width, f: u32, s: u32) -> Decoded
-    ensures { λ r. ⌜ r ≡ load width f s ⌝ }
-{
-    Decoded::Modelled(Instruction::Load {
-        width,
-        disp: s,
-        reg1: f % 32,
-        reg2: f / 32 % 32,
-    })
-}
-
-fn input(width: Width, f: u32, s: u32) -> Decoded
-    ensures { λ r. ⌜ r ≡ input width f s ⌝ }
-{
-    Decoded::Modelled(Instruction::In {
-        width,
-        disp: s,
-        reg1: f % 32,
-        reg2: f / 32 % 32,
-    })
-}
-
-fn store(width: Width, f: u32, s: u32) -> Decoded
-    ensures { λ r. ⌜ r ≡ store width f s ⌝ }
-{
-    Decoded::Modelled(Instruction::Store {
-        width,
-        disp: s,
-        reg1: f % 32,
-        reg2: f / 32 % 32,
-    })
-}
-
-fn output(width: Width, f: u32, s: u32) -> Decoded
-    ensures { λ r. ⌜ r ≡ output width f s ⌝ }
-{
-    Decoded::Modelled(Instruction::Out {
-        width,
-        disp: s,
-        reg1: f % 32,
-        reg2: f / 32 % 32,
-    })
 }

@@ -1,17 +1,17 @@
 -- `decode::long_form`: each arm is the row of its opcode.
-use borrow.Author.Needs.{needs}
 use Prim.Native.Nat.{_≤_, _/_}
 use native.Mathlib.Omega.{arith}
+use borrow.Author.Needs.{needs}
+use Rattle.decode.proofs.Keys.{past}
 use Rattle.decode.specs.Opcode.{longRows}
-use Rattle.decode.proofs.Keys.{Apart, past}
 use Rattle.decode.proofs.long_form.Statement.{statement}
 use Rattle.decode.proofs.long_form.Tie as tie
 
-long-requires : tie.Need-long-requires
-long-requires c κs = search needs
+long-signed-requires : tie.Need-long-signed-requires
+long-signed-requires c κs = search needs
 
-long-requires-2 : tie.Need-long-requires-2
-long-requires-2 c κs = search needs
+long-signed-requires-2 : tie.Need-long-signed-requires-2
+long-signed-requires-2 c κs = search needs
 
 jr-requires : tie.Need-jr-requires
 jr-requires c κs = search needs
@@ -19,17 +19,17 @@ jr-requires c κs = search needs
 jal-requires : tie.Need-jal-requires
 jal-requires c κs = search needs
 
-long-requires-3 : tie.Need-long-requires-3
-long-requires-3 c κs = search needs
+long-unsigned-requires : tie.Need-long-unsigned-requires
+long-unsigned-requires c κs = search needs
 
-long-requires-4 : tie.Need-long-requires-4
-long-requires-4 c κs = search needs
+long-unsigned-requires-2 : tie.Need-long-unsigned-requires-2
+long-unsigned-requires-2 c κs = search needs
 
-long-requires-5 : tie.Need-long-requires-5
-long-requires-5 c κs = search needs
+long-unsigned-requires-3 : tie.Need-long-unsigned-requires-3
+long-unsigned-requires-3 c κs = search needs
 
-long-requires-6 : tie.Need-long-requires-6
-long-requires-6 c κs = search needs
+movhi-requires : tie.Need-movhi-requires
+movhi-requires c κs = search needs
 
 load-requires : tie.Need-load-requires
 load-requires c κs = search needs
@@ -69,11 +69,11 @@ output-requires-3 c κs = search needs
 
 returns : tie.Need-returns
 unfolding longRows
-returns c = rw (c .before .match .keys1) (c .long .ensures)
+returns c = rw (c .before .match .keys1) (c .long-signed .ensures)
 
 returns-2 : tie.Need-returns-2
 unfolding longRows
-returns-2 c = rw (c .before .match .keys2) (c .long2 .ensures)
+returns-2 c = rw (c .before .match .keys2) (c .long-signed2 .ensures)
 
 returns-3 : tie.Need-returns-3
 unfolding longRows
@@ -85,19 +85,19 @@ returns-4 c = rw (c .before .match .keys4) (c .jal .ensures)
 
 returns-5 : tie.Need-returns-5
 unfolding longRows
-returns-5 c = rw (c .before .match .keys5) (c .long3 .ensures)
+returns-5 c = rw (c .before .match .keys5) (c .long-unsigned .ensures)
 
 returns-6 : tie.Need-returns-6
 unfolding longRows
-returns-6 c = rw (c .before .match .keys6) (c .long4 .ensures)
+returns-6 c = rw (c .before .match .keys6) (c .long-unsigned2 .ensures)
 
 returns-7 : tie.Need-returns-7
 unfolding longRows
-returns-7 c = rw (c .before .match .keys7) (c .long5 .ensures)
+returns-7 c = rw (c .before .match .keys7) (c .long-unsigned3 .ensures)
 
 returns-8 : tie.Need-returns-8
 unfolding longRows
-returns-8 c = rw (c .before .match .keys8) (c .long6 .ensures)
+returns-8 c = rw (c .before .match .keys8) (c .movhi .ensures)
 
 returns-9 : tie.Need-returns-9
 unfolding longRows
@@ -172,14 +172,14 @@ pub long-form-spec : {M : Type 1} → statement M
 long-form-spec =
     tie.close
     (tie.spec
-    long-requires
-    long-requires-2
+    long-signed-requires
+    long-signed-requires-2
     jr-requires
     jal-requires
-    long-requires-3
-    long-requires-4
-    long-requires-5
-    long-requires-6
+    long-unsigned-requires
+    long-unsigned-requires-2
+    long-unsigned-requires-3
+    movhi-requires
     load-requires
     load-requires-2
     load-requires-3

@@ -1,9 +1,9 @@
 -- `decode::short`: each arm is the row of its opcode.
-use borrow.Author.Needs.{needs}
-use native.Mathlib.Omega.{arith}
 use Prim.Native.Nat.{_≤_, _/_}
+use native.Mathlib.Omega.{arith}
+use borrow.Author.Needs.{needs}
+use Rattle.decode.proofs.Keys.{past}
 use Rattle.decode.specs.Opcode.{shortRows}
-use Rattle.decode.proofs.Keys.{Apart, past}
 use Rattle.decode.proofs.short.Statement.{statement}
 use Rattle.decode.proofs.short.Tie as tie
 
@@ -40,26 +40,26 @@ register-requires-10 c κs = search needs
 register-requires-11 : tie.Need-register-requires-11
 register-requires-11 c κs = search needs
 
-immediate-requires : tie.Need-immediate-requires
-immediate-requires c κs = search needs
+signed-requires : tie.Need-signed-requires
+signed-requires c κs = search needs
 
-immediate-requires-2 : tie.Need-immediate-requires-2
-immediate-requires-2 c κs = search needs
+signed-requires-2 : tie.Need-signed-requires-2
+signed-requires-2 c κs = search needs
 
 setf-requires : tie.Need-setf-requires
 setf-requires c κs = search needs
 
-immediate-requires-3 : tie.Need-immediate-requires-3
-immediate-requires-3 c κs = search needs
+signed-requires-3 : tie.Need-signed-requires-3
+signed-requires-3 c κs = search needs
 
-immediate-requires-4 : tie.Need-immediate-requires-4
-immediate-requires-4 c κs = search needs
+unsigned-requires : tie.Need-unsigned-requires
+unsigned-requires c κs = search needs
 
-immediate-requires-5 : tie.Need-immediate-requires-5
-immediate-requires-5 c κs = search needs
+unsigned-requires-2 : tie.Need-unsigned-requires-2
+unsigned-requires-2 c κs = search needs
 
-immediate-requires-6 : tie.Need-immediate-requires-6
-immediate-requires-6 c κs = search needs
+unsigned-requires-3 : tie.Need-unsigned-requires-3
+unsigned-requires-3 c κs = search needs
 
 ldsr-requires : tie.Need-ldsr-requires
 ldsr-requires c κs = search needs
@@ -133,11 +133,11 @@ returns-16 c = rw (c .before .match .keys16) (c .register11 .ensures)
 
 returns-17 : tie.Need-returns-17
 unfolding shortRows
-returns-17 c = rw (c .before .match .keys17) (c .immediate .ensures)
+returns-17 c = rw (c .before .match .keys17) (c .signed .ensures)
 
 returns-18 : tie.Need-returns-18
 unfolding shortRows
-returns-18 c = rw (c .before .match .keys18) (c .immediate2 .ensures)
+returns-18 c = rw (c .before .match .keys18) (c .signed2 .ensures)
 
 returns-19 : tie.Need-returns-19
 unfolding shortRows
@@ -145,15 +145,15 @@ returns-19 c = rw (c .before .match .keys19) (c .setf .ensures)
 
 returns-20 : tie.Need-returns-20
 unfolding shortRows
-returns-20 c = rw (c .before .match .keys20) (c .immediate3 .ensures)
+returns-20 c = rw (c .before .match .keys20) (c .signed3 .ensures)
 
 returns-21 : tie.Need-returns-21
 unfolding shortRows
-returns-21 c = rw (c .before .match .keys21) (c .immediate4 .ensures)
+returns-21 c = rw (c .before .match .keys21) (c .unsigned .ensures)
 
 returns-22 : tie.Need-returns-22
 unfolding shortRows
-returns-22 c = rw (c .before .match .keys22) (c .immediate5 .ensures)
+returns-22 c = rw (c .before .match .keys22) (c .unsigned2 .ensures)
 
 returns-23 : tie.Need-returns-23
 unfolding shortRows
@@ -161,7 +161,7 @@ returns-23 c = rw (c .match .keys23)
 
 returns-24 : tie.Need-returns-24
 unfolding shortRows
-returns-24 c = rw (c .before .match .keys24) (c .immediate6 .ensures)
+returns-24 c = rw (c .before .match .keys24) (c .unsigned3 .ensures)
 
 returns-25 : tie.Need-returns-25
 unfolding shortRows
@@ -215,13 +215,13 @@ short-spec =
     register-requires-9
     register-requires-10
     register-requires-11
-    immediate-requires
-    immediate-requires-2
+    signed-requires
+    signed-requires-2
     setf-requires
-    immediate-requires-3
-    immediate-requires-4
-    immediate-requires-5
-    immediate-requires-6
+    signed-requires-3
+    unsigned-requires
+    unsigned-requires-2
+    unsigned-requires-3
     ldsr-requires
     stsr-requires
     returns

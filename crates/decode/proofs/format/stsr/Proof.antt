@@ -1,7 +1,7 @@
--- `decode::stsr`: register 24 is not modelled.
+-- `decode::format::stsr`: register 24 is not modelled.
 use borrow.Author.Tests.{eq-eqb, ne-eqb}
-use Rattle.decode.proofs.stsr.Statement.{statement}
-use Rattle.decode.proofs.stsr.Tie as tie
+use Rattle.decode.proofs.format.stsr.Statement.{statement}
+use Rattle.decode.proofs.format.stsr.Tie as tie
 
 returns : tie.Need-returns
 returns c = simp (eq-eqb _ _ (c .if1 .taken))

@@ -1,7 +1,7 @@
--- `decode::ldsr`: register 24 is not modelled.
+-- `decode::format::ldsr`: register 24 is not modelled.
 use borrow.Author.Tests.{eq-eqb, ne-eqb}
-use Rattle.decode.proofs.ldsr.Statement.{statement}
-use Rattle.decode.proofs.ldsr.Tie as tie
+use Rattle.decode.proofs.format.ldsr.Statement.{statement}
+use Rattle.decode.proofs.format.ldsr.Tie as tie
 
 returns : tie.Need-returns
 returns c = simp (eq-eqb _ _ (c .if1 .taken))
