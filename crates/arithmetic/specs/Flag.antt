@@ -42,3 +42,21 @@ setIdOf psw = setFlagOf 4096 psw
 
 unfoldable pub clearIdOf : ℕ → ℕ
 clearIdOf psw = clearFlagOf 4096 psw
+
+-- EP set, NP set, AE cleared
+unfoldable pub setEpOf : ℕ → ℕ
+setEpOf psw = setFlagOf 16384 psw
+
+unfoldable pub setNpOf : ℕ → ℕ
+setNpOf psw = setFlagOf 32768 psw
+
+unfoldable pub clearAeOf : ℕ → ℕ
+clearAeOf psw = clearFlagOf 8192 psw
+
+-- PSW as a regular exception enters: "EP and ID set, AE cleared"
+unfoldable pub regularOf : ℕ → ℕ
+regularOf psw = clearAeOf (setIdOf (setEpOf psw))
+
+-- PSW as a duplexed exception enters: "NP and ID set, AE cleared"
+unfoldable pub duplexedOf : ℕ → ℕ
+duplexedOf psw = clearAeOf (setIdOf (setNpOf psw))

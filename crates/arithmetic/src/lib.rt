@@ -1,12 +1,12 @@
 // What the integer instructions compute: a word's value and the flags that the result leaves in PSW.
 // Words are numbers below 2^32; a signed word is read by its sign and magnitude.
-mod bitwise;
-mod condition;
-mod flag;
-mod product;
-mod quotient;
-mod shift;
-mod sum;
+pub mod bitwise;
+pub mod condition;
+pub mod flag;
+pub mod product;
+pub mod quotient;
+pub mod shift;
+pub mod sum;
 
 // A result for reg2, and PSW with its flags.
 pub struct Outcome {

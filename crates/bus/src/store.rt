@@ -7,11 +7,17 @@ ghost use Prim.Native.Nat.{_%_};
 ghost use lib.ListN.{length};
 ghost use Rattle.bus.specs.Memory.{memoryOf, Lengths, storeByteOf, storeHalfOf, storeWordOf};
 
-pub fn byte(rom: &[u8], wram: &mut [u8], vram: &mut [u8], pak: &mut [u8], regs: &mut [u16; 13], address: u32, value: u32)
+pub fn byte(
+    rom: &[u8],
+    wram: &mut [u8],
+    vram: &mut [u8],
+    pak: &mut [u8],
+    regs: &mut [u16; 13],
+    address: u32,
+    value: u32,
+)
     requires { ⌜ Lengths (length (now rom)) (length (now wram)) (length (now vram)) (length (now pak)) ⌝ }
-    ensures {
-        λ r. ⌜ memoryOf (now (rom .entry)) (now (wram .exit)) (now (vram .exit)) (now (pak .exit)) (now (regs .exit)) ≡ storeByteOf (memoryOf (now (rom .entry)) (now (wram .entry)) (now (vram .entry)) (now (pak .entry)) (now (regs .entry))) address value ⌝
-    }
+    ensures { λ r. ⌜ memoryOf (now (rom .entry)) (now (wram .exit)) (now (vram .exit)) (now (pak .exit)) (now (regs .exit)) ≡ storeByteOf (memoryOf (now (rom .entry)) (now (wram .entry)) (now (vram .entry)) (now (pak .entry)) (now (regs .entry))) address value ⌝ }
 {
     let region = address / 16777216 % 8;
     if region == 5 {
@@ -28,11 +34,17 @@ pub fn byte(rom: &[u8], wram: &mut [u8], vram: &mut [u8], pak: &mut [u8], regs: 
     }
 }
 
-pub fn half(rom: &[u8], wram: &mut [u8], vram: &mut [u8], pak: &mut [u8], regs: &mut [u16; 13], address: u32, value: u32)
+pub fn half(
+    rom: &[u8],
+    wram: &mut [u8],
+    vram: &mut [u8],
+    pak: &mut [u8],
+    regs: &mut [u16; 13],
+    address: u32,
+    value: u32,
+)
     requires { ⌜ Lengths (length (now rom)) (length (now wram)) (length (now vram)) (length (now pak)) ⌝ }
-    ensures {
-        λ r. ⌜ memoryOf (now (rom .entry)) (now (wram .exit)) (now (vram .exit)) (now (pak .exit)) (now (regs .exit)) ≡ storeHalfOf (memoryOf (now (rom .entry)) (now (wram .entry)) (now (vram .entry)) (now (pak .entry)) (now (regs .entry))) address value ⌝
-    }
+    ensures { λ r. ⌜ memoryOf (now (rom .entry)) (now (wram .exit)) (now (vram .exit)) (now (pak .exit)) (now (regs .exit)) ≡ storeHalfOf (memoryOf (now (rom .entry)) (now (wram .entry)) (now (vram .entry)) (now (pak .entry)) (now (regs .entry))) address value ⌝ }
 {
     let region = address / 16777216 % 8;
     if region == 5 {
@@ -49,11 +61,17 @@ pub fn half(rom: &[u8], wram: &mut [u8], vram: &mut [u8], pak: &mut [u8], regs: 
     }
 }
 
-pub fn word(rom: &[u8], wram: &mut [u8], vram: &mut [u8], pak: &mut [u8], regs: &mut [u16; 13], address: u32, value: u32)
+pub fn word(
+    rom: &[u8],
+    wram: &mut [u8],
+    vram: &mut [u8],
+    pak: &mut [u8],
+    regs: &mut [u16; 13],
+    address: u32,
+    value: u32,
+)
     requires { ⌜ Lengths (length (now rom)) (length (now wram)) (length (now vram)) (length (now pak)) ⌝ }
-    ensures {
-        λ r. ⌜ memoryOf (now (rom .entry)) (now (wram .exit)) (now (vram .exit)) (now (pak .exit)) (now (regs .exit)) ≡ storeWordOf (memoryOf (now (rom .entry)) (now (wram .entry)) (now (vram .entry)) (now (pak .entry)) (now (regs .entry))) address value ⌝
-    }
+    ensures { λ r. ⌜ memoryOf (now (rom .entry)) (now (wram .exit)) (now (vram .exit)) (now (pak .exit)) (now (regs .exit)) ≡ storeWordOf (memoryOf (now (rom .entry)) (now (wram .entry)) (now (vram .entry)) (now (pak .entry)) (now (regs .entry))) address value ⌝ }
 {
     let region = address / 16777216 % 8;
     if region == 5 {

@@ -34,9 +34,7 @@ fn wide(x: u16) -> u32
 // The halfword of the register range at an even address: a drawing register, VER, or 0.
 fn register(regs: &[u16; 13], address: u32) -> u32
     requires { ⌜ (regionOf address ≡ 0) × (262144 ≤ address % 524288) × (address % 524288 < 491520) × (address % 2 ≡ 0) ⌝ }
-    ensures {
-        λ r. ⌜ ((rom wram vram pak : List ℕ) → Reads (memoryOf rom wram vram pak (now (regs .entry))) 2 address r) ⌝
-    }
+    ensures { λ r. ⌜ ((rom wram vram pak : List ℕ) → Reads (memoryOf rom wram vram pak (now (regs .entry))) 2 address r) ⌝ }
 {
     let h = address % 524288;
     let k = registers::index(h);
@@ -52,9 +50,7 @@ fn register(regs: &[u16; 13], address: u32) -> u32
 // A byte, a halfword and a word of the VIP.
 pub fn byte(vram: &[u8], regs: &[u16; 13], address: u32) -> u32
     requires { ⌜ (regionOf address ≡ 0) × (length (now vram) ≡ 262144) ⌝ }
-    ensures {
-        λ r. ⌜ ((rom wram pak : List ℕ) → Reads (memoryOf rom wram (now (vram .entry)) pak (now (regs .entry))) 1 address r) ⌝
-    }
+    ensures { λ r. ⌜ ((rom wram pak : List ℕ) → Reads (memoryOf rom wram (now (vram .entry)) pak (now (regs .entry))) 1 address r) ⌝ }
 {
     let v = address % 524288;
     let i = vram_index(v);
@@ -70,9 +66,7 @@ pub fn byte(vram: &[u8], regs: &[u16; 13], address: u32) -> u32
 
 pub fn half(vram: &[u8], regs: &[u16; 13], address: u32) -> u32
     requires { ⌜ (regionOf address ≡ 0) × (length (now vram) ≡ 262144) ⌝ }
-    ensures {
-        λ r. ⌜ ((rom wram pak : List ℕ) → Reads (memoryOf rom wram (now (vram .entry)) pak (now (regs .entry))) 2 address r) ⌝
-    }
+    ensures { λ r. ⌜ ((rom wram pak : List ℕ) → Reads (memoryOf rom wram (now (vram .entry)) pak (now (regs .entry))) 2 address r) ⌝ }
 {
     let a = address - address % 2;
     let i = vram_index(a % 524288);
@@ -84,9 +78,7 @@ pub fn half(vram: &[u8], regs: &[u16; 13], address: u32) -> u32
 
 pub fn word(vram: &[u8], regs: &[u16; 13], address: u32) -> u32
     requires { ⌜ (regionOf address ≡ 0) × (length (now vram) ≡ 262144) ⌝ }
-    ensures {
-        λ r. ⌜ ((rom wram pak : List ℕ) → Reads (memoryOf rom wram (now (vram .entry)) pak (now (regs .entry))) 4 address r) ⌝
-    }
+    ensures { λ r. ⌜ ((rom wram pak : List ℕ) → Reads (memoryOf rom wram (now (vram .entry)) pak (now (regs .entry))) 4 address r) ⌝ }
 {
     let a = address - address % 4;
     let i = vram_index(a % 524288);
@@ -99,9 +91,7 @@ pub fn word(vram: &[u8], regs: &[u16; 13], address: u32) -> u32
 // The low 16 bits of a value written to the register that holds an address, where there is one.
 fn put_register(regs: &mut [u16; 13], address: u32, value: u32)
     requires { ⌜ (regionOf address ≡ 0) × (262144 ≤ address % 524288) × (address % 524288 < 491520) ⌝ }
-    ensures {
-        λ r. ⌜ ((rom wram vram pak : List ℕ) → memoryOf rom wram vram pak (now (regs .exit)) ≡ putRegister (memoryOf rom wram vram pak (now (regs .entry))) address value) ⌝
-    }
+    ensures { λ r. ⌜ ((rom wram vram pak : List ℕ) → memoryOf rom wram vram pak (now (regs .exit)) ≡ putRegister (memoryOf rom wram vram pak (now (regs .entry))) address value) ⌝ }
 {
     let v = address % 524288;
     let k = registers::index(v - v % 2);
@@ -113,9 +103,7 @@ fn put_register(regs: &mut [u16; 13], address: u32, value: u32)
 // A byte, a halfword and a word stored in the VIP.
 pub fn put_byte(vram: &mut [u8], regs: &mut [u16; 13], address: u32, value: u32)
     requires { ⌜ (regionOf address ≡ 0) × (length (now vram) ≡ 262144) ⌝ }
-    ensures {
-        λ r. ⌜ ((rom wram pak : List ℕ) → memoryOf rom wram (now (vram .exit)) pak (now (regs .exit)) ≡ storeByteOf (memoryOf rom wram (now (vram .entry)) pak (now (regs .entry))) address value) ⌝
-    }
+    ensures { λ r. ⌜ ((rom wram pak : List ℕ) → memoryOf rom wram (now (vram .exit)) pak (now (regs .exit)) ≡ storeByteOf (memoryOf rom wram (now (vram .entry)) pak (now (regs .entry))) address value) ⌝ }
 {
     let i = vram_index(address % 524288);
     if i < 262144 {
@@ -127,9 +115,7 @@ pub fn put_byte(vram: &mut [u8], regs: &mut [u16; 13], address: u32, value: u32)
 
 pub fn put_half(vram: &mut [u8], regs: &mut [u16; 13], address: u32, value: u32)
     requires { ⌜ (regionOf address ≡ 0) × (length (now vram) ≡ 262144) ⌝ }
-    ensures {
-        λ r. ⌜ ((rom wram pak : List ℕ) → memoryOf rom wram (now (vram .exit)) pak (now (regs .exit)) ≡ storeHalfOf (memoryOf rom wram (now (vram .entry)) pak (now (regs .entry))) address value) ⌝
-    }
+    ensures { λ r. ⌜ ((rom wram pak : List ℕ) → memoryOf rom wram (now (vram .exit)) pak (now (regs .exit)) ≡ storeHalfOf (memoryOf rom wram (now (vram .entry)) pak (now (regs .entry))) address value) ⌝ }
 {
     let a = address - address % 2;
     let i = vram_index(a % 524288);
@@ -142,9 +128,7 @@ pub fn put_half(vram: &mut [u8], regs: &mut [u16; 13], address: u32, value: u32)
 
 pub fn put_word(vram: &mut [u8], regs: &mut [u16; 13], address: u32, value: u32)
     requires { ⌜ (regionOf address ≡ 0) × (length (now vram) ≡ 262144) ⌝ }
-    ensures {
-        λ r. ⌜ ((rom wram pak : List ℕ) → memoryOf rom wram (now (vram .exit)) pak (now (regs .exit)) ≡ storeWordOf (memoryOf rom wram (now (vram .entry)) pak (now (regs .entry))) address value) ⌝
-    }
+    ensures { λ r. ⌜ ((rom wram pak : List ℕ) → memoryOf rom wram (now (vram .exit)) pak (now (regs .exit)) ≡ storeWordOf (memoryOf rom wram (now (vram .entry)) pak (now (regs .entry))) address value) ⌝ }
 {
     let a = address - address % 4;
     let i = vram_index(a % 524288);
