@@ -1,25 +1,26 @@
--- What the bus's calls answer, for every input: the refusal, or the access done. A refusal changes nothing.
+-- What the bus's public calls answer, for every input: the refusal, or the access done. A refusal changes nothing.
 use Prim.Native.Nat.{ℕ}
 use Rattle.bus.specs.declared.Loaded.{Loaded}
-use Rattle.bus.specs.declared.Load as load
 use Rattle.bus.specs.declared.Verdict.{Verdict}
-use Rattle.bus.specs.declared.Verdict.the-variants.{Accepted, Refused}
+use Rattle.bus.specs.declared.Verdict.the-variants as verdict
 use Rattle.bus.specs.Memory.{Memory, verdictOf, loadOf}
+use Rattle.access.specs.declared.Load.{Load}
+use Rattle.access.specs.declared.Load.the-variants as load
 
 -- a load's answer: the value unless refused
-abbrev pub answerWhen : Verdict → ℕ → load.Load
-answerWhen Accepted v = load.the-variants.Value (record { value = v })
-answerWhen (Refused n) v = load.the-variants.Refused n
+abbrev pub answerWhen : Verdict → ℕ → Load
+answerWhen verdict.Accepted v = load.Value (record { value = v })
+answerWhen (verdict.Refused n) v = load.Refused n
 
 -- the memory afterwards: the second unless refused
 abbrev pub memoryWhen : Verdict → Memory → Memory → Memory
-memoryWhen Accepted before after = after
-memoryWhen (Refused n) before after = before
+memoryWhen verdict.Accepted before after = after
+memoryWhen (verdict.Refused n) before after = before
 
 -- the answer of a checked load of `size` bytes
-unfoldable pub checkedLoadOf : Memory → ℕ → ℕ → load.Load
+unfoldable pub checkedLoadOf : Memory → ℕ → ℕ → Load
 checkedLoadOf m size a = answerWhen (verdictOf m) (loadOf m size a)
 
--- the memory after a checked store that would leave `after`
+-- the memory after a checked store that leaves `after` where it is accepted
 unfoldable pub checkedStoreOf : Memory → Memory → Memory
 checkedStoreOf m after = memoryWhen (verdictOf m) m after

@@ -38,13 +38,15 @@ withPak m xs = memoryOf (m .rom) (m .wram) (m .vram) xs (m .regs)
 abbrev pub withRegs : Memory → List ℕ → Memory
 withRegs m xs = memoryOf (m .rom) (m .wram) (m .vram) (m .pak) xs
 
--- refusals 1 to 5, as far as memories and drawing registers are their subject
-unfoldable pub verdictOf : Memory → Verdict
-verdictOf m =
-    unless (romOk (length (m .rom))) RomLength
-    (unless (wramOk (length (m .wram))) WramLength
-    (unless (vramOk (length (m .vram))) VramLength
-    (unless (pakOk (length (m .pak))) PakLength (unless (registersOk (m .regs)) State Accepted))))
+-- refusals 1 to 5, as far as the lengths of the memories and the drawing registers are their subject
+unfoldable pub verdictAt : ℕ → ℕ → ℕ → ℕ → List ℕ → Verdict
+verdictAt rom wram vram pak regs =
+    unless (romOk rom) RomLength
+    (unless (wramOk wram) WramLength
+    (unless (vramOk vram) VramLength (unless (pakOk pak) PakLength (unless (registersOk regs) State Accepted))))
+
+abbrev pub verdictOf : Memory → Verdict
+verdictOf m = verdictAt (length (m .rom)) (length (m .wram)) (length (m .vram)) (length (m .pak)) (m .regs)
 
 -- the lengths that refusals 1 to 4 accept
 pub record Lengths (rom wram vram pak : ℕ) : Type 0 where

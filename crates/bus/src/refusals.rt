@@ -5,7 +5,7 @@ ghost use mathlib.Core.Path.{_≡_};
 ghost use Prim.Native.Nat.{_^_};
 ghost use Rattle.bus.specs.Refusal.{romOk, pakOk};
 ghost use Rattle.bus.specs.Registers.{registersOk, widthOf};
-ghost use Rattle.bus.specs.Memory.{memoryOf, verdictOf};
+ghost use Rattle.bus.specs.Memory.{verdictAt};
 
 // Whether a ROM may be n bytes long.
 pub fn rom_ok(n: usize) -> bool
@@ -97,20 +97,20 @@ pub fn registers_ok(regs: &[u16; 13]) -> bool
     true
 }
 
-// The lowest of refusals 1 to 5 whose condition holds of the memories and the drawing registers.
-pub fn verdict(rom: &[u8], wram: &[u8], vram: &[u8], pak: &[u8], regs: &[u16; 13]) -> Verdict
-    ensures { λ r. ⌜ r ≡ verdictOf (memoryOf (now (rom .entry)) (now (wram .entry)) (now (vram .entry)) (now (pak .entry)) (now (regs .entry))) ⌝ }
+// The lowest of refusals 1 to 5 whose condition holds of the memories' lengths and the drawing registers.
+pub fn verdict(rom: usize, wram: usize, vram: usize, pak: usize, regs: &[u16; 13]) -> Verdict
+    ensures { λ r. ⌜ r ≡ verdictAt rom wram vram pak (now (regs .entry)) ⌝ }
 {
-    if !rom_ok(rom.len()) {
+    if !rom_ok(rom) {
         return Verdict::Refused(Refusal::RomLength);
     }
-    if wram.len() != 65536 {
+    if wram != 65536 {
         return Verdict::Refused(Refusal::WramLength);
     }
-    if vram.len() != 262144 {
+    if vram != 262144 {
         return Verdict::Refused(Refusal::VramLength);
     }
-    if !pak_ok(pak.len()) {
+    if !pak_ok(pak) {
         return Verdict::Refused(Refusal::PakLength);
     }
     if !registers_ok(regs) {

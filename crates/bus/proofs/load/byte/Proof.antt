@@ -1,56 +1,84 @@
+-- `bus::load::byte` meets its contract: by region, a byte of WRAM, of ROM, of the VIP, of pak RAM, or 0.
+-- Assumes nothing.
+use Rattle.bus.specs.Place.{regionOf}
 use borrow.Author.Needs.{needs}
 use Rattle.bus.proofs.load.byte.Statement.{statement}
 use Rattle.bus.proofs.load.byte.Tie as tie
-use Rattle.bus.proofs.load.byte.Reads as reads
-use Rattle.bus.proofs.load.byte.Lts as lts
-use Rattle.bus.proofs.pak.byte.Reads as pak-byte-reads
-use Rattle.bus.proofs.pak.masked.Reads as masked-reads
-use Rattle.bus.proofs.vip.byte.Reads as vip-byte-reads
-use Rattle.word.proofs.byte_at.Reads as byte-at-reads
+use mathlib.Core.Path.{_≡_, refl, sym, ap, subst, _∙_}
+use Prim.Native.Nat.{ℕ, _+_, _-_, _*_, _/_, _%_, _<_, _≤_}
+use native.Mathlib.Omega.{arith}
+use Rattle.bus.specs.Memory.{Memory, memoryOf}
+use lib.ListN.{length, getD, set}
+use denote.Ref.{now}
+use Rattle.bus.proofs.Power.{rom-power, rom-as-pak, power-pos, power-room}
+use Rattle.bus.proofs.Accesses.{Quiet, found, missed, wram-byte, rom-byte, nothing-byte}
 
--- src/load.rt:18:17
 cast-i : tie.Need-cast-i
 cast-i c = search needs
 
--- src/load.rt:19:32
 byte-at-requires : tie.Need-byte-at-requires
 byte-at-requires c κs = search needs
 
--- src/load.rt:19:9
 returns : tie.Need-returns
-returns c = ?
+returns c =
+    let b = c .before .before .before .before .before .before in
+    let a = b .args in
+    let here = found (a .address) 5 (c .before .if1 .taken) in
+    let m = memoryOf (now (a .rom)) (now (a .wram)) (now (a .vram)) (now (a .pak)) (now (a .regs)) in
+    record {
+      means = c .byte-at .ensures .0 ∙ sym (wram-byte m (a .address) here);
+      fits = c .byte-at .ensures .1;
+    }
 
--- src/load.rt:22:13
 masked-requires : tie.Need-masked-requires
-masked-requires c κs = ?
+masked-requires c κs =
+    let b = c .before .before .before .before .before .before in
+    let n = length (now (b .args .rom)) in
+    (rom-as-pak n (b .pre .rom-ok), power-pos 2 n (rom-power n (b .pre .rom-ok)))
 
--- src/load.rt:23:32
 byte-at-requires-2 : tie.Need-byte-at-requires-2
 byte-at-requires-2 c κs = search needs
 
--- src/load.rt:23:9
 returns-2 : tie.Need-returns-2
-returns-2 c = ?
+returns-2 c =
+    let b = c .before .before .before .before .before .before .before .before in
+    let a = b .args in
+    let here = found (a .address) 7 (c .before .before .if2 .taken) in
+    let m = memoryOf (now (a .rom)) (now (a .wram)) (now (a .vram)) (now (a .pak)) (now (a .regs)) in
+    record {
+      means = c .byte-at2 .ensures .0 ∙ rw (c .before .masked .ensures .0) (sym (rom-byte m (a .address) here (b .pre .rom-ok)));
+      fits = c .byte-at2 .ensures .1;
+    }
 
--- src/load.rt:26:32
 byte-requires : tie.Need-byte-requires
-byte-requires c κs = ?
+byte-requires c κs =
+    let b = c .before .before .before .before .before .before .before in
+    (found (b .args .address) 0 (c .if3 .taken), b .pre .vram-ok)
 
--- src/load.rt:26:9
 returns-3 : tie.Need-returns-3
-returns-3 c = ?
+returns-3 c =
+    let a = c .before .before .before .before .before .before .before .before .args in
+    c .byte .ensures (now (a .rom)) (now (a .wram)) (now (a .pak))
 
--- src/load.rt:29:32
 byte-requires-2 : tie.Need-byte-requires-2
-byte-requires-2 c κs = ?
+byte-requires-2 c κs =
+    let b = c .before .before .before .before .before .before .before .before in
+    (found (b .args .address) 6 (c .if4 .taken), b .pre .pak-ok)
 
--- src/load.rt:29:9
 returns-4 : tie.Need-returns-4
-returns-4 c = ?
+returns-4 c =
+    let a = c .before .before .before .before .before .before .before .before .before .args in
+    c .byte2 .ensures (now (a .rom)) (now (a .wram)) (now (a .vram)) (now (a .regs))
 
--- src/load.rt:10:1
 returns-5 : tie.Need-returns-5
-returns-5 c = ?
+returns-5 c =
+    let b = c .before .before .before .before .before .before .before .before in
+    let a = b .args in
+    let quiet : Quiet (regionOf (a .address)) = (missed (a .address) 5 (c .before .before .before .if1 .left), (missed (a .address) 7 (c .before .before .if2 .left), (missed (a .address) 0 (c .before .if3 .left), missed (a .address) 6 (c .if4 .left)))) in
+    record {
+      means = sym (nothing-byte (memoryOf (now (a .rom)) (now (a .wram)) (now (a .vram)) (now (a .pak)) (now (a .regs))) (a .address) quiet);
+      fits = omega arith;
+    }
 
 pub byte-spec : {M : Type 1} → statement M
 byte-spec =

@@ -1,64 +1,95 @@
+-- `bus::load::half` meets its contract: by region, a halfword of WRAM, of ROM, of the VIP, of pak RAM, or 0.
+-- Assumes nothing.
 use borrow.Author.Needs.{needs}
 use Rattle.bus.proofs.load.half.Statement.{statement}
 use Rattle.bus.proofs.load.half.Tie as tie
-use Rattle.bus.proofs.load.half.Reads as reads
-use Rattle.bus.proofs.load.half.Lts as lts
-use Rattle.bus.proofs.pak.half.Reads as pak-half-reads
-use Rattle.bus.proofs.pak.masked.Reads as masked-reads
-use Rattle.bus.proofs.vip.half.Reads as vip-half-reads
-use Rattle.word.proofs.half_at.Reads as half-at-reads
+use mathlib.Core.Path.{_≡_, refl, sym, ap, subst, _∙_}
+use Prim.Native.Nat.{ℕ, _+_, _-_, _*_, _/_, _%_, _<_, _≤_}
+use native.Mathlib.Omega.{arith}
+use Rattle.bus.specs.Memory.{Memory, memoryOf}
+use lib.ListN.{length, getD, set}
+use denote.Ref.{now}
+use Rattle.bus.proofs.Power.{rom-power, rom-as-pak, power-pos, power-room}
+use Rattle.bus.specs.Place.{wramAt, romAt, regionOf}
+use Rattle.bus.proofs.Spans.{span-half, wram-span-half, rom-span-half}
+use Rattle.bus.proofs.Accesses.{Quiet, found, missed, nothing-half}
 
--- src/load.rt:42:18
 sub-i : tie.Need-sub-i
 sub-i c = search needs
 
--- src/load.rt:42:17
 cast-i : tie.Need-cast-i
 cast-i c = search needs
 
--- src/load.rt:43:32
 half-at-requires : tie.Need-half-at-requires
 half-at-requires c κs = search needs
 
--- src/load.rt:43:9
 returns : tie.Need-returns
-returns c = ?
+returns c =
+    let b = c .before .before .before .before .before .before in
+    let a = b .args in
+    let here = found (a .address) 5 (c .before .if1 .taken) in
+    let m = memoryOf (now (a .rom)) (now (a .wram)) (now (a .vram)) (now (a .pak)) (now (a .regs)) in
+    record {
+      means = c .half-at .ensures .0 ∙ sym (span-half m (a .address) wramAt _ (wram-span-half m (a .address) here));
+      fits = c .half-at .ensures .1;
+    }
 
--- src/load.rt:46:29
 sub-masked : tie.Need-sub-masked
 sub-masked c = search needs
 
--- src/load.rt:46:13
 masked-requires : tie.Need-masked-requires
-masked-requires c κs = ?
+masked-requires c κs =
+    let b = c .before .before .before .before .before .before in
+    let n = length (now (b .args .rom)) in
+    (rom-as-pak n (b .pre .rom-ok), power-pos 2 n (rom-power n (b .pre .rom-ok)))
 
--- src/load.rt:47:32
 half-at-requires-2 : tie.Need-half-at-requires-2
-half-at-requires-2 c κs = ?
+half-at-requires-2 c κs =
+    let b = c .before .before .before .before .before .before .before in
+    let n = length (now (b .args .rom)) in
+    let a = b .args in
+    rw (c .masked .ensures .0) (power-room n (rom-power n (b .pre .rom-ok)) (a .address - a .address % 2) 1 (omega arith))
 
--- src/load.rt:47:9
 returns-2 : tie.Need-returns-2
-returns-2 c = ?
+returns-2 c =
+    let b = c .before .before .before .before .before .before .before .before in
+    let a = b .args in
+    let here = found (a .address) 7 (c .before .before .if2 .taken) in
+    let m = memoryOf (now (a .rom)) (now (a .wram)) (now (a .vram)) (now (a .pak)) (now (a .regs)) in
+    record {
+      means = c .half-at2 .ensures .0 ∙ rw (c .before .masked .ensures .0) (sym (span-half m (a .address) romAt _ (rom-span-half m (a .address) here (b .pre .rom-ok))));
+      fits = c .half-at2 .ensures .1;
+    }
 
--- src/load.rt:50:32
 half-requires : tie.Need-half-requires
-half-requires c κs = ?
+half-requires c κs =
+    let b = c .before .before .before .before .before .before .before in
+    (found (b .args .address) 0 (c .if3 .taken), b .pre .vram-ok)
 
--- src/load.rt:50:9
 returns-3 : tie.Need-returns-3
-returns-3 c = ?
+returns-3 c =
+    let a = c .before .before .before .before .before .before .before .before .args in
+    c .half .ensures (now (a .rom)) (now (a .wram)) (now (a .pak))
 
--- src/load.rt:53:32
 half-requires-2 : tie.Need-half-requires-2
-half-requires-2 c κs = ?
+half-requires-2 c κs =
+    let b = c .before .before .before .before .before .before .before .before in
+    (found (b .args .address) 6 (c .if4 .taken), b .pre .pak-ok)
 
--- src/load.rt:53:9
 returns-4 : tie.Need-returns-4
-returns-4 c = ?
+returns-4 c =
+    let a = c .before .before .before .before .before .before .before .before .before .args in
+    c .half2 .ensures (now (a .rom)) (now (a .wram)) (now (a .vram)) (now (a .regs))
 
--- src/load.rt:34:1
 returns-5 : tie.Need-returns-5
-returns-5 c = ?
+returns-5 c =
+    let b = c .before .before .before .before .before .before .before .before in
+    let a = b .args in
+    let quiet : Quiet (regionOf (a .address)) = (missed (a .address) 5 (c .before .before .before .if1 .left), (missed (a .address) 7 (c .before .before .if2 .left), (missed (a .address) 0 (c .before .if3 .left), missed (a .address) 6 (c .if4 .left)))) in
+    record {
+      means = sym (nothing-half (memoryOf (now (a .rom)) (now (a .wram)) (now (a .vram)) (now (a .pak)) (now (a .regs))) (a .address) quiet);
+      fits = omega arith;
+    }
 
 pub half-spec : {M : Type 1} → statement M
 half-spec =

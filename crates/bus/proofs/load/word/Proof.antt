@@ -1,64 +1,95 @@
+-- `bus::load::word` meets its contract: by region, a word of WRAM, of ROM, of the VIP, of pak RAM, or 0.
+-- Assumes nothing.
 use borrow.Author.Needs.{needs}
 use Rattle.bus.proofs.load.word.Statement.{statement}
 use Rattle.bus.proofs.load.word.Tie as tie
-use Rattle.bus.proofs.load.word.Reads as reads
-use Rattle.bus.proofs.load.word.Lts as lts
-use Rattle.bus.proofs.pak.masked.Reads as masked-reads
-use Rattle.bus.proofs.pak.word.Reads as pak-word-reads
-use Rattle.bus.proofs.vip.word.Reads as vip-word-reads
-use Rattle.word.proofs.word_at.Reads as word-at-reads
+use mathlib.Core.Path.{_≡_, refl, sym, ap, subst, _∙_}
+use Prim.Native.Nat.{ℕ, _+_, _-_, _*_, _/_, _%_, _<_, _≤_}
+use native.Mathlib.Omega.{arith}
+use Rattle.bus.specs.Memory.{Memory, memoryOf}
+use lib.ListN.{length, getD, set}
+use denote.Ref.{now}
+use Rattle.bus.proofs.Power.{rom-power, rom-as-pak, power-pos, power-room}
+use Rattle.bus.specs.Place.{wramAt, romAt, regionOf}
+use Rattle.bus.proofs.Spans.{span-word, wram-span-word, rom-span-word}
+use Rattle.bus.proofs.Accesses.{Quiet, found, missed, nothing-word}
 
--- src/load.rt:66:18
 sub-i : tie.Need-sub-i
 sub-i c = search needs
 
--- src/load.rt:66:17
 cast-i : tie.Need-cast-i
 cast-i c = search needs
 
--- src/load.rt:67:32
 word-at-requires : tie.Need-word-at-requires
 word-at-requires c κs = search needs
 
--- src/load.rt:67:9
 returns : tie.Need-returns
-returns c = ?
+returns c =
+    let b = c .before .before .before .before .before .before in
+    let a = b .args in
+    let here = found (a .address) 5 (c .before .if1 .taken) in
+    let m = memoryOf (now (a .rom)) (now (a .wram)) (now (a .vram)) (now (a .pak)) (now (a .regs)) in
+    record {
+      means = c .word-at .ensures ∙ sym (span-word m (a .address) wramAt _ (wram-span-word m (a .address) here));
+      fits = omega arith;
+    }
 
--- src/load.rt:70:29
 sub-masked : tie.Need-sub-masked
 sub-masked c = search needs
 
--- src/load.rt:70:13
 masked-requires : tie.Need-masked-requires
-masked-requires c κs = ?
+masked-requires c κs =
+    let b = c .before .before .before .before .before .before in
+    let n = length (now (b .args .rom)) in
+    (rom-as-pak n (b .pre .rom-ok), power-pos 2 n (rom-power n (b .pre .rom-ok)))
 
--- src/load.rt:71:32
 word-at-requires-2 : tie.Need-word-at-requires-2
-word-at-requires-2 c κs = ?
+word-at-requires-2 c κs =
+    let b = c .before .before .before .before .before .before .before in
+    let n = length (now (b .args .rom)) in
+    let a = b .args in
+    rw (c .masked .ensures .0) (power-room n (rom-power n (b .pre .rom-ok)) (a .address - a .address % 4) 3 (omega arith))
 
--- src/load.rt:71:9
 returns-2 : tie.Need-returns-2
-returns-2 c = ?
+returns-2 c =
+    let b = c .before .before .before .before .before .before .before .before in
+    let a = b .args in
+    let here = found (a .address) 7 (c .before .before .if2 .taken) in
+    let m = memoryOf (now (a .rom)) (now (a .wram)) (now (a .vram)) (now (a .pak)) (now (a .regs)) in
+    record {
+      means = c .word-at2 .ensures ∙ rw (c .before .masked .ensures .0) (sym (span-word m (a .address) romAt _ (rom-span-word m (a .address) here (b .pre .rom-ok))));
+      fits = omega arith;
+    }
 
--- src/load.rt:74:32
 word-requires : tie.Need-word-requires
-word-requires c κs = ?
+word-requires c κs =
+    let b = c .before .before .before .before .before .before .before in
+    (found (b .args .address) 0 (c .if3 .taken), b .pre .vram-ok)
 
--- src/load.rt:74:9
 returns-3 : tie.Need-returns-3
-returns-3 c = ?
+returns-3 c =
+    let a = c .before .before .before .before .before .before .before .before .args in
+    c .word .ensures (now (a .rom)) (now (a .wram)) (now (a .pak))
 
--- src/load.rt:77:32
 word-requires-2 : tie.Need-word-requires-2
-word-requires-2 c κs = ?
+word-requires-2 c κs =
+    let b = c .before .before .before .before .before .before .before .before in
+    (found (b .args .address) 6 (c .if4 .taken), b .pre .pak-ok)
 
--- src/load.rt:77:9
 returns-4 : tie.Need-returns-4
-returns-4 c = ?
+returns-4 c =
+    let a = c .before .before .before .before .before .before .before .before .before .args in
+    c .word2 .ensures (now (a .rom)) (now (a .wram)) (now (a .vram)) (now (a .regs))
 
--- src/load.rt:58:1
 returns-5 : tie.Need-returns-5
-returns-5 c = ?
+returns-5 c =
+    let b = c .before .before .before .before .before .before .before .before in
+    let a = b .args in
+    let quiet : Quiet (regionOf (a .address)) = (missed (a .address) 5 (c .before .before .before .if1 .left), (missed (a .address) 7 (c .before .before .if2 .left), (missed (a .address) 0 (c .before .if3 .left), missed (a .address) 6 (c .if4 .left)))) in
+    record {
+      means = sym (nothing-word (memoryOf (now (a .rom)) (now (a .wram)) (now (a .vram)) (now (a .pak)) (now (a .regs))) (a .address) quiet);
+      fits = omega arith;
+    }
 
 pub word-spec : {M : Type 1} → statement M
 word-spec =

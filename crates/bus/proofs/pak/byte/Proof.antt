@@ -1,26 +1,43 @@
+-- `bus::pak::byte` meets its contract: a byte at the address mod the length, and 0 where there is none.
+-- Assumes nothing.
 use borrow.Author.Needs.{needs}
 use Rattle.bus.proofs.pak.byte.Statement.{statement}
 use Rattle.bus.proofs.pak.byte.Tie as tie
-use Rattle.bus.proofs.pak.byte.Reads as reads
-use Rattle.bus.proofs.pak.byte.Lts as lts
-use Rattle.bus.proofs.pak.masked.Reads as masked-reads
-use Rattle.word.proofs.byte_at.Reads as byte-at-reads
+use mathlib.Core.Path.{_≡_, refl, sym, ap, subst, _∙_}
+use Prim.Native.Nat.{ℕ, _+_, _-_, _*_, _/_, _%_, _<_, _≤_}
+use native.Mathlib.Omega.{arith}
+use Rattle.bus.specs.Memory.{Memory, memoryOf}
+use lib.ListN.{length, getD, set}
+use denote.Ref.{now}
+use Rattle.bus.proofs.PakRam.{pak-read, pak-read-empty}
 
--- src/pak.rt:27:9
 returns : tie.Need-returns
-returns c = ?
+returns c =
+    let a = c .before .before .args in
+    λ rom wram vram regs.
+    record {
+      means = sym (pak-read-empty (memoryOf rom wram vram (now (a .pak)) regs) (a .address) (c .before .before .pre .0) (c .if1 .taken));
+      fits = omega arith;
+    }
 
--- src/pak.rt:29:24
 masked-requires : tie.Need-masked-requires
 masked-requires c κs = search needs
 
--- src/pak.rt:29:5
 byte-at-requires : tie.Need-byte-at-requires
 byte-at-requires c κs = search needs
 
--- src/pak.rt:20:1
 returns-2 : tie.Need-returns-2
-returns-2 c = ?
+returns-2 c =
+    let a = c .before .before .before .before .args in
+    let filled : 0 < length (now (a .pak)) = omega arith in
+    λ rom wram vram regs.
+    record {
+      means =
+          c .byte-at .ensures .0
+          ∙ rw (c .before .masked .ensures .0)
+          (sym (pak-read (memoryOf rom wram vram (now (a .pak)) regs) (a .address) (c .before .before .before .before .pre .0) (c .before .before .before .before .pre .1) filled));
+      fits = c .byte-at .ensures .1;
+    }
 
 pub byte-spec : {M : Type 1} → statement M
 byte-spec = tie.close (tie.spec returns masked-requires byte-at-requires returns-2)

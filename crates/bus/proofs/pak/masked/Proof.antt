@@ -1,16 +1,22 @@
+-- `bus::pak::masked` meets its contract: the length is a power of two, and the mask is the remainder.
+-- Assumes nothing.
 use borrow.Author.Needs.{needs}
 use Rattle.bus.proofs.pak.masked.Statement.{statement}
 use Rattle.bus.proofs.pak.masked.Tie as tie
-use Rattle.bus.proofs.pak.masked.Reads as reads
-use Rattle.bus.proofs.pak.masked.Lts as lts
+use mathlib.Core.Path.{_≡_, refl, sym, ap, subst, _∙_}
+use Prim.Native.Nat.{ℕ, _+_, _-_, _*_, _/_, _%_, _<_, _≤_}
+use native.Mathlib.Nat.{mod-lt}
+use Rattle.bus.proofs.Power.{pak-power, power-mask}
 
--- src/pak.rt:16:27
 sub-result : tie.Need-sub-result
 sub-result c = search needs
 
--- src/pak.rt:12:1
 returns : tie.Need-returns
-returns c = ?
+returns c =
+    let n = c .args .length in
+    let a = c .args .address in
+    let e = power-mask 0 n (pak-power n (c .pre .0) (c .pre .1)) a in
+    (e, subst (λ (k : ℕ). k < n) (sym e) (mod-lt a (c .pre .1)))
 
 pub masked-spec : {M : Type 1} → statement M
 masked-spec = tie.close (tie.spec sub-result returns)

@@ -1,33 +1,40 @@
+-- `bus::pak::put_byte` meets its contract: a byte at the address mod the length, and nothing where there is none.
+-- Assumes nothing.
 use borrow.Author.Needs.{needs}
 use Rattle.bus.proofs.pak.put_byte.Statement.{statement}
 use Rattle.bus.proofs.pak.put_byte.Tie as tie
-use Rattle.bus.proofs.pak.put_byte.Reads as reads
-use Rattle.bus.proofs.pak.put_byte.Lts as lts
-use Rattle.bus.proofs.pak.masked.Reads as masked-reads
+use mathlib.Core.Path.{_≡_, refl, sym, ap, subst, _∙_}
+use Prim.Native.Nat.{ℕ, _+_, _-_, _*_, _/_, _%_, _<_, _≤_}
+use native.Mathlib.Omega.{arith}
+use Rattle.bus.specs.Memory.{Memory, memoryOf}
+use lib.ListN.{length, getD, set}
+use denote.Ref.{now}
+use Rattle.bus.proofs.PakRam.{pak-put, pak-put-empty}
 
--- src/pak.rt:60:9
 returns : tie.Need-returns
-returns c = ?
+returns c =
+    let a = c .before .before .args in
+    λ rom wram vram regs.
+    sym (pak-put-empty (memoryOf rom wram vram (now (a .pak)) regs) (a .address) (c .before .before .pre .0) (a .value) (c .if1 .taken))
 
--- src/pak.rt:62:9
 masked-requires : tie.Need-masked-requires
 masked-requires c κs = search needs
 
--- src/pak.rt:63:14
 cast-pak : tie.Need-cast-pak
 cast-pak c = search needs
 
--- src/pak.rt:63:5
 slice-write-pak : tie.Need-slice-write-pak
 slice-write-pak c = search needs
 
--- src/pak.rt:53:1
 same-length : tie.Need-same-length
 same-length c = search needs
 
--- src/pak.rt:53:1
 returns-2 : tie.Need-returns-2
-returns-2 c = ?
+returns-2 c =
+    let a = c .before .before .before .args in
+    let filled : 0 < length (now (a .pak)) = omega arith in
+    λ rom wram vram regs.
+    sym (pak-put (memoryOf rom wram vram (now (a .pak)) regs) (a .address) (c .before .before .before .pre .0) (a .value) (c .before .before .before .pre .1) filled ∙ rw (← c .masked .ensures .0))
 
 pub put-byte-spec : {M : Type 1} → statement M
 put-byte-spec =

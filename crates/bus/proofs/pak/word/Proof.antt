@@ -1,37 +1,41 @@
+-- `bus::pak::word` meets its contract: two halfwords, the lower first.
+-- Assumes nothing.
 use borrow.Author.Needs.{needs}
 use Rattle.bus.proofs.pak.word.Statement.{statement}
 use Rattle.bus.proofs.pak.word.Tie as tie
-use Rattle.bus.proofs.pak.word.Reads as reads
-use Rattle.bus.proofs.pak.word.Lts as lts
-use Rattle.bus.proofs.pak.half.Reads as half-reads
+use mathlib.Core.Path.{_≡_, refl, sym, ap, subst, _∙_}
+use Prim.Native.Nat.{ℕ, _+_, _-_, _*_, _/_, _%_, _<_, _≤_}
+use native.Mathlib.Omega.{arith}
+use Rattle.bus.specs.Memory.{Memory, memoryOf}
+use lib.ListN.{length, getD, set}
+use denote.Ref.{now}
+use mathlib.Core.List.{[]}
+use Rattle.bus.proofs.Places.{region-word, region-word-start}
+use Rattle.bus.proofs.Halfwords.{reads-word}
 
--- src/pak.rt:48:13
 sub-a : tie.Need-sub-a
 sub-a c = search needs
 
--- src/pak.rt:49:5
 half-requires : tie.Need-half-requires
-half-requires c κs = ?
+half-requires c κs = (region-word-start (c .before .args .address) ∙ c .before .pre .0, c .before .pre .1)
 
--- src/pak.rt:49:38
 add-half : tie.Need-add-half
 add-half c = search needs
 
--- src/pak.rt:49:28
 half-requires-2 : tie.Need-half-requires-2
-half-requires-2 c κs = ?
+half-requires-2 c κs = (region-word (c .before .before .args .address) 2 (omega arith) ∙ c .before .before .pre .0, c .before .before .pre .1)
 
--- src/pak.rt:49:20
 mul-result : tie.Need-mul-result
-mul-result c = ?
+mul-result c = omega (arith, c .half2 .ensures [] [] [] [] .fits)
 
--- src/pak.rt:49:5
 add-result : tie.Need-add-result
-add-result c = ?
+add-result c = omega (arith, c .half2 .ensures [] [] [] [] .fits, c .before .half .ensures [] [] [] [] .fits)
 
--- src/pak.rt:42:1
 returns : tie.Need-returns
-returns c = ?
+returns c =
+    let a = c .before .before .before .args in
+    λ rom wram vram regs.
+    reads-word (memoryOf rom wram vram (now (a .pak)) regs) (a .address) (c .before .half .result) (c .half2 .result) (c .before .half .ensures rom wram vram regs) (c .half2 .ensures rom wram vram regs)
 
 pub word-spec : {M : Type 1} → statement M
 word-spec =

@@ -3,7 +3,7 @@
 use mathlib.Core.Path.{sym, _∙_}
 use borrow.Author.Needs.{needs}
 use borrow.Author.Tests.{eq-eqb, ne-eqb, not-true, not-false}
-use Rattle.bus.specs.Memory.{verdictOf}
+use Rattle.bus.specs.Memory.{verdictAt}
 use Rattle.bus.specs.Refusal.{wramOk, vramOk}
 use Rattle.bus.proofs.refusals.verdict.Statement.{statement}
 use Rattle.bus.proofs.refusals.verdict.Tie as tie
@@ -18,27 +18,27 @@ registers-ok-requires : tie.Need-registers-ok-requires
 registers-ok-requires c κs = search needs
 
 returns : tie.Need-returns
-unfolding verdictOf wramOk vramOk
+unfolding verdictAt wramOk vramOk
 returns c = simp (sym (c .before .rom-ok .ensures) ∙ not-true _ (c .if1 .taken))
 
 returns-2 : tie.Need-returns-2
-unfolding verdictOf wramOk vramOk
+unfolding verdictAt wramOk vramOk
 returns-2 c = simp (sym (c .before .before .rom-ok .ensures) ∙ not-false _ (c .before .if1 .left), ne-eqb _ _ (c .if2 .taken))
 
 returns-3 : tie.Need-returns-3
-unfolding verdictOf wramOk vramOk
+unfolding verdictAt wramOk vramOk
 returns-3 c = simp (sym (c .before .before .before .rom-ok .ensures) ∙ not-false _ (c .before .before .if1 .left), eq-eqb _ _ (c .before .if2 .left), ne-eqb _ _ (c .if3 .taken))
 
 returns-4 : tie.Need-returns-4
-unfolding verdictOf wramOk vramOk
+unfolding verdictAt wramOk vramOk
 returns-4 c = simp (sym (c .before .before .before .before .before .rom-ok .ensures) ∙ not-false _ (c .before .before .before .before .if1 .left), eq-eqb _ _ (c .before .before .before .if2 .left), eq-eqb _ _ (c .before .before .if3 .left), sym (c .before .pak-ok .ensures) ∙ not-true _ (c .if4 .taken))
 
 returns-5 : tie.Need-returns-5
-unfolding verdictOf wramOk vramOk
+unfolding verdictAt wramOk vramOk
 returns-5 c = simp (sym (c .before .before .before .before .before .before .before .rom-ok .ensures) ∙ not-false _ (c .before .before .before .before .before .before .if1 .left), eq-eqb _ _ (c .before .before .before .before .before .if2 .left), eq-eqb _ _ (c .before .before .before .before .if3 .left), sym (c .before .before .before .pak-ok .ensures) ∙ not-false _ (c .before .before .if4 .left), sym (c .before .registers-ok .ensures) ∙ not-true _ (c .if5 .taken))
 
 returns-6 : tie.Need-returns-6
-unfolding verdictOf wramOk vramOk
+unfolding verdictAt wramOk vramOk
 returns-6 c = simp (sym (c .before .before .before .before .before .before .before .rom-ok .ensures) ∙ not-false _ (c .before .before .before .before .before .before .if1 .left), eq-eqb _ _ (c .before .before .before .before .before .if2 .left), eq-eqb _ _ (c .before .before .before .before .if3 .left), sym (c .before .before .before .pak-ok .ensures) ∙ not-false _ (c .before .before .if4 .left), sym (c .before .registers-ok .ensures) ∙ not-false _ (c .if5 .left))
 
 pub verdict-spec : {M : Type 1} → statement M

@@ -1,58 +1,65 @@
+-- `bus::store::byte` meets its contract: by region, a byte of WRAM, of the VIP, of pak RAM, or nothing.
+-- Assumes nothing.
 use borrow.Author.Needs.{needs}
 use Rattle.bus.proofs.store.byte.Statement.{statement}
 use Rattle.bus.proofs.store.byte.Tie as tie
-use Rattle.bus.proofs.store.byte.Reads as reads
-use Rattle.bus.proofs.store.byte.Lts as lts
-use Rattle.bus.proofs.pak.put_byte.Reads as pak-put-byte-reads
-use Rattle.bus.proofs.vip.put_byte.Reads as vip-put-byte-reads
+use mathlib.Core.Path.{_≡_, refl, sym, ap, subst, _∙_}
+use Prim.Native.Nat.{ℕ, _+_, _-_, _*_, _/_, _%_, _<_, _≤_}
+use native.Mathlib.Omega.{arith}
+use Rattle.bus.specs.Memory.{Memory, memoryOf}
+use lib.ListN.{length, getD, set}
+use denote.Ref.{now}
+use Rattle.bus.proofs.Accesses.{found, missed, wram-put, nothing-put-byte}
 
--- src/store.rt:18:17
 cast-i : tie.Need-cast-i
 cast-i c = search needs
 
--- src/store.rt:19:19
 cast-wram : tie.Need-cast-wram
 cast-wram c = search needs
 
--- src/store.rt:19:9
 slice-write-wram : tie.Need-slice-write-wram
 slice-write-wram c = search needs
 
--- src/store.rt:20:9
 same-length : tie.Need-same-length
 same-length c = search needs
 
--- src/store.rt:20:9
 returns : tie.Need-returns
-returns c = ?
+returns c =
+    let b = c .before .before .before .before .before in
+    let a = b .args in
+    sym (wram-put (memoryOf (now (a .rom)) (now (a .wram)) (now (a .vram)) (now (a .pak)) (now (a .regs))) (a .address) (a .value) (found (a .address) 5 (c .if1 .taken)))
 
--- src/store.rt:23:9
 put-byte-requires : tie.Need-put-byte-requires
-put-byte-requires c κs = ?
+put-byte-requires c κs =
+    let b = c .before .before .before .before .before .before .before .before in
+    (found (b .args .address) 0 (c .before .before .if2 .taken), b .pre .vram-ok)
 
--- src/store.rt:24:9
 same-length-2 : tie.Need-same-length-2
 same-length-2 c = search needs
 
--- src/store.rt:24:9
 returns-2 : tie.Need-returns-2
-returns-2 c = ?
+returns-2 c =
+    let a = c .before .before .before .before .before .before .before .before .before .before .before .args in
+    c .before .before .put-byte .ensures (now (a .rom)) (now (a .wram)) (now (a .pak))
 
--- src/store.rt:27:9
 put-byte-requires-2 : tie.Need-put-byte-requires-2
-put-byte-requires-2 c κs = ?
+put-byte-requires-2 c κs =
+    let b = c .before .before .before .before .before .before .before .before in
+    (found (b .args .address) 6 (c .before .if3 .taken), b .pre .pak-ok)
 
--- src/store.rt:10:1
 same-length-3 : tie.Need-same-length-3
 same-length-3 c = search needs
 
--- src/store.rt:10:1
 returns-3 : tie.Need-returns-3
-returns-3 c = ?
+returns-3 c =
+    let a = c .before .before .before .before .before .before .before .before .before .before .before .args in
+    c .before .before .put-byte2 .ensures (now (a .rom)) (now (a .wram)) (now (a .vram)) (now (a .regs))
 
--- src/store.rt:10:1
 returns-4 : tie.Need-returns-4
-returns-4 c = ?
+returns-4 c =
+    let b = c .before .before .before .before .before .before .before in
+    let a = b .args in
+    sym (nothing-put-byte (memoryOf (now (a .rom)) (now (a .wram)) (now (a .vram)) (now (a .pak)) (now (a .regs))) (a .address) (a .value) (missed (a .address) 5 (c .before .before .if1 .left), (missed (a .address) 0 (c .before .if2 .left), missed (a .address) 6 (c .if3 .left))))
 
 pub byte-spec : {M : Type 1} → statement M
 byte-spec =

@@ -1,59 +1,68 @@
+-- `bus::store::half` meets its contract: by region, a halfword of WRAM, of the VIP, of pak RAM, or nothing.
+-- Assumes nothing.
 use borrow.Author.Needs.{needs}
 use Rattle.bus.proofs.store.half.Statement.{statement}
 use Rattle.bus.proofs.store.half.Tie as tie
-use Rattle.bus.proofs.store.half.Reads as reads
-use Rattle.bus.proofs.store.half.Lts as lts
-use Rattle.bus.proofs.pak.put_half.Reads as pak-put-half-reads
-use Rattle.bus.proofs.vip.put_half.Reads as vip-put-half-reads
-use Rattle.word.proofs.put_half.Reads as put-half-reads
+use mathlib.Core.Path.{_≡_, refl, sym, ap, subst, _∙_}
+use Prim.Native.Nat.{ℕ, _+_, _-_, _*_, _/_, _%_, _<_, _≤_}
+use native.Mathlib.Omega.{arith}
+use Rattle.bus.specs.Memory.{Memory, memoryOf}
+use lib.ListN.{length, getD, set}
+use denote.Ref.{now}
+use Rattle.bus.proofs.Spans.{half-wram, wram-span-half}
+use Rattle.bus.proofs.Accesses.{found, missed, nothing-put-half}
 
--- src/store.rt:39:18
 sub-i : tie.Need-sub-i
 sub-i c = search needs
 
--- src/store.rt:39:17
 cast-i : tie.Need-cast-i
 cast-i c = search needs
 
--- src/store.rt:40:9
 put-half-requires : tie.Need-put-half-requires
 put-half-requires c κs = search needs
 
--- src/store.rt:41:9
 same-length : tie.Need-same-length
 same-length c = search needs
 
--- src/store.rt:41:9
 returns : tie.Need-returns
-returns c = ?
+returns c =
+    let b = c .before .before .before .before .before .before .before .before .before in
+    let a = b .args in
+    let here = found (a .address) 5 (c .before .before .before .before .if1 .taken) in
+    let m = memoryOf (now (a .rom)) (now (a .wram)) (now (a .vram)) (now (a .pak)) (now (a .regs)) in
+    rw (c .before .before .put-half .ensures) (sym (half-wram m (a .address) _ (a .value) (wram-span-half m (a .address) here)))
 
--- src/store.rt:44:9
 put-half-requires-2 : tie.Need-put-half-requires-2
-put-half-requires-2 c κs = ?
+put-half-requires-2 c κs =
+    let b = c .before .before .before .before .before .before .before .before in
+    (found (b .args .address) 0 (c .before .before .if2 .taken), b .pre .vram-ok)
 
--- src/store.rt:45:9
 same-length-2 : tie.Need-same-length-2
 same-length-2 c = search needs
 
--- src/store.rt:45:9
 returns-2 : tie.Need-returns-2
-returns-2 c = ?
+returns-2 c =
+    let a = c .before .before .before .before .before .before .before .before .before .before .before .args in
+    c .before .before .put-half2 .ensures (now (a .rom)) (now (a .wram)) (now (a .pak))
 
--- src/store.rt:48:9
 put-half-requires-3 : tie.Need-put-half-requires-3
-put-half-requires-3 c κs = ?
+put-half-requires-3 c κs =
+    let b = c .before .before .before .before .before .before .before .before in
+    (found (b .args .address) 6 (c .before .if3 .taken), b .pre .pak-ok)
 
--- src/store.rt:31:1
 same-length-3 : tie.Need-same-length-3
 same-length-3 c = search needs
 
--- src/store.rt:31:1
 returns-3 : tie.Need-returns-3
-returns-3 c = ?
+returns-3 c =
+    let a = c .before .before .before .before .before .before .before .before .before .before .before .args in
+    c .before .before .put-half3 .ensures (now (a .rom)) (now (a .wram)) (now (a .vram)) (now (a .regs))
 
--- src/store.rt:31:1
 returns-4 : tie.Need-returns-4
-returns-4 c = ?
+returns-4 c =
+    let b = c .before .before .before .before .before .before .before in
+    let a = b .args in
+    sym (nothing-put-half (memoryOf (now (a .rom)) (now (a .wram)) (now (a .vram)) (now (a .pak)) (now (a .regs))) (a .address) (a .value) (missed (a .address) 5 (c .before .before .if1 .left), (missed (a .address) 0 (c .before .if2 .left), missed (a .address) 6 (c .if3 .left))))
 
 pub half-spec : {M : Type 1} → statement M
 half-spec =

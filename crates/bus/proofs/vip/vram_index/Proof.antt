@@ -1,44 +1,49 @@
+-- `bus::vip::vram_index` meets its contract: below 0x40000 VRAM itself, from 0x78000 on the character mirror.
+-- Assumes nothing.
 use borrow.Author.Needs.{needs}
 use Rattle.bus.proofs.vip.vram_index.Statement.{statement}
 use Rattle.bus.proofs.vip.vram_index.Tie as tie
-use Rattle.bus.proofs.vip.vram_index.Reads as reads
-use Rattle.bus.proofs.vip.vram_index.Lts as lts
+use mathlib.Core.Path.{_≡_, refl, sym, ap, subst, _∙_}
+use Prim.Native.Nat.{ℕ, _+_, _-_, _*_, _/_, _%_, _<_, _≤_}
+use native.Mathlib.Omega.{arith}
+use Rattle.bus.specs.Place.{vramAt, vipPlace, mirrorOf}
+use Rattle.bus.proofs.VipPlaces.{vip-low, vip-mirror, mirror-step}
 
--- src/vip.rt:18:9
 returns : tie.Need-returns
-returns c = ?
+returns c =
+    let v = c .before .args .v in
+    ((λ h j near. vip-low (v + j) (omega arith)), (refl, λ h. absurd (omega arith)))
 
--- src/vip.rt:21:17
 add-result : tie.Need-add-result
 add-result c = search needs
 
--- src/vip.rt:21:16
 cast-result : tie.Need-cast-result
 cast-result c = search needs
 
--- src/vip.rt:21:9
 returns-2 : tie.Need-returns-2
-returns-2 c = ?
+returns-2 c = ((λ h j near. absurd (omega arith)), (omega arith, λ h. (omega arith, omega arith)))
 
--- src/vip.rt:24:15
 mul-result : tie.Need-mul-result
 mul-result c = search needs
 
--- src/vip.rt:24:6
 add-result-2 : tie.Need-add-result-2
 add-result-2 c = search needs
 
--- src/vip.rt:24:6
 add-result-3 : tie.Need-add-result-3
 add-result-3 c = search needs
 
--- src/vip.rt:24:5
 cast-result-2 : tie.Need-cast-result-2
 cast-result-2 c = search needs
 
--- src/vip.rt:11:1
 returns-3 : tie.Need-returns-3
-returns-3 c = ?
+unfolding mirrorOf
+returns-3 c =
+    let v = c .before .before .args .v in (
+      (λ h j near.
+          let e : v + j - 491520 ≡ v - 491520 + j = omega arith in
+          vip-mirror (v + j) (omega arith) ∙ ap vramAt (rw e (mirror-step (v - 491520) j (omega arith)))),
+      (omega arith, λ h. absurd (omega arith)),
+    )
 
 pub vram-index-spec : {M : Type 1} → statement M
 vram-index-spec =

@@ -1,51 +1,68 @@
+-- `bus::vip::word` meets its contract: a word of VRAM, or two registers.
+-- Assumes nothing.
 use borrow.Author.Needs.{needs}
 use Rattle.bus.proofs.vip.word.Statement.{statement}
 use Rattle.bus.proofs.vip.word.Tie as tie
-use Rattle.bus.proofs.vip.word.Reads as reads
-use Rattle.bus.proofs.vip.word.Lts as lts
-use Rattle.bus.proofs.vip.register.Reads as register-reads
-use Rattle.bus.proofs.vip.vram_index.Reads as vram-index-reads
-use Rattle.word.proofs.word_at.Reads as word-at-reads
+use mathlib.Core.Path.{_≡_, refl, sym, ap, subst, _∙_}
+use Prim.Native.Nat.{ℕ, _+_, _-_, _*_, _/_, _%_, _<_, _≤_}
+use native.Mathlib.Omega.{arith}
+use Rattle.bus.specs.Memory.{Memory, memoryOf}
+use lib.ListN.{length, getD, set}
+use denote.Ref.{now}
+use mathlib.Core.List.{[]}
+use Rattle.bus.specs.Place.{vramAt}
+use Rattle.bus.proofs.Places.{region-word, region-word-start}
+use Rattle.bus.proofs.Spans.{span-word, vip-span-word}
+use Rattle.bus.proofs.Halfwords.{reads-word}
 
--- src/vip.rt:91:13
 sub-a : tie.Need-sub-a
 sub-a c = search needs
 
--- src/vip.rt:92:9
 vram-index-requires : tie.Need-vram-index-requires
 vram-index-requires c κs = search needs
 
--- src/vip.rt:94:9
 word-at-requires : tie.Need-word-at-requires
 word-at-requires c κs = search needs
 
--- src/vip.rt:94:9
 returns : tie.Need-returns
-returns c = ?
+returns c =
+    let b = c .before .before .before .before in
+    let a = b .args in
+    let i = c .before .before .vram-index .result in
+    λ rom wram pak.
+    let m = memoryOf rom wram (now (a .vram)) pak (now (a .regs)) in
+    record {
+      means = c .word-at .ensures ∙ sym (span-word m (a .address) vramAt i (vip-span-word m (a .address) i (b .pre .0) (c .before .before .vram-index .ensures .0 (c .before .if1 .taken))));
+      fits = omega arith;
+    }
 
--- src/vip.rt:96:5
 register-requires : tie.Need-register-requires
-register-requires c κs = ?
+register-requires c κs =
+    let b = c .before .before .before in
+    let o = c .before .vram-index .ensures .1 .1 (c .if1 .left) in
+    (region-word-start (b .args .address) ∙ b .pre .0, o .0, o .1, omega arith)
 
--- src/vip.rt:96:48
 add-register : tie.Need-add-register
 add-register c = search needs
 
--- src/vip.rt:96:33
 register-requires-2 : tie.Need-register-requires-2
-register-requires-2 c κs = ?
+register-requires-2 c κs =
+    let b = c .before .before .before .before in
+    let o = c .before .before .vram-index .ensures .1 .1 (c .before .if1 .left) in
+    (region-word (b .args .address) 2 (omega arith) ∙ b .pre .0, omega (arith, o), omega (arith, o), omega arith)
 
--- src/vip.rt:96:25
 mul-result : tie.Need-mul-result
-mul-result c = ?
+mul-result c = omega (arith, c .register2 .ensures [] [] [] [] .fits)
 
--- src/vip.rt:96:5
 add-result : tie.Need-add-result
-add-result c = ?
+add-result c = omega (arith, c .register2 .ensures [] [] [] [] .fits, c .before .register .ensures [] [] [] [] .fits)
 
--- src/vip.rt:85:1
 returns-2 : tie.Need-returns-2
-returns-2 c = ?
+returns-2 c =
+    let b = c .before .before .before .before .before in
+    let a = b .args in
+    λ rom wram pak.
+    reads-word (memoryOf rom wram (now (a .vram)) pak (now (a .regs))) (a .address) (c .before .register .result) (c .register2 .result) (c .before .register .ensures rom wram (now (a .vram)) pak) (c .register2 .ensures rom wram (now (a .vram)) pak)
 
 pub word-spec : {M : Type 1} → statement M
 word-spec =

@@ -1,0 +1,224 @@
+-- Region 0: which of its bytes lie in VRAM, and what its registers read and take. Assumes nothing.
+use Prim.Native.Nat.{ℕ, zero, suc, _+_, _-_, _*_, _/_, _%_, _^_, _<_, _≤_}
+use mathlib.Core.Bool.{Bool, true, false, true≢false}
+use mathlib.Core.List.{List, [], _∷_}
+use mathlib.Core.Path.{_≡_, refl, sym, ap, subst, _∙_}
+use native.Mathlib.Nat.{mod-lt}
+use native.Mathlib.Decide.{ℕ-discrete, decLt}
+use native.Mathlib.Omega.{arith}
+use borrow.Author.Tests.{lt-ltb, le-ltb, le-leb, lt-leb, ne-eqb, eq-eqb}
+use lib.Dec.{T, ltb, leb, eqb}
+use lib.ListN.{length, getD, set}
+use Rattle.word.specs.Choose.{pick, member, indexOf}
+use Rattle.bus.specs.Registers.{drawingAddresses, silentAddresses, versionAddress, keptOf}
+use Rattle.bus.specs.Place.{Place, vramAt, drawingAt, versionAt, silent, unlisted, unmapped, mirrorOf, vipPlace, registerPlace, regionOf, placeOf}
+use Rattle.bus.specs.Memory.{Memory, byteOf, loadOf, readPlace, putPlace, putDrawing, placeIn, putByte, putRegister, withRegs}
+use Rattle.bus.proofs.OneOf.{every}
+use Rattle.bus.proofs.Places.{place-vip, region-next}
+use Rattle.bus.proofs.Halfwords.{half-load-even}
+
+-- the low part of the VIP is VRAM
+pub vip-low : (v : ℕ) → v < 262144 → vipPlace v ≡ vramAt v
+unfolding vipPlace
+vip-low v h = simp (lt-ltb v 262144 h)
+
+-- the character mirror
+pub vip-mirror : (v : ℕ) → 491520 ≤ v → vipPlace v ≡ vramAt (mirrorOf (v - 491520))
+unfolding vipPlace
+vip-mirror v h =
+    let a : 262144 ≤ v = omega arith in
+    let b : 385024 ≤ v = omega arith in
+    let d : 393216 ≤ v = omega arith in
+    simp (le-ltb v 262144 a, le-ltb v 385024 b, le-ltb v 393216 d, le-ltb v 491520 h)
+
+-- a group of four bytes stays together in the mirror
+pub mirror-step : (k j : ℕ) → k % 4 + j < 4 → mirrorOf (k + j) ≡ mirrorOf k + j
+unfolding mirrorOf
+mirror-step k j h =
+    let e : (k + j) / 8192 ≡ k / 8192 = omega arith in
+    let f : (k + j) % 8192 ≡ k % 8192 + j = omega arith in
+    rw (e, f) (omega arith)
+
+-- 0x5E000 to 0x5FFFF
+abbrev inRange : ℕ → Bool
+inRange x = pick (leb 385024 x) (ltb x 393216) false
+
+apart : (f : ℕ → Bool) (h : ℕ) (xs : List ℕ) → T (every f xs) → f h ≡ false → indexOf h xs ≡ length xs
+apart f h [] all out = refl
+apart f h (x ∷ xs) all out =
+    simp (ne-eqb h x (λ e. true≢false (held (f x) (every f xs) all ∙ ap f (sym e) ∙ out)))
+    (ap suc (apart f h xs (rest (f x) (every f xs) all) out))
+  where
+    held : (b t : Bool) → T (pick b t false) → true ≡ b
+    held true t h = refl
+    held false t h = absurd h
+
+    rest : (b t : Bool) → T (pick b t false) → T t
+    rest true t h = h
+    rest false t h = absurd h
+
+-- outside 0x5E000 to 0x5FFFF no address is a register's
+quiet-read : (m : Memory) (b : Bool) → readPlace m (pick b silent unlisted) ≡ 0
+quiet-read m true = refl
+quiet-read m false = refl
+
+quiet-write : (m : Memory) (v : ℕ) (b : Bool) → putDrawing m (pick b silent unlisted) v ≡ m
+quiet-write m v true = refl
+quiet-write m v false = refl
+
+far : (v : ℕ) → inRange (v - v % 2) ≡ false → registerPlace v ≡ pick (member (v - v % 2) silentAddresses) silent unlisted
+unfolding registerPlace
+far v out =
+    rw (apart inRange (v - v % 2) drawingAddresses tt out)
+    (simp (ne-eqb (v - v % 2) versionAddress (λ e. true≢false (ap inRange (sym e) ∙ out))))
+
+below-range : (v : ℕ) → v < 385024 → inRange (v - v % 2) ≡ false
+below-range v h =
+    let g : v - v % 2 < 385024 = omega arith in
+    simp (lt-leb 385024 (v - v % 2) g)
+
+above-range : (v : ℕ) → 393216 ≤ v → inRange (v - v % 2) ≡ false
+above-range v h =
+    let f : 385024 ≤ v - v % 2 = omega arith in
+    let g : 393216 ≤ v - v % 2 = omega arith in
+    simp (le-leb 385024 (v - v % 2) f, le-ltb (v - v % 2) 393216 g)
+
+-- what lies between VRAM and the mirror reads and takes what its register does
+abbrev Alike : Place → Place → Type 0
+Alike p q = (m : Memory) (v : ℕ) → (readPlace m p ≡ readPlace m q) × ((putDrawing m p v ≡ putDrawing m q v) × (putPlace m p v ≡ m))
+
+quiet-alike : (v : ℕ) → inRange (v - v % 2) ≡ false → Alike unmapped (registerPlace v)
+quiet-alike v out m x =
+    let b = member (v - v % 2) silentAddresses in
+    rw (far v out) (sym (quiet-read m b), (sym (quiet-write m x b), refl))
+
+no-byte : (m : Memory) (x k y z : ℕ) (b₁ b₂ b₃ : Bool) → putPlace m (pick b₁ (drawingAt k y) (pick b₂ (versionAt z) (pick b₃ silent unlisted))) x ≡ m
+no-byte m x k y z true b₂ b₃ = refl
+no-byte m x k y z false true b₃ = refl
+no-byte m x k y z false false true = refl
+no-byte m x k y z false false false = refl
+
+register-no-byte : (m : Memory) (v x : ℕ) → putPlace m (registerPlace v) x ≡ m
+unfolding registerPlace
+register-no-byte m v x =
+    let h = v - v % 2 in
+    let k = indexOf h drawingAddresses in
+    no-byte m x k (v % 2) (v % 2) (ltb k 13) (eqb h versionAddress) (member h silentAddresses)
+
+pub vip-register : (v : ℕ) → 262144 ≤ v → v < 491520 → Alike (vipPlace v) (registerPlace v)
+unfolding vipPlace
+vip-register v low high m x =
+    elim (decLt v 385024) [
+      | yes a ↦ simp (le-ltb v 262144 low, lt-ltb v 385024 a) (quiet-alike v (below-range v a) m x)
+      | no a ↦ elim (decLt v 393216) [
+        | yes b ↦
+            let a′ : 385024 ≤ v = omega arith in
+            simp (le-ltb v 262144 low, le-ltb v 385024 a′, lt-ltb v 393216 b) (refl, (refl, register-no-byte m v x))
+        | no b ↦
+            let a′ : 385024 ≤ v = omega arith in
+            let b′ : 393216 ≤ v = omega arith in
+            simp (le-ltb v 262144 low, le-ltb v 385024 a′, le-ltb v 393216 b′, lt-ltb v 491520 high)
+            (quiet-alike v (above-range v b′) m x)
+      ]
+    ]
+
+-- the two bytes of the register at an even address
+module _ (h : ℕ) (even : h % 2 ≡ 0) where
+  pub register-low : registerPlace h ≡ pick (ltb (indexOf h drawingAddresses) 13) (drawingAt (indexOf h drawingAddresses) 0) (pick (eqb h versionAddress) (versionAt 0) (pick (member h silentAddresses) silent unlisted))
+  unfolding registerPlace
+  register-low =
+      let e : h - h % 2 ≡ h = omega arith in
+      rw (e, even)
+
+  pub register-high : registerPlace (h + 1) ≡ pick (ltb (indexOf h drawingAddresses) 13) (drawingAt (indexOf h drawingAddresses) 1) (pick (eqb h versionAddress) (versionAt 1) (pick (member h silentAddresses) silent unlisted))
+  unfolding registerPlace
+  register-high =
+      let e : h + 1 - (h + 1) % 2 ≡ h = omega arith in
+      let f : (h + 1) % 2 ≡ 1 = omega arith in
+      rw (e, f)
+
+  pub read-drawing : (m : Memory) → indexOf h drawingAddresses < 13 → getD (m .regs) (indexOf h drawingAddresses) 0 < 65536
+      → readPlace m (registerPlace h) + 256 * readPlace m (registerPlace (h + 1)) ≡ getD (m .regs) (indexOf h drawingAddresses) 0
+  read-drawing m k fits = rw (register-low, register-high) (simp (lt-ltb _ _ k) (omega arith))
+
+  pub read-version : (m : Memory) → 13 ≤ indexOf h drawingAddresses → h ≡ versionAddress → readPlace m (registerPlace h) + 256 * readPlace m (registerPlace (h + 1)) ≡ 2
+  read-version m k e = rw (register-low, register-high) (simp (le-ltb _ _ k, eq-eqb h versionAddress e))
+
+  pub read-quiet : (m : Memory) → 13 ≤ indexOf h drawingAddresses → (h ≡ versionAddress → ⊥) → readPlace m (registerPlace h) + 256 * readPlace m (registerPlace (h + 1)) ≡ 0
+  read-quiet m k n =
+      rw (register-low, register-high)
+      (simp (le-ltb _ _ k, ne-eqb h versionAddress n, quiet-read m (member h silentAddresses)))
+
+-- a halfword load at an even address between VRAM and the mirror
+pub register-load : (m : Memory) (a : ℕ) → regionOf a ≡ 0 → 262144 ≤ a % 524288 → a % 524288 < 491520 → a % 2 ≡ 0
+    → loadOf m 2 a ≡ readPlace m (registerPlace (a % 524288)) + 256 * readPlace m (registerPlace (a % 524288 + 1))
+unfolding byteOf
+register-load m a here low high even =
+    let near : regionOf (a + 1) ≡ 0 = region-next a even ∙ here in
+    let next : (a + 1) % 524288 ≡ a % 524288 + 1 = omega arith in
+    let high′ : a % 524288 + 1 < 491520 = omega arith in
+    let low′ : 262144 ≤ a % 524288 + 1 = omega arith in
+    half-load-even m a even
+    ∙ rw (
+      place-vip (length (m .rom)) (length (m .pak)) a here,
+      place-vip (length (m .rom)) (length (m .pak)) (a + 1) near,
+      next,
+      vip-register (a % 524288) low high m 0 .0,
+      vip-register (a % 524288 + 1) low′ high′ m 0 .0,
+    )
+
+-- a register write at an address between VRAM and the mirror
+pub register-store : (m : Memory) (a v : ℕ) → regionOf a ≡ 0 → 262144 ≤ a % 524288 → a % 524288 < 491520 → putRegister m a v ≡ putDrawing m (registerPlace (a % 524288)) (v % 65536)
+unfolding putRegister
+register-store m a v here low high =
+    rw (place-vip (length (m .rom)) (length (m .pak)) a here) (vip-register (a % 524288) low high m (v % 65536) .1 .0)
+
+pub register-byte : (m : Memory) (a v : ℕ) → regionOf a ≡ 0 → 262144 ≤ a % 524288 → a % 524288 < 491520 → putByte m a v ≡ m
+unfolding putByte
+register-byte m a v here low high =
+    rw (place-vip (length (m .rom)) (length (m .pak)) a here) (vip-register (a % 524288) low high m (v % 256) .1 .1)
+
+pub write-drawing : (m : Memory) (u x : ℕ) → indexOf (u - u % 2) drawingAddresses < 13
+    → putDrawing m (registerPlace u) x ≡ withRegs m (set (m .regs) (indexOf (u - u % 2) drawingAddresses) (keptOf (indexOf (u - u % 2) drawingAddresses) x))
+unfolding registerPlace
+write-drawing m u x k = simp (lt-ltb _ _ k)
+
+no-drawing : (m : Memory) (x z : ℕ) (b₂ b₃ : Bool) → putDrawing m (pick b₂ (versionAt z) (pick b₃ silent unlisted)) x ≡ m
+no-drawing m x z true b₃ = refl
+no-drawing m x z false true = refl
+no-drawing m x z false false = refl
+
+pub write-nothing : (m : Memory) (u x : ℕ) → 13 ≤ indexOf (u - u % 2) drawingAddresses → putDrawing m (registerPlace u) x ≡ m
+unfolding registerPlace
+write-nothing m u x k =
+    let h = u - u % 2 in
+    simp (le-ltb _ _ k) (no-drawing m x (u % 2) (eqb h versionAddress) (member h silentAddresses))
+
+kept-wide : (v : ℕ) (b₁ b₂ : Bool) → v % 65536 % 2 ^ pick b₁ 10 (pick b₂ 8 2) ≡ v % 2 ^ pick b₁ 10 (pick b₂ 8 2)
+kept-wide v true b₂ = omega arith
+kept-wide v false true = omega arith
+kept-wide v false false = omega arith
+
+-- a register keeps nothing above bit 15
+pub kept-low : (k v : ℕ) → keptOf k (v % 65536) ≡ keptOf k v
+kept-low k v = kept-wide v (ltb k 4) (ltb k 12)
+
+byte-low : (m : Memory) (k y z : ℕ) (b₁ b₂ b₃ : Bool) → readPlace m (pick b₁ (drawingAt k y) (pick b₂ (versionAt z) (pick b₃ silent unlisted))) < 256
+byte-low m k y z true b₂ b₃ = mod-lt (getD (m .regs) k 0 / 256 ^ y) (omega arith)
+byte-low m k y z false true b₃ = mod-lt (2 / 256 ^ z) (omega arith)
+byte-low m k y z false false true = omega arith
+byte-low m k y z false false false = omega arith
+
+register-fits : (m : Memory) (v : ℕ) → readPlace m (registerPlace v) < 256
+unfolding registerPlace
+register-fits m v =
+    let h = v - v % 2 in
+    let k = indexOf h drawingAddresses in
+    byte-low m k (v % 2) (v % 2) (ltb k 13) (eqb h versionAddress) (member h silentAddresses)
+
+-- a byte between VRAM and the mirror is one
+pub between-fits : (m : Memory) (a : ℕ) → regionOf a ≡ 0 → 262144 ≤ a % 524288 → a % 524288 < 491520 → byteOf m a < 256
+unfolding byteOf
+between-fits m a here low high =
+    rw (place-vip (length (m .rom)) (length (m .pak)) a here, vip-register (a % 524288) low high m 0 .0)
+    (register-fits m (a % 524288))

@@ -1,0 +1,15 @@
+-- What the C boundary gives for a call's answer: paper 01's number, 0 for none, and 0 for a value that was refused.
+use Prim.Native.Nat.{ℕ}
+use Rattle.bus.specs.Refusal.{numberOf}
+use Rattle.access.specs.declared.Load.{Load}
+use Rattle.access.specs.declared.Load.the-variants.{Value, Refused}
+
+-- the refusal of a load's answer
+abbrev pub loadRefusal : Load → ℕ
+loadRefusal (Value l) = 0
+loadRefusal (Refused n) = numberOf n
+
+-- the value of a load's answer
+abbrev pub loadValue : Load → ℕ
+loadValue (Value l) = l .value
+loadValue (Refused n) = 0

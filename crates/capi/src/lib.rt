@@ -1,0 +1,3 @@
+// The C boundary (include/vb.h): numbers, slices and #[repr(C)] records over the public calls.
+pub mod accesses;
+mod numbers;
