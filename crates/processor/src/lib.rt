@@ -1,7 +1,9 @@
-// The processor's public calls: a step, a run, a reset, over the lent memories. Records go in and come back by value.
+// The processor's public calls: a step, a run, a reset, over the lent memories. Records go in and come back by value;
+// inside, the registers are lent.
 mod acceptance;
-mod advance;
 pub mod calls;
+mod record;
+mod stretch;
 
 use bus::Drawing;
 use bus::Verdict;
@@ -39,8 +41,23 @@ pub struct Ran {
     pub drawing: Drawing,
 }
 
-// Both records at reset.
+// Both records.
 pub struct Machine {
     pub processor: Processor,
     pub drawing: Drawing,
+}
+
+// What an answer means to a run.
+pub enum After {
+    Counted,
+    Stopped(Verdict),
+}
+
+// What a run leaves beside the lent registers and memories.
+pub struct Finished {
+    pub pc: u32,
+    pub psw: u32,
+    pub mode: Mode,
+    pub verdict: Verdict,
+    pub count: u64,
 }

@@ -10,7 +10,7 @@ mod memory;
 mod operation;
 mod register;
 pub mod step;
-mod system;
+pub mod system;
 
 ghost use mathlib.Core.Path.{_≡_};
 ghost use Rattle.processor_core.specs.State.{endedAt};
