@@ -1,0 +1,4 @@
+mod Finite
+mod Carry
+mod Magnitude
+mod Table

@@ -1,0 +1,15 @@
+-- `arithmetic::bitwise::and`: the flags are those of the value.
+use borrow.Author.Needs.{needs}
+use Rattle.arithmetic.specs.Bitwise.{andOf}
+use Rattle.arithmetic.proofs.bitwise.and.Statement.{statement}
+use Rattle.arithmetic.proofs.bitwise.and.Tie as tie
+
+keep-carry-requires : tie.Need-keep-carry-requires
+keep-carry-requires c κs = search needs
+
+returns : tie.Need-returns
+unfolding andOf
+returns c = rw (c .keep-carry .ensures)
+
+pub and-spec : {M : Type 1} → statement M
+and-spec = tie.close (tie.spec keep-carry-requires returns)

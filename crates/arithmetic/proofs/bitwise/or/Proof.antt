@@ -1,0 +1,15 @@
+-- `arithmetic::bitwise::or`: the flags are those of the value.
+use borrow.Author.Needs.{needs}
+use Rattle.arithmetic.specs.Bitwise.{orOf}
+use Rattle.arithmetic.proofs.bitwise.or.Statement.{statement}
+use Rattle.arithmetic.proofs.bitwise.or.Tie as tie
+
+keep-carry-requires : tie.Need-keep-carry-requires
+keep-carry-requires c κs = search needs
+
+returns : tie.Need-returns
+unfolding orOf
+returns c = rw (c .keep-carry .ensures)
+
+pub or-spec : {M : Type 1} → statement M
+or-spec = tie.close (tie.spec keep-carry-requires returns)

@@ -1,0 +1,28 @@
+-- What the public calls' definitions come to once refusals 1 to 5 have nothing against the call.
+use Prim.Native.Nat.{ℕ}
+use mathlib.Core.List.{List}
+use mathlib.Core.Path.{_≡_, ap}
+use lib.ListN.{length}
+use Rattle.bus.specs.Memory.{Memory}
+use Rattle.bus.specs.declared.Verdict.{Verdict}
+use Rattle.bus.specs.declared.Verdict.the-variants.{Accepted}
+use Rattle.processor_core.specs.State.{stateOf, Stepped}
+use Rattle.processor_core.specs.Step.{stepOf}
+use Rattle.processor.specs.Record.{systemIn, processorOf}
+use Rattle.processor.specs.Acceptance.{acceptanceAt}
+use Rattle.processor.specs.Run.{Run, runOf}
+use Rattle.processor.specs.Calls.{doneOf, ranOf, checkedStepOf, checkedRunOf}
+use Rattle.processor.specs.declared.Processor.{Processor}
+
+module _ (p : Processor) (m : Memory) (sys : List ℕ) (v : Verdict) (held : sys ≡ systemIn p) (tested : v ≡ acceptanceAt (length (m .rom)) (length (m .wram)) (length (m .vram)) (length (m .pak)) (m .regs) (p .regs) sys (p .pc) (p .psw)) (accepted : v ≡ Accepted) where
+  pub step-accepted : (t : Stepped) → t ≡ stepOf (stateOf (p .regs) sys (p .pc) (p .psw) (p .mode)) m → doneOf (t .answer) (processorOf (t .state)) (t .memory) ≡ checkedStepOf p m
+  unfolding checkedStepOf
+  step-accepted t e =
+      rw (← held, ← tested, accepted)
+      (ap (λ (u : Stepped). doneOf (u .answer) (processorOf (u .state)) (u .memory)) (rw held at e))
+
+  pub run-accepted : (budget : ℕ) (t : Run) → t ≡ runOf budget (stateOf (p .regs) sys (p .pc) (p .psw) (p .mode)) m → ranOf (t .verdict) (t .count) (processorOf (t .state)) (t .memory) ≡ checkedRunOf budget p m
+  unfolding checkedRunOf
+  run-accepted budget t e =
+      rw (← held, ← tested, accepted)
+      (ap (λ (u : Run). ranOf (u .verdict) (u .count) (processorOf (u .state)) (u .memory)) (rw held at e))

@@ -1,0 +1,3 @@
+mod Follows
+mod Lengths
+mod Checked

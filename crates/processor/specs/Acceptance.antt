@@ -1,0 +1,56 @@
+-- Refusals 1 to 5 of a step and a run (paper 01, "Refusal numbers"): those of the bus, then what 5 says of the processor.
+use Prim.Native.Nat.{ℕ, _%_, _^_}
+use mathlib.Core.Bool.{Bool, true, false}
+use mathlib.Core.List.{List}
+use lib.Dec.{eqb, leb}
+use lib.ListN.{getD, length}
+use Rattle.word.specs.Choose.{pick}
+use Rattle.bus.specs.Refusal.{unless}
+use Rattle.bus.specs.Memory.{Memory, verdictAt}
+use Rattle.bus.specs.declared.Verdict.{Verdict}
+use Rattle.bus.specs.declared.Verdict.the-variants.{Accepted, Refused}
+use Rattle.bus.specs.declared.Refusal as refusal
+use Rattle.processor_core.specs.State.{State}
+use Rattle.processor_core.specs.System.{pswBitsOf}
+
+-- both tests hold
+abbrev pub both : Bool → Bool → Bool
+both a b = pick a b false
+
+-- an address is even
+abbrev pub isEven : ℕ → Bool
+isEven a = eqb (a % 2) 0
+
+-- PC, EIPC, FEPC and system register 25 are even
+unfoldable pub evenOk : List ℕ → ℕ → Bool
+evenOk sys pc =
+    both (isEven pc) (both (isEven (getD sys 0 0)) (both (isEven (getD sys 2 0)) (isEven (getD sys 5 0))))
+
+-- a PSW format has no bit outside 0x000FF3FF
+abbrev pub isFormat : ℕ → Bool
+isFormat v = eqb (pswBitsOf v) v
+
+-- PSW, EIPSW and FEPSW
+unfoldable pub formatsOk : List ℕ → ℕ → Bool
+formatsOk sys psw = both (isFormat psw) (both (isFormat (getD sys 1 0)) (isFormat (getD sys 3 0)))
+
+-- 5, of the processor: general register 0 is 0, the addresses even, the formats within their bits, and system register
+-- 31 at most 0x80000000
+unfoldable pub stateOk : List ℕ → List ℕ → ℕ → ℕ → Bool
+stateOk regs sys pc psw =
+    both (eqb (getD regs 0 0) 0) (both (evenOk sys pc) (both (formatsOk sys psw) (leb (getD sys 7 0) (2 ^ 31))))
+
+-- what comes after the bus's verdict
+abbrev pub thenOf : Verdict → Verdict → Verdict
+thenOf Accepted later = later
+thenOf (Refused n) later = Refused n
+
+-- the lowest number whose condition holds
+unfoldable pub acceptanceAt : ℕ → ℕ → ℕ → ℕ → List ℕ → List ℕ → List ℕ → ℕ → ℕ → Verdict
+acceptanceAt rom wram vram pak device regs sys pc psw =
+    thenOf (verdictAt rom wram vram pak device) (unless (stateOk regs sys pc psw) refusal.the-variants.State Accepted)
+
+-- the same of a state and a memory
+abbrev pub acceptanceOf : State → Memory → Verdict
+acceptanceOf s m =
+    acceptanceAt (length (m .rom)) (length (m .wram)) (length (m .vram)) (length (m .pak)) (m .regs) (s .regs) (s .sys) (s .pc) (s .psw)

@@ -1,0 +1,78 @@
+-- What the public calls answer, for every input: refusals 1 to 5 first, which change nothing; then the step or the run.
+use Prim.Native.Nat.{ℕ}
+use mathlib.Core.List.{List, [], _∷_}
+use lib.ListN.{replicate}
+use Rattle.bus.specs.Memory.{Memory}
+use Rattle.bus.specs.declared.Verdict.{Verdict}
+use Rattle.bus.specs.declared.Verdict.the-variants as verdict
+use Rattle.processor_core.specs.State.{State, Stepped}
+use Rattle.processor_core.specs.Step.{stepOf}
+use Rattle.processor_core.specs.declared.Mode.the-variants.{Running}
+use Rattle.processor_core.specs.declared.Answer.{Answer}
+use Rattle.processor_core.specs.declared.Answer.the-variants.{Refused}
+use Rattle.processor.specs.Record.{stateIn, processorOf}
+use Rattle.processor.specs.Acceptance.{acceptanceOf}
+use Rattle.processor.specs.Run.{Run, runOf}
+use Rattle.processor.specs.declared.Processor.{Processor}
+use Rattle.processor.specs.declared.Machine.{Machine}
+
+-- what a step's call gives: its answer, the record and the memory afterwards
+pub record Done : Type 0 where
+  pub answer : Answer
+  pub processor : Processor
+  pub memory : Memory
+
+abbrev pub doneOf : Answer → Processor → Memory → Done
+doneOf answer p m = record { answer = answer; processor = p; memory = m }
+
+-- a step, unless refused
+abbrev pub stepWhen : Verdict → Processor → Memory → Done
+stepWhen verdict.Accepted p m =
+    let t = stepOf (stateIn p) m in
+    doneOf (t .answer) (processorOf (t .state)) (t .memory)
+stepWhen (verdict.Refused n) p m = doneOf (Refused n) p m
+
+unfoldable pub checkedStepOf : Processor → Memory → Done
+checkedStepOf p m = stepWhen (acceptanceOf (stateIn p) m) p m
+
+-- what a run's call gives
+pub record Ran : Type 0 where
+  pub verdict : Verdict
+  pub count : ℕ
+  pub processor : Processor
+  pub memory : Memory
+
+abbrev pub ranOf : Verdict → ℕ → Processor → Memory → Ran
+ranOf v n p m = record { verdict = v; count = n; processor = p; memory = m }
+
+-- a run, unless refused: "refused so, its count is 0"
+abbrev pub runWhen : Verdict → ℕ → Processor → Memory → Ran
+runWhen verdict.Accepted budget p m =
+    let r = runOf budget (stateIn p) m in
+    ranOf (r .verdict) (r .count) (processorOf (r .state)) (r .memory)
+runWhen (verdict.Refused n) budget p m = ranOf (verdict.Refused n) 0 p m
+
+unfoldable pub checkedRunOf : ℕ → Processor → Memory → Ran
+checkedRunOf budget p m = runWhen (acceptanceOf (stateIn p) m) budget p m
+
+-- reset: "PC 0xFFFFFFF0, ECR 0xFFF0, PSW 0x8000, all else 0, running"
+unfoldable pub resetOf : Machine
+resetOf =
+    record {
+      processor =
+          record {
+            regs = replicate 32 0;
+            pc = 0xFFFFFFF0;
+            eipc = 0;
+            eipsw = 0;
+            fepc = 0;
+            fepsw = 0;
+            ecr = 0xFFF0;
+            psw = 0x8000;
+            sr25 = 0;
+            sr29 = 0;
+            sr31 = 0;
+            mode = Running;
+          };
+      drawing = record { regs = replicate 13 0 };
+    }

@@ -1,0 +1,4 @@
+pub mod Record
+pub mod Acceptance
+pub mod Run
+pub mod Calls

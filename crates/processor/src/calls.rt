@@ -1,0 +1,160 @@
+// A step, a run and a reset. Refusals 1 to 5 are tested once, here.
+use crate::Finished;
+use crate::Machine;
+use crate::Processor;
+use crate::Ran;
+use crate::Stepped;
+use crate::acceptance::acceptance;
+use crate::record::joined;
+use crate::record::system;
+use crate::stretch;
+use bus::Drawing;
+use bus::Verdict;
+use processor_core::Answer;
+use processor_core::Mode;
+ghost use mathlib.Core.Path.{_≡_};
+ghost use Rattle.bus.specs.Memory.{memoryOf};
+ghost use Rattle.processor.specs.Calls.{doneOf, ranOf, checkedStepOf, checkedRunOf, resetOf};
+
+// One step.
+pub fn step(
+    rom: &[u8],
+    wram: &mut [u8],
+    vram: &mut [u8],
+    pak: &mut [u8],
+    processor: Processor,
+    drawing: Drawing,
+) -> Stepped
+    ensures { λ r. ⌜ doneOf (r .answer) (r .processor) (memoryOf (now (rom .entry)) (now (wram .exit)) (now (vram .exit)) (now (pak .exit)) (r .drawing .regs)) ≡ checkedStepOf processor (memoryOf (now (rom .entry)) (now (wram .entry)) (now (vram .entry)) (now (pak .entry)) (drawing .regs)) ⌝ }
+{
+    let mut regs = processor.regs;
+    let mut sys = system(processor);
+    let mut device = drawing.regs;
+    let pc = processor.pc;
+    let psw = processor.psw;
+    let mode = processor.mode;
+    match acceptance(
+        rom.len(),
+        wram.len(),
+        vram.len(),
+        pak.len(),
+        &device,
+        &regs,
+        &sys,
+        pc,
+        psw,
+    ) {
+        Verdict::Refused(n) => Stepped {
+            answer: Answer::Refused(n),
+            processor,
+            drawing,
+        },
+        Verdict::Accepted => {
+            let c = processor_core::step::step(
+                rom,
+                wram,
+                vram,
+                pak,
+                &mut device,
+                &mut regs,
+                &mut sys,
+                pc,
+                psw,
+                mode,
+            );
+            let answer = c.answer;
+            let mode = c.mode;
+            let processor = joined(regs, sys, c.pc, c.psw, mode);
+            Stepped {
+                answer,
+                processor,
+                drawing: Drawing { regs: device },
+            }
+        }
+    }
+}
+
+// At most `budget` instructions.
+pub fn run(
+    rom: &[u8],
+    wram: &mut [u8],
+    vram: &mut [u8],
+    pak: &mut [u8],
+    processor: Processor,
+    drawing: Drawing,
+    budget: u64,
+) -> Ran
+    ensures { λ r. ⌜ ranOf (r .verdict) (r .count) (r .processor) (memoryOf (now (rom .entry)) (now (wram .exit)) (now (vram .exit)) (now (pak .exit)) (r .drawing .regs)) ≡ checkedRunOf budget processor (memoryOf (now (rom .entry)) (now (wram .entry)) (now (vram .entry)) (now (pak .entry)) (drawing .regs)) ⌝ }
+{
+    let mut regs = processor.regs;
+    let mut sys = system(processor);
+    let mut device = drawing.regs;
+    let pc = processor.pc;
+    let psw = processor.psw;
+    let mode = processor.mode;
+    match acceptance(
+        rom.len(),
+        wram.len(),
+        vram.len(),
+        pak.len(),
+        &device,
+        &regs,
+        &sys,
+        pc,
+        psw,
+    ) {
+        Verdict::Refused(n) => Ran {
+            verdict: Verdict::Refused(n),
+            count: 0,
+            processor,
+            drawing,
+        },
+        Verdict::Accepted => {
+            let f = stretch::run(
+                rom,
+                wram,
+                vram,
+                pak,
+                &mut device,
+                &mut regs,
+                &mut sys,
+                pc,
+                psw,
+                mode,
+                budget,
+            );
+            let verdict = f.verdict;
+            let mode = f.mode;
+            let processor = joined(regs, sys, f.pc, f.psw, mode);
+            Ran {
+                verdict,
+                count: f.count,
+                processor,
+                drawing: Drawing { regs: device },
+            }
+        }
+    }
+}
+
+// Both records at reset.
+pub fn reset() -> Machine
+    ensures { λ r. ⌜ r ≡ resetOf ⌝ }
+{
+    Machine {
+        processor: Processor {
+            regs: [0u32; 32],
+            pc: 0xFFFFFFF0,
+            eipc: 0,
+            eipsw: 0,
+            fepc: 0,
+            fepsw: 0,
+            ecr: 0xFFF0,
+            psw: 0x8000,
+            sr25: 0,
+            sr29: 0,
+            sr31: 0,
+            mode: Mode::Running,
+        },
+        drawing: Drawing { regs: [0u16; 13] },
+    }
+}

@@ -1,0 +1,63 @@
+// The processor's public calls: a step, a run, a reset, over the lent memories. Records go in and come back by value;
+// inside, the registers are lent.
+mod acceptance;
+pub mod calls;
+mod record;
+mod stretch;
+
+use bus::Drawing;
+use bus::Verdict;
+use processor_core::Answer;
+use processor_core::Mode;
+
+// The processor's record.
+pub struct Processor {
+    pub regs: [u32; 32],
+    pub pc: u32,
+    pub eipc: u32,
+    pub eipsw: u32,
+    pub fepc: u32,
+    pub fepsw: u32,
+    pub ecr: u32,
+    pub psw: u32,
+    pub sr25: u32,
+    pub sr29: u32,
+    pub sr31: u32,
+    pub mode: Mode,
+}
+
+// What a step did, and both records afterwards.
+pub struct Stepped {
+    pub answer: Answer,
+    pub processor: Processor,
+    pub drawing: Drawing,
+}
+
+// Whether a run was refused, how many instructions ended, and both records afterwards.
+pub struct Ran {
+    pub verdict: Verdict,
+    pub count: u64,
+    pub processor: Processor,
+    pub drawing: Drawing,
+}
+
+// Both records.
+pub struct Machine {
+    pub processor: Processor,
+    pub drawing: Drawing,
+}
+
+// What an answer means to a run.
+pub enum After {
+    Counted,
+    Stopped(Verdict),
+}
+
+// What a run leaves beside the lent registers and memories.
+pub struct Finished {
+    pub pc: u32,
+    pub psw: u32,
+    pub mode: Mode,
+    pub verdict: Verdict,
+    pub count: u64,
+}

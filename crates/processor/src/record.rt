@@ -1,0 +1,42 @@
+// The record of the public calls, and the registers that are lent inside.
+use crate::Processor;
+use processor_core::Mode;
+ghost use mathlib.Core.Path.{_≡_};
+ghost use Rattle.processor.specs.Record.{systemIn, processorOf};
+ghost use Rattle.processor_core.specs.State.{stateOf};
+
+// The stored system registers of a record, in the order of the lent ones.
+pub fn system(p: Processor) -> [u32; 8]
+    ensures { λ r. ⌜ r ≡ systemIn p ⌝ }
+{
+    [
+        p.eipc,
+        p.eipsw,
+        p.fepc,
+        p.fepsw,
+        p.ecr,
+        p.sr25,
+        p.sr29,
+        p.sr31,
+    ]
+}
+
+// The record of the lent registers, PC, PSW and the mode.
+pub fn joined(regs: [u32; 32], sys: [u32; 8], pc: u32, psw: u32, mode: Mode) -> Processor
+    ensures { λ r. ⌜ r ≡ processorOf (stateOf regs sys pc psw mode) ⌝ }
+{
+    Processor {
+        regs,
+        pc,
+        eipc: sys[0],
+        eipsw: sys[1],
+        fepc: sys[2],
+        fepsw: sys[3],
+        ecr: sys[4],
+        psw,
+        sr25: sys[5],
+        sr29: sys[6],
+        sr31: sys[7],
+        mode,
+    }
+}

@@ -1,0 +1,77 @@
+// A stretch of steps, over registers and memories that were accepted.
+use crate::After;
+use crate::Finished;
+use bus::Verdict;
+use processor_core::Answer;
+use processor_core::Mode;
+use processor_core::step;
+ghost use mathlib.Core.Path.{_≡_};
+ghost use lib.ListN.{length};
+ghost use Rattle.bus.specs.Memory.{memoryOf, Lengths};
+ghost use Rattle.processor_core.specs.State.{stateOf};
+ghost use Rattle.processor.specs.Run.{afterOf, runOf, ranBy};
+
+// An ended or trapped instruction counts; anything else stops the run.
+fn after(answer: Answer) -> After
+    ensures { λ r. ⌜ r ≡ afterOf answer ⌝ }
+{
+    match answer {
+        Answer::Ended => After::Counted,
+        Answer::Trapped(_) => After::Counted,
+        Answer::TurnedFatal(_) => After::Stopped(Verdict::Accepted),
+        Answer::WasHalted => After::Stopped(Verdict::Accepted),
+        Answer::WasFatal => After::Stopped(Verdict::Accepted),
+        Answer::Refused(n) => After::Stopped(Verdict::Refused(n)),
+    }
+}
+
+// At most `budget` instructions.
+pub fn run(
+    rom: &[u8],
+    wram: &mut [u8],
+    vram: &mut [u8],
+    pak: &mut [u8],
+    device: &mut [u16; 13],
+    regs: &mut [u32; 32],
+    sys: &mut [u32; 8],
+    pc: u32,
+    psw: u32,
+    mode: Mode,
+    budget: u64,
+) -> Finished
+    requires { ⌜ Lengths (length (now rom)) (length (now wram)) (length (now vram)) (length (now pak)) ⌝ }
+    ensures { λ r. ⌜ ranBy (now (regs .exit)) (now (sys .exit)) r (memoryOf (now (rom .entry)) (now (wram .exit)) (now (vram .exit)) (now (pak .exit)) (now (device .exit))) ≡ runOf budget (stateOf (now (regs .entry)) (now (sys .entry)) pc psw mode) (memoryOf (now (rom .entry)) (now (wram .entry)) (now (vram .entry)) (now (pak .entry)) (now (device .entry))) ⌝ }
+{
+    let mut pc = pc;
+    let mut psw = psw;
+    let mut mode = mode;
+    let mut n: u64 = 0;
+    while n < budget {
+        let c = step::step(rom, wram, vram, pak, device, regs, sys, pc, psw, mode);
+        pc = c.pc;
+        psw = c.psw;
+        mode = c.mode;
+        let answer = c.answer;
+        match after(answer) {
+            After::Counted => {
+                n += 1;
+            }
+            After::Stopped(verdict) => {
+                return Finished {
+                    pc,
+                    psw,
+                    mode,
+                    verdict,
+                    count: n,
+                };
+            }
+        }
+    }
+    Finished {
+        pc,
+        psw,
+        mode,
+        verdict: Verdict::Accepted,
+        count: n,
+    }
+}

@@ -1,0 +1,7 @@
+pub mod State
+pub mod System
+pub mod Exception
+pub mod Operation
+pub mod Access
+pub mod Execute
+pub mod Step
