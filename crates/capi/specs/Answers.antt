@@ -2,14 +2,22 @@
 use Prim.Native.Nat.{ℕ}
 use Rattle.bus.specs.Refusal.{numberOf}
 use Rattle.access.specs.declared.Load.{Load}
-use Rattle.access.specs.declared.Load.the-variants.{Value, Refused}
+use Rattle.access.specs.declared.Load.the-variants.{Value, Refused as LoadRefused}
+use Rattle.bus.specs.declared.Verdict.{Verdict}
+use Rattle.bus.specs.declared.Verdict.the-variants.{Accepted, Refused}
+use Rattle.picture.specs.Character.{characterAddressOf}
 
 -- the refusal of a load's answer
 abbrev pub loadRefusal : Load → ℕ
 loadRefusal (Value l) = 0
-loadRefusal (Refused n) = numberOf n
+loadRefusal (LoadRefused n) = numberOf n
 
 -- the value of a load's answer
 abbrev pub loadValue : Load → ℕ
 loadValue (Value l) = l .value
-loadValue (Refused n) = 0
+loadValue (LoadRefused n) = 0
+
+-- where a character's part begins, 0 where it was refused
+abbrev pub partOffset : Verdict → ℕ → ℕ
+partOffset Accepted c = characterAddressOf c
+partOffset (Refused n) c = 0

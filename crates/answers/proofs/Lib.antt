@@ -1,0 +1,21 @@
+-- `Answerable`, `Few`, `NoFewer`, `CallDrawn`, `Images` and `ListedAddresses` prove the statements of specs/Demand3 and specs/Drawn.
+pub mod Answerable
+pub mod Few
+pub mod NoFewer
+pub mod CallDrawn
+pub mod Images
+pub mod ListedAddresses
+mod BackgroundSame
+mod Choices
+mod CoversDrawn
+mod DrawnCovers
+mod Each
+mod Groups
+mod Halfwords
+mod ListedBytes
+mod ObjectsSame
+pub mod PixelSame
+mod PixelValue
+mod Registers
+mod StripBytes
+mod StripPixel

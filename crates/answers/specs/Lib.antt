@@ -1,0 +1,4 @@
+pub mod Covers
+pub mod SourceBytes
+pub mod Drawn
+pub mod Demand3

@@ -1,0 +1,126 @@
+// Painting a row of a strip from a background.
+ghost use mathlib.Core.Path.{_≡_};
+ghost use Prim.Native.Nat.{_+_, _-_, _*_, _/_, _%_, _<_, _≤_};
+ghost use lib.ListN.{length, getD};
+ghost use Rattle.word.specs.LittleEndian.{halfAt};
+ghost use Rattle.picture.specs.Character.{shadeOf, valueOf, rowAddressOf};
+ghost use Rattle.picture.specs.Background.{cellAddressOf, sourcePixelOf, affineFloorOf};
+ghost use Rattle.picture.specs.Buffer.{repaintedOf, Span};
+use crate::cell::cell_address;
+use crate::source::affine_floor;
+use picture::half;
+use picture::least;
+use picture::row_address;
+use picture::shaded;
+use picture::span;
+use picture::value;
+use picture::wide;
+
+// What a source pixel is picked from, and its seven neighbours of the same cell row: the cell, its character row and its palette.
+pub struct Fetched {
+    pub cell: usize,
+    pub row: usize,
+    pub palette: usize,
+}
+
+// What source pixel (sx, sy) is picked from.
+pub fn fetch(vram: &[u8], registers: &[u16; 13], w: &[u16; 11], sx: usize, sy: usize) -> Fetched
+    requires { ⌜ length (now vram) ≡ 262144 ⌝ }
+    ensures { λ r. ⌜ (r .cell ≡ halfAt (now (vram .entry)) (cellAddressOf (now (w .entry)) (sx / 8) (sy / 8))) × ((r .row ≡ halfAt (now (vram .entry)) (rowAddressOf (r .cell) (sy % 8))) × (r .palette ≡ getD (now (registers .entry)) (4 + r .cell / 16384) 0)) ⌝ }
+{
+    let cell = wide(half(vram, cell_address(w, sx / 8, sy / 8)));
+    let row = wide(half(vram, row_address(cell, sy % 8)));
+    let palette = wide(registers[4 + cell / 16384]);
+    Fetched { cell, row, palette }
+}
+
+// A span of row r whose source lies in one cell: column `from` shows source pixel (sx, sy), and so on to the right.
+pub fn cell_span(
+    vram: &[u8],
+    registers: &[u16; 13],
+    w: &[u16; 11],
+    buffer: &mut [u16; 384],
+    r: usize,
+    from: usize,
+    to: usize,
+    sx: usize,
+    sy: usize,
+)
+    requires { ⌜ length (now buffer) ≡ 384 ⌝ }
+    requires { ⌜ (length (now vram) ≡ 262144) × ((from ≤ to) × ((to ≤ 384) × ((r < 8) × (sx % 8 + (to - from) ≤ 8)))) ⌝ }
+    ensures { λ _. ⌜ Span r from to (λ x. sourcePixelOf (now (vram .entry)) (now (registers .entry)) (now (w .entry)) (sx + (x - from)) sy) (now (buffer .entry)) (now (buffer .exit)) ⌝ }
+{
+    let f = fetch(vram, registers, w, sx, sy);
+    span(buffer, from, to, r, f.cell, f.row, f.palette, sx % 8);
+}
+
+// A span of row r that reads its background from (sx, sy) on to the right.
+pub fn plain_span(
+    vram: &[u8],
+    registers: &[u16; 13],
+    w: &[u16; 11],
+    buffer: &mut [u16; 384],
+    r: usize,
+    from: usize,
+    to: usize,
+    sx: usize,
+    sy: usize,
+)
+    requires { ⌜ length (now buffer) ≡ 384 ⌝ }
+    requires { ⌜ (length (now vram) ≡ 262144) × ((from ≤ to) × ((to ≤ 384) × ((r < 8) × (sx < 33554432)))) ⌝ }
+    ensures { λ _. ⌜ Span r from to (λ x. sourcePixelOf (now (vram .entry)) (now (registers .entry)) (now (w .entry)) (sx + (x - from)) sy) (now (buffer .entry)) (now (buffer .exit)) ⌝ }
+{
+    let mut x = from;
+    while x < to {
+        let at = sx + (x - from);
+        let end = least(to, x + (8 - at % 8));
+        cell_span(vram, registers, w, buffer, r, x, end, at, sy);
+        x = end;
+    }
+}
+
+// A column of the strip, its row r painted over by source pixel (sx, sy).
+pub fn source_shaded(
+    vram: &[u8],
+    registers: &[u16; 13],
+    w: &[u16; 11],
+    h: u16,
+    r: usize,
+    sx: usize,
+    sy: usize,
+) -> u16
+    requires { ⌜ (length (now vram) ≡ 262144) × (r < 8) ⌝ }
+    ensures { λ n. ⌜ n ≡ repaintedOf r (sourcePixelOf (now (vram .entry)) (now (registers .entry)) (now (w .entry)) sx sy) h ⌝ }
+{
+    let f = fetch(vram, registers, w, sx, sy);
+    shaded(h, r, f.palette, value(f.cell, f.row, sx % 8))
+}
+
+// A span of row r of an affine world: from (mx, my), n steps and more along (dx, dy).
+pub fn affine_span(
+    vram: &[u8],
+    registers: &[u16; 13],
+    w: &[u16; 11],
+    buffer: &mut [u16; 384],
+    r: usize,
+    from: usize,
+    to: usize,
+    mx: usize,
+    my: usize,
+    dx: usize,
+    dy: usize,
+    n: usize,
+)
+    requires { ⌜ length (now buffer) ≡ 384 ⌝ }
+    requires { ⌜ (length (now vram) ≡ 262144) × ((from ≤ to) × ((to ≤ 384) × ((r < 8) × ((mx < 65536) × ((my < 65536) × ((dx < 65536) × ((dy < 65536) × (n < 65000)))))))) ⌝ }
+    ensures { λ _. ⌜ Span r from to (λ x. sourcePixelOf (now (vram .entry)) (now (registers .entry)) (now (w .entry)) (affineFloorOf mx dx (n + (x - from))) (affineFloorOf my dy (n + (x - from)))) (now (buffer .entry)) (now (buffer .exit)) ⌝ }
+{
+    let mut x = from;
+    while x < to {
+        let steps = n + (x - from);
+        let sx = affine_floor(mx, dx, steps);
+        let sy = affine_floor(my, dy, steps);
+        buffer[x] = source_shaded(vram, registers, w, buffer[x], r, sx, sy);
+        x += 1;
+    }
+}

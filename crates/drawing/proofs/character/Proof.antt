@@ -1,0 +1,55 @@
+-- `drawing::character` meets its contract: 16 bytes from the character's address, none where refused. Assumes nothing.
+use borrow.Author.Needs.{needs}
+use Rattle.drawing.proofs.character.Statement.{statement}
+use Rattle.drawing.proofs.character.Tie as tie
+use native.Mathlib.Omega.{arith}
+use Prim.Native.Nat.{_+_, _-_}
+use mathlib.Core.Path.{_≡_, sym, _∙_}
+use Rattle.drawing.proofs.Verdicts.{character-length, character-index, character-accepted}
+
+slice-aggregate-result : tie.Need-slice-aggregate-result
+slice-aggregate-result c = search needs
+
+returns : tie.Need-returns
+returns c = character-length _ _ (c .before .if1 .taken) .1
+
+slice-aggregate-result-2 : tie.Need-slice-aggregate-result-2
+slice-aggregate-result-2 c = search needs
+
+returns-2 : tie.Need-returns-2
+returns-2 c = character-index _ _ (c .before .before .if1 .left) (c .before .if2 .taken) .1
+
+character-address-requires : tie.Need-character-address-requires
+character-address-requires c κs = search needs
+
+add-end : tie.Need-add-end
+add-end c = search needs
+
+sub-result : tie.Need-sub-result
+sub-result c = search needs
+
+part-result-start : tie.Need-part-result-start
+part-result-start c = search needs
+
+part-result-end : tie.Need-part-result-end
+part-result-end c = search needs
+
+returns-3 : tie.Need-returns-3
+returns-3 c = let a = c .before .before .before .before .before .args in
+    let e : c .before .character-address .result + 16 - c .before .character-address .result ≡ 16 = omega arith in
+    rw (e, c .before .character-address .ensures .0) (character-accepted (a .vram .now) (a .c) (c .before .before .before .if1 .left) (omega arith) .1)
+
+pub character-spec : {M : Type 1} → statement M
+character-spec =
+    tie.close
+    (tie.spec
+    slice-aggregate-result
+    returns
+    slice-aggregate-result-2
+    returns-2
+    character-address-requires
+    add-end
+    sub-result
+    part-result-start
+    part-result-end
+    returns-3)

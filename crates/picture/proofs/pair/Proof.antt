@@ -1,0 +1,20 @@
+-- `picture::pair` meets its contract. Assumes nothing.
+use borrow.Author.Needs.{needs}
+use Rattle.picture.proofs.pair.Statement.{statement}
+use Rattle.picture.proofs.pair.Tie as tie
+use native.Mathlib.Omega.{arith}
+use mathlib.Core.Path.{refl}
+use Rattle.picture.specs.Character.{pairOf}
+
+mul-result : tie.Need-mul-result
+mul-result c = search needs
+
+shr-result : tie.Need-shr-result
+shr-result c = search needs
+
+returns : tie.Need-returns
+unfolding pairOf
+returns c = (refl, omega arith)
+
+pub pair-spec : {M : Type 1} → statement M
+pair-spec = tie.close (tie.spec mul-result shr-result returns)

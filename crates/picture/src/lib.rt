@@ -1,0 +1,241 @@
+// The picture: what a pixel is (specs/), and the reads of VRAM and of the records that it is made of.
+// These functions are `pub` for the crates that paint; none is a call of the library's users.
+ghost use mathlib.Core.Path.{_≡_};
+ghost use mathlib.Core.Bool.{Bool};
+ghost use Prim.Native.Nat.{_+_, _-_, _*_, _<_, _≤_, _^_, min};
+ghost use lib.ListN.{length, getD};
+ghost use Rattle.word.specs.LittleEndian.{halfAt};
+ghost use Rattle.picture.specs.Signed.{biasedOf, edgeOf, flagOf};
+ghost use Rattle.picture.specs.Character.{pairOf, characterAddressOf, flippedOf, rowAddressOf, valueOf, shadeOf};
+ghost use Rattle.picture.specs.World.{worldOf, columnsOf, rowsOf, windowLeftOf};
+ghost use Rattle.picture.specs.Object.{objectOf, objectLeftOf, objectRowOf};
+ghost use Rattle.picture.specs.Background.{cellAddressOf, insideOf, mapsAcrossOf, mapNumberOf, mapCellAddressOf};
+ghost use Rattle.picture.specs.Buffer.{withPairOf, repaintedOf, Span};
+
+// The halfword at an address of VRAM.
+pub fn half(vram: &[u8], a: usize) -> u16
+    requires { ⌜ (length (now vram) ≡ 262144) × (a < 262143) ⌝ }
+    ensures { λ r. ⌜ r ≡ halfAt (now (vram .entry)) a ⌝ }
+{
+    word::half_at(vram, a) as u16
+}
+
+// A halfword as a number that addresses are made of.
+pub fn wide(h: u16) -> usize
+    ensures { λ r. ⌜ (r ≡ h) × (r < 65536) ⌝ }
+{
+    h as usize
+}
+
+// The lesser of two numbers.
+pub fn least(a: usize, b: usize) -> usize
+    ensures { λ r. ⌜ r ≡ min a b ⌝ }
+{
+    if a < b {
+        return a;
+    }
+    b
+}
+
+// The eleven halfwords of world n.
+pub fn world(vram: &[u8], n: usize) -> [u16; 11]
+    requires { ⌜ (length (now vram) ≡ 262144) × (n < 32) ⌝ }
+    ensures { λ r. ⌜ r ≡ worldOf (now (vram .entry)) n ⌝ }
+{
+    let a = 251904 + 32 * n;
+    [
+        half(vram, a),
+        half(vram, a + 2),
+        half(vram, a + 4),
+        half(vram, a + 6),
+        half(vram, a + 8),
+        half(vram, a + 10),
+        half(vram, a + 12),
+        half(vram, a + 14),
+        half(vram, a + 16),
+        half(vram, a + 18),
+        half(vram, a + 20),
+    ]
+}
+
+// The four halfwords of object k.
+pub fn object(vram: &[u8], k: usize) -> [u16; 4]
+    requires { ⌜ (length (now vram) ≡ 262144) × (k < 1024) ⌝ }
+    ensures { λ r. ⌜ r ≡ objectOf (now (vram .entry)) k ⌝ }
+{
+    let a = 253952 + 8 * k;
+    [
+        half(vram, a),
+        half(vram, a + 2),
+        half(vram, a + 4),
+        half(vram, a + 6),
+    ]
+}
+
+// A position less its parallax for the left eye, plus it for the right one, plus 1,024.
+pub fn edge(eye: usize, position: usize, parallax: usize) -> usize
+    requires { ⌜ (position < 1024) × (parallax < 1024) ⌝ }
+    ensures { λ r. ⌜ (r ≡ edgeOf eye position parallax) × (r < 2048) ⌝ }
+{
+    if eye == 0 {
+        return position + 1024 - parallax;
+    }
+    position + parallax
+}
+
+// Whether a halfword's flag for an eye is set: bit 15 left, bit 14 right.
+pub fn flag(eye: usize, h: u16) -> bool
+    ensures { λ r. ⌜ r ≡ flagOf eye h ⌝ }
+{
+    if eye == 0 {
+        return h / 32768 % 2 == 1;
+    }
+    h / 16384 % 2 == 1
+}
+
+// Bits 2k and 2k + 1 of a number.
+pub fn pair(h: usize, k: usize) -> usize
+    requires { ⌜ k < 8 ⌝ }
+    ensures { λ r. ⌜ (r ≡ pairOf h k) × (r < 4) ⌝ }
+{
+    (h >> (2 * k)) % 4
+}
+
+// A halfword with v at bits 2k and 2k + 1.
+pub fn with_pair(h: u16, k: usize, v: usize) -> u16
+    requires { ⌜ (k < 8) × (v < 4) ⌝ }
+    ensures { λ r. ⌜ r ≡ withPairOf h k v ⌝ }
+{
+    let whole = h as usize;
+    let old = (whole >> (2 * k)) % 4;
+    (whole - (old << (2 * k)) + (v << (2 * k))) as u16
+}
+
+// A position of 0 to 7, mirrored where flipped.
+pub fn flipped(flip: bool, k: usize) -> usize
+    requires { ⌜ k < 8 ⌝ }
+    ensures { λ r. ⌜ (r ≡ flippedOf flip k) × (r < 8) ⌝ }
+{
+    if flip {
+        return 7 - k;
+    }
+    k
+}
+
+// Where a character's 16 bytes begin.
+pub fn character_address(c: usize) -> usize
+    requires { ⌜ c < 2048 ⌝ }
+    ensures { λ r. ⌜ (r ≡ characterAddressOf c) × (r ≤ 131056) ⌝ }
+{
+    24576 + c / 512 * 32768 + 16 * (c % 512)
+}
+
+// Where the character row of a cell begins.
+pub fn row_address(cell: usize, r: usize) -> usize
+    requires { ⌜ r < 8 ⌝ }
+    ensures { λ a. ⌜ (a ≡ rowAddressOf cell r) × (a < 131072) ⌝ }
+{
+    character_address(cell % 2048) + 2 * flipped(cell / 4096 % 2 == 1, r)
+}
+
+// The value of a column of a character row, by the cell's horizontal flip.
+pub fn value(cell: usize, row: usize, column: usize) -> usize
+    requires { ⌜ column < 8 ⌝ }
+    ensures { λ r. ⌜ (r ≡ valueOf cell row column) × (r < 4) ⌝ }
+{
+    pair(row, flipped(cell / 8192 % 2 == 1, column))
+}
+
+// A column of the strip, its row r painted over by a value, which 0 leaves as it was.
+pub fn shaded(h: u16, r: usize, palette: usize, v: usize) -> u16
+    requires { ⌜ (r < 8) × (v < 4) ⌝ }
+    ensures { λ n. ⌜ n ≡ repaintedOf r (shadeOf palette v) h ⌝ }
+{
+    if v == 0 {
+        return h;
+    }
+    with_pair(h, r, pair(palette, v))
+}
+
+// The columns of a world.
+pub fn columns(w: &[u16; 11]) -> usize
+    ensures { λ r. ⌜ (r ≡ columnsOf (now (w .entry))) × (r ≤ 4096) ⌝ }
+{
+    let width = wide(w[7]);
+    if w[0] / 4096 % 4 == 2 {
+        return width % 1024 + 1;
+    }
+    let biased = (width + 4096) % 8192;
+    if biased < 4096 {
+        return 0;
+    }
+    biased + 1 - 4096
+}
+
+// The rows of a world.
+pub fn rows(w: &[u16; 11]) -> usize
+    ensures { λ r. ⌜ (r ≡ rowsOf (now (w .entry))) × (r ≤ 32768) ⌝ }
+{
+    let biased = (wide(w[8]) + 32768) % 65536;
+    if biased < 32768 {
+        if w[0] / 4096 % 4 == 2 {
+            return 0;
+        }
+        return 8;
+    }
+    let height = biased + 1 - 32768;
+    if w[0] / 4096 % 4 == 2 {
+        return height;
+    }
+    if height < 8 {
+        return 8;
+    }
+    height
+}
+
+// The left edge of a world's window for an eye, plus 1,024.
+pub fn window_left(w: &[u16; 11], eye: usize) -> usize
+    ensures { λ r. ⌜ (r ≡ windowLeftOf (now (w .entry)) eye) × (r < 2048) ⌝ }
+{
+    edge(eye, (wide(w[1]) + 512) % 1024, (wide(w[2]) + 512) % 1024)
+}
+
+// The left edge of an object for an eye, plus 1,024.
+pub fn object_left(o: &[u16; 4], eye: usize) -> usize
+    ensures { λ r. ⌜ (r ≡ objectLeftOf (now (o .entry)) eye) × (r < 2048) ⌝ }
+{
+    edge(eye, (wide(o[0]) + 512) % 1024, (wide(o[1]) + 512) % 1024)
+}
+
+// Columns of a character row, from `column` on, painted over row r of the strip.
+pub fn span(
+    buffer: &mut [u16; 384],
+    from: usize,
+    to: usize,
+    r: usize,
+    cell: usize,
+    row: usize,
+    palette: usize,
+    column: usize,
+)
+    requires { ⌜ length (now buffer) ≡ 384 ⌝ }
+    requires { ⌜ (from ≤ to) × ((to ≤ 384) × ((r < 8) × (column + (to - from) ≤ 8))) ⌝ }
+    ensures { λ _. ⌜ Span r from to (λ x. shadeOf palette (valueOf cell row (column + (x - from)))) (now (buffer .entry)) (now (buffer .exit)) ⌝ }
+{
+    let mut x = from;
+    while x < to {
+        buffer[x] = shaded(buffer[x], r, palette, value(cell, row, column + (x - from)));
+        x += 1;
+    }
+}
+
+// The image column at an edge that is kept plus 1,024: 0 left of the image, 384 right of it.
+pub fn clipped(edge: usize) -> usize
+    requires { ⌜ edge < 8192 ⌝ }
+    ensures { λ r. ⌜ r ≡ min edge 1408 - 1024 ⌝ }
+{
+    if edge < 1024 {
+        return 0;
+    }
+    least(edge, 1408) - 1024
+}
