@@ -143,6 +143,7 @@ macro_rules! load {
         }
 
         #[doc = concat!("`", stringify!($function), "`")]
+        #[inline]
         pub fn $wrapper(memories: ReadMemories, drawing: Drawing, address: u32) -> Loaded {
             let ReadMemories { rom, wram, vram, pak } = memories;
             // SAFETY: each pointer is lent with its slice's own length.
@@ -186,6 +187,7 @@ macro_rules! on_memories {
         }
 
         #[doc = concat!("`", stringify!($function), "`")]
+        #[inline]
         pub fn $wrapper(memories: &mut Memories, $($name: $kind),*) -> $answer {
             let Memories { rom, wram, vram, pak } = memories;
             // SAFETY: each pointer is lent with its slice's own length; ROM is
@@ -223,6 +225,7 @@ mod processor {
     }
 
     /// `vb_reset`
+    #[inline]
     pub fn reset() -> Machine {
         // SAFETY: nothing is lent.
         unsafe { vb_reset() }
@@ -249,18 +252,21 @@ mod drawing {
     }
 
     /// `vb_draw_strip`
+    #[inline]
     pub fn draw_strip(vram: &mut [u8], drawing: Drawing, frame: u32, strip: u32) -> u32 {
         // SAFETY: the pointer is lent with its slice's own length.
         unsafe { vb_draw_strip(vram.as_mut_ptr(), vram.len(), drawing, frame, strip) }
     }
 
     /// `vb_draw_frame`
+    #[inline]
     pub fn draw_frame(vram: &mut [u8], drawing: Drawing, frame: u32) -> u32 {
         // SAFETY: the pointer is lent with its slice's own length.
         unsafe { vb_draw_frame(vram.as_mut_ptr(), vram.len(), drawing, frame) }
     }
 
     /// `vb_character`
+    #[inline]
     pub fn character(vram: &[u8], character: u32) -> Part {
         // SAFETY: the pointer is lent with its slice's own length.
         unsafe { vb_character(vram.as_ptr(), vram.len(), character) }
