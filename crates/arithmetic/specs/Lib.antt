@@ -6,3 +6,10 @@ pub mod Bitwise
 pub mod Product
 pub mod Quotient
 pub mod Condition
+pub mod Signed
+pub mod SignedParts
+pub mod SignedProduct
+pub mod SignedQuotient
+pub mod SignedShift
+pub mod FlagPlaces
+pub mod Digits

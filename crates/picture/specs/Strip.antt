@@ -14,9 +14,16 @@ use Rattle.picture.specs.Pixel.{pixelOf}
 unfoldable pub imageOf : ℕ → ℕ → ℕ
 imageOf frame eye = 0x8000 * frame + 0x10000 * eye
 
--- pixel (x, y) as it stands in an image: bits 2(y mod 8) and the next of the halfword at 64x + 2(y / 8)
+-- pixel (x, y) of an image: the halfword at 64x + 2(y / 8), and there pair y mod 8: bits 2(y mod 8) and the next
+abbrev pub pixelOffsetOf : ℕ → ℕ → ℕ
+pixelOffsetOf x y = 64 * x + 2 * (y / 8)
+
+abbrev pub pixelPairOf : ℕ → ℕ
+pixelPairOf y = y % 8
+
+-- pixel (x, y) as it stands in an image
 unfoldable pub storedPixelOf : List ℕ → ℕ → ℕ → ℕ → ℕ → ℕ
-storedPixelOf vram frame eye x y = pairOf (halfAt vram (imageOf frame eye + (64 * x + 2 * (y / 8)))) (y % 8)
+storedPixelOf vram frame eye x y = pairOf (halfAt vram (imageOf frame eye + pixelOffsetOf x y)) (pixelPairOf y)
 
 -- whether an address holds pixels of a strip of a frame: in the image of either eye, at a halfword of those eight rows
 unfoldable pub inStripOf : ℕ → ℕ → ℕ → Bool

@@ -146,15 +146,25 @@ pub fn value(cell: usize, row: usize, column: usize) -> usize
     pair(row, flipped(cell / 8192 % 2 == 1, column))
 }
 
-// A column of the strip, its row r painted over by a value, which 0 leaves as it was.
+// What a value makes of a pixel: 0 leaves it as it was, any other is looked up in the palette.
+pub fn shade(palette: usize, v: usize, before: usize) -> usize
+    requires { ⌜ (v < 4) × (before < 4) ⌝ }
+    ensures { λ r. ⌜ (r ≡ shadeOf palette v before) × (r < 4) ⌝ }
+{
+    let looked_up = pair(palette, v);
+    if v == 0 {
+        return before;
+    }
+    looked_up
+}
+
+// A column of the strip, its row r painted over by a value.
 pub fn shaded(h: u16, r: usize, palette: usize, v: usize) -> u16
     requires { ⌜ (r < 8) × (v < 4) ⌝ }
     ensures { λ n. ⌜ n ≡ repaintedOf r (shadeOf palette v) h ⌝ }
 {
-    if v == 0 {
-        return h;
-    }
-    with_pair(h, r, pair(palette, v))
+    let before = pair(wide(h), r);
+    with_pair(h, r, shade(palette, v, before))
 }
 
 // The columns of a world.

@@ -14,7 +14,38 @@ use processor_core::Answer;
 use processor_core::Mode;
 ghost use mathlib.Core.Path.{_≡_};
 ghost use Rattle.bus.specs.Memory.{memoryOf};
+ghost use Rattle.processor.specs.Record.{stateIn};
+ghost use Rattle.processor.specs.Acceptance.{acceptanceOf};
 ghost use Rattle.processor.specs.Calls.{doneOf, ranOf, checkedStepOf, checkedRunOf, resetOf};
+
+// The lowest of refusals 1 to 5 that a step or a run with these arguments meets.
+pub fn verdict(
+    rom: &[u8],
+    wram: &[u8],
+    vram: &[u8],
+    pak: &[u8],
+    processor: Processor,
+    drawing: Drawing,
+) -> Verdict
+    ensures { λ r. ⌜ r ≡ acceptanceOf (stateIn processor) (memoryOf (now (rom .entry)) (now (wram .entry)) (now (vram .entry)) (now (pak .entry)) (drawing .regs)) ⌝ }
+{
+    let regs = processor.regs;
+    let sys = system(processor);
+    let device = drawing.regs;
+    let pc = processor.pc;
+    let psw = processor.psw;
+    acceptance(
+        rom.len(),
+        wram.len(),
+        vram.len(),
+        pak.len(),
+        &device,
+        &regs,
+        &sys,
+        pc,
+        psw,
+    )
+}
 
 // One step.
 pub fn step(

@@ -1,0 +1,135 @@
+-- What the C boundary gives for a step and a run (include/vb.h): paper 01's refusal number or VB_MISUSE, the number of
+-- the answer and the code of its cause, and the records with the mode as a number.
+use Prim.Native.Nat.{ℕ}
+use mathlib.Core.Bool.{Bool}
+use lib.Dec.{ltb, eqb}
+use Rattle.word.specs.Choose.{pick}
+use Rattle.bus.specs.Refusal.{numberOf, verdictNumber}
+use Rattle.bus.specs.Memory.{Memory}
+use Rattle.bus.specs.declared.Verdict.{Verdict}
+use Rattle.bus.specs.declared.Verdict.the-variants as verdict
+use Rattle.processor_core.specs.Exception.{codeOf}
+use Rattle.processor_core.specs.declared.Mode.{Mode}
+use Rattle.processor_core.specs.declared.Mode.the-variants.{Running, Halted, Fatal}
+use Rattle.processor_core.specs.declared.Answer.{Answer}
+use Rattle.processor_core.specs.declared.Answer.the-variants.{Ended, Trapped, TurnedFatal, WasHalted, WasFatal, Refused}
+use Rattle.processor.specs.Record.{stateIn}
+use Rattle.processor.specs.Acceptance.{acceptanceOf}
+use Rattle.processor.specs.Calls.{Done, Ran, checkedStepOf, checkedRunOf}
+use Rattle.processor.specs.declared.Processor.{Processor}
+use Rattle.capi.specs.declared.execution.VbProcessor.{VbProcessor}
+
+-- the refusal of a step's answer
+abbrev pub answerRefusal : Answer → ℕ
+answerRefusal Ended = 0
+answerRefusal (Trapped cause) = 0
+answerRefusal (TurnedFatal cause) = 0
+answerRefusal WasHalted = 0
+answerRefusal WasFatal = 0
+answerRefusal (Refused n) = numberOf n
+
+-- the number of a step's answer
+abbrev pub answerNumber : Answer → ℕ
+answerNumber Ended = 0
+answerNumber (Trapped cause) = 1
+answerNumber (TurnedFatal cause) = 2
+answerNumber WasHalted = 3
+answerNumber WasFatal = 4
+answerNumber (Refused n) = 0
+
+-- the code of the exception that a step raised
+abbrev pub answerCode : Answer → ℕ
+answerCode Ended = 0
+answerCode (Trapped cause) = codeOf cause
+answerCode (TurnedFatal cause) = codeOf cause
+answerCode WasHalted = 0
+answerCode WasFatal = 0
+answerCode (Refused n) = 0
+
+-- VB_RUNNING, VB_HALTED and VB_FATAL
+abbrev pub modeNumber : Mode → ℕ
+modeNumber Running = 0
+modeNumber Halted = 1
+modeNumber Fatal = 2
+
+abbrev pub modeIn : ℕ → Mode
+modeIn n = pick (eqb n 0) Running (pick (eqb n 1) Halted Fatal)
+
+-- the record that a boundary record stands for, and back
+unfoldable pub processorIn : VbProcessor → Processor
+processorIn p =
+    record {
+      regs = p .regs;
+      pc = p .pc;
+      eipc = p .eipc;
+      eipsw = p .eipsw;
+      fepc = p .fepc;
+      fepsw = p .fepsw;
+      ecr = p .ecr;
+      psw = p .psw;
+      sr25 = p .sr25;
+      sr29 = p .sr29;
+      sr31 = p .sr31;
+      mode = modeIn (p .mode);
+    }
+
+unfoldable pub processorOut : Processor → VbProcessor
+processorOut p =
+    record {
+      regs = p .regs;
+      pc = p .pc;
+      eipc = p .eipc;
+      eipsw = p .eipsw;
+      fepc = p .fepc;
+      fepsw = p .fepsw;
+      ecr = p .ecr;
+      psw = p .psw;
+      sr25 = p .sr25;
+      sr29 = p .sr29;
+      sr31 = p .sr31;
+      mode = modeNumber (p .mode);
+    }
+
+-- VB_MISUSE, unless one of 1 to 5 comes first
+abbrev pub misuseNumber : Verdict → ℕ
+misuseNumber verdict.Accepted = 255
+misuseNumber (verdict.Refused n) = numberOf n
+
+-- what vb_step gives: refusal, answer and code, the record and the memory afterwards
+pub record StepAtBoundary : Type 0 where
+  pub refusal : ℕ
+  pub answer : ℕ
+  pub code : ℕ
+  pub processor : VbProcessor
+  pub memory : Memory
+
+abbrev pub stepGives : ℕ → ℕ → ℕ → VbProcessor → Memory → StepAtBoundary
+stepGives refusal answer code p m =
+    record { refusal = refusal; answer = answer; code = code; processor = p; memory = m }
+
+abbrev pub stepDone : Done → StepAtBoundary
+stepDone d =
+    stepGives (answerRefusal (d .answer)) (answerNumber (d .answer)) (answerCode (d .answer)) (processorOut (d .processor)) (d .memory)
+
+unfoldable pub stepAt : VbProcessor → Memory → StepAtBoundary
+stepAt p m =
+    pick (ltb 2 (p .mode)) (stepGives (misuseNumber (acceptanceOf (stateIn (processorIn p)) m)) 0 0 p m)
+    (stepDone (checkedStepOf (processorIn p) m))
+
+-- what vb_run gives
+pub record RunAtBoundary : Type 0 where
+  pub refusal : ℕ
+  pub count : ℕ
+  pub processor : VbProcessor
+  pub memory : Memory
+
+abbrev pub runGives : ℕ → ℕ → VbProcessor → Memory → RunAtBoundary
+runGives refusal count p m = record { refusal = refusal; count = count; processor = p; memory = m }
+
+abbrev pub runDone : Ran → RunAtBoundary
+runDone r = runGives (verdictNumber (r .verdict)) (r .count) (processorOut (r .processor)) (r .memory)
+
+unfoldable pub runAt : ℕ → VbProcessor → Memory → RunAtBoundary
+runAt budget p m =
+    pick (ltb 2 (p .mode)) (runGives (misuseNumber (acceptanceOf (stateIn (processorIn p)) m)) 0 p m)
+    (runDone (checkedRunOf budget (processorIn p) m))
