@@ -2,11 +2,11 @@
 use Prim.Native.Nat.{ℕ, _+_, _-_, _<_, _≤_}
 use native.Mathlib.Omega.{arith}
 use native.Mathlib.Decide.{ℕ-discrete}
-use mathlib.Core.Path.{_≡_, refl, ap}
+use mathlib.Core.Path.{_≡_, ap}
 use mathlib.Core.List.{List}
 use borrow.Author.Tests.{eq-eqb, ne-eqb}
 use Rattle.picture.specs.World.{bgmOf}
-use Rattle.picture.specs.Background.{sourceXOf, sourceYOf, normalXOf, normalYOf, biasXOf, affineXOf, affineYOf, plainLeftOf, affineParameterOf, affineShiftOf, affineFloorOf, parameterOf, biasIndexOf, sourcePixelOf}
+use Rattle.picture.specs.Background.{sourceXOf, sourceYOf, normalXOf, normalYOf, biasXOf, affineXOf, affineYOf, plainLeftOf, affineParameterOf, affineShiftOf, affineFloorOf, sourcePixelOf}
 use Rattle.background.specs.Row.{rowBiasOf}
 
 module _ (vram w : List ℕ) (eye i j k : ℕ) where

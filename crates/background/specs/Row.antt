@@ -1,5 +1,5 @@
 -- A row of a background world while it is painted. No public promise cites this.
-use Prim.Native.Nat.{ℕ, _+_}
+use Prim.Native.Nat.{ℕ}
 use mathlib.Core.List.{List}
 use lib.Dec.{eqb}
 use Rattle.word.specs.Choose.{pick}

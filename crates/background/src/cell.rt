@@ -1,8 +1,6 @@
 // Where the cell of a background lies: wrapping, the arrangement of maps, and the overplane.
 ghost use mathlib.Core.Path.{_≡_};
 ghost use Prim.Native.Nat.{_+_, _*_, _-_, _%_, _<_, _≤_, _^_, min};
-ghost use lib.ListN.{getD};
-ghost use Rattle.picture.specs.World.{scxOf, scyOf};
 ghost use Rattle.picture.specs.Background.{cellAddressOf, insideOf, mapNumberOf, mapCellAddressOf};
 use picture::wide;
 

@@ -1,9 +1,9 @@
 // Painting a row of a strip from a background.
 ghost use mathlib.Core.Path.{_≡_};
-ghost use Prim.Native.Nat.{_+_, _-_, _*_, _/_, _%_, _<_, _≤_};
+ghost use Prim.Native.Nat.{_+_, _-_, _/_, _%_, _<_, _≤_};
 ghost use lib.ListN.{length, getD};
 ghost use Rattle.word.specs.LittleEndian.{halfAt};
-ghost use Rattle.picture.specs.Character.{shadeOf, valueOf, rowAddressOf};
+ghost use Rattle.picture.specs.Character.{rowAddressOf};
 ghost use Rattle.picture.specs.Background.{cellAddressOf, sourcePixelOf, affineFloorOf};
 ghost use Rattle.picture.specs.Buffer.{repaintedOf, Span};
 use crate::cell::cell_address;

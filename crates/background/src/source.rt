@@ -1,7 +1,7 @@
 // The source of a window's offsets: parameters, and where a row of an affine world leads.
 ghost use mathlib.Core.Path.{_≡_};
 ghost use Prim.Native.Nat.{_+_, _*_, _%_, _<_, _≤_};
-ghost use lib.ListN.{length, getD};
+ghost use lib.ListN.{length};
 ghost use Rattle.picture.specs.Background.{parameterOf, plainLeftOf, normalYOf, biasIndexOf, affineShiftOf, affineFloorOf, affineParameterOf};
 use picture::half;
 use picture::wide;

@@ -1,11 +1,11 @@
 // What a background world shows of a strip: its window clipped to the image, row after row.
 ghost use mathlib.Core.Path.{_≡_};
 ghost use mathlib.Core.Bool.{true};
-ghost use Prim.Native.Nat.{_+_, _-_, _*_, _<_, _≤_, min};
-ghost use lib.ListN.{length, getD};
+ghost use Prim.Native.Nat.{_+_, _-_, _*_, _<_, _≤_};
+ghost use lib.ListN.{length};
 ghost use Rattle.picture.specs.World.{bgmOf, windowLeftOf, columnsOf, worldShownOf};
 ghost use Rattle.picture.specs.Background.{sourcePixelOf, sourceXOf, sourceYOf, backgroundPixelOf};
-ghost use Rattle.picture.specs.Buffer.{Span, Rows, Strip};
+ghost use Rattle.picture.specs.Buffer.{Span, Strip};
 ghost use Rattle.background.specs.Row.{rowBiasOf};
 use crate::paint::affine_span;
 use crate::paint::plain_span;

@@ -1,7 +1,6 @@
 -- What the drawing calls answer and leave where a test refuses, and where all of them pass. Assumes nothing.
 use Prim.Native.Nat.{ℕ, _<_, _≤_}
-use native.Mathlib.Omega.{arith}
-use mathlib.Core.Path.{_≡_, refl}
+use mathlib.Core.Path.{_≡_}
 use mathlib.Core.Bool.{true, false}
 use mathlib.Core.List.{List, []}
 use lib.ListN.{length, take, drop}
@@ -10,7 +9,6 @@ use borrow.Author.Tests.{eq-eqb, ne-eqb, lt-ltb, le-ltb, ltb-true}
 use Rattle.bus.specs.Refusal.{vramOk, unless}
 use Rattle.bus.proofs.Accepted.{unless-passed}
 use Rattle.bus.specs.Registers.{registersOk}
-use Rattle.bus.specs.declared.Verdict.{Verdict}
 use Rattle.bus.specs.declared.Verdict.the-variants.{Accepted, Refused}
 use Rattle.bus.specs.declared.Refusal.the-variants.{VramLength, State, Frame, Index}
 use Rattle.picture.specs.Character.{characterAddressOf}

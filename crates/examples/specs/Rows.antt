@@ -1,12 +1,25 @@
 -- Paper 01, "Checks worth a day each": its table of worked examples. A row is a question and the answer that
 -- the paper prints; `answer` answers a question by the definitions that the contracts name; `rows-hold` is the one
 -- statement about the list.
-use Prim.Native.Nat.{ℕ, zero, suc, _+_, _-_, _*_}
+use Prim.Native.Nat.{ℕ, zero, suc, _+_, _-_, _*_, _/_, _%_, _^_}
 use mathlib.Core.List.{List, [], _∷_, map}
 use mathlib.Core.Path.{_≡_, refl}
+use lib.ListN.{replicate}
 use Rattle.word.specs.Choose.{pick}
+use Rattle.word.specs.Extend.{extendOf}
 use Rattle.bus.specs.Place.{Place, wramAt, vramAt, romAt, regionOf, mirrorOf, vipPlace, registerPlace, placeOf}
-use Rattle.bus.specs.Memory.{alignedOf}
+use Rattle.bus.specs.Memory.{Memory, memoryOf, alignedOf}
+use Rattle.arithmetic.specs.Flag.{flagsOf, keepCarryOf, flagOf}
+use Rattle.arithmetic.specs.Sign.{magnitudeOf, negativeOf}
+use Rattle.arithmetic.specs.Sum.{sumOf, biasedOf, outsideOf}
+use Rattle.arithmetic.specs.Quotient.{divideOf, quotientOf, remainderOf, quotientOverflowsOf}
+use Rattle.arithmetic.specs.Condition.{conditionOf}
+use Rattle.decode.specs.Opcode.{decodeOf, shortRows, branchRows, longRows}
+use Rattle.decode.specs.declared.Decoded.{Decoded}
+use Rattle.decode.specs.declared.Decoded.the-variants.{Modelled, NotModelled}
+use Rattle.processor_core.specs.State.{State, stateOf}
+use Rattle.processor_core.specs.Execute.{executeOf}
+use Rattle.processor_core.specs.declared.Mode.the-variants.{Running}
 use Rattle.picture.specs.Signed.{edgeOf}
 use Rattle.picture.specs.Character.{pairOf, characterAddressOf, shadeOf}
 use Rattle.picture.specs.World.{columnsOf, windowLeftOf, columnCoveredOf}
@@ -24,6 +37,12 @@ pub data Question : Type 0 where
   pixel : ℕ → ℕ → Question
   -- what values 1, 2 and 3 become in a palette
   palette : ℕ → Question
+  -- the flags of a sum
+  sum : ℕ → ℕ → Question
+  -- a signed quotient and its remainder
+  quotient : ℕ → ℕ → Question
+  -- where an instruction of one halfword goes on, in each of the sixteen settings of the four flags, from PC 0x1000
+  branch : ℕ → Question
   -- which image columns the window of a normal world has, by W, GX and GP
   window : ℕ → ℕ → ℕ → Question
 
@@ -34,6 +53,11 @@ pub data Answer : Type 0 where
   -- an offset, and there the first and the last bit
   bits : ℕ → ℕ → ℕ → Answer
   shades : ℕ → ℕ → ℕ → Answer
+  -- OV, S, CY and Z
+  flags : ℕ → ℕ → ℕ → ℕ → Answer
+  -- reg2 and r30
+  results : ℕ → ℕ → Answer
+  addresses : List ℕ → Answer
   -- the left eye's columns and the right eye's
   columns : List ℕ → List ℕ → Answer
 
@@ -55,6 +79,27 @@ shownFrom w eye x (suc n) =
     let rest = shownFrom w eye (suc x) n in
     pick (columnCoveredOf w eye x) (x ∷ rest) rest
 
+-- no memory, and a processor at PC 0x1000 with a PSW
+nowhere : Memory
+nowhere = memoryOf [] [] [] [] []
+
+stateWith : ℕ → State
+stateWith psw = stateOf (replicate 32 0) (replicate 8 0) 0x1000 psw Running
+
+-- PC after what was decoded
+pcAfter : Decoded → ℕ → ℕ
+pcAfter (Modelled i) psw = executeOf i 0x1002 (stateWith psw) nowhere .state .pc
+pcAfter NotModelled psw = 0
+
+-- PC after, for the n settings of the flags from psw on
+pcsFrom : Decoded → ℕ → ℕ → List ℕ
+pcsFrom d psw zero = []
+pcsFrom d psw (suc n) = pcAfter d psw ∷ pcsFrom d (suc psw) n
+
+-- the flags of a PSW
+flagsIn : ℕ → Answer
+flagsIn psw = flags (flagOf 4 psw) (flagOf 2 psw) (flagOf 8 psw) (flagOf 1 psw)
+
 -- a question, answered by the definitions
 pub answer : Question → Answer
 answer (address romLength a) = place (placeOf romLength 0 a)
@@ -62,6 +107,9 @@ answer (halfword a) = places (placeOf 1024 0 (alignedOf 2 a)) (placeOf 1024 0 (a
 answer (character c) = place (vramAt (characterAddressOf c))
 answer (pixel x y) = bits (pixelOffsetOf x y) (2 * pixelPairOf y) (2 * pixelPairOf y + 1)
 answer (palette p) = shades (shadeOf p 1 0) (shadeOf p 2 0) (shadeOf p 3 0)
+answer (sum a b) = flagsIn (sumOf a b 0 .psw)
+answer (quotient a b) = results (divideOf a b 0 .reg2) (divideOf a b 0 .r30)
+answer (branch f) = addresses (pcsFrom (decodeOf f 0) 0 16)
 answer (window w gx gp) = columns (shownFrom (worldWith w gx gp) 0 0 384) (shownFrom (worldWith w gx gp) 1 0 384)
 
 -- the paper's rows
@@ -70,15 +118,21 @@ rows =
     row (address 1024 0xFFFFFFF0) (place (romAt 0x3F0))
     ∷ row (address 1024 0x05012345) (place (wramAt 0x2345))
     ∷ row (address 1024 0x000FA010) (place (vramAt 0xE010))
-    ∷ row (halfword 0x05000001) (places (wramAt 0) (wramAt 1))
     ∷ row (character 513) (place (vramAt 0xE010))
+    ∷ row (halfword 0x05000001) (places (wramAt 0) (wramAt 1))
     ∷ row (pixel 1 9) (bits 66 2 3)
     ∷ row (palette 0xE4) (shades 1 2 3)
+    ∷ row (sum 0x7FFFFFFF 1) (flags 1 1 0 0)
+    ∷ row (quotient (2 ^ 32 - 7) 2) (results (2 ^ 32 - 3) (2 ^ 32 - 1))
+    ∷ row (branch 0x8A00) (addresses (replicate 16 0x1000))
+    ∷ row (branch 0x9A00) (addresses (replicate 16 0x1002))
     ∷ row (window 0 383 1) (columns (382 ∷ []) [])
     ∷ []
 
 -- every row's printed answer is the definitions' answer
 pub rows-hold : map (λ (r : Row). answer (r .question)) rows ≡ map (λ (r : Row). r .printed) rows
-unfolding rows row answer placeOf regionOf vipPlace registerPlace mirrorOf
+unfolding rows row answer nowhere stateWith pcAfter pcsFrom flagsIn extendOf sumOf biasedOf outsideOf flagsOf keepCarryOf
+    divideOf quotientOf remainderOf quotientOverflowsOf magnitudeOf negativeOf conditionOf decodeOf shortRows branchRows longRows
+    executeOf placeOf regionOf vipPlace registerPlace mirrorOf
     characterAddressOf shadeOf pairOf worldWith shownFrom columnCoveredOf windowLeftOf edgeOf columnsOf
 rows-hold = refl

@@ -3,9 +3,9 @@
 ghost use mathlib.Core.Path.{_≡_};
 ghost use mathlib.Core.Bool.{true};
 ghost use Prim.Native.Nat.{ℕ, _+_, _-_, _*_, _<_, _≤_};
-ghost use lib.ListN.{length, getD};
+ghost use lib.ListN.{length};
 ghost use Rattle.bus.specs.Registers.{sptOf};
-ghost use Rattle.picture.specs.Object.{objectOf, objectShownOf, objectRowOf, objectLeftOf, objectPixelOf, objectAfterOf, groupCountOf, groupPixelOf};
+ghost use Rattle.picture.specs.Object.{objectOf, objectShownOf, objectRowOf, objectLeftOf, objectPixelOf, groupCountOf, groupPixelOf};
 ghost use Rattle.picture.specs.Buffer.{Span, Strip};
 use picture::clipped;
 use picture::flag;

@@ -2,7 +2,7 @@
 -- other one changes. Each is shown at every place 0 to 7 by linear arithmetic. Assumes nothing.
 use Prim.Native.Nat.{ℕ, zero, suc, _+_, _-_, _*_, _/_, _%_, _^_, _<_, _≤_}
 use native.Mathlib.Omega.{arith}
-use mathlib.Core.Path.{_≡_, refl}
+use mathlib.Core.Path.{_≡_}
 use Rattle.picture.specs.Character.{pairOf}
 use Rattle.picture.specs.Buffer.{withPairOf, repaintedOf}
 

@@ -5,7 +5,7 @@ use mathlib.Core.List.{List}
 use lib.Dec.{eqb}
 use Rattle.word.specs.Choose.{pick}
 use Rattle.bus.specs.Registers.{bkcolOf, sptOf}
-use Rattle.picture.specs.Character.{pairOf, shadeOf, cellPixelOf}
+use Rattle.picture.specs.Character.{shadeOf, cellPixelOf}
 use Rattle.picture.specs.World.{worldOf, endOf, skippedOf, bgmOf, worldCoversOf}
 use Rattle.picture.specs.Background.{sourcePixelOf, backgroundPixelOf}
 use Rattle.picture.specs.Object.{objectOf, objectPixelOf, objectCoversOf, objectAfterOf, objectsPixelOf, groupPixelOf, groupCountOf}

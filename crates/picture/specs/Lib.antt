@@ -6,3 +6,11 @@ pub mod Object
 pub mod Pixel
 pub mod Strip
 pub mod Buffer
+pub mod Integers
+pub mod Floors
+pub mod Fields
+pub mod WindowFormulas
+pub mod SourceFormulas
+pub mod CellFormulas
+pub mod ObjectFormulas
+pub mod PixelFormulas

@@ -1,6 +1,6 @@
 -- Signed fields as natural numbers, so that code and definitions share one arithmetic: a field is kept as its
 -- signed value plus half its range, its bias. `half` is 2 ^ (bits - 1): 512 for 10 bits, 4096 for 13, 16384 for 15, 32768 for 16.
--- Formulas ties each biased quantity to paper 01's formula over the integers.
+-- Fields and the modules whose names end in Formulas tie each biased quantity to paper 01's formula over the integers.
 use Prim.Native.Nat.{ℕ, _+_, _-_, _*_, _/_, _%_, _^_}
 use mathlib.Core.Bool.{Bool}
 use lib.Dec.{eqb}

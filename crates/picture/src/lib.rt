@@ -1,15 +1,13 @@
 // The picture: what a pixel is (specs/), and the reads of VRAM and of the records that it is made of.
 // These functions are `pub` for the crates that paint; none is a call of the library's users.
 ghost use mathlib.Core.Path.{_≡_};
-ghost use mathlib.Core.Bool.{Bool};
-ghost use Prim.Native.Nat.{_+_, _-_, _*_, _<_, _≤_, _^_, min};
-ghost use lib.ListN.{length, getD};
+ghost use Prim.Native.Nat.{_+_, _-_, _*_, _<_, _≤_, min};
+ghost use lib.ListN.{length};
 ghost use Rattle.word.specs.LittleEndian.{halfAt};
-ghost use Rattle.picture.specs.Signed.{biasedOf, edgeOf, flagOf};
+ghost use Rattle.picture.specs.Signed.{edgeOf, flagOf};
 ghost use Rattle.picture.specs.Character.{pairOf, characterAddressOf, flippedOf, rowAddressOf, valueOf, shadeOf};
 ghost use Rattle.picture.specs.World.{worldOf, columnsOf, rowsOf, windowLeftOf};
-ghost use Rattle.picture.specs.Object.{objectOf, objectLeftOf, objectRowOf};
-ghost use Rattle.picture.specs.Background.{cellAddressOf, insideOf, mapsAcrossOf, mapNumberOf, mapCellAddressOf};
+ghost use Rattle.picture.specs.Object.{objectOf, objectLeftOf};
 ghost use Rattle.picture.specs.Buffer.{withPairOf, repaintedOf, Span};
 
 // The halfword at an address of VRAM.

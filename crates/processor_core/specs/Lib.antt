@@ -1,5 +1,6 @@
 pub mod State
 pub mod System
+pub mod PswMask
 pub mod Exception
 pub mod Operation
 pub mod Access

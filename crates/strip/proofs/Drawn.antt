@@ -1,16 +1,15 @@
 -- Both images stored, from columns that hold the pixels of the strip, are all of VRAM after the strip was drawn. Assumes nothing.
-use Prim.Native.Nat.{ℕ, zero, suc, _+_, _-_, _*_, _/_, _%_, _<_, _≤_}
+use Prim.Native.Nat.{ℕ, zero, suc, _+_, _-_, _*_, _/_, _%_, _<_}
 use native.Mathlib.Omega.{arith}
 use native.Mathlib.Decide.{decLt, ℕ-discrete}
 use mathlib.Core.Path.{_≡_, refl, sym, ap, _∙_}
-use mathlib.Core.Bool.{true, false}
 use mathlib.Core.List.{List}
 use lib.ListN.{length, getD, replicate, getD-replicate}
 use lib.Seq.{ext-getD}
 use Rattle.bus.specs.Registers.{bkcolOf}
 use Rattle.picture.specs.Character.{pairOf}
 use Rattle.picture.specs.Pixel.{worldsPixelOf, pixelOf}
-use Rattle.picture.specs.Strip.{inStripOf, fourPixelsOf, stripByteOf, stripOf}
+use Rattle.picture.specs.Strip.{fourPixelsOf, stripByteOf, stripOf}
 use Rattle.picture.specs.Buffer.{Strip}
 use Rattle.picture.proofs.Pairs.{below-eight}
 use Rattle.picture.proofs.Lists.{length-list, getD-list}

@@ -1,13 +1,13 @@
 -- A strip stored through the part of VRAM that begins at an image is stored into the whole. Assumes nothing.
-use Prim.Native.Nat.{ℕ, _+_, _-_, _*_, _/_, _%_, _<_, _≤_}
+use Prim.Native.Nat.{ℕ, _+_, _-_, _*_, _<_, _≤_}
 use native.Mathlib.Omega.{arith}
 use native.Mathlib.Nat.{zero-add}
-use mathlib.Core.Path.{_≡_, refl, sym, ap, _∙_}
-use mathlib.Core.List.{List, [], _++_, append-nil}
+use mathlib.Core.Path.{_≡_, sym, ap, _∙_}
+use mathlib.Core.List.{List, _++_, append-nil}
 use lib.ListN.{length, getD, take, drop, length-append, length-drop, drop-of-length-le, List·getD-append}
-use lib.Seq.{getD-take, getD-drop, getD-append-add, length-take-le, take-all, drop-drop}
-use borrow.Rule.Slice.PartMut.{putMid, midOf, postOf}
-use Rattle.strip.specs.Stored.{byteOf, InStrip, Stored}
+use lib.Seq.{getD-take, getD-drop, getD-append-add, length-take-le, take-all}
+use borrow.Rule.Slice.PartMut.{putMid, midOf}
+use Rattle.strip.specs.Stored.{Stored}
 
 module _ (base : ℕ) (xs : List ℕ) (within : base ≤ length xs) where
   mid-drop : midOf base (length xs - base) xs ≡ drop base xs

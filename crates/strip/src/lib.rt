@@ -2,7 +2,7 @@
 // These functions are `pub` for the crates above; none is a call of the library's users.
 ghost use mathlib.Core.Path.{_≡_};
 ghost use Prim.Native.Nat.{ℕ, _+_, _-_, _*_, _<_, _≤_};
-ghost use lib.ListN.{length, getD};
+ghost use lib.ListN.{length};
 ghost use Rattle.bus.specs.Registers.{sptOf, bkcolOf};
 ghost use Rattle.picture.specs.World.{worldOf};
 ghost use Rattle.picture.specs.Pixel.{counterOf, worldPixelOf, worldsPixelOf};

@@ -4,7 +4,7 @@ use Rattle.drawing.proofs.character.Statement.{statement}
 use Rattle.drawing.proofs.character.Tie as tie
 use native.Mathlib.Omega.{arith}
 use Prim.Native.Nat.{_+_, _-_}
-use mathlib.Core.Path.{_≡_, sym, _∙_}
+use mathlib.Core.Path.{_≡_}
 use Rattle.drawing.proofs.Verdicts.{character-length, character-index, character-accepted}
 
 slice-aggregate-result : tie.Need-slice-aggregate-result

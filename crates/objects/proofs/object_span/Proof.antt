@@ -4,7 +4,7 @@ use Rattle.objects.proofs.object_span.Statement.{statement}
 use Rattle.objects.proofs.object_span.Tie as tie
 use Prim.Native.Nat.{_+_, _*_}
 use native.Mathlib.Omega.{arith}
-use mathlib.Core.Path.{_∙_, ap}
+use mathlib.Core.Path.{_∙_}
 use Rattle.picture.proofs.Spans.{span-kept, span-change}
 use Rattle.picture.proofs.Windows.{object-outside-rows}
 use Rattle.objects.proofs.Squares.{square-inside}

@@ -2,7 +2,6 @@
 use borrow.Author.Needs.{needs}
 use Rattle.objects.proofs.paint_object.Statement.{statement}
 use Rattle.objects.proofs.paint_object.Tie as tie
-use Prim.Native.Nat.{_+_, _*_}
 use native.Mathlib.Omega.{arith}
 use Rattle.picture.proofs.Spans.{strip-kept}
 use Rattle.objects.proofs.Squares.{square-far}

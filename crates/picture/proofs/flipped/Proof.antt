@@ -3,7 +3,6 @@ use borrow.Author.Needs.{needs}
 use Rattle.picture.proofs.flipped.Statement.{statement}
 use Rattle.picture.proofs.flipped.Tie as tie
 use native.Mathlib.Omega.{arith}
-use mathlib.Core.Path.{refl}
 use Rattle.picture.specs.Character.{flippedOf}
 
 sub-result : tie.Need-sub-result

@@ -2,12 +2,6 @@
 use borrow.Author.Needs.{needs}
 use Rattle.background.proofs.cell.inside.Statement.{statement}
 use Rattle.background.proofs.cell.inside.Tie as tie
-use native.Mathlib.Omega.{arith}
-use borrow.Author.Tests.{lt-leb, le-leb, le-ltb, lt-ltb}
-use Rattle.picture.specs.Background.{insideOf}
-use mathlib.Core.Path.{_≡_, _∙_, ap}
-use Prim.Native.Nat.{_+_, _^_}
-use Rattle.picture.specs.World.{scxOf, scyOf}
 use Rattle.background.proofs.Inside.{outside-left, outside-right, outside-above, inside-down}
 
 element-copy-out-wide : tie.Need-element-copy-out-wide

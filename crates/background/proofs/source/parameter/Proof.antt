@@ -2,7 +2,6 @@
 use borrow.Author.Needs.{needs}
 use Rattle.background.proofs.source.parameter.Statement.{statement}
 use Rattle.background.proofs.source.parameter.Tie as tie
-use native.Mathlib.Omega.{arith}
 use Rattle.picture.specs.Background.{parameterOf, parameterAddressOf}
 use Rattle.background.proofs.Sources.{index-wraps}
 use lib.ListN.{getD}
