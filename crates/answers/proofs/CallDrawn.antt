@@ -12,6 +12,10 @@ use borrow.Author.Tests.{ltb-true, eqb-true, lt-ltb}
 use Rattle.bus.specs.Registers.{registersOk}
 use Rattle.picture.specs.Pixel.{pixelOf}
 use Rattle.picture.specs.Strip.{storedPixelOf, inStripOf, stripOf, stripsOf, frameOf}
+use Rattle.bus.specs.Refusal.{vramOk}
+use Rattle.bus.specs.declared.Verdict.{Verdict}
+use Rattle.bus.specs.declared.Verdict.the-variants.{Accepted, Refused}
+use Rattle.drawing.specs.Calls.{whenAccepted, stripVerdictOf, drawStripOf, frameVerdictOf, drawFrameOf}
 use Rattle.answers.specs.Drawn.{frameCall, stripCall, acceptedOf, drawsStripOf, afterOf, inImagesOf, PixelDrawn, ByteKept, LengthKept}
 use Rattle.answers.proofs.Registers.{bkcol-below}
 use Rattle.answers.proofs.Images.{pixel-outside-images}
@@ -70,12 +74,26 @@ module _ (vram regs : List ℕ) (frame : ℕ) where
             | no q ↦ pixel-of-others before regs frame eye x n y f e c (omega arith) q ∙ earlier (omega arith)
           ]
 
+-- an accepted call leaves the frame or the strip drawn
+frame-accepted : (vram regs : List ℕ) (frame : ℕ) → length vram ≡ 262144 → registersOk regs ≡ true → frame < 2
+    → drawFrameOf vram regs frame ≡ frameOf vram regs frame
+unfolding drawFrameOf frameVerdictOf vramOk
+frame-accepted vram regs frame l ok f = simp (l, ok, lt-ltb frame 2 f)
+
+strip-accepted : (vram regs : List ℕ) (frame s : ℕ) → length vram ≡ 262144 → registersOk regs ≡ true → frame < 2
+    → ltb s 28 ≡ true
+    → drawStripOf vram regs frame s ≡ stripOf vram regs frame s
+unfolding drawStripOf stripVerdictOf vramOk
+strip-accepted vram regs frame s l ok f a = simp (l, ok, lt-ltb frame 2 f, a)
+
 pub pixel-drawn : PixelDrawn
 unfolding acceptedOf drawsStripOf afterOf frameOf
 pixel-drawn vram regs frame frameCall eye x y l ok f e c a d =
-    strips-pixel vram regs frame eye x y l ok f e c 28 (omega arith) (ltb-true (y / 8) 28 d)
+    rw (frame-accepted vram regs frame l ok f)
+    (strips-pixel vram regs frame eye x y l ok f e c 28 (omega arith) (ltb-true (y / 8) 28 d))
 pixel-drawn vram regs frame (stripCall s) eye x y l ok f e c a d =
-    strip-pixel vram regs frame eye x y l ok f e c vram l s (ltb-true s 28 a) (eqb-true (y / 8) s d)
+    rw (strip-accepted vram regs frame s l ok f a)
+    (strip-pixel vram regs frame eye x y l ok f e c vram l s (ltb-true s 28 a) (eqb-true (y / 8) s d))
 
 -- a byte of a strip that the frame call does not draw lies in none of strips 0 to 27
 frame-others : (frame a : ℕ) → (inImagesOf frame a && ltb (a % 64 / 2) 28) ≡ false → (s : ℕ) → s < 28 → inStripOf frame s a ≡ false
@@ -87,12 +105,24 @@ frame-others frame a h s r = in-strip-is frame s a ∙ go (eqb (a % 64 / 2) s) r
         let q : a % 64 / 2 ≡ s = eqb-true (a % 64 / 2) s e in
         rw (lt-ltb (a % 64 / 2) 28 (omega arith)) at h
 
+-- what drawing keeps of a list, a call keeps, refused or not
+kept-when : {A : Type 0} (f : List ℕ → A) (v : Verdict) (before after : List ℕ) → f after ≡ f before
+    → f (whenAccepted v before after) ≡ f before
+kept-when f Accepted before after e = e
+kept-when f (Refused n) before after e = refl
+
 pub byte-kept : ByteKept
-unfolding drawsStripOf afterOf frameOf
-byte-kept vram regs frame frameCall a h = strips-kept vram regs frame 28 a (frame-others frame a h)
-byte-kept vram regs frame (stripCall s) a h = strip-kept vram regs frame s a (in-strip-is frame s a ∙ h)
+unfolding drawsStripOf afterOf frameOf drawFrameOf drawStripOf
+byte-kept vram regs frame frameCall a h =
+    kept-when (λ xs. getD xs a 0) (frameVerdictOf vram regs frame) vram (stripsOf vram regs frame 28)
+    (strips-kept vram regs frame 28 a (frame-others frame a h))
+byte-kept vram regs frame (stripCall s) a h =
+    kept-when (λ xs. getD xs a 0) (stripVerdictOf vram regs frame s) vram (stripOf vram regs frame s)
+    (strip-kept vram regs frame s a (in-strip-is frame s a ∙ h))
 
 pub length-kept : LengthKept
-unfolding afterOf frameOf
-length-kept vram regs frame frameCall = strips-length vram regs frame 28
-length-kept vram regs frame (stripCall s) = length-strip vram regs frame s
+unfolding afterOf frameOf drawFrameOf drawStripOf
+length-kept vram regs frame frameCall =
+    kept-when length (frameVerdictOf vram regs frame) vram (stripsOf vram regs frame 28) (strips-length vram regs frame 28)
+length-kept vram regs frame (stripCall s) =
+    kept-when length (stripVerdictOf vram regs frame s) vram (stripOf vram regs frame s) (length-strip vram regs frame s)

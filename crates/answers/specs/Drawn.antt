@@ -1,5 +1,5 @@
 -- What the strip call and the frame call leave in VRAM (paper 01, "Drawing"): the statements. Their proofs are
--- `pixel-drawn`, `byte-kept` and `length-kept` in proofs/. They say what the lists that the calls' contracts name hold.
+-- `pixel-drawn`, `byte-kept` and `length-kept` in proofs/. VRAM after a call is the list that the call's contract names.
 use Prim.Native.Nat.{ℕ, _/_, _%_, _<_}
 use mathlib.Core.Bool.{Bool, true, false, _&&_}
 use mathlib.Core.List.{List}
@@ -8,7 +8,8 @@ use lib.ListN.{length, getD}
 use lib.Dec.{eqb, ltb}
 use Rattle.bus.specs.Registers.{registersOk}
 use Rattle.picture.specs.Pixel.{pixelOf}
-use Rattle.picture.specs.Strip.{storedPixelOf, stripOf, frameOf}
+use Rattle.picture.specs.Strip.{storedPixelOf}
+use Rattle.drawing.specs.Calls.{drawStripOf, drawFrameOf}
 
 -- a call that draws: the frame call, or the strip call with its strip number
 pub data Call : Type 0 where
@@ -25,10 +26,10 @@ unfoldable pub drawsStripOf : Call → ℕ → Bool
 drawsStripOf frameCall s = ltb s 28
 drawsStripOf (stripCall own) s = eqb s own
 
--- VRAM after a call that is accepted
+-- VRAM after a call
 unfoldable pub afterOf : List ℕ → List ℕ → ℕ → Call → List ℕ
-afterOf vram regs frame frameCall = frameOf vram regs frame
-afterOf vram regs frame (stripCall own) = stripOf vram regs frame own
+afterOf vram regs frame frameCall = drawFrameOf vram regs frame
+afterOf vram regs frame (stripCall own) = drawStripOf vram regs frame own
 
 -- whether an address lies in one of a frame's two images
 unfoldable pub inImagesOf : ℕ → ℕ → Bool
