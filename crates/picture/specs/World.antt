@@ -79,9 +79,13 @@ columnsOf w = pick (eqb (bgmOf w) 2) (getD w 7 0 % 1024 + 1) (biasedOf 4096 (get
 abbrev pub heightOf : List ℕ → ℕ
 heightOf w = biasedOf 32768 (getD w 8 0) + 1 - 32768
 
+-- 000's "minimum height .. is 8 pixels": of any height, so that it holds where H is negative too, which 000 leaves open
+abbrev pub atLeastEight : ℕ → ℕ
+atLeastEight height = max height 8
+
 -- the rows of a world: normal and H-bias worlds have at least 8
 unfoldable pub rowsOf : List ℕ → ℕ
-rowsOf w = pick (eqb (bgmOf w) 2) (heightOf w) (max (heightOf w) 8)
+rowsOf w = pick (eqb (bgmOf w) 2) (heightOf w) (atLeastEight (heightOf w))
 
 -- the window's left edge for an eye, plus 1,024: GX - GP left, GX + GP right
 unfoldable pub windowLeftOf : List ℕ → ℕ → ℕ
