@@ -7,8 +7,9 @@ use native.Mathlib.Omega.{arith}
 use Rattle.bus.specs.Memory.{Memory}
 use Rattle.bus.specs.declared.Verdict.{Verdict}
 use Rattle.bus.specs.declared.Verdict.the-variants.{Accepted}
-use Rattle.processor_core.specs.State.{State, Stepped}
+use Rattle.processor_core.specs.State.{State, Stepped, steppedOf}
 use Rattle.processor_core.specs.Step.{stepOf}
+use Rattle.processor_core.specs.declared.Answer.{Answer}
 use Rattle.processor.specs.Run.{Run, runWith, afterOf, afterStep, oneMore, runOf}
 use Rattle.processor.specs.declared.After.{After}
 use Rattle.processor.specs.declared.After.the-variants.{Counted, Stopped}
@@ -61,3 +62,25 @@ module _ (budget : ℕ) (s₀ : State) (m₀ : Memory) (n : ℕ) (s : State) (m 
       let g : 0 + n ≡ budget = omega arith in
       let z : n + 0 ≡ n = omega arith in
       sym (rw z at (before .rest 0 g))
+
+-- a stretch in the middle of its first step, or after it
+pub record First (s₀ : State) (m₀ : Memory) (n : ℕ) (a : Answer) (s : State) (m : Memory) : Type 0 where
+  pub start : n ≡ 0 → steppedOf a s m ≡ steppedOf a s₀ m₀
+  pub first : n ≡ 1 → steppedOf a s m ≡ stepOf s₀ m₀
+
+pub first-start : (a : Answer) (s : State) (m : Memory) → First s m 0 a s m
+first-start a s m = record { start = λ _. refl; first = λ e. absurd (omega arith) }
+
+module _ (s₀ : State) (m₀ : Memory) (n : ℕ) (a : Answer) (s : State) (m : Memory) (before : First s₀ m₀ n a s m) where
+  -- the step of a stretch that has counted nothing
+  pub first-step : n ≡ 0 → (t : Stepped) → t ≡ stepOf s m → t ≡ stepOf s₀ m₀
+  first-step z t e = e ∙ ap (λ (u : Stepped). stepOf (u .state) (u .memory)) (before .start z)
+
+  pub first-counted : (t : Stepped) → t ≡ stepOf s m → First s₀ m₀ (n + 1) (t .answer) (t .state) (t .memory)
+  first-counted t e = record { start = λ z. absurd (omega arith); first = λ o. first-step (omega arith) t e }
+
+  pub first-stopped : (budget : ℕ) → n < budget → (t : Stepped) → t ≡ stepOf s m → budget ≡ 1 → t ≡ stepOf s₀ m₀
+  first-stopped budget h t e o = first-step (omega arith) t e
+
+  pub first-finished : (budget : ℕ) → n ≤ budget → budget ≤ n → budget ≡ 1 → steppedOf a s m ≡ stepOf s₀ m₀
+  first-finished budget h l o = before .first (omega arith)

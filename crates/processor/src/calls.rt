@@ -47,7 +47,7 @@ pub fn verdict(
     )
 }
 
-// One step.
+// One step, as a stretch of one: its code then stands in one place, the loop of the stretch.
 pub fn step(
     rom: &[u8],
     wram: &mut [u8],
@@ -81,7 +81,7 @@ pub fn step(
             drawing,
         },
         Verdict::Accepted => {
-            let c = processor_core::step::step(
+            let c = stretch::run(
                 rom,
                 wram,
                 vram,
@@ -92,6 +92,7 @@ pub fn step(
                 pc,
                 psw,
                 mode,
+                1,
             );
             let answer = c.answer;
             let mode = c.mode;

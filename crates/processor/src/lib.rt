@@ -53,11 +53,12 @@ pub enum After {
     Stopped(Verdict),
 }
 
-// What a run leaves beside the lent registers and memories.
+// What a run leaves beside the lent registers and memories; answer is the last step's.
 pub struct Finished {
     pub pc: u32,
     pub psw: u32,
     pub mode: Mode,
     pub verdict: Verdict,
     pub count: u64,
+    pub answer: Answer,
 }

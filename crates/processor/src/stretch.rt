@@ -8,7 +8,8 @@ use processor_core::step;
 ghost use mathlib.Core.Path.{_≡_};
 ghost use lib.ListN.{length};
 ghost use Rattle.bus.specs.Memory.{memoryOf, Lengths};
-ghost use Rattle.processor_core.specs.State.{stateOf};
+ghost use Rattle.processor_core.specs.State.{stateOf, steppedOf};
+ghost use Rattle.processor_core.specs.Step.{stepOf};
 ghost use Rattle.processor.specs.Run.{afterOf, runOf, ranBy};
 
 // An ended or trapped instruction counts; anything else stops the run.
@@ -25,7 +26,7 @@ fn after(answer: Answer) -> After
     }
 }
 
-// At most `budget` instructions.
+// At most `budget` instructions; of a budget of one, what that step answered.
 pub fn run(
     rom: &[u8],
     wram: &mut [u8],
@@ -40,18 +41,20 @@ pub fn run(
     budget: u64,
 ) -> Finished
     requires { ⌜ Lengths (length (now rom)) (length (now wram)) (length (now vram)) (length (now pak)) ⌝ }
-    ensures { λ r. ⌜ ranBy (now (regs .exit)) (now (sys .exit)) r (memoryOf (now (rom .entry)) (now (wram .exit)) (now (vram .exit)) (now (pak .exit)) (now (device .exit))) ≡ runOf budget (stateOf (now (regs .entry)) (now (sys .entry)) pc psw mode) (memoryOf (now (rom .entry)) (now (wram .entry)) (now (vram .entry)) (now (pak .entry)) (now (device .entry))) ⌝ }
+    ensures whole { λ r. ⌜ ranBy (now (regs .exit)) (now (sys .exit)) r (memoryOf (now (rom .entry)) (now (wram .exit)) (now (vram .exit)) (now (pak .exit)) (now (device .exit))) ≡ runOf budget (stateOf (now (regs .entry)) (now (sys .entry)) pc psw mode) (memoryOf (now (rom .entry)) (now (wram .entry)) (now (vram .entry)) (now (pak .entry)) (now (device .entry))) ⌝ }
+    ensures single { λ r. ⌜ (budget ≡ 1 → steppedOf (r .answer) (stateOf (now (regs .exit)) (now (sys .exit)) (r .pc) (r .psw) (r .mode)) (memoryOf (now (rom .entry)) (now (wram .exit)) (now (vram .exit)) (now (pak .exit)) (now (device .exit))) ≡ stepOf (stateOf (now (regs .entry)) (now (sys .entry)) pc psw mode) (memoryOf (now (rom .entry)) (now (wram .entry)) (now (vram .entry)) (now (pak .entry)) (now (device .entry)))) ⌝ }
 {
     let mut pc = pc;
     let mut psw = psw;
     let mut mode = mode;
+    let mut answer = Answer::Ended;
     let mut n: u64 = 0;
     while n < budget {
         let c = step::step(rom, wram, vram, pak, device, regs, sys, pc, psw, mode);
         pc = c.pc;
         psw = c.psw;
         mode = c.mode;
-        let answer = c.answer;
+        answer = c.answer;
         match after(answer) {
             After::Counted => {
                 n += 1;
@@ -63,6 +66,7 @@ pub fn run(
                     mode,
                     verdict,
                     count: n,
+                    answer,
                 };
             }
         }
@@ -73,5 +77,6 @@ pub fn run(
         mode,
         verdict: Verdict::Accepted,
         count: n,
+        answer,
     }
 }

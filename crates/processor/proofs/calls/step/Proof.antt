@@ -1,5 +1,5 @@
--- `processor::calls::step`: refused as the definition says, else the inner call's promise.
-use mathlib.Core.Path.{sym, _∙_, ap}
+-- `processor::calls::step`: refused as the definition says, else what a stretch of one promises.
+use mathlib.Core.Path.{refl, sym, _∙_, ap}
 use borrow.Author.Needs.{needs}
 use Rattle.processor.proofs.Checked.{step-accepted}
 use Rattle.processor_core.specs.State.{Stepped}
@@ -21,8 +21,8 @@ enum-known-n c = search needs
 enum-told : tie.Need-enum-told
 enum-told c = search needs
 
-step-requires : tie.Need-step-requires
-step-requires c κs = lengths-of-accepted _ _ _ _ _ _ _ _ _ (sym (c .before .before .before .before .before .before .before .before .acceptance .ensures) ∙ c .before .before .before .before .before .before .enum-told .given .1)
+run-requires : tie.Need-run-requires
+run-requires c κs = lengths-of-accepted _ _ _ _ _ _ _ _ _ (sym (c .before .before .before .before .before .before .before .before .acceptance .ensures) ∙ c .before .before .before .before .before .before .enum-told .given .1)
 
 joined-requires : tie.Need-joined-requires
 joined-requires c κs = search needs
@@ -44,7 +44,7 @@ returns-2 : tie.Need-returns-2
 returns-2 c =
     let a = c .before .before .before .before .before .before .before .before .before .before .before .before .before .before .before .before .before .before .before .before .before .before .before .before .before .before .before .args in
     rw (c .joined .ensures)
-    (step-accepted (a .processor) _ _ _ (c .before .before .before .before .before .before .before .before .before .before .before .before .before .before .before .before .before .before .before .before .before .system .ensures) (c .before .before .before .before .before .before .before .before .before .before .before .before .before .before .before .before .acceptance .ensures) (c .before .before .before .before .before .before .before .before .before .before .before .before .before .before .enum-told .given .1) _ (c .before .before .before .before .before .before .before .step .ensures))
+    (step-accepted (a .processor) _ _ _ (c .before .before .before .before .before .before .before .before .before .before .before .before .before .before .before .before .before .before .before .before .before .system .ensures) (c .before .before .before .before .before .before .before .before .before .before .before .before .before .before .before .before .acceptance .ensures) (c .before .before .before .before .before .before .before .before .before .before .before .before .before .before .enum-told .given .1) _ (c .before .before .before .before .before .before .before .run .ensures .1 refl))
 
 pub step-spec : {M : Type 1} → statement M
 step-spec =
@@ -54,7 +54,7 @@ step-spec =
     acceptance-requires
     enum-known-n
     enum-told
-    step-requires
+    run-requires
     joined-requires
     returns
     same-length
