@@ -1,2 +1,6 @@
 mod Lists
 mod Invariant
+mod Psw
+mod Results
+mod Stores
+mod Immediates
