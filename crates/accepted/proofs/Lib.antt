@@ -4,3 +4,6 @@ mod Psw
 mod Results
 mod Stores
 mod Immediates
+mod Registers
+mod Executes
+pub mod Steps
