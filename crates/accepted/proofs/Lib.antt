@@ -6,4 +6,5 @@ mod Stores
 mod Immediates
 mod Registers
 mod Executes
-pub mod Steps
+pub mod Accepting
+pub mod Runs

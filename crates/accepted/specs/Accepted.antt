@@ -1,5 +1,5 @@
 -- An accepted machine stays accepted (paper 01, "Refusal numbers" 1 to 5), so that a run tests 1 to 5 once: the
--- statements. Their proofs are `step-accepted`, `run-accepted`, `run-count` and `accepted-means` in proofs/.
+-- statements. Their proofs are `step-accepted`, `run-accepted`, `run-count` and `accepted-means` in proofs/Accepting.
 use Prim.Native.Nat.{ℕ, _%_, _^_, _≤_, _<_}
 use mathlib.Core.List.{List}
 use mathlib.Core.Path.{_≡_}
