@@ -8,3 +8,4 @@ mod Registers
 mod Executes
 pub mod Accepting
 pub mod Runs
+pub mod Calling
