@@ -1,11 +1,9 @@
 -- `step-accepted`, `run-accepted`, `run-count` and `accepted-means`: the statements of specs/Accepted.
 use Prim.Native.Nat.{ℕ, zero, suc, _+_, _%_, _^_, _≤_, _<_}
-use mathlib.Core.Bool.{Bool, true, false}
-use mathlib.Core.Path.{_≡_, refl, sym, _∙_}
+use mathlib.Core.Bool.{Bool}
+use mathlib.Core.Path.{sym, _∙_}
 use native.Mathlib.Omega.{arith}
-use lib.Bits.{bitAnd}
 use lib.ListN.{length}
-use Rattle.word.specs.Choose.{pick}
 use Rattle.bus.specs.Memory.{Memory, loadOf}
 use Rattle.bus.proofs.Accepted.{accepted-registers}
 use Rattle.bus.proofs.Kept.{register-within}
@@ -26,7 +24,7 @@ use Rattle.accepted.proofs.Lists.{pick-each}
 use Rattle.accepted.proofs.Invariant.{Address, Good, told, machine-good, good-machine}
 use Rattle.accepted.proofs.Stores.{load-half}
 use Rattle.accepted.proofs.Immediates.{Found, decoded-found}
-use Rattle.accepted.proofs.Registers.{Left}
+use Rattle.accepted.proofs.Exceptions.{Left}
 use Rattle.accepted.proofs.Executes.{execute-left}
 
 next-address : (two : Bool) (pc : ℕ) → Address pc → Address (nextOf two pc)
@@ -68,10 +66,10 @@ pub step-accepted : StepAccepted
 step-accepted s m h = good-machine (stepOf s m .state) (stepOf s m .memory) (step-left s m (machine-good s m h))
 
 -- the machine after a run
-abbrev After-run : Run → Type 0
-After-run r = Machine (r .state) (r .memory)
+abbrev AfterRun : Run → Type 0
+AfterRun r = Machine (r .state) (r .memory)
 
-after-accepted : (a : After) (t : Stepped) (rest : Run) → Machine (t .state) (t .memory) → After-run rest → After-run (afterStep a t rest)
+after-accepted : (a : After) (t : Stepped) (rest : Run) → Machine (t .state) (t .memory) → AfterRun rest → AfterRun (afterStep a t rest)
 after-accepted Counted t rest h k = k
 after-accepted (Stopped v) t rest h k = h
 

@@ -6,8 +6,7 @@ use mathlib.Core.Path.{_≡_, refl}
 use native.Mathlib.Omega.{arith}
 use lib.ListN.{length, getD, replicate}
 use Rattle.bus.specs.Registers.{registersOk}
-use Rattle.bus.specs.Memory.{Memory, memoryOf, verdictOf}
-use Rattle.bus.specs.declared.Verdict.the-variants.{Accepted}
+use Rattle.bus.specs.Memory.{Memory}
 use Rattle.bus.proofs.Accepted.{lengths-accepted}
 use Rattle.processor_core.specs.State.{State}
 use Rattle.processor_core.specs.System.{pswBitsOf}
@@ -15,9 +14,8 @@ use Rattle.processor_core.specs.Step.{stepOf}
 use Rattle.processor.specs.Acceptance.{evenOk, formatsOk, stateOk, acceptanceAt, acceptanceOf}
 use Rattle.processor.specs.Record.{systemIn, stateIn, processorOf}
 use Rattle.processor.specs.Run.{runOf}
-use Rattle.processor.specs.Calls.{Done, Ran, checkedStepOf, checkedRunOf, resetOf}
-use Rattle.processor.specs.declared.Processor.{Processor}
-use Rattle.accepted.specs.Accepted.{Below, Sized, Machine}
+use Rattle.processor.specs.Calls.{checkedStepOf, checkedRunOf, resetOf}
+use Rattle.accepted.specs.Accepted.{Below, Machine}
 use Rattle.accepted.specs.Called.{StepCallAccepted, RunCallAccepted, ResetAccepted}
 use Rattle.accepted.proofs.Lists.{Each, each-at}
 use Rattle.accepted.proofs.Accepting.{step-accepted, run-accepted}

@@ -1,11 +1,10 @@
 -- Every instruction leaves an accepted machine of the right sizes.
-use Prim.Native.Nat.{ℕ, _+_, _-_, _*_, _/_, _%_, _^_, _≤_, _<_}
+use Prim.Native.Nat.{ℕ, _%_, _^_, _<_}
 use mathlib.Core.List.{List}
-use mathlib.Core.Path.{_≡_, refl}
+use mathlib.Core.Path.{refl}
 use native.Mathlib.Omega.{arith}
 use lib.Dec.{eqb}
 use lib.ListN.{getD}
-use Rattle.word.specs.Choose.{pick}
 use Rattle.arithmetic.specs.declared.Outcome.{Outcome}
 use Rattle.arithmetic.specs.declared.Pair.{Pair}
 use Rattle.arithmetic.specs.Flag.{bitOf, flagOf, setIdOf, clearIdOf}
@@ -16,8 +15,8 @@ use Rattle.arithmetic.specs.Condition.{conditionOf}
 use Rattle.bus.specs.Memory.{Memory}
 use Rattle.decode.specs.declared.Instruction.{Instruction}
 use Rattle.decode.specs.declared.Instruction.the-variants.{Register, Mul, Div, Mulu, Divu, Jmp, Immediate, Setf, Cli, Sei, Trap, Reti, Halt, Ldsr, Stsr, Bcond, Jr, Jal, Long, Load, In, Store, Out, Illegal}
-use Rattle.processor_core.specs.State.{State, Stepped, regOf, putOf, evenOf}
-use Rattle.processor_core.specs.System.{systemOf, writtenOf}
+use Rattle.processor_core.specs.State.{State, regOf, putOf, evenOf}
+use Rattle.processor_core.specs.System.{systemOf}
 use Rattle.processor_core.specs.Exception.{raiseOf}
 use Rattle.processor_core.specs.Operation.{registerOf, immediateOf, longOf}
 use Rattle.processor_core.specs.Access.{loadedOf, inputOf, storedOf}
@@ -29,7 +28,8 @@ use Rattle.accepted.proofs.Psw.{set-id-format, clear-id-format}
 use Rattle.accepted.proofs.Results.{Result, Results, register-result, immediate-result, long-result, multiply-results, multiply-unsigned-results, divide-results, divide-unsigned-results}
 use Rattle.accepted.proofs.Stores.{stored-memories, loaded-word, input-word}
 use Rattle.accepted.proofs.Immediates.{Fine}
-use Rattle.accepted.proofs.Registers.{Left, put-generals, system-word, written, raise-left}
+use Rattle.accepted.proofs.Registers.{put-generals, system-word, written}
+use Rattle.accepted.proofs.Exceptions.{Left, raise-left}
 
 -- an address without its bit 0
 even-address : (a : ℕ) → a < 2 ^ 32 → Address (evenOf a)

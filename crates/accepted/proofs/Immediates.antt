@@ -1,11 +1,8 @@
 -- The immediate that the decoder gives is a word, for every two halfwords.
-use Prim.Native.Nat.{ℕ, zero, suc, _+_, _*_, _/_, _%_, _^_, _≤_, _<_}
-use mathlib.Core.List.{List, [], _∷_, _++_}
-use mathlib.Core.Path.{_≡_}
+use Prim.Native.Nat.{ℕ, _*_, _/_, _%_, _^_, _<_}
+use mathlib.Core.List.{_++_}
 use native.Mathlib.Omega.{arith}
 use lib.Dec.{eqb}
-use lib.ListN.{getD}
-use Rattle.word.specs.Choose.{pick}
 use Rattle.word.specs.Extend.{extendOf}
 use Rattle.decode.specs.Format.{lowOf, reg2Of, ldsr, stsr}
 use Rattle.decode.specs.Opcode.{shortRows, branchRows, longRows, decodeOf}

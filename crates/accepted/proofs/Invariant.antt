@@ -1,5 +1,5 @@
 -- An accepted machine of the right sizes, part by part: general registers, system registers, PC, PSW and memory.
-use Prim.Native.Nat.{ℕ, _+_, _*_, _/_, _%_, _^_, _≤_, _<_}
+use Prim.Native.Nat.{ℕ, _%_, _^_, _≤_, _<_}
 use mathlib.Core.Bool.{Bool, true, false}
 use mathlib.Core.List.{List}
 use mathlib.Core.Path.{_≡_, refl}
@@ -7,7 +7,7 @@ use native.Mathlib.Omega.{arith}
 use borrow.Author.Tests.{eqb-true, eq-eqb, leb-true, le-leb}
 use lib.Dec.{eqb, leb}
 use lib.ListN.{length, getD}
-use Rattle.bus.specs.Memory.{Memory, verdictAt, verdictOf}
+use Rattle.bus.specs.Memory.{Memory, verdictOf}
 use Rattle.bus.specs.Refusal.{unless}
 use Rattle.bus.specs.declared.Refusal as refusal
 use Rattle.bus.specs.declared.Verdict.{Verdict}
@@ -16,7 +16,7 @@ use Rattle.bus.proofs.Accepted.{unless-passed}
 use Rattle.processor_core.specs.State.{State}
 use Rattle.processor_core.specs.System.{pswBitsOf}
 use Rattle.processor.specs.Acceptance.{both, isEven, isFormat, evenOk, formatsOk, stateOk, thenOf, acceptanceAt, acceptanceOf}
-use Rattle.accepted.specs.Accepted.{Below, Sized, Machine}
+use Rattle.accepted.specs.Accepted.{Below, Machine}
 
 -- general register k may hold v
 abbrev pub General : ℕ → ℕ → Type 0

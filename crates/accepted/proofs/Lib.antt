@@ -1,3 +1,4 @@
+-- `Accepting`, `Calling` and `Runs` prove the statements of specs/.
 mod Lists
 mod Invariant
 mod Psw
@@ -5,7 +6,8 @@ mod Results
 mod Stores
 mod Immediates
 mod Registers
+mod Exceptions
 mod Executes
 pub mod Accepting
-pub mod Runs
 pub mod Calling
+pub mod Runs

@@ -1,6 +1,6 @@
 -- A PSW stays within the bits of 0x000FF3FF: after results' flags, and with ID, EP, NP and AE set or cleared.
 use Prim.Native.Nat.{ℕ, _+_, _-_, _*_, _/_, _%_, _^_, _≤_, _<_}
-use mathlib.Core.Path.{_≡_, subst, sym}
+use mathlib.Core.Path.{_≡_, subst}
 use native.Mathlib.Omega.{arith}
 use lib.Dec.{eqb}
 use Rattle.arithmetic.specs.Flag.{signOf, zeroOf, flagsOf, keepCarryOf, setIdOf, clearIdOf, setEpOf, setNpOf, clearAeOf, regularOf, duplexedOf}

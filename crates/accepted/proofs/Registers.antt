@@ -1,26 +1,18 @@
--- General and system registers stay what an accepted machine's are: PUT to a register, LDSR, STSR and exceptions.
-use Prim.Native.Nat.{ℕ, _+_, _-_, _*_, _/_, _%_, _^_, _≤_, _<_}
-use mathlib.Core.Bool.{Bool}
+-- General and system registers stay what an accepted machine's are: a word put to a register, LDSR and STSR.
+use Prim.Native.Nat.{ℕ, _-_, _%_, _^_, _≤_, _<_}
 use mathlib.Core.List.{List, [], _∷_}
 use mathlib.Core.Path.{_≡_, refl, _∙_}
 use native.Mathlib.Decide.{ℕ-discrete}
 use native.Mathlib.Omega.{arith}
 use borrow.Author.Tests.{eq-eqb, ne-eqb}
-use lib.Dec.{ltb, eqb}
-use lib.ListN.{length, getD, set, length-set}
-use Rattle.word.specs.Choose.{pick}
-use Rattle.arithmetic.specs.Flag.{flagOf, regularOf, duplexedOf}
+use lib.ListN.{getD, set, length-set}
 use Rattle.arithmetic.specs.Sign.{magnitudeOf}
 use Rattle.arithmetic.specs.Reading.{magnitude-small}
-use Rattle.bus.specs.Memory.{Memory}
-use Rattle.processor_core.specs.State.{State, Stepped, stateOf, putOf}
-use Rattle.processor_core.specs.System.{pswBitsOf, rowOf, systemOf, Status, statusOf, writtenOf}
-use Rattle.processor_core.specs.Exception.{codeOf, handlerOf, restoreOf, fatalOf, duplexedEntryOf, regularEntryOf, enterOf, raiseOf}
-use Rattle.processor_core.specs.declared.Cause.{Cause}
-use Rattle.processor_core.specs.declared.Cause.the-variants.{ZeroDivision, Illegal, Trap}
-use Rattle.accepted.proofs.Lists.{set-each, pick-each, Each, each-row}
-use Rattle.accepted.proofs.Invariant.{General, Format, System, Generals, Systems, Address, Good, format-word}
-use Rattle.accepted.proofs.Psw.{kept-format, regular-format, duplexed-format}
+use Rattle.processor_core.specs.State.{putOf}
+use Rattle.processor_core.specs.System.{pswBitsOf, systemOf, Status, statusOf, writtenOf}
+use Rattle.accepted.proofs.Lists.{set-each, each-row}
+use Rattle.accepted.proofs.Invariant.{General, Format, System, Generals, Systems, format-word}
+use Rattle.accepted.proofs.Psw.{kept-format}
 
 -- a word put to a general register
 pub put-generals : (regs : List ℕ) (n v : ℕ) → v < 2 ^ 32 → Generals regs → Generals (putOf regs n v)
@@ -36,104 +28,76 @@ put-generals regs n v hv h =
           }
     ]
 
-set-systems : (sys : List ℕ) (k v : ℕ) → System k v → Systems sys → Systems (set sys k v)
+pub set-systems : (sys : List ℕ) (k v : ℕ) → System k v → Systems sys → Systems (set sys k v)
 set-systems sys k v hv h = record { size = length-set sys k v ∙ h .size; each = set-each System sys k v (h .each) hv }
 
--- what each stored register may be given
-eipc-system : (v : ℕ) → v < 2 ^ 32 → v % 2 ≡ 0 → System 0 v
-eipc-system v h e =
+-- what a register that holds an address may be given, one that holds a PSW format, one that holds any word, and 31
+address-system : (k v : ℕ) → (k ≡ 1 → ⊥) → (k ≡ 3 → ⊥) → (k ≡ 7 → ⊥) → v < 2 ^ 32 → v % 2 ≡ 0 → System k v
+address-system k v n1 n3 n7 h e =
     record {
       word = h;
       eipc = λ _. e;
-      eipsw = λ n. absurd (omega arith);
+      eipsw = λ f. absurd (n1 f);
       fepc = λ _. e;
-      fepsw = λ n. absurd (omega arith);
+      fepsw = λ f. absurd (n3 f);
       sr25 = λ _. e;
-      sr31 = λ n. absurd (omega arith);
+      sr31 = λ f. absurd (n7 f);
     }
 
-fepc-system : (v : ℕ) → v < 2 ^ 32 → v % 2 ≡ 0 → System 2 v
-fepc-system v h e =
-    record {
-      word = h;
-      eipc = λ _. e;
-      eipsw = λ n. absurd (omega arith);
-      fepc = λ _. e;
-      fepsw = λ n. absurd (omega arith);
-      sr25 = λ _. e;
-      sr31 = λ n. absurd (omega arith);
-    }
+pub eipc-system : (v : ℕ) → v < 2 ^ 32 → v % 2 ≡ 0 → System 0 v
+eipc-system v h e = address-system 0 v (λ f. omega arith) (λ f. omega arith) (λ f. omega arith) h e
+
+pub fepc-system : (v : ℕ) → v < 2 ^ 32 → v % 2 ≡ 0 → System 2 v
+fepc-system v h e = address-system 2 v (λ f. omega arith) (λ f. omega arith) (λ f. omega arith) h e
 
 sr25-system : (v : ℕ) → v < 2 ^ 32 → v % 2 ≡ 0 → System 5 v
-sr25-system v h e =
-    record {
-      word = h;
-      eipc = λ _. e;
-      eipsw = λ n. absurd (omega arith);
-      fepc = λ _. e;
-      fepsw = λ n. absurd (omega arith);
-      sr25 = λ _. e;
-      sr31 = λ n. absurd (omega arith);
-    }
+sr25-system v h e = address-system 5 v (λ f. omega arith) (λ f. omega arith) (λ f. omega arith) h e
 
-eipsw-system : (v : ℕ) → Format v → System 1 v
-eipsw-system v f =
+format-system : (k v : ℕ) → k % 2 ≡ 1 → k < 5 → Format v → System k v
+format-system k v odd low f =
     record {
       word = omega (arith, format-word v f);
-      eipc = λ n. absurd (omega arith);
+      eipc = λ e. absurd (omega arith);
       eipsw = λ _. f;
-      fepc = λ n. absurd (omega arith);
+      fepc = λ e. absurd (omega arith);
       fepsw = λ _. f;
-      sr25 = λ n. absurd (omega arith);
-      sr31 = λ n. absurd (omega arith);
+      sr25 = λ e. absurd (omega arith);
+      sr31 = λ e. absurd (omega arith);
     }
 
-fepsw-system : (v : ℕ) → Format v → System 3 v
-fepsw-system v f =
-    record {
-      word = omega (arith, format-word v f);
-      eipc = λ n. absurd (omega arith);
-      eipsw = λ _. f;
-      fepc = λ n. absurd (omega arith);
-      fepsw = λ _. f;
-      sr25 = λ n. absurd (omega arith);
-      sr31 = λ n. absurd (omega arith);
-    }
+pub eipsw-system : (v : ℕ) → Format v → System 1 v
+eipsw-system v f = format-system 1 v refl (omega arith) f
 
--- ECR and 29 hold any word
-ecr-system : (v : ℕ) → v < 2 ^ 32 → System 4 v
-ecr-system v h =
+pub fepsw-system : (v : ℕ) → Format v → System 3 v
+fepsw-system v f = format-system 3 v refl (omega arith) f
+
+word-system : (k v : ℕ) → k % 2 ≡ 0 → 4 ≤ k → v < 2 ^ 32 → System k v
+word-system k v even high h =
     record {
       word = h;
-      eipc = λ n. absurd (omega arith);
-      eipsw = λ n. absurd (omega arith);
-      fepc = λ n. absurd (omega arith);
-      fepsw = λ n. absurd (omega arith);
-      sr25 = λ n. absurd (omega arith);
-      sr31 = λ n. absurd (omega arith);
+      eipc = λ e. absurd (omega arith);
+      eipsw = λ e. absurd (omega arith);
+      fepc = λ e. absurd (omega arith);
+      fepsw = λ e. absurd (omega arith);
+      sr25 = λ e. absurd (omega arith);
+      sr31 = λ e. absurd (omega arith);
     }
+
+pub ecr-system : (v : ℕ) → v < 2 ^ 32 → System 4 v
+ecr-system v h = word-system 4 v refl (omega arith) h
 
 sr29-system : (v : ℕ) → v < 2 ^ 32 → System 6 v
-sr29-system v h =
-    record {
-      word = h;
-      eipc = λ n. absurd (omega arith);
-      eipsw = λ n. absurd (omega arith);
-      fepc = λ n. absurd (omega arith);
-      fepsw = λ n. absurd (omega arith);
-      sr25 = λ n. absurd (omega arith);
-      sr31 = λ n. absurd (omega arith);
-    }
+sr29-system v h = word-system 6 v refl (omega arith) h
 
 sr31-system : (v : ℕ) → v ≤ 2 ^ 31 → System 7 v
 sr31-system v h =
     record {
       word = omega arith;
-      eipc = λ n. absurd (omega arith);
-      eipsw = λ n. absurd (omega arith);
-      fepc = λ n. absurd (omega arith);
-      fepsw = λ n. absurd (omega arith);
-      sr25 = λ n. absurd (omega arith);
+      eipc = λ e. absurd (omega arith);
+      eipsw = λ e. absurd (omega arith);
+      fepc = λ e. absurd (omega arith);
+      fepsw = λ e. absurd (omega arith);
+      sr25 = λ e. absurd (omega arith);
       sr31 = λ _. h;
     }
 
@@ -214,76 +178,3 @@ written sys psw id v hv h f =
       ),
     )
     record { systems = h; format = f }
-
--- the machine after a step
-abbrev pub Left : Stepped → Type 0
-Left t = Good (t .state) (t .memory)
-
-code-small : (c : Cause) → codeOf c < 65536
-code-small ZeroDivision = omega arith
-code-small Illegal = omega arith
-code-small (Trap vector) = omega arith
-
-handler-address : (c : Cause) → Address (handlerOf c)
-handler-address ZeroDivision = record { word = omega arith; even = refl }
-handler-address Illegal = record { word = omega arith; even = refl }
-handler-address (Trap vector) =
-    pick-each Address (ltb vector 16) 0xFFFFFFA0 0xFFFFFFB0
-    record { word = omega arith; even = refl } record { word = omega arith; even = refl }
-
-restore-address : (c : Cause) (pc next : ℕ) → Address pc → Address next → Address (restoreOf c pc next)
-restore-address ZeroDivision pc next p q = p
-restore-address Illegal pc next p q = p
-restore-address (Trap vector) pc next p q = q
-
-module _ (c : Cause) (s : State) (m : Memory) (g : Good s m) where
-  fatal-left : Left (fatalOf c s m)
-  fatal-left =
-      record {
-        generals = g .generals;
-        systems = g .systems;
-        address = g .address;
-        format = g .format;
-        memories = g .memories;
-      }
-
-  module _ (code handler restore saved : ℕ) (hc : code < 65536) (hh : Address handler) (hr : Address restore) (hs : Format saved) where
-    duplexed-left : Left (duplexedEntryOf c code restore saved s m)
-    duplexed-left =
-        let sys = set (set (s .sys) 2 restore) 3 saved in
-        let h : Systems sys = set-systems (set (s .sys) 2 restore) 3 saved (fepsw-system saved hs) (set-systems (s .sys) 2 restore (fepc-system restore (hr .word) (hr .even)) (g .systems)) in
-        let e : getD sys 4 0 % 65536 + code * 65536 < 2 ^ 32 = omega arith in
-        record {
-          generals = g .generals;
-          systems = set-systems sys 4 (getD sys 4 0 % 65536 + code * 65536) (ecr-system (getD sys 4 0 % 65536 + code * 65536) e) h;
-          address = record { word = omega arith; even = refl };
-          format = duplexed-format saved hs;
-          memories = g .memories;
-        }
-
-    regular-left : Left (regularEntryOf c code handler restore saved s m)
-    regular-left =
-        let sys = set (set (s .sys) 0 restore) 1 saved in
-        let h : Systems sys = set-systems (set (s .sys) 0 restore) 1 saved (eipsw-system saved hs) (set-systems (s .sys) 0 restore (eipc-system restore (hr .word) (hr .even)) (g .systems)) in
-        let w : getD sys 4 0 < 2 ^ 32 = h .each 4 .word in
-        let e : getD sys 4 0 / 65536 * 65536 + code < 2 ^ 32 = omega arith in
-        record {
-          generals = g .generals;
-          systems = set-systems sys 4 (getD sys 4 0 / 65536 * 65536 + code) (ecr-system (getD sys 4 0 / 65536 * 65536 + code) e) h;
-          address = hh;
-          format = regular-format saved hs;
-          memories = g .memories;
-        }
-
-    enter-left : Left (enterOf c code handler restore saved s m)
-    unfolding enterOf
-    enter-left =
-        pick-each Left (eqb (flagOf 32768 (s .psw)) 1) (fatalOf c s m) _ fatal-left
-        (pick-each Left (eqb (flagOf 16384 (s .psw)) 1) (duplexedEntryOf c code restore saved s m) (regularEntryOf c code handler restore saved s m) duplexed-left regular-left)
-
--- an exception leaves an accepted machine
-pub raise-left : (c : Cause) (next : ℕ) (s : State) (m : Memory) → Address next → Good s m → Left (raiseOf c next s m)
-unfolding raiseOf
-raise-left c next s m hn g =
-    enter-left c s m g (codeOf c) (handlerOf c) (restoreOf c (s .pc) next) (s .psw) (code-small c) (handler-address c)
-    (restore-address c (s .pc) next (g .address) hn) (g .format)

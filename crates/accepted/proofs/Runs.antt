@@ -1,14 +1,12 @@
 -- `run-steps` and `run-counted`: the statements of specs/Steps. Assumes nothing.
 use Prim.Native.Nat.{ℕ, zero, suc}
-use mathlib.Core.Bool.{Bool}
-use mathlib.Core.Path.{_≡_, refl, sym, ap, _∙_}
+use mathlib.Core.Path.{_≡_, refl, sym, ap}
 use native.Mathlib.Omega.{arith}
 use lib.Dec.{eqb}
 use Rattle.arithmetic.specs.Flag.{flagOf}
 use Rattle.arithmetic.specs.Condition.{conditionOf}
 use Rattle.arithmetic.specs.Quotient.{divideOf, divideUnsignedOf}
 use Rattle.bus.specs.Memory.{Memory}
-use Rattle.bus.specs.declared.Refusal.{Refusal}
 use Rattle.bus.specs.declared.Verdict.the-variants as verdict
 use Rattle.decode.specs.Format.{twoOf}
 use Rattle.decode.specs.Opcode.{decodeOf}
@@ -18,7 +16,7 @@ use Rattle.decode.specs.declared.Instruction.{Instruction}
 use Rattle.decode.specs.declared.Instruction.the-variants.{Register, Mul, Div, Mulu, Divu, Jmp, Immediate, Setf, Cli, Sei, Trap, Reti, Halt, Ldsr, Stsr, Bcond, Jr, Jal, Long, Load, In, Store, Out, Illegal}
 use Rattle.processor_core.specs.State.{State, Stepped, stateOf, regOf}
 use Rattle.processor_core.specs.Exception.{fatalOf, duplexedEntryOf, regularEntryOf, enterOf, raiseOf, codeOf, handlerOf, restoreOf}
-use Rattle.processor_core.specs.Execute.{goesOn, pairOf, dividesOf, jumpsOf, plusOf, returnsOf, executeOf}
+use Rattle.processor_core.specs.Execute.{goesOn, pairOf, jumpsOf, plusOf, executeOf}
 use Rattle.processor_core.specs.Step.{firstOf, secondOf, nextOf, performOf, runningStepOf, stepInOf, stepOf}
 use Rattle.processor_core.specs.declared.Cause as cause
 use Rattle.processor_core.specs.declared.Mode.{Mode}

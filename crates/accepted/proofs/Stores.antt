@@ -1,14 +1,11 @@
 -- A store leaves bytes, and a load of bytes fits its size.
 use Prim.Native.Nat.{ℕ, _+_, _-_, _*_, _/_, _%_, _^_, _≤_, _<_}
 use mathlib.Core.List.{List}
-use mathlib.Core.Path.{_≡_, refl, _∙_}
+use mathlib.Core.Path.{_∙_}
 use native.Mathlib.Omega.{arith}
-use borrow.Author.Tests.{lt-ltb, le-ltb}
 use lib.Dec.{ltb}
-use lib.ListN.{length, getD, set}
-use Rattle.word.specs.Choose.{pick}
+use lib.ListN.{set}
 use Rattle.word.specs.Extend.{extendOf}
-use Rattle.bus.specs.Registers.{version}
 use Rattle.bus.specs.Place.{Place, vramAt, wramAt, pakAt, romAt, drawingAt, versionAt, silent, unlisted, unmapped, soundUnit, hardware, nothing, expansion}
 use Rattle.bus.specs.Memory.{Memory, readPlace, byteOf, loadOf, putPlace, putDrawing, placeIn, putByte, putRegister, putHalfword, storeByteOf, storeHalfOf, storeWordOf}
 use Rattle.bus.proofs.Kept.{Shape, store-byte-shape, store-half-shape, store-word-shape, shape-accepted}

@@ -13,7 +13,7 @@ use Rattle.processor_core.specs.Step.{stepOf}
 use Rattle.processor.specs.Acceptance.{acceptanceOf}
 use Rattle.processor.specs.Run.{runOf}
 
--- each number of a list is below n
+-- each number of a list is below n; past the end `getD` gives 0
 abbrev pub Below : ℕ → List ℕ → Type 0
 Below n xs = (i : ℕ) → getD xs i 0 < n
 
