@@ -1,6 +1,6 @@
 -- The rows of the code's table of conditions are document 000's conditions: sixteen conditions at sixteen states of the
 -- four flags, by one test that antt computes.
-use Prim.Native.Nat.{ℕ, _+_, _*_, _/_, _%_, _^_, _<_}
+use Prim.Native.Nat.{ℕ, zero, suc, _+_, _*_, _/_, _%_, _^_, _<_, _≤_}
 use mathlib.Core.Path.{_≡_, refl, ap, sym, _∙_}
 use mathlib.Core.Bool.{Bool, true, false}
 use mathlib.Core.List.{List, [], _∷_}
@@ -37,11 +37,27 @@ low-bits c psw =
     let k : c % 16 ≡ c % 16 % 16 = omega arith in
     rw (← cy, ← ov, ← s, ← z, ← k)
 
-pub condition-row : (c psw : ℕ) → eqb (getD rows (c % 16) 0 / 2 ^ (psw % 16) % 2) 1 ≡ conditionOf c psw
+-- a row's bits are its condition's
+pub row-bits : (c : ℕ) → c < 16 → (n : ℕ) → n < 16 → eqb (getD rows c 0 / 2 ^ n % 2) 1 ≡ conditionOf c n
 unfolding bitAt agrees
-condition-row c psw =
-    let hc : c % 16 < 16 = omega arith in
-    let hn : psw % 16 < 16 = omega arith in
-    let row = at 16 (λ c. every 16 (λ n. agrees c n)) all-agree (c % 16) hc in
-    same-eq (bitAt (c % 16) (psw % 16)) (conditionOf (c % 16) (psw % 16)) (at 16 (λ n. agrees (c % 16) n) row (psw % 16) hn)
-    ∙ sym (low-bits c psw)
+row-bits c hc n hn =
+    let row = at 16 (λ c. every 16 (λ n. agrees c n)) all-agree c hc in
+    same-eq (bitAt c n) (conditionOf c n) (at 16 (λ n. agrees c n) row n hn)
+
+pub condition-low : (c psw : ℕ) → conditionOf (c % 16) (psw % 16) ≡ conditionOf c psw
+condition-low c psw = sym (low-bits c psw)
+
+-- a number that is none of the first n reaches n
+abbrev pub Apart : ℕ → ℕ → Type 0
+Apart zero i = Unit {0}
+Apart (suc n) i = Apart n i × (i ≡ n → ⊥)
+
+pub past : (n i : ℕ) → Apart n i → n ≤ i
+past zero i a = omega arith
+past (suc n) i a =
+    let e : n ≤ i = past n i (a .0) in
+    let f : i ≡ n → ⊥ = a .1 in
+    omega arith
+
+pub at-last : (i : ℕ) → 15 ≤ i → i < 16 → i ≡ 15
+at-last i h l = omega arith

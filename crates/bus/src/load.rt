@@ -3,9 +3,71 @@ use crate::Loaded;
 use crate::pak;
 use crate::vip;
 ghost use mathlib.Core.Path.{_≡_};
-ghost use Prim.Native.Nat.{_%_};
+ghost use mathlib.Core.List.{List};
+ghost use Prim.Native.Nat.{ℕ, _+_, _-_, _%_, _<_, _≤_};
+ghost use mathlib.Core.Bool.{true};
 ghost use lib.ListN.{length};
+ghost use Rattle.bus.specs.Place.{regionOf};
+ghost use Rattle.bus.specs.Refusal.{pakOk};
 ghost use Rattle.bus.specs.Memory.{memoryOf, Lengths, Reads};
+
+// A byte, a halfword and a word that stand neither in WRAM nor in ROM: of the VIP, of pak RAM, or 0.
+fn byte_elsewhere(vram: &[u8], pak: &[u8], regs: &[u16; 13], address: u32) -> u32
+    requires { ⌜ (length (now vram) ≡ 262144) × (pakOk (length (now pak)) ≡ true) × (regionOf address ≡ 5 → ⊥) × (regionOf address ≡ 7 → ⊥) ⌝ }
+    ensures { λ r. ⌜ ((rom wram : List ℕ) → Reads (memoryOf rom wram (now (vram .entry)) (now (pak .entry)) (now (regs .entry))) 1 address r) ⌝ }
+{
+    let region = address / 16777216 % 8;
+    if region == 0 {
+        return vip::byte(vram, regs, address);
+    }
+    if region == 6 {
+        return pak::byte(pak, address);
+    }
+    0
+}
+
+fn half_elsewhere(vram: &[u8], pak: &[u8], regs: &[u16; 13], address: u32) -> u32
+    requires { ⌜ (length (now vram) ≡ 262144) × (pakOk (length (now pak)) ≡ true) × (regionOf address ≡ 5 → ⊥) × (regionOf address ≡ 7 → ⊥) ⌝ }
+    ensures { λ r. ⌜ ((rom wram : List ℕ) → Reads (memoryOf rom wram (now (vram .entry)) (now (pak .entry)) (now (regs .entry))) 2 address r) ⌝ }
+{
+    let region = address / 16777216 % 8;
+    if region == 0 {
+        return vip::half(vram, regs, address);
+    }
+    if region == 6 {
+        return pak::half(pak, address);
+    }
+    0
+}
+
+fn word_elsewhere(vram: &[u8], pak: &[u8], regs: &[u16; 13], address: u32) -> u32
+    requires { ⌜ (length (now vram) ≡ 262144) × (pakOk (length (now pak)) ≡ true) × (regionOf address ≡ 5 → ⊥) × (regionOf address ≡ 7 → ⊥) ⌝ }
+    ensures { λ r. ⌜ ((rom wram : List ℕ) → Reads (memoryOf rom wram (now (vram .entry)) (now (pak .entry)) (now (regs .entry))) 4 address r) ⌝ }
+{
+    let region = address / 16777216 % 8;
+    if region == 0 {
+        return vip::word(vram, regs, address);
+    }
+    if region == 6 {
+        return pak::word(pak, address);
+    }
+    0
+}
+
+// One of these, by its bytes `address` to `last`. It stands apart from the ways to WRAM and ROM, which are short.
+fn elsewhere(vram: &[u8], pak: &[u8], regs: &[u16; 13], address: u32, last: u32) -> u32
+    requires { ⌜ (length (now vram) ≡ 262144) × (pakOk (length (now pak)) ≡ true) × (regionOf address ≡ 5 → ⊥) × (regionOf address ≡ 7 → ⊥) × (address ≤ last) × (last - address < 4) × (last - address ≡ 2 → ⊥) ⌝ }
+    ensures { λ r. ⌜ ((rom wram : List ℕ) → Reads (memoryOf rom wram (now (vram .entry)) (now (pak .entry)) (now (regs .entry))) (last - address + 1) address r) ⌝ }
+{
+    let more = last - address;
+    if more == 0 {
+        return byte_elsewhere(vram, pak, regs, address);
+    }
+    if more == 1 {
+        return half_elsewhere(vram, pak, regs, address);
+    }
+    word_elsewhere(vram, pak, regs, address)
+}
 
 pub fn byte(
     rom: &[u8],
@@ -31,17 +93,9 @@ pub fn byte(
             value: word::byte_at(rom, i),
         };
     }
-    if region == 0 {
-        return Loaded {
-            value: vip::byte(vram, regs, address),
-        };
+    Loaded {
+        value: elsewhere(vram, pak, regs, address, address),
     }
-    if region == 6 {
-        return Loaded {
-            value: pak::byte(pak, address),
-        };
-    }
-    Loaded { value: 0 }
 }
 
 pub fn half(
@@ -68,17 +122,9 @@ pub fn half(
             value: word::half_at(rom, i),
         };
     }
-    if region == 0 {
-        return Loaded {
-            value: vip::half(vram, regs, address),
-        };
+    Loaded {
+        value: elsewhere(vram, pak, regs, address, address + 1),
     }
-    if region == 6 {
-        return Loaded {
-            value: pak::half(pak, address),
-        };
-    }
-    Loaded { value: 0 }
 }
 
 pub fn word(
@@ -105,15 +151,7 @@ pub fn word(
             value: word::word_at(rom, i),
         };
     }
-    if region == 0 {
-        return Loaded {
-            value: vip::word(vram, regs, address),
-        };
+    Loaded {
+        value: elsewhere(vram, pak, regs, address, address + 3),
     }
-    if region == 6 {
-        return Loaded {
-            value: pak::word(pak, address),
-        };
-    }
-    Loaded { value: 0 }
 }

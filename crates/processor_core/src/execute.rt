@@ -137,7 +137,7 @@ pub fn execute(
             reg1,
             reg2,
         } => {
-            memory::store(
+            memory::output(
                 rom,
                 wram,
                 vram,

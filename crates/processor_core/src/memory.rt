@@ -87,3 +87,27 @@ pub fn store(
     access::store(rom, wram, vram, pak, device, width, address, v);
     ended(next, psw)
 }
+
+pub fn output(
+    rom: &[u8],
+    wram: &mut [u8],
+    vram: &mut [u8],
+    pak: &mut [u8],
+    device: &mut [u16; 13],
+    regs: &[u32; 32],
+    width: Width,
+    disp: u32,
+    reg1: u32,
+    reg2: u32,
+    next: u32,
+    psw: u32,
+) -> Control
+    requires { ⌜ Lengths (length (now rom)) (length (now wram)) (length (now vram)) (length (now pak)) ⌝ }
+    ensures { λ r. ⌜ ((pc : ℕ) (sys : List ℕ) → leaves (now (regs .entry)) sys r (memoryOf (now (rom .entry)) (now (wram .exit)) (now (vram .exit)) (now (pak .exit)) (now (device .exit))) ≡ executeOf (Instruction.Out width disp reg1 reg2) next (stateOf (now (regs .entry)) sys pc psw Mode.Running) (memoryOf (now (rom .entry)) (now (wram .entry)) (now (vram .entry)) (now (pak .entry)) (now (device .entry)))) ⌝ }
+{
+    let base = get(regs, reg1);
+    let address = std::num::wrapping_add_u32(base, disp);
+    let v = get(regs, reg2);
+    access::store(rom, wram, vram, pak, device, width, address, v);
+    ended(next, psw)
+}

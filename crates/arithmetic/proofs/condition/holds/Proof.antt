@@ -1,25 +1,21 @@
--- `arithmetic::condition::holds`: the table's rows hold at each of the 256 cases, which antt computes.
-use lib.Dec.{eqb}
+-- `arithmetic::condition::holds`: the bit of the condition's row that the flags name.
+use mathlib.Core.Path.{_∙_}
+use native.Mathlib.Omega.{arith}
 use borrow.Author.Needs.{needs}
-use Rattle.arithmetic.proofs.Table.{rows, condition-row}
+use Rattle.arithmetic.proofs.Table.{condition-low}
 use Rattle.arithmetic.proofs.condition.holds.Statement.{statement}
 use Rattle.arithmetic.proofs.condition.holds.Tie as tie
 
-cast-result : tie.Need-cast-result
-cast-result c = search needs
-
-mul-result : tie.Need-mul-result
-mul-result c = search needs
-
-array-read-result : tie.Need-array-read-result
-array-read-result c = search needs
+row-requires : tie.Need-row-requires
+row-requires c κs = search needs
 
 shr-result : tie.Need-shr-result
 shr-result c = search needs
 
 returns : tie.Need-returns
-unfolding rows
-returns c = condition-row (c .args .cond) (c .args .psw)
+returns c =
+    let a = c .before .args in
+    c .row .ensures _ (omega arith) ∙ condition-low (a .cond) (a .psw)
 
 pub holds-spec : {M : Type 1} → statement M
-holds-spec = tie.close (tie.spec cast-result mul-result array-read-result shr-result returns)
+holds-spec = tie.close (tie.spec row-requires shr-result returns)

@@ -1,4 +1,4 @@
--- `bus::load::byte` meets its contract: by region, a byte of WRAM, of ROM, of the VIP, of pak RAM, or 0.
+-- `bus::load::byte` meets its contract: by region, a byte of WRAM, of ROM, or what stands elsewhere.
 -- Assumes nothing.
 use Rattle.bus.specs.Place.{regionOf}
 use borrow.Author.Needs.{needs}
@@ -11,7 +11,7 @@ use Rattle.bus.specs.Memory.{Memory, memoryOf}
 use lib.ListN.{length, getD, set}
 use denote.Ref.{now}
 use Rattle.bus.proofs.Power.{rom-power, rom-as-pak, power-pos, power-room}
-use Rattle.bus.proofs.Accesses.{Quiet, found, missed, wram-byte, rom-byte, nothing-byte}
+use Rattle.bus.proofs.Accesses.{found, missed, wram-byte, rom-byte}
 
 cast-i : tie.Need-cast-i
 cast-i c = search needs
@@ -50,35 +50,17 @@ returns-2 c =
       fits = c .byte-at2 .ensures .1;
     }
 
-byte-requires : tie.Need-byte-requires
-byte-requires c κs =
-    let b = c .before .before .before .before .before .before .before in
-    (found (b .args .address) 0 (c .if3 .taken), b .pre .vram-ok)
+elsewhere-requires : tie.Need-elsewhere-requires
+elsewhere-requires c κs =
+    let b = c .before .before .before .before .before .before in
+    let a = b .args .address in
+    (b .pre .vram-ok, b .pre .pak-ok, missed a 5 (c .before .if1 .left), missed a 7 (c .if2 .left), omega arith, omega arith, omega arith)
 
 returns-3 : tie.Need-returns-3
 returns-3 c =
-    let a = c .before .before .before .before .before .before .before .before .args in
-    c .byte .ensures (now (a .rom)) (now (a .wram)) (now (a .pak))
-
-byte-requires-2 : tie.Need-byte-requires-2
-byte-requires-2 c κs =
-    let b = c .before .before .before .before .before .before .before .before in
-    (found (b .args .address) 6 (c .if4 .taken), b .pre .pak-ok)
-
-returns-4 : tie.Need-returns-4
-returns-4 c =
-    let a = c .before .before .before .before .before .before .before .before .before .args in
-    c .byte2 .ensures (now (a .rom)) (now (a .wram)) (now (a .vram)) (now (a .regs))
-
-returns-5 : tie.Need-returns-5
-returns-5 c =
-    let b = c .before .before .before .before .before .before .before .before in
-    let a = b .args in
-    let quiet : Quiet (regionOf (a .address)) = (missed (a .address) 5 (c .before .before .before .if1 .left), (missed (a .address) 7 (c .before .before .if2 .left), (missed (a .address) 0 (c .before .if3 .left), missed (a .address) 6 (c .if4 .left)))) in
-    record {
-      means = sym (nothing-byte (memoryOf (now (a .rom)) (now (a .wram)) (now (a .vram)) (now (a .pak)) (now (a .regs))) (a .address) quiet);
-      fits = omega arith;
-    }
+    let a = c .before .before .before .before .before .before .before .args in
+    let e : a .address - a .address + 1 ≡ 1 = omega arith in
+    rw e at (c .elsewhere .ensures (now (a .rom)) (now (a .wram)))
 
 pub byte-spec : {M : Type 1} → statement M
 byte-spec =
@@ -90,8 +72,5 @@ byte-spec =
     masked-requires
     byte-at-requires-2
     returns-2
-    byte-requires
-    returns-3
-    byte-requires-2
-    returns-4
-    returns-5)
+    elsewhere-requires
+    returns-3)

@@ -1,4 +1,4 @@
--- `bus::load::word` meets its contract: by region, a word of WRAM, of ROM, of the VIP, of pak RAM, or 0.
+-- `bus::load::word` meets its contract: by region, a word of WRAM, of ROM, or what stands elsewhere.
 -- Assumes nothing.
 use borrow.Author.Needs.{needs}
 use Rattle.bus.proofs.load.word.Statement.{statement}
@@ -12,7 +12,7 @@ use denote.Ref.{now}
 use Rattle.bus.proofs.Power.{rom-power, rom-as-pak, power-pos, power-room}
 use Rattle.bus.specs.Place.{wramAt, romAt, regionOf}
 use Rattle.bus.proofs.Spans.{span-word, wram-span-word, rom-span-word}
-use Rattle.bus.proofs.Accesses.{Quiet, found, missed, nothing-word}
+use Rattle.bus.proofs.Accesses.{found, missed}
 
 sub-i : tie.Need-sub-i
 sub-i c = search needs
@@ -61,35 +61,20 @@ returns-2 c =
       fits = omega arith;
     }
 
-word-requires : tie.Need-word-requires
-word-requires c κs =
-    let b = c .before .before .before .before .before .before .before in
-    (found (b .args .address) 0 (c .if3 .taken), b .pre .vram-ok)
+add-elsewhere : tie.Need-add-elsewhere
+add-elsewhere c = search needs
+
+elsewhere-requires : tie.Need-elsewhere-requires
+elsewhere-requires c κs =
+    let b = c .before .before .before .before .before .before in
+    let a = b .args .address in
+    (b .pre .vram-ok, b .pre .pak-ok, missed a 5 (c .before .if1 .left), missed a 7 (c .if2 .left), omega arith, omega arith, omega arith)
 
 returns-3 : tie.Need-returns-3
 returns-3 c =
-    let a = c .before .before .before .before .before .before .before .before .args in
-    c .word .ensures (now (a .rom)) (now (a .wram)) (now (a .pak))
-
-word-requires-2 : tie.Need-word-requires-2
-word-requires-2 c κs =
-    let b = c .before .before .before .before .before .before .before .before in
-    (found (b .args .address) 6 (c .if4 .taken), b .pre .pak-ok)
-
-returns-4 : tie.Need-returns-4
-returns-4 c =
-    let a = c .before .before .before .before .before .before .before .before .before .args in
-    c .word2 .ensures (now (a .rom)) (now (a .wram)) (now (a .vram)) (now (a .regs))
-
-returns-5 : tie.Need-returns-5
-returns-5 c =
-    let b = c .before .before .before .before .before .before .before .before in
-    let a = b .args in
-    let quiet : Quiet (regionOf (a .address)) = (missed (a .address) 5 (c .before .before .before .if1 .left), (missed (a .address) 7 (c .before .before .if2 .left), (missed (a .address) 0 (c .before .if3 .left), missed (a .address) 6 (c .if4 .left)))) in
-    record {
-      means = sym (nothing-word (memoryOf (now (a .rom)) (now (a .wram)) (now (a .vram)) (now (a .pak)) (now (a .regs))) (a .address) quiet);
-      fits = omega arith;
-    }
+    let a = c .before .before .before .before .before .before .before .args in
+    let e : a .address + 3 - a .address + 1 ≡ 4 = omega arith in
+    rw e at (c .elsewhere .ensures (now (a .rom)) (now (a .wram)))
 
 pub word-spec : {M : Type 1} → statement M
 word-spec =
@@ -103,8 +88,6 @@ word-spec =
     masked-requires
     word-at-requires-2
     returns-2
-    word-requires
-    returns-3
-    word-requires-2
-    returns-4
-    returns-5)
+    add-elsewhere
+    elsewhere-requires
+    returns-3)

@@ -139,8 +139,8 @@ store-requires c κs = search needs
 enum-known-i-19 : tie.Need-enum-known-i-19
 enum-known-i-19 c = search needs
 
-store-requires-2 : tie.Need-store-requires-2
-store-requires-2 c κs = search needs
+output-requires : tie.Need-output-requires
+output-requires c κs = search needs
 
 enum-told-5 : tie.Need-enum-told-5
 enum-told-5 c = search needs
@@ -251,8 +251,7 @@ same-length-12 : tie.Need-same-length-12
 same-length-12 c = search needs
 
 returns-23 : tie.Need-returns-23
-unfolding executeOf
-returns-23 c = rw (c .before .before .before .before .before .before .before .before .before .before .before .before .before .i19 .given .1) (c .before .before .before .before .before .before .store2 .ensures (c .before .before .before .before .before .before .before .before .before .before .before .before .before .before .before .before .before .before .before .args .pc) _)
+returns-23 c = rw (c .before .before .before .before .before .before .before .before .before .before .before .before .before .i19 .given .1) (c .before .before .before .before .before .before .output .ensures _ _)
 
 returns-24 : tie.Need-returns-24
 returns-24 c = rw (c .before .before .enum-told5 .given .1) (c .illegal .ensures _ _)
@@ -306,7 +305,7 @@ execute-spec =
     enum-known-i-18
     store-requires
     enum-known-i-19
-    store-requires-2
+    output-requires
     enum-told-5
     illegal-requires
     returns

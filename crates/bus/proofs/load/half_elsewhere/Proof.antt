@@ -1,0 +1,45 @@
+-- `bus::load::half_elsewhere` meets its contract: by region, a halfword of the VIP, of pak RAM, or 0.
+-- Assumes nothing.
+use borrow.Author.Needs.{needs}
+use Prim.Native.Nat.{ℕ, _+_, _-_, _*_, _/_, _%_, _<_, _≤_}
+use mathlib.Core.Path.{_≡_, refl, sym, ap, subst, _∙_}
+use native.Mathlib.Omega.{arith}
+use lib.ListN.{length}
+use denote.Ref.{now}
+use Rattle.bus.specs.Memory.{memoryOf}
+use Rattle.bus.specs.Place.{regionOf}
+use Rattle.bus.proofs.Accesses.{Quiet, found, missed, nothing-half}
+use Rattle.bus.proofs.load.half_elsewhere.Statement.{statement}
+use Rattle.bus.proofs.load.half_elsewhere.Tie as tie
+
+half-requires : tie.Need-half-requires
+half-requires c κs =
+    let b = c .before .before .before in
+    (found (b .args .address) 0 (c .if1 .taken), b .pre .0)
+
+returns : tie.Need-returns
+returns c = λ rom wram. c .half .ensures rom wram (now (c .before .before .before .before .args .pak))
+
+half-requires-2 : tie.Need-half-requires-2
+half-requires-2 c κs =
+    let b = c .before .before .before .before in
+    (found (b .args .address) 6 (c .if2 .taken), b .pre .1)
+
+returns-2 : tie.Need-returns-2
+returns-2 c =
+    let a = c .before .before .before .before .before .args in
+    λ rom wram. c .half2 .ensures rom wram (now (a .vram)) (now (a .regs))
+
+returns-3 : tie.Need-returns-3
+returns-3 c =
+    let b = c .before .before .before .before in
+    let a = b .args in
+    let quiet : Quiet (regionOf (a .address)) = (b .pre .2, (b .pre .3, (missed (a .address) 0 (c .before .if1 .left), missed (a .address) 6 (c .if2 .left)))) in
+    λ rom wram.
+    record {
+      means = sym (nothing-half (memoryOf rom wram (now (a .vram)) (now (a .pak)) (now (a .regs))) (a .address) quiet);
+      fits = omega arith;
+    }
+
+pub half-elsewhere-spec : {M : Type 1} → statement M
+half-elsewhere-spec = tie.close (tie.spec half-requires returns half-requires-2 returns-2 returns-3)
