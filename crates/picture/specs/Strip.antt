@@ -1,5 +1,5 @@
 -- Images, strips and frames (paper 01, "Drawing"): where a pixel stands in VRAM, and all of VRAM after a strip
--- or a frame was drawn. Drawn says in theorems what the two lists hold.
+-- or a frame was drawn. The crate answers says in theorems what the two lists hold (Drawn).
 use Prim.Native.Nat.{ℕ, zero, suc, _+_, _*_, _/_, _%_}
 use mathlib.Core.Bool.{Bool, _&&_}
 use mathlib.Core.List.{List, [], _∷_}
