@@ -11,11 +11,11 @@ use Rattle.decode.specs.Format.{twoOf}
 use Rattle.decode.specs.Opcode.{decodeOf}
 use Rattle.decode.specs.declared.Decoded.{Decoded}
 use Rattle.decode.specs.declared.Decoded.the-variants.{Modelled, NotModelled}
-use Rattle.processor_core.specs.State.{State, Stepped}
-use Rattle.processor_core.specs.Step.{firstOf, secondOf, nextOf, performOf, runningStepOf, stepInOf, stepOf}
-use Rattle.processor_core.specs.PswMask.{psw-bits-mask}
-use Rattle.processor_core.specs.declared.Mode.{Mode}
-use Rattle.processor_core.specs.declared.Mode.the-variants.{Running, Halted, Fatal}
+use Rattle.machine.specs.State.{State, Stepped}
+use Rattle.stepping.specs.Step.{firstOf, secondOf, nextOf, performOf, runningStepOf, stepInOf, stepOf}
+use Rattle.machine.specs.PswMask.{psw-bits-mask}
+use Rattle.machine.specs.declared.Mode.{Mode}
+use Rattle.machine.specs.declared.Mode.the-variants.{Running, Halted, Fatal}
 use Rattle.processor.specs.Run.{Run, afterOf, afterStep, runOf}
 use Rattle.processor.specs.declared.After.{After}
 use Rattle.processor.specs.declared.After.the-variants.{Counted, Stopped}

@@ -8,9 +8,9 @@ use lib.ListN.{length, getD, replicate}
 use Rattle.bus.specs.Registers.{registersOk}
 use Rattle.bus.specs.Memory.{Memory}
 use Rattle.bus.proofs.Accepted.{lengths-accepted}
-use Rattle.processor_core.specs.State.{State}
-use Rattle.processor_core.specs.System.{pswBitsOf}
-use Rattle.processor_core.specs.Step.{stepOf}
+use Rattle.machine.specs.State.{State}
+use Rattle.machine.specs.System.{pswBitsOf}
+use Rattle.stepping.specs.Step.{stepOf}
 use Rattle.processor.specs.Acceptance.{evenOk, formatsOk, stateOk, acceptanceAt, acceptanceOf}
 use Rattle.processor.specs.Record.{systemIn, stateIn, processorOf}
 use Rattle.processor.specs.Run.{runOf}

@@ -6,10 +6,10 @@ use lib.Dec.{ltb, eqb}
 use lib.ListN.{getD, set}
 use Rattle.arithmetic.specs.Flag.{flagOf}
 use Rattle.bus.specs.Memory.{Memory}
-use Rattle.processor_core.specs.State.{State, Stepped}
-use Rattle.processor_core.specs.Exception.{codeOf, handlerOf, restoreOf, fatalOf, duplexedEntryOf, regularEntryOf, enterOf, raiseOf}
-use Rattle.processor_core.specs.declared.Cause.{Cause}
-use Rattle.processor_core.specs.declared.Cause.the-variants.{ZeroDivision, Illegal, Trap}
+use Rattle.machine.specs.State.{State, Stepped}
+use Rattle.machine.specs.Exception.{codeOf, handlerOf, restoreOf, fatalOf, duplexedEntryOf, regularEntryOf, enterOf, raiseOf}
+use Rattle.machine.specs.declared.Cause.{Cause}
+use Rattle.machine.specs.declared.Cause.the-variants.{ZeroDivision, Illegal, Trap}
 use Rattle.accepted.proofs.Lists.{pick-each}
 use Rattle.accepted.proofs.Invariant.{Format, Systems, Address, Good}
 use Rattle.accepted.proofs.Psw.{regular-format, duplexed-format}

@@ -15,13 +15,13 @@ use Rattle.arithmetic.specs.Condition.{conditionOf}
 use Rattle.bus.specs.Memory.{Memory}
 use Rattle.decode.specs.declared.Instruction.{Instruction}
 use Rattle.decode.specs.declared.Instruction.the-variants.{Register, Mul, Div, Mulu, Divu, Jmp, Immediate, Setf, Cli, Sei, Trap, Reti, Halt, Ldsr, Stsr, Bcond, Jr, Jal, Long, Load, In, Store, Out, Illegal}
-use Rattle.processor_core.specs.State.{State, regOf, putOf, evenOf}
-use Rattle.processor_core.specs.System.{systemOf}
-use Rattle.processor_core.specs.Exception.{raiseOf}
-use Rattle.processor_core.specs.Operation.{registerOf, immediateOf, longOf}
-use Rattle.processor_core.specs.Access.{loadedOf, inputOf, storedOf}
-use Rattle.processor_core.specs.Execute.{goesOn, givesOf, resultOf, pairOf, dividesOf, jumpsOf, plusOf, returnsOf, executeOf}
-use Rattle.processor_core.specs.declared.Cause as cause
+use Rattle.machine.specs.State.{State, regOf, putOf, evenOf}
+use Rattle.machine.specs.System.{systemOf}
+use Rattle.machine.specs.Exception.{raiseOf}
+use Rattle.instructions.specs.Operation.{registerOf, immediateOf, longOf}
+use Rattle.instructions.specs.Access.{loadedOf, inputOf, storedOf}
+use Rattle.instructions.specs.Execute.{goesOn, givesOf, resultOf, pairOf, dividesOf, jumpsOf, plusOf, returnsOf, executeOf}
+use Rattle.machine.specs.declared.Cause as cause
 use Rattle.accepted.proofs.Lists.{pick-each}
 use Rattle.accepted.proofs.Invariant.{Format, Generals, Address, Memories, Good}
 use Rattle.accepted.proofs.Psw.{set-id-format, clear-id-format}

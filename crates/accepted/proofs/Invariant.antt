@@ -13,8 +13,8 @@ use Rattle.bus.specs.declared.Refusal as refusal
 use Rattle.bus.specs.declared.Verdict.{Verdict}
 use Rattle.bus.specs.declared.Verdict.the-variants.{Accepted, Refused}
 use Rattle.bus.proofs.Accepted.{unless-passed}
-use Rattle.processor_core.specs.State.{State}
-use Rattle.processor_core.specs.System.{pswBitsOf}
+use Rattle.machine.specs.State.{State}
+use Rattle.machine.specs.System.{pswBitsOf}
 use Rattle.processor.specs.Acceptance.{both, isEven, isFormat, evenOk, formatsOk, stateOk, thenOf, acceptanceAt, acceptanceOf}
 use Rattle.accepted.specs.Accepted.{Below, Machine}
 

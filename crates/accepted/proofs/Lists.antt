@@ -9,7 +9,7 @@ use lib.Dec.{eqb}
 use lib.ListN.{length, getD, set}
 use lib.Seq.{getD-set-same, getD-set-other, set-out}
 use Rattle.word.specs.Choose.{pick}
-use Rattle.processor_core.specs.System.{rowOf}
+use Rattle.machine.specs.System.{rowOf}
 
 pub set-each : (P : ℕ → ℕ → Type 0) (l : List ℕ) (k v : ℕ) → ((j : ℕ) → P j (getD l j 0)) → P k v → (j : ℕ) → P j (getD (set l k v) j 0)
 set-each P l k v all new j =

@@ -5,7 +5,7 @@ use native.Mathlib.Omega.{arith}
 use lib.Dec.{eqb}
 use Rattle.arithmetic.specs.Flag.{signOf, zeroOf, flagsOf, keepCarryOf, setIdOf, clearIdOf, setEpOf, setNpOf, clearAeOf, regularOf, duplexedOf}
 use Rattle.arithmetic.specs.Bit.{bit-small}
-use Rattle.processor_core.specs.System.{pswBitsOf}
+use Rattle.machine.specs.System.{pswBitsOf}
 use Rattle.accepted.proofs.Invariant.{Format}
 
 pub kept-format : (v : ℕ) → Format (pswBitsOf v)

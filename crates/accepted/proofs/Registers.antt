@@ -8,8 +8,8 @@ use borrow.Author.Tests.{eq-eqb, ne-eqb}
 use lib.ListN.{getD, set, length-set}
 use Rattle.arithmetic.specs.Sign.{magnitudeOf}
 use Rattle.arithmetic.specs.Reading.{magnitude-small}
-use Rattle.processor_core.specs.State.{putOf}
-use Rattle.processor_core.specs.System.{pswBitsOf, systemOf, Status, statusOf, writtenOf}
+use Rattle.machine.specs.State.{putOf}
+use Rattle.machine.specs.System.{pswBitsOf, systemOf, Status, statusOf, writtenOf}
 use Rattle.accepted.proofs.Lists.{set-each, each-row}
 use Rattle.accepted.proofs.Invariant.{General, Format, System, Generals, Systems, format-word}
 use Rattle.accepted.proofs.Psw.{kept-format}

@@ -23,7 +23,7 @@ use Rattle.arithmetic.specs.Division.{quotient-word}
 use Rattle.decode.specs.declared.RegisterOperation.{RegisterOperation}
 use Rattle.decode.specs.declared.ImmediateOperation.{ImmediateOperation}
 use Rattle.decode.specs.declared.LongOperation.{LongOperation}
-use Rattle.processor_core.specs.Operation.{registerOf, immediateOf, longOf}
+use Rattle.instructions.specs.Operation.{registerOf, immediateOf, longOf}
 use Rattle.accepted.proofs.Lists.{pick-each}
 use Rattle.accepted.proofs.Invariant.{Format}
 use Rattle.accepted.proofs.Psw.{flags-format, keep-carry-format}

@@ -14,15 +14,15 @@ use Rattle.decode.specs.declared.Decoded.{Decoded}
 use Rattle.decode.specs.declared.Decoded.the-variants.{Modelled, NotModelled}
 use Rattle.decode.specs.declared.Instruction.{Instruction}
 use Rattle.decode.specs.declared.Instruction.the-variants.{Register, Mul, Div, Mulu, Divu, Jmp, Immediate, Setf, Cli, Sei, Trap, Reti, Halt, Ldsr, Stsr, Bcond, Jr, Jal, Long, Load, In, Store, Out, Illegal}
-use Rattle.processor_core.specs.State.{State, Stepped, stateOf, regOf}
-use Rattle.processor_core.specs.Exception.{fatalOf, duplexedEntryOf, regularEntryOf, enterOf, raiseOf, codeOf, handlerOf, restoreOf}
-use Rattle.processor_core.specs.Execute.{goesOn, pairOf, jumpsOf, plusOf, executeOf}
-use Rattle.processor_core.specs.Step.{firstOf, secondOf, nextOf, performOf, runningStepOf, stepInOf, stepOf}
-use Rattle.processor_core.specs.declared.Cause as cause
-use Rattle.processor_core.specs.declared.Mode.{Mode}
-use Rattle.processor_core.specs.declared.Mode.the-variants.{Running, Halted, Fatal}
-use Rattle.processor_core.specs.declared.Answer.{Answer}
-use Rattle.processor_core.specs.declared.Answer.the-variants.{Ended, Trapped, TurnedFatal, WasHalted, WasFatal, Refused}
+use Rattle.machine.specs.State.{State, Stepped, stateOf, regOf}
+use Rattle.machine.specs.Exception.{fatalOf, duplexedEntryOf, regularEntryOf, enterOf, raiseOf, codeOf, handlerOf, restoreOf}
+use Rattle.instructions.specs.Execute.{goesOn, pairOf, jumpsOf, plusOf, executeOf}
+use Rattle.stepping.specs.Step.{firstOf, secondOf, nextOf, performOf, runningStepOf, stepInOf, stepOf}
+use Rattle.machine.specs.declared.Cause as cause
+use Rattle.machine.specs.declared.Mode.{Mode}
+use Rattle.machine.specs.declared.Mode.the-variants.{Running, Halted, Fatal}
+use Rattle.machine.specs.declared.Answer.{Answer}
+use Rattle.machine.specs.declared.Answer.the-variants.{Ended, Trapped, TurnedFatal, WasHalted, WasFatal, Refused}
 use Rattle.processor.specs.Run.{Run, afterOf, afterStep, runOf}
 use Rattle.accepted.specs.Steps.{stepsOf, RunSteps, Counts, RunCounted}
 use Rattle.accepted.proofs.Lists.{pick-each}

@@ -8,8 +8,8 @@ use lib.ListN.{length, getD}
 use Rattle.bus.specs.Registers.{widthOf}
 use Rattle.bus.specs.Memory.{Memory}
 use Rattle.bus.specs.declared.Verdict.the-variants.{Accepted}
-use Rattle.processor_core.specs.State.{State}
-use Rattle.processor_core.specs.Step.{stepOf}
+use Rattle.machine.specs.State.{State}
+use Rattle.stepping.specs.Step.{stepOf}
 use Rattle.processor.specs.Acceptance.{acceptanceOf}
 use Rattle.processor.specs.Run.{runOf}
 

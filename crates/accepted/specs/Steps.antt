@@ -5,9 +5,9 @@ use mathlib.Core.Path.{_≡_}
 use Rattle.bus.specs.Memory.{Memory}
 use Rattle.bus.specs.declared.Refusal.{Refusal}
 use Rattle.bus.specs.declared.Verdict.the-variants.{Refused}
-use Rattle.processor_core.specs.State.{State}
-use Rattle.processor_core.specs.Step.{stepOf}
-use Rattle.processor_core.specs.declared.Mode.the-variants.{Fatal}
+use Rattle.machine.specs.State.{State}
+use Rattle.stepping.specs.Step.{stepOf}
+use Rattle.machine.specs.declared.Mode.the-variants.{Fatal}
 use Rattle.processor.specs.Run.{Run, runOf}
 
 -- the state and memory after n steps

@@ -3,9 +3,9 @@ use crate::accesses::VbDrawing;
 use crate::numbers;
 use bus::Drawing;
 use bus::Verdict;
+use machine::Answer;
+use machine::Mode;
 use processor::Processor;
-use processor_core::Answer;
-use processor_core::Mode;
 ghost use mathlib.Core.Path.{_≡_};
 ghost use Prim.Native.Nat.{_≤_};
 ghost use Rattle.bus.specs.Memory.{memoryOf};
@@ -159,8 +159,8 @@ fn answer_code(answer: Answer) -> u32
 {
     match answer {
         Answer::Ended => 0,
-        Answer::Trapped(cause) => processor_core::exception::code(cause),
-        Answer::TurnedFatal(cause) => processor_core::exception::code(cause),
+        Answer::Trapped(cause) => machine::exception::code(cause),
+        Answer::TurnedFatal(cause) => machine::exception::code(cause),
         Answer::WasHalted => 0,
         Answer::WasFatal => 0,
         Answer::Refused(_) => 0,

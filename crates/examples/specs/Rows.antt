@@ -17,9 +17,9 @@ use Rattle.arithmetic.specs.Condition.{conditionOf}
 use Rattle.decode.specs.Opcode.{decodeOf, shortRows, branchRows, longRows}
 use Rattle.decode.specs.declared.Decoded.{Decoded}
 use Rattle.decode.specs.declared.Decoded.the-variants.{Modelled, NotModelled}
-use Rattle.processor_core.specs.State.{State, stateOf}
-use Rattle.processor_core.specs.Execute.{executeOf}
-use Rattle.processor_core.specs.declared.Mode.the-variants.{Running}
+use Rattle.machine.specs.State.{State, stateOf}
+use Rattle.instructions.specs.Execute.{executeOf}
+use Rattle.machine.specs.declared.Mode.the-variants.{Running}
 use Rattle.picture.specs.Signed.{edgeOf}
 use Rattle.picture.specs.Character.{pairOf, characterAddressOf, shadeOf}
 use Rattle.picture.specs.World.{columnsOf, windowLeftOf, columnCoveredOf}

@@ -10,8 +10,8 @@ use Rattle.bus.specs.Memory.{Memory, verdictAt}
 use Rattle.bus.specs.declared.Verdict.{Verdict}
 use Rattle.bus.specs.declared.Verdict.the-variants.{Accepted, Refused}
 use Rattle.bus.specs.declared.Refusal as refusal
-use Rattle.processor_core.specs.State.{State}
-use Rattle.processor_core.specs.System.{pswBitsOf}
+use Rattle.machine.specs.State.{State}
+use Rattle.machine.specs.System.{pswBitsOf}
 
 -- both tests hold
 abbrev pub both : Bool → Bool → Bool

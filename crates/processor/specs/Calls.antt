@@ -5,11 +5,11 @@ use lib.ListN.{replicate}
 use Rattle.bus.specs.Memory.{Memory}
 use Rattle.bus.specs.declared.Verdict.{Verdict}
 use Rattle.bus.specs.declared.Verdict.the-variants as verdict
-use Rattle.processor_core.specs.State.{State, Stepped}
-use Rattle.processor_core.specs.Step.{stepOf}
-use Rattle.processor_core.specs.declared.Mode.the-variants.{Running}
-use Rattle.processor_core.specs.declared.Answer.{Answer}
-use Rattle.processor_core.specs.declared.Answer.the-variants.{Refused}
+use Rattle.machine.specs.State.{State, Stepped}
+use Rattle.stepping.specs.Step.{stepOf}
+use Rattle.machine.specs.declared.Mode.the-variants.{Running}
+use Rattle.machine.specs.declared.Answer.{Answer}
+use Rattle.machine.specs.declared.Answer.the-variants.{Refused}
 use Rattle.processor.specs.Record.{stateIn, processorOf}
 use Rattle.processor.specs.Acceptance.{acceptanceOf}
 use Rattle.processor.specs.Run.{Run, runOf}

@@ -1,8 +1,8 @@
--- The processor's record as the public calls have it, and the state that it stands for (processor_core, State).
+-- The processor's record as the public calls have it, and the state that it stands for (machine, State).
 use Prim.Native.Nat.{ℕ}
 use mathlib.Core.List.{List, [], _∷_}
 use lib.ListN.{getD}
-use Rattle.processor_core.specs.State.{State, stateOf}
+use Rattle.machine.specs.State.{State, stateOf}
 use Rattle.processor.specs.declared.Processor.{Processor}
 
 -- the stored system registers, in the state's order

@@ -7,8 +7,8 @@ mod stretch;
 
 use bus::Drawing;
 use bus::Verdict;
-use processor_core::Answer;
-use processor_core::Mode;
+use machine::Answer;
+use machine::Mode;
 
 // The processor's record.
 pub struct Processor {

@@ -2,14 +2,14 @@
 use crate::After;
 use crate::Finished;
 use bus::Verdict;
-use processor_core::Answer;
-use processor_core::Mode;
-use processor_core::step;
+use machine::Answer;
+use machine::Mode;
+use stepping::step;
 ghost use mathlib.Core.Path.{_≡_};
 ghost use lib.ListN.{length};
 ghost use Rattle.bus.specs.Memory.{memoryOf, Lengths};
-ghost use Rattle.processor_core.specs.State.{stateOf, steppedOf};
-ghost use Rattle.processor_core.specs.Step.{stepOf};
+ghost use Rattle.machine.specs.State.{stateOf, steppedOf};
+ghost use Rattle.stepping.specs.Step.{stepOf};
 ghost use Rattle.processor.specs.Run.{afterOf, runOf, ranBy};
 
 // An ended or trapped instruction counts; anything else stops the run.

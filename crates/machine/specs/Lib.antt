@@ -1,0 +1,4 @@
+pub mod State
+pub mod System
+pub mod PswMask
+pub mod Exception

@@ -1,0 +1,29 @@
+-- `stepping::step::second`: by the length.
+use mathlib.Core.Bool.{Bool, true, false}
+use mathlib.Core.Path.{_≡_, _∙_, ap}
+use borrow.Author.Tests.{not-true, not-false}
+use borrow.Author.Needs.{needs}
+use Rattle.stepping.specs.Step.{secondOf}
+use Rattle.stepping.proofs.step.second.Statement.{statement}
+use Rattle.stepping.proofs.step.second.Tie as tie
+
+returns : tie.Need-returns
+unfolding secondOf
+returns c =
+    let e : c .before .before .before .before .before .args .two ≡ false = not-true (c .before .before .before .before .before .args .two) (c .if1 .taken) in
+    rw e
+
+wrapping-add-u32-requires : tie.Need-wrapping-add-u32-requires
+wrapping-add-u32-requires c κs = search needs
+
+half-requires : tie.Need-half-requires
+half-requires c κs = search needs
+
+returns-2 : tie.Need-returns-2
+unfolding secondOf
+returns-2 c =
+    let e : c .before .before .before .before .before .before .before .args .two ≡ true = not-false (c .before .before .before .before .before .before .before .args .two) (c .before .before .if1 .left) in
+    rw (e, c .half .ensures, c .before .wrapping-add-u32 .ensures)
+
+pub second-spec : {M : Type 1} → statement M
+second-spec = tie.close (tie.spec returns wrapping-add-u32-requires half-requires returns-2)
