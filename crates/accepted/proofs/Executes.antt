@@ -19,7 +19,7 @@ use Rattle.machine.specs.State.{State, regOf, putOf, evenOf}
 use Rattle.machine.specs.System.{systemOf}
 use Rattle.machine.specs.Exception.{raiseOf}
 use Rattle.instructions.specs.Operation.{registerOf, immediateOf, longOf}
-use Rattle.instructions.specs.Access.{loadedOf, inputOf, storedOf}
+use Rattle.instructions.specs.Transfer.{loadedOf, inputOf, storedOf}
 use Rattle.instructions.specs.Execute.{goesOn, givesOf, resultOf, pairOf, dividesOf, jumpsOf, plusOf, returnsOf, executeOf}
 use Rattle.machine.specs.declared.Cause as cause
 use Rattle.accepted.proofs.Lists.{pick-each}

@@ -11,7 +11,7 @@ use Rattle.bus.specs.Memory.{Memory, readPlace, byteOf, loadOf, putPlace, putDr
 use Rattle.bus.proofs.Kept.{Shape, store-byte-shape, store-half-shape, store-word-shape, shape-accepted}
 use Rattle.decode.specs.declared.Width.{Width}
 use Rattle.decode.specs.declared.Width.the-variants.{Byte, Half, Word}
-use Rattle.instructions.specs.Access.{loadedOf, inputOf, storedOf}
+use Rattle.instructions.specs.Transfer.{loadedOf, inputOf, storedOf}
 use Rattle.accepted.specs.Accepted.{Below}
 use Rattle.accepted.proofs.Lists.{set-each, pick-each}
 use Rattle.accepted.proofs.Invariant.{Bytes, Memories}

@@ -19,7 +19,7 @@ use Rattle.machine.specs.State.{State, Stepped, stateOf, steppedOf, regOf, putO
 use Rattle.machine.specs.System.{systemOf, writtenOf}
 use Rattle.machine.specs.Exception.{raiseOf}
 use Rattle.instructions.specs.Operation.{registerOf, immediateOf, longOf}
-use Rattle.instructions.specs.Access.{loadedOf, inputOf, storedOf}
+use Rattle.instructions.specs.Transfer.{loadedOf, inputOf, storedOf}
 use Rattle.machine.specs.declared.Cause as cause
 use Rattle.machine.specs.declared.Mode.the-variants.{Halted}
 use Rattle.machine.specs.declared.Answer.the-variants.{Ended}

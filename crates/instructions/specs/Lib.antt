@@ -1,3 +1,3 @@
 pub mod Operation
-pub mod Access
+pub mod Transfer
 pub mod Execute

@@ -1,6 +1,6 @@
 // Load and Input, Store and Output. Each says what it does by its own case of executeOf, for every value of what it does
 // not touch.
-use crate::access;
+use crate::transfer;
 use decode::Instruction;
 use decode::Width;
 use machine::Control;
@@ -35,7 +35,7 @@ pub fn load(
 {
     let base = get(regs, reg1);
     let address = std::num::wrapping_add_u32(base, disp);
-    let v = access::load(rom, wram, vram, pak, device, width, address);
+    let v = transfer::load(rom, wram, vram, pak, device, width, address);
     put(regs, reg2, v);
     ended(next, psw)
 }
@@ -59,7 +59,7 @@ pub fn input(
 {
     let base = get(regs, reg1);
     let address = std::num::wrapping_add_u32(base, disp);
-    let v = access::input(rom, wram, vram, pak, device, width, address);
+    let v = transfer::input(rom, wram, vram, pak, device, width, address);
     put(regs, reg2, v);
     ended(next, psw)
 }
@@ -84,7 +84,7 @@ pub fn store(
     let base = get(regs, reg1);
     let address = std::num::wrapping_add_u32(base, disp);
     let v = get(regs, reg2);
-    access::store(rom, wram, vram, pak, device, width, address, v);
+    transfer::store(rom, wram, vram, pak, device, width, address, v);
     ended(next, psw)
 }
 
@@ -108,6 +108,6 @@ pub fn output(
     let base = get(regs, reg1);
     let address = std::num::wrapping_add_u32(base, disp);
     let v = get(regs, reg2);
-    access::store(rom, wram, vram, pak, device, width, address, v);
+    transfer::store(rom, wram, vram, pak, device, width, address, v);
     ended(next, psw)
 }

@@ -1,7 +1,7 @@
--- `instructions::access::store`: by the width.
+-- `instructions::transfer::store`: by the width.
 use borrow.Author.Needs.{needs}
-use Rattle.instructions.proofs.access.store.Statement.{statement}
-use Rattle.instructions.proofs.access.store.Tie as tie
+use Rattle.instructions.proofs.transfer.store.Statement.{statement}
+use Rattle.instructions.proofs.transfer.store.Tie as tie
 
 enum-told : tie.Need-enum-told
 enum-told c = search needs

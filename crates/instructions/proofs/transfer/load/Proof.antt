@@ -1,7 +1,7 @@
--- `instructions::access::load`: by the width.
+-- `instructions::transfer::load`: by the width.
 use borrow.Author.Needs.{needs}
-use Rattle.instructions.proofs.access.load.Statement.{statement}
-use Rattle.instructions.proofs.access.load.Tie as tie
+use Rattle.instructions.proofs.transfer.load.Statement.{statement}
+use Rattle.instructions.proofs.transfer.load.Tie as tie
 
 enum-told : tie.Need-enum-told
 enum-told c = search needs

@@ -1,7 +1,7 @@
--- `instructions::access::input`: by the width.
+-- `instructions::transfer::input`: by the width.
 use borrow.Author.Needs.{needs}
-use Rattle.instructions.proofs.access.input.Statement.{statement}
-use Rattle.instructions.proofs.access.input.Tie as tie
+use Rattle.instructions.proofs.transfer.input.Statement.{statement}
+use Rattle.instructions.proofs.transfer.input.Tie as tie
 
 enum-told : tie.Need-enum-told
 enum-told c = search needs

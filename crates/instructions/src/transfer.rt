@@ -3,7 +3,7 @@ use decode::Width;
 ghost use mathlib.Core.Path.{_≡_};
 ghost use lib.ListN.{length};
 ghost use Rattle.bus.specs.Memory.{memoryOf, Lengths};
-ghost use Rattle.instructions.specs.Access.{loadedOf, inputOf, storedOf};
+ghost use Rattle.instructions.specs.Transfer.{loadedOf, inputOf, storedOf};
 
 // LD: sign-extended.
 pub fn load(
