@@ -18,7 +18,8 @@ ghost use Rattle.processor.specs.Record.{stateIn};
 ghost use Rattle.processor.specs.Acceptance.{acceptanceOf};
 ghost use Rattle.processor.specs.Calls.{doneOf, ranOf, checkedStepOf, checkedRunOf, resetOf};
 
-// The lowest of refusals 1 to 5 that a step or a run with these arguments meets.
+// The lowest of refusals 1 to 5 that a step or a run with these arguments meets. It is `pub` for the crate capi, and no
+// call of the library's users.
 pub fn verdict(
     rom: &[u8],
     wram: &[u8],

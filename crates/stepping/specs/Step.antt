@@ -15,11 +15,11 @@ use Rattle.machine.specs.declared.Mode.{Mode}
 use Rattle.machine.specs.declared.Mode.the-variants.{Running, Halted, Fatal}
 use Rattle.machine.specs.declared.Answer.the-variants.{WasHalted, WasFatal, Refused}
 
--- the halfword at an address, PC arithmetic wrapping
+-- the first halfword, at PC
 abbrev pub firstOf : ℕ → Memory → ℕ
 firstOf pc m = loadOf m 2 pc
 
--- the second halfword, read where the first asks for it
+-- the second halfword, read where the first asks for it; PC arithmetic wraps
 unfoldable pub secondOf : Bool → ℕ → Memory → ℕ
 secondOf two pc m = pick two (loadOf m 2 ((pc + 2) % 2 ^ 32)) 0
 
