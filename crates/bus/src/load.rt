@@ -4,11 +4,11 @@ use crate::pak;
 use crate::vip;
 ghost use mathlib.Core.Path.{_≡_};
 ghost use mathlib.Core.List.{List};
-ghost use Prim.Native.Nat.{ℕ, _+_, _-_, _%_, _<_, _≤_};
+ghost use Prim.Native.Nat.{ℕ, _+_, _-_, _/_, _%_, _<_, _≤_};
 ghost use mathlib.Core.Bool.{true};
 ghost use lib.ListN.{length};
 ghost use Rattle.bus.specs.Place.{regionOf};
-ghost use Rattle.bus.specs.Refusal.{pakOk};
+ghost use Rattle.bus.specs.Refusal.{romOk, pakOk};
 ghost use Rattle.bus.specs.Memory.{memoryOf, Lengths, Reads};
 
 // A byte, a halfword and a word that stand neither in WRAM nor in ROM: of the VIP, of pak RAM, or 0.
@@ -69,6 +69,23 @@ fn elsewhere(vram: &[u8], pak: &[u8], regs: &[u16; 13], address: u32, last: u32)
     word_elsewhere(vram, pak, regs, address)
 }
 
+// A halfword of WRAM, and one of ROM, where the address is in its region.
+pub fn wram_half(wram: &[u8], address: u32) -> u32
+    requires { ⌜ (length (now wram) ≡ 65536) × (address / 16777216 % 8 ≡ 5) ⌝ }
+    ensures { λ r. ⌜ ((rom vram pak regs : List ℕ) → Reads (memoryOf rom (now (wram .entry)) vram pak regs) 2 address r) ⌝ }
+{
+    let i = (address % 65536 - address % 2) as usize;
+    word::half_at(wram, i)
+}
+
+pub fn rom_half(rom: &[u8], address: u32) -> u32
+    requires { ⌜ (romOk (length (now rom)) ≡ true) × (address / 16777216 % 8 ≡ 7) ⌝ }
+    ensures { λ r. ⌜ ((wram vram pak regs : List ℕ) → Reads (memoryOf (now (rom .entry)) wram vram pak regs) 2 address r) ⌝ }
+{
+    let i = pak::masked(address - address % 2, rom.len());
+    word::half_at(rom, i)
+}
+
 pub fn byte(
     rom: &[u8],
     wram: &[u8],
@@ -111,15 +128,13 @@ pub fn half(
 {
     let region = address / 16777216 % 8;
     if region == 5 {
-        let i = (address % 65536 - address % 2) as usize;
         return Loaded {
-            value: word::half_at(wram, i),
+            value: wram_half(wram, address),
         };
     }
     if region == 7 {
-        let i = pak::masked(address - address % 2, rom.len());
         return Loaded {
-            value: word::half_at(rom, i),
+            value: rom_half(rom, address),
         };
     }
     Loaded {

@@ -3,9 +3,81 @@
 use crate::pak;
 use crate::vip;
 ghost use mathlib.Core.Path.{_≡_};
-ghost use Prim.Native.Nat.{_%_};
+ghost use mathlib.Core.Bool.{true};
+ghost use mathlib.Core.List.{List};
+ghost use Prim.Native.Nat.{ℕ, _+_, _%_, _^_};
 ghost use lib.ListN.{length};
+ghost use Rattle.bus.specs.Place.{regionOf};
+ghost use Rattle.bus.specs.Refusal.{pakOk};
 ghost use Rattle.bus.specs.Memory.{memoryOf, Lengths, storeByteOf, storeHalfOf, storeWordOf};
+
+// A byte, a halfword and a word that do not go to WRAM: to the VIP, to pak RAM, or nowhere.
+fn byte_elsewhere(vram: &mut [u8], pak: &mut [u8], regs: &mut [u16; 13], address: u32, value: u32)
+    requires { ⌜ (length (now vram) ≡ 262144) × (pakOk (length (now pak)) ≡ true) × (regionOf address ≡ 5 → ⊥) ⌝ }
+    ensures { λ r. ⌜ ((rom wram : List ℕ) → memoryOf rom wram (now (vram .exit)) (now (pak .exit)) (now (regs .exit)) ≡ storeByteOf (memoryOf rom wram (now (vram .entry)) (now (pak .entry)) (now (regs .entry))) address value) ⌝ }
+{
+    let region = address / 16777216 % 8;
+    if region == 0 {
+        vip::put_byte(vram, regs, address, value);
+        return;
+    }
+    if region == 6 {
+        pak::put_byte(pak, address, value);
+    }
+}
+
+fn half_elsewhere(vram: &mut [u8], pak: &mut [u8], regs: &mut [u16; 13], address: u32, value: u32)
+    requires { ⌜ (length (now vram) ≡ 262144) × (pakOk (length (now pak)) ≡ true) × (regionOf address ≡ 5 → ⊥) ⌝ }
+    ensures { λ r. ⌜ ((rom wram : List ℕ) → memoryOf rom wram (now (vram .exit)) (now (pak .exit)) (now (regs .exit)) ≡ storeHalfOf (memoryOf rom wram (now (vram .entry)) (now (pak .entry)) (now (regs .entry))) address value) ⌝ }
+{
+    let region = address / 16777216 % 8;
+    if region == 0 {
+        vip::put_half(vram, regs, address, value);
+        return;
+    }
+    if region == 6 {
+        pak::put_half(pak, address, value);
+    }
+}
+
+fn word_elsewhere(vram: &mut [u8], pak: &mut [u8], regs: &mut [u16; 13], address: u32, value: u32)
+    requires { ⌜ (length (now vram) ≡ 262144) × (pakOk (length (now pak)) ≡ true) × (regionOf address ≡ 5 → ⊥) ⌝ }
+    ensures { λ r. ⌜ ((rom wram : List ℕ) → memoryOf rom wram (now (vram .exit)) (now (pak .exit)) (now (regs .exit)) ≡ storeWordOf (memoryOf rom wram (now (vram .entry)) (now (pak .entry)) (now (regs .entry))) address value) ⌝ }
+{
+    let region = address / 16777216 % 8;
+    if region == 0 {
+        vip::put_word(vram, regs, address, value);
+        return;
+    }
+    if region == 6 {
+        pak::put_word(pak, address, value);
+    }
+}
+
+// One of these, into the bytes `address` to `last`, which wraps. It stands apart from the way to WRAM, which is short.
+fn elsewhere(
+    vram: &mut [u8],
+    pak: &mut [u8],
+    regs: &mut [u16; 13],
+    address: u32,
+    last: u32,
+    value: u32,
+)
+    requires { ⌜ (length (now vram) ≡ 262144) × (pakOk (length (now pak)) ≡ true) × (regionOf address ≡ 5 → ⊥) ⌝ }
+    ensures byte { λ r. ⌜ (last ≡ address → ((rom wram : List ℕ) → memoryOf rom wram (now (vram .exit)) (now (pak .exit)) (now (regs .exit)) ≡ storeByteOf (memoryOf rom wram (now (vram .entry)) (now (pak .entry)) (now (regs .entry))) address value)) ⌝ }
+    ensures half { λ r. ⌜ (last ≡ (address + 1) % 2 ^ 32 → ((rom wram : List ℕ) → memoryOf rom wram (now (vram .exit)) (now (pak .exit)) (now (regs .exit)) ≡ storeHalfOf (memoryOf rom wram (now (vram .entry)) (now (pak .entry)) (now (regs .entry))) address value)) ⌝ }
+    ensures word { λ r. ⌜ (last ≡ (address + 3) % 2 ^ 32 → ((rom wram : List ℕ) → memoryOf rom wram (now (vram .exit)) (now (pak .exit)) (now (regs .exit)) ≡ storeWordOf (memoryOf rom wram (now (vram .entry)) (now (pak .entry)) (now (regs .entry))) address value)) ⌝ }
+{
+    if last == address {
+        byte_elsewhere(vram, pak, regs, address, value);
+        return;
+    }
+    if last == std::num::wrapping_add_u32(address, 1) {
+        half_elsewhere(vram, pak, regs, address, value);
+        return;
+    }
+    word_elsewhere(vram, pak, regs, address, value);
+}
 
 pub fn byte(
     rom: &[u8],
@@ -25,13 +97,7 @@ pub fn byte(
         wram[i] = (value % 256) as u8;
         return;
     }
-    if region == 0 {
-        vip::put_byte(vram, regs, address, value);
-        return;
-    }
-    if region == 6 {
-        pak::put_byte(pak, address, value);
-    }
+    elsewhere(vram, pak, regs, address, address, value);
 }
 
 pub fn half(
@@ -52,13 +118,14 @@ pub fn half(
         word::put_half(wram, i, value);
         return;
     }
-    if region == 0 {
-        vip::put_half(vram, regs, address, value);
-        return;
-    }
-    if region == 6 {
-        pak::put_half(pak, address, value);
-    }
+    elsewhere(
+        vram,
+        pak,
+        regs,
+        address,
+        std::num::wrapping_add_u32(address, 1),
+        value,
+    );
 }
 
 pub fn word(
@@ -79,11 +146,12 @@ pub fn word(
         word::put_word(wram, i, value);
         return;
     }
-    if region == 0 {
-        vip::put_word(vram, regs, address, value);
-        return;
-    }
-    if region == 6 {
-        pak::put_word(pak, address, value);
-    }
+    elsewhere(
+        vram,
+        pak,
+        regs,
+        address,
+        std::num::wrapping_add_u32(address, 3),
+        value,
+    );
 }

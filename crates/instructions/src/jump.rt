@@ -28,6 +28,10 @@ fn target(pc: u32, disp: u32) -> u32
 pub fn bcond(cond: u32, disp: u32, pc: u32, next: u32, psw: u32) -> Control
     ensures { λ r. ⌜ ((regs sys : List ℕ) (m : Memory) → leaves regs sys r m ≡ executeOf (Instruction.Bcond cond disp) next (stateOf regs sys pc psw Mode.Running) m) ⌝ }
 {
+    // BR, which needs no flag
+    if cond == 5 {
+        return ended(target(pc, disp), psw);
+    }
     if !arithmetic::condition::holds(cond, psw) {
         return ended(next, psw);
     }

@@ -7,18 +7,30 @@ use machine::Control;
 use machine::Mode;
 ghost use lib.ListN.{length};
 ghost use mathlib.Core.Path.{_≡_};
-ghost use mathlib.Core.List.{List};
-ghost use Prim.Native.Nat.{ℕ};
-ghost use Rattle.bus.specs.Memory.{Memory, memoryOf, Lengths};
+ghost use Rattle.bus.specs.Memory.{memoryOf, Lengths};
 ghost use Rattle.machine.specs.State.{stateOf, leaves};
 ghost use Rattle.stepping.specs.Step.{firstOf, secondOf, nextOf, stepOf, runningStepOf};
-ghost use Prim.Native.Nat.{_<_};
 
-// The halfword at an address.
-fn half(rom: &[u8], wram: &[u8], vram: &[u8], pak: &[u8], device: &[u16; 13], pc: u32) -> u16
+// The halfword at an address. The memories are lent as a step has them, so that no slice is copied on the short ways.
+fn half(
+    rom: &[u8],
+    wram: &mut [u8],
+    vram: &mut [u8],
+    pak: &mut [u8],
+    device: &mut [u16; 13],
+    pc: u32,
+) -> u16
     requires { ⌜ Lengths (length (now rom)) (length (now wram)) (length (now vram)) (length (now pak)) ⌝ }
-    ensures { λ r. ⌜ r ≡ firstOf pc (memoryOf (now (rom .entry)) (now (wram .entry)) (now (vram .entry)) (now (pak .entry)) (now (device .entry))) ⌝ }
+    ensures value { λ r. ⌜ r ≡ firstOf pc (memoryOf (now (rom .entry)) (now (wram .entry)) (now (vram .entry)) (now (pak .entry)) (now (device .entry))) ⌝ }
+    ensures kept { λ r. ⌜ memoryOf (now (rom .entry)) (now (wram .exit)) (now (vram .exit)) (now (pak .exit)) (now (device .exit)) ≡ memoryOf (now (rom .entry)) (now (wram .entry)) (now (vram .entry)) (now (pak .entry)) (now (device .entry)) ⌝ }
 {
+    let region = pc / 16777216 % 8;
+    if region == 7 {
+        return bus::load::rom_half(rom, pc) as u16;
+    }
+    if region == 5 {
+        return bus::load::wram_half(wram, pc) as u16;
+    }
     let v = bus::load::half(rom, wram, vram, pak, device, pc);
     v.value as u16
 }
@@ -26,15 +38,16 @@ fn half(rom: &[u8], wram: &[u8], vram: &[u8], pak: &[u8], device: &[u16; 13], pc
 // The second halfword, where the first asks for it.
 fn second(
     rom: &[u8],
-    wram: &[u8],
-    vram: &[u8],
-    pak: &[u8],
-    device: &[u16; 13],
+    wram: &mut [u8],
+    vram: &mut [u8],
+    pak: &mut [u8],
+    device: &mut [u16; 13],
     pc: u32,
     two: bool,
 ) -> u16
     requires { ⌜ Lengths (length (now rom)) (length (now wram)) (length (now vram)) (length (now pak)) ⌝ }
-    ensures { λ r. ⌜ r ≡ secondOf two pc (memoryOf (now (rom .entry)) (now (wram .entry)) (now (vram .entry)) (now (pak .entry)) (now (device .entry))) ⌝ }
+    ensures value { λ r. ⌜ r ≡ secondOf two pc (memoryOf (now (rom .entry)) (now (wram .entry)) (now (vram .entry)) (now (pak .entry)) (now (device .entry))) ⌝ }
+    ensures kept { λ r. ⌜ memoryOf (now (rom .entry)) (now (wram .exit)) (now (vram .exit)) (now (pak .exit)) (now (device .exit)) ≡ memoryOf (now (rom .entry)) (now (wram .entry)) (now (vram .entry)) (now (pak .entry)) (now (device .entry)) ⌝ }
 {
     if !two {
         return 0;

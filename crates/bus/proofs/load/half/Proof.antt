@@ -1,65 +1,29 @@
 -- `bus::load::half` meets its contract: by region, a halfword of WRAM, of ROM, or what stands elsewhere.
 -- Assumes nothing.
 use borrow.Author.Needs.{needs}
+use Prim.Native.Nat.{_+_, _-_}
+use mathlib.Core.Path.{_≡_}
+use native.Mathlib.Omega.{arith}
+use denote.Ref.{now}
+use Rattle.bus.proofs.Accesses.{missed}
 use Rattle.bus.proofs.load.half.Statement.{statement}
 use Rattle.bus.proofs.load.half.Tie as tie
-use mathlib.Core.Path.{_≡_, refl, sym, ap, subst, _∙_}
-use Prim.Native.Nat.{ℕ, _+_, _-_, _*_, _/_, _%_, _<_, _≤_}
-use native.Mathlib.Omega.{arith}
-use Rattle.bus.specs.Memory.{Memory, memoryOf}
-use lib.ListN.{length, getD, set}
-use denote.Ref.{now}
-use Rattle.bus.proofs.Power.{rom-power, rom-as-pak, power-pos, power-room}
-use Rattle.bus.specs.Place.{wramAt, romAt, regionOf}
-use Rattle.bus.proofs.Spans.{span-half, wram-span-half, rom-span-half}
-use Rattle.bus.proofs.Accesses.{found, missed}
 
-sub-i : tie.Need-sub-i
-sub-i c = search needs
-
-cast-i : tie.Need-cast-i
-cast-i c = search needs
-
-half-at-requires : tie.Need-half-at-requires
-half-at-requires c κs = search needs
+wram-half-requires : tie.Need-wram-half-requires
+wram-half-requires c κs = search needs
 
 returns : tie.Need-returns
 returns c =
-    let b = c .before .before .before .before .before .before in
-    let a = b .args in
-    let here = found (a .address) 5 (c .before .if1 .taken) in
-    let m = memoryOf (now (a .rom)) (now (a .wram)) (now (a .vram)) (now (a .pak)) (now (a .regs)) in
-    record {
-      means = c .half-at .ensures .0 ∙ sym (span-half m (a .address) wramAt _ (wram-span-half m (a .address) here));
-      fits = c .half-at .ensures .1;
-    }
+    let a = c .before .before .before .before .before .before .args in
+    c .wram-half .ensures (now (a .rom)) (now (a .vram)) (now (a .pak)) (now (a .regs))
 
-sub-masked : tie.Need-sub-masked
-sub-masked c = search needs
-
-masked-requires : tie.Need-masked-requires
-masked-requires c κs =
-    let b = c .before .before .before .before .before .before in
-    let n = length (now (b .args .rom)) in
-    (rom-as-pak n (b .pre .rom-ok), power-pos 2 n (rom-power n (b .pre .rom-ok)))
-
-half-at-requires-2 : tie.Need-half-at-requires-2
-half-at-requires-2 c κs =
-    let b = c .before .before .before .before .before .before .before in
-    let n = length (now (b .args .rom)) in
-    let a = b .args in
-    rw (c .masked .ensures .0) (power-room n (rom-power n (b .pre .rom-ok)) (a .address - a .address % 2) 1 (omega arith))
+rom-half-requires : tie.Need-rom-half-requires
+rom-half-requires c κs = search needs
 
 returns-2 : tie.Need-returns-2
 returns-2 c =
-    let b = c .before .before .before .before .before .before .before .before in
-    let a = b .args in
-    let here = found (a .address) 7 (c .before .before .if2 .taken) in
-    let m = memoryOf (now (a .rom)) (now (a .wram)) (now (a .vram)) (now (a .pak)) (now (a .regs)) in
-    record {
-      means = c .half-at2 .ensures .0 ∙ rw (c .before .masked .ensures .0) (sym (span-half m (a .address) romAt _ (rom-span-half m (a .address) here (b .pre .rom-ok))));
-      fits = c .half-at2 .ensures .1;
-    }
+    let a = c .before .before .before .before .before .before .before .args in
+    c .rom-half .ensures (now (a .wram)) (now (a .vram)) (now (a .pak)) (now (a .regs))
 
 add-elsewhere : tie.Need-add-elsewhere
 add-elsewhere c = search needs
@@ -80,13 +44,9 @@ pub half-spec : {M : Type 1} → statement M
 half-spec =
     tie.close
     (tie.spec
-    sub-i
-    cast-i
-    half-at-requires
+    wram-half-requires
     returns
-    sub-masked
-    masked-requires
-    half-at-requires-2
+    rom-half-requires
     returns-2
     add-elsewhere
     elsewhere-requires

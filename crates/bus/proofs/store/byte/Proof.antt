@@ -1,4 +1,4 @@
--- `bus::store::byte` meets its contract: by region, a byte of WRAM, of the VIP, of pak RAM, or nothing.
+-- `bus::store::byte` meets its contract: by region, a byte of WRAM, or what stands elsewhere.
 -- Assumes nothing.
 use borrow.Author.Needs.{needs}
 use Rattle.bus.proofs.store.byte.Statement.{statement}
@@ -9,7 +9,7 @@ use native.Mathlib.Omega.{arith}
 use Rattle.bus.specs.Memory.{Memory, memoryOf}
 use lib.ListN.{length, getD, set}
 use denote.Ref.{now}
-use Rattle.bus.proofs.Accesses.{found, missed, wram-put, nothing-put-byte}
+use Rattle.bus.proofs.Accesses.{found, missed, wram-put}
 
 cast-i : tie.Need-cast-i
 cast-i c = search needs
@@ -29,37 +29,21 @@ returns c =
     let a = b .args in
     sym (wram-put (memoryOf (now (a .rom)) (now (a .wram)) (now (a .vram)) (now (a .pak)) (now (a .regs))) (a .address) (a .value) (found (a .address) 5 (c .if1 .taken)))
 
-put-byte-requires : tie.Need-put-byte-requires
-put-byte-requires c κs =
+elsewhere-requires : tie.Need-elsewhere-requires
+elsewhere-requires c κs =
     let b = c .before .before .before .before .before .before .before .before in
-    (found (b .args .address) 0 (c .before .before .if2 .taken), b .pre .vram-ok)
+    (b .pre .vram-ok, b .pre .pak-ok, missed (b .args .address) 5 (c .before .before .before .if1 .left))
 
 same-length-2 : tie.Need-same-length-2
 same-length-2 c = search needs
 
-returns-2 : tie.Need-returns-2
-returns-2 c =
-    let a = c .before .before .before .before .before .before .before .before .before .before .before .args in
-    c .before .before .put-byte .ensures (now (a .rom)) (now (a .wram)) (now (a .pak))
-
-put-byte-requires-2 : tie.Need-put-byte-requires-2
-put-byte-requires-2 c κs =
-    let b = c .before .before .before .before .before .before .before .before in
-    (found (b .args .address) 6 (c .before .if3 .taken), b .pre .pak-ok)
-
 same-length-3 : tie.Need-same-length-3
 same-length-3 c = search needs
 
-returns-3 : tie.Need-returns-3
-returns-3 c =
-    let a = c .before .before .before .before .before .before .before .before .before .before .before .args in
-    c .before .before .put-byte2 .ensures (now (a .rom)) (now (a .wram)) (now (a .vram)) (now (a .regs))
-
-returns-4 : tie.Need-returns-4
-returns-4 c =
-    let b = c .before .before .before .before .before .before .before in
-    let a = b .args in
-    sym (nothing-put-byte (memoryOf (now (a .rom)) (now (a .wram)) (now (a .vram)) (now (a .pak)) (now (a .regs))) (a .address) (a .value) (missed (a .address) 5 (c .before .before .if1 .left), (missed (a .address) 0 (c .before .if2 .left), missed (a .address) 6 (c .if3 .left))))
+returns-2 : tie.Need-returns-2
+returns-2 c =
+    let a = c .before .before .before .before .before .before .before .before .before .before .before .before .before .args in
+    c .before .before .before .before .elsewhere .ensures .0 refl (now (a .rom)) (now (a .wram))
 
 pub byte-spec : {M : Type 1} → statement M
 byte-spec =
@@ -70,10 +54,7 @@ byte-spec =
     slice-write-wram
     same-length
     returns
-    put-byte-requires
+    elsewhere-requires
     same-length-2
-    returns-2
-    put-byte-requires-2
     same-length-3
-    returns-3
-    returns-4)
+    returns-2)

@@ -1,0 +1,52 @@
+-- `bus::store::byte_elsewhere` meets its contract: by region, the VIP, pak RAM, or nothing.
+-- Assumes nothing.
+use borrow.Author.Needs.{needs}
+use lib.ListN.{length}
+use denote.Ref.{now}
+use mathlib.Core.Path.{_≡_, sym}
+use Rattle.bus.specs.Memory.{memoryOf}
+use Rattle.bus.proofs.Accesses.{found, missed, nothing-put-byte}
+use Rattle.bus.proofs.store.byte_elsewhere.Statement.{statement}
+use Rattle.bus.proofs.store.byte_elsewhere.Tie as tie
+
+put-byte-requires : tie.Need-put-byte-requires
+put-byte-requires c κs =
+    let b = c .before .before .before .before .before in
+    (found (b .args .address) 0 (c .before .before .if1 .taken), b .pre .0)
+
+same-length : tie.Need-same-length
+same-length c = search needs
+
+returns : tie.Need-returns
+returns c = λ rom wram. c .before .before .put-byte .ensures rom wram (now (c .before .before .before .before .before .before .before .before .args .pak))
+
+put-byte-requires-2 : tie.Need-put-byte-requires-2
+put-byte-requires-2 c κs =
+    let b = c .before .before .before .before .before in
+    (found (b .args .address) 6 (c .before .if2 .taken), b .pre .1)
+
+same-length-2 : tie.Need-same-length-2
+same-length-2 c = search needs
+
+returns-2 : tie.Need-returns-2
+returns-2 c =
+    let a = c .before .before .before .before .before .before .before .before .args in
+    λ rom wram. c .before .before .put-byte2 .ensures rom wram (now (a .vram)) (now (a .regs))
+
+returns-3 : tie.Need-returns-3
+returns-3 c =
+    let b = c .before .before .before .before in
+    let a = b .args in
+    λ rom wram. sym (nothing-put-byte (memoryOf rom wram (now (a .vram)) (now (a .pak)) (now (a .regs))) (a .address) (a .value) (b .pre .2, (missed (a .address) 0 (c .before .if1 .left), missed (a .address) 6 (c .if2 .left))))
+
+pub byte-elsewhere-spec : {M : Type 1} → statement M
+byte-elsewhere-spec =
+    tie.close
+    (tie.spec
+    put-byte-requires
+    same-length
+    returns
+    put-byte-requires-2
+    same-length-2
+    returns-2
+    returns-3)
