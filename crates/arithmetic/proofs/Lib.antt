@@ -1,4 +1,5 @@
 mod Finite
 mod Carry
+mod Overflow
 mod Magnitude
 mod Table

@@ -3,22 +3,15 @@ use crate::Outcome;
 use crate::flag::bit;
 use crate::flag::flags;
 ghost use mathlib.Core.Path.{_≡_};
-ghost use Prim.Native.Nat.{_<_, _^_};
+ghost use Prim.Native.Nat.{_+_, _%_, _<_, _^_};
 ghost use Rattle.arithmetic.specs.Sum.{biasedOf, outsideOf, sumOf, differenceOf, compareOf};
 
-// A word's signed reading, plus 2^31.
-fn biased(a: u32) -> u64
-    ensures { λ r. ⌜ (r ≡ biasedOf a) × (r < 2 ^ 32) ⌝ }
+// 1 where the signed sum of a and b is no signed word: the sign of the wrapped sum is neither's.
+fn overflow(a: u32, b: u32, sum: u32) -> u32
+    requires { ⌜ sum ≡ (a + b) % 2 ^ 32 ⌝ }
+    ensures { λ r. ⌜ (r ≡ outsideOf (biasedOf a + biasedOf b)) × (r < 2) ⌝ }
 {
-    (a as u64 + 2147483648) % 4294967296
-}
-
-// 1 where a signed number, given plus 2^32, is no signed word.
-fn outside(t: u64) -> u32
-    requires { ⌜ t < 2 ^ 33 ⌝ }
-    ensures { λ r. ⌜ (r ≡ outsideOf t) × (r < 2) ⌝ }
-{
-    bit((t + 2147483648) / 4294967296 != 1)
+    ((a ^ sum) & (b ^ sum)) / 2147483648
 }
 
 // reg2 + reg1.
@@ -27,18 +20,18 @@ pub fn add(a: u32, b: u32, psw: u32) -> Outcome
 {
     let value = std::num::wrapping_add_u32(a, b);
     let cy = bit(value < a);
-    let ov = outside(biased(a) + biased(b));
+    let ov = overflow(a, b, value);
     let psw = flags(psw, cy, ov, value);
     Outcome { value, psw }
 }
 
-// reg2 - reg1.
+// reg2 - reg1. It overflows where its sum with reg1, which is reg2, does.
 pub fn sub(a: u32, b: u32, psw: u32) -> Outcome
     ensures { λ r. ⌜ r ≡ differenceOf a b psw ⌝ }
 {
     let value = std::num::wrapping_sub_u32(a, b);
     let cy = bit(a < b);
-    let ov = outside(biased(a) + (4294967296 - biased(b)));
+    let ov = overflow(value, b, a);
     let psw = flags(psw, cy, ov, value);
     Outcome { value, psw }
 }

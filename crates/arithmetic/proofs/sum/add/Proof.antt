@@ -12,17 +12,8 @@ wrapping-add-u32-requires c κs = search needs
 bit-requires : tie.Need-bit-requires
 bit-requires c κs = search needs
 
-biased-requires : tie.Need-biased-requires
-biased-requires c κs = search needs
-
-biased-requires-2 : tie.Need-biased-requires-2
-biased-requires-2 c κs = search needs
-
-add-outside : tie.Need-add-outside
-add-outside c = search needs
-
-outside-requires : tie.Need-outside-requires
-outside-requires c κs = search needs
+overflow-requires : tie.Need-overflow-requires
+overflow-requires c κs = search needs
 
 flags-requires : tie.Need-flags-requires
 flags-requires c κs = search needs
@@ -30,8 +21,8 @@ flags-requires c κs = search needs
 returns : tie.Need-returns
 unfolding sumOf
 returns c =
-    let a = c .before .before .before .before .before .before .args in
-    rw (c .flags .ensures, c .before .outside .ensures .0, c .before .before .biased2 .ensures .0, c .before .before .before .biased .ensures .0, c .before .before .before .before .bit .ensures .0, c .before .before .before .before .before .wrapping-add-u32 .ensures, sum-carry (a .a) (a .b) (omega arith) (omega arith))
+    let a = c .before .before .before .before .args in
+    rw (c .flags .ensures, c .before .overflow .ensures .0, c .before .before .bit .ensures .0, c .before .before .before .wrapping-add-u32 .ensures, sum-carry (a .a) (a .b) (omega arith) (omega arith))
 
 pub add-spec : {M : Type 1} → statement M
 add-spec =
@@ -39,9 +30,6 @@ add-spec =
     (tie.spec
     wrapping-add-u32-requires
     bit-requires
-    biased-requires
-    biased-requires-2
-    add-outside
-    outside-requires
+    overflow-requires
     flags-requires
     returns)
