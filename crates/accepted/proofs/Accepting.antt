@@ -1,12 +1,12 @@
--- `step-accepted`, `run-accepted`, `run-count` and `accepted-means`: the statements of specs/Accepted.
+-- `step-accepted`, `run-accepted`, `run-count`, `accepted-means` and `means-accepted`: the statements of specs/Accepted.
 use Prim.Native.Nat.{ℕ, zero, suc, _+_, _%_, _^_, _≤_, _<_}
 use mathlib.Core.Bool.{Bool}
 use mathlib.Core.Path.{sym, _∙_}
 use native.Mathlib.Omega.{arith}
 use lib.ListN.{length}
 use Rattle.bus.specs.Memory.{Memory, loadOf}
-use Rattle.bus.proofs.Accepted.{accepted-registers}
-use Rattle.bus.proofs.Kept.{register-within}
+use Rattle.bus.proofs.Accepted.{accepted-registers, lengths-accepted}
+use Rattle.bus.proofs.Kept.{register-within, registers-within}
 use Rattle.decode.specs.Format.{twoOf}
 use Rattle.decode.specs.Opcode.{decodeOf}
 use Rattle.decode.specs.declared.Decoded.{Decoded}
@@ -19,9 +19,9 @@ use Rattle.machine.specs.declared.Mode.the-variants.{Running, Halted, Fatal}
 use Rattle.processor.specs.Run.{Run, afterOf, afterStep, runOf}
 use Rattle.processor.specs.declared.After.{After}
 use Rattle.processor.specs.declared.After.the-variants.{Counted, Stopped}
-use Rattle.accepted.specs.Accepted.{Machine, StepAccepted, RunAccepted, RunCount, AcceptedMeans}
+use Rattle.accepted.specs.Accepted.{Machine, StepAccepted, RunAccepted, RunCount, AcceptedMeans, MeansAccepted}
 use Rattle.accepted.proofs.Lists.{pick-each}
-use Rattle.accepted.proofs.Invariant.{Address, Good, told, machine-good, good-machine}
+use Rattle.accepted.proofs.Invariant.{Address, Good, told, tells, machine-good, good-machine}
 use Rattle.accepted.proofs.Stores.{load-half}
 use Rattle.accepted.proofs.Immediates.{Found, decoded-found}
 use Rattle.accepted.proofs.Exceptions.{Left}
@@ -111,4 +111,20 @@ accepted-means s m h =
       fepsw-bits = sym (psw-bits-mask _) ∙ p .fepsw-format;
       sr31-most = p .sr31-most;
       drawing-widths = register-within (m .regs) w;
+    }
+
+-- and the other way
+pub means-accepted : MeansAccepted
+means-accepted s m l p =
+    tells s m (lengths-accepted _ _ _ _ (m .regs) l (registers-within (m .regs) (p .drawing-widths)))
+    record {
+      zero-register = p .zero-register;
+      pc-even = p .pc-even;
+      eipc-even = p .eipc-even;
+      fepc-even = p .fepc-even;
+      sr25-even = p .sr25-even;
+      psw-format = psw-bits-mask _ ∙ p .psw-bits;
+      eipsw-format = psw-bits-mask _ ∙ p .eipsw-bits;
+      fepsw-format = psw-bits-mask _ ∙ p .fepsw-bits;
+      sr31-most = p .sr31-most;
     }

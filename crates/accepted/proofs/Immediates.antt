@@ -3,7 +3,7 @@ use Prim.Native.Nat.{ℕ, _*_, _/_, _%_, _^_, _<_}
 use mathlib.Core.List.{_++_}
 use native.Mathlib.Omega.{arith}
 use lib.Dec.{eqb}
-use Rattle.word.specs.Extend.{extendOf}
+use Rattle.word.specs.Extend.{extendOf, extended-word}
 use Rattle.decode.specs.Format.{lowOf, reg2Of, ldsr, stsr}
 use Rattle.decode.specs.Opcode.{shortRows, branchRows, longRows, decodeOf}
 use Rattle.decode.specs.declared.Instruction.{Instruction}
@@ -11,7 +11,6 @@ use Rattle.decode.specs.declared.Instruction.the-variants.{Register, Mul, Div, 
 use Rattle.decode.specs.declared.Decoded.{Decoded}
 use Rattle.decode.specs.declared.Decoded.the-variants.{Modelled, NotModelled}
 use Rattle.accepted.proofs.Lists.{Each, each-append, each-at, pick-each}
-use Rattle.accepted.proofs.Stores.{extended-word}
 
 -- an instruction whose immediate, where it gives a result, is a word
 abbrev pub Fine : Instruction → Type 0

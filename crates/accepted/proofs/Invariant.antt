@@ -131,7 +131,7 @@ module _ (s : State) (m : Memory) where
       let t = then-accepted (verdictOf m) (unless (stateOk (s .regs) (s .sys) (s .pc) (s .psw)) refusal.the-variants.State Accepted) h in
       (t .0, passed s (unless-passed (stateOk (s .regs) (s .sys) (s .pc) (s .psw)) refusal.the-variants.State Accepted (t .1) .0))
 
-  tells : verdictOf m ≡ Accepted → Passed s → acceptanceOf s m ≡ Accepted
+  pub tells : verdictOf m ≡ Accepted → Passed s → acceptanceOf s m ≡ Accepted
   unfolding acceptanceAt
   tells v p = rw v (rw (passes s p))
 

@@ -1,5 +1,5 @@
--- `run-steps` and `run-counted`: the statements of specs/Steps. Assumes nothing.
-use Prim.Native.Nat.{ℕ, zero, suc}
+-- `run-steps`, `run-counted` and `run-ends`: the statements of specs/Steps. Assumes nothing.
+use Prim.Native.Nat.{ℕ, zero, suc, _<_}
 use mathlib.Core.Path.{_≡_, refl, sym, ap}
 use native.Mathlib.Omega.{arith}
 use lib.Dec.{eqb}
@@ -24,7 +24,9 @@ use Rattle.machine.specs.declared.Mode.the-variants.{Running, Halted, Fatal}
 use Rattle.machine.specs.declared.Answer.{Answer}
 use Rattle.machine.specs.declared.Answer.the-variants.{Ended, Trapped, TurnedFatal, WasHalted, WasFatal, Refused}
 use Rattle.processor.specs.Run.{Run, afterOf, afterStep, runOf}
-use Rattle.accepted.specs.Steps.{stepsOf, RunSteps, Counts, RunCounted}
+use Rattle.processor.specs.declared.After.{After}
+use Rattle.processor.specs.declared.After.the-variants.{Counted, Stopped}
+use Rattle.accepted.specs.Steps.{stepsOf, RunSteps, Counts, RunCounted, stepEndOf, Ends, RunEnds}
 use Rattle.accepted.proofs.Lists.{pick-each}
 
 -- what a step leaves as it was, by its answer
@@ -200,3 +202,31 @@ run-counted (suc budget) s m =
     let t = stepOf s m in
     after-counts s m (t .answer) (runOf budget (t .state) (t .memory)) (step-idle s m)
     (run-counted budget (t .state) (t .memory))
+
+module _ (budget : ℕ) (s : State) (m : Memory) where
+  -- the first step is counted, and the others are those of the rest
+  counted-again : (n : ℕ) → stepEndOf 0 s m ≡ Counted
+      → ((i : ℕ) → i < n → stepEndOf i (stepOf s m .state) (stepOf s m .memory) ≡ Counted)
+      → (i : ℕ) → i < suc n → stepEndOf i s m ≡ Counted
+  unfolding stepsOf
+  counted-again n e k zero h = e
+  counted-again n e k (suc i) h = k i (omega arith)
+
+  after-ends : (a : After) → stepEndOf 0 s m ≡ a → (rest : Run) → Ends budget (stepOf s m .state) (stepOf s m .memory) rest
+      → Ends (suc budget) s m (afterStep a (stepOf s m) rest)
+  unfolding stepsOf
+  after-ends Counted e rest k =
+      record {
+        counted = counted-again (rest .count) e (k .counted);
+        stopped = λ h. k .stopped (omega arith);
+        spent = λ h. k .spent (omega arith);
+      }
+  after-ends (Stopped v) e rest k =
+      record { counted = λ i h. absurd (omega arith); stopped = λ h. e; spent = λ h. absurd (omega arith) }
+
+pub run-ends : RunEnds
+unfolding runOf stepsOf
+run-ends zero s m = record { counted = λ i h. absurd (omega arith); stopped = λ h. absurd (omega arith); spent = λ h. refl }
+run-ends (suc budget) s m =
+    let t = stepOf s m in
+    after-ends budget s m (afterOf (t .answer)) refl (runOf budget (t .state) (t .memory)) (run-ends budget (t .state) (t .memory))

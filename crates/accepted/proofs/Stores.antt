@@ -1,11 +1,10 @@
 -- A store leaves bytes, and a load of bytes fits its size.
-use Prim.Native.Nat.{ℕ, _+_, _-_, _*_, _/_, _%_, _^_, _≤_, _<_}
+use Prim.Native.Nat.{ℕ, _+_, _-_, _*_, _/_, _%_, _^_, _<_}
 use mathlib.Core.List.{List}
 use mathlib.Core.Path.{_∙_}
 use native.Mathlib.Omega.{arith}
-use lib.Dec.{ltb}
 use lib.ListN.{set}
-use Rattle.word.specs.Extend.{extendOf}
+use Rattle.word.specs.Extend.{extended-word}
 use Rattle.bus.specs.Place.{Place, vramAt, wramAt, pakAt, romAt, drawingAt, versionAt, silent, unlisted, unmapped, soundUnit, hardware, nothing, expansion}
 use Rattle.bus.specs.Memory.{Memory, readPlace, byteOf, loadOf, putPlace, putDrawing, placeIn, putByte, putRegister, putHalfword, storeByteOf, storeHalfOf, storeWordOf}
 use Rattle.bus.proofs.Kept.{Shape, store-byte-shape, store-half-shape, store-word-shape, shape-accepted}
@@ -13,7 +12,7 @@ use Rattle.decode.specs.declared.Width.{Width}
 use Rattle.decode.specs.declared.Width.the-variants.{Byte, Half, Word}
 use Rattle.instructions.specs.Transfer.{loadedOf, inputOf, storedOf}
 use Rattle.accepted.specs.Accepted.{Below}
-use Rattle.accepted.proofs.Lists.{set-each, pick-each}
+use Rattle.accepted.proofs.Lists.{set-each}
 use Rattle.accepted.proofs.Invariant.{Bytes, Memories}
 
 set-below : (l : List ℕ) (k v : ℕ) → Below 256 l → v < 256 → Below 256 (set l k v)
@@ -125,14 +124,6 @@ module _ (m : Memory) (h : Bytes m) where
   load-word a =
       let s = a - a % 4 in
       omega (arith, byte-small s, byte-small (s + 1), byte-small (s + 1 + 1), byte-small (s + 1 + 1 + 1))
-
--- sign extension gives a word
-pub extended-word : (half x : ℕ) → half ≤ 2 ^ 31 → x < 2 * half → extendOf half x < 2 ^ 32
-unfolding extendOf
-extended-word half x hh hx =
-    let a : x < 2 ^ 32 = omega arith in
-    let b : x + (2 ^ 32 - 2 * half) < 2 ^ 32 = omega arith in
-    pick-each (λ (y : ℕ). y < 2 ^ 32) (ltb x half) x (x + (2 ^ 32 - 2 * half)) a b
 
 pub loaded-word : (m : Memory) (w : Width) (a : ℕ) → Bytes m → loadedOf m w a < 2 ^ 32
 loaded-word m Byte a h = extended-word 128 (loadOf m 1 a) (omega arith) (load-byte m h a)

@@ -1,12 +1,13 @@
 -- An accepted machine stays accepted (paper 01, "Refusal numbers" 1 to 5), so that a run tests 1 to 5 once: the
--- statements. Their proofs are `step-accepted`, `run-accepted`, `run-count` and `accepted-means` in proofs/Accepting.
+-- statements. Their proofs are `step-accepted`, `run-accepted`, `run-count`, `accepted-means` and `means-accepted` in
+-- proofs/Accepting.
 use Prim.Native.Nat.{ℕ, _%_, _^_, _≤_, _<_}
 use mathlib.Core.List.{List}
 use mathlib.Core.Path.{_≡_}
 use lib.Bits.{bitAnd}
 use lib.ListN.{length, getD}
 use Rattle.bus.specs.Registers.{widthOf}
-use Rattle.bus.specs.Memory.{Memory}
+use Rattle.bus.specs.Memory.{Memory, Lengths}
 use Rattle.bus.specs.declared.Verdict.the-variants.{Accepted}
 use Rattle.machine.specs.State.{State}
 use Rattle.stepping.specs.Step.{stepOf}
@@ -65,3 +66,10 @@ pub record Means (s : State) (m : Memory) : Type 0 where
 
 abbrev pub AcceptedMeans : Type 0
 AcceptedMeans = (s : State) (m : Memory) → Machine s m → Means s m
+
+-- and 5 is given only then: a call whose memories have the right lengths is accepted where all of these hold
+abbrev pub MeansAccepted : Type 0
+MeansAccepted =
+    (s : State) (m : Memory) → Lengths (length (m .rom)) (length (m .wram)) (length (m .vram)) (length (m .pak))
+    → Means s m
+    → acceptanceOf s m ≡ Accepted

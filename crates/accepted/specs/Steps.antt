@@ -1,14 +1,17 @@
 -- What a run comes to in steps (paper 01: "A run does at most the given number of instructions and reports how many
--- ended"): the statements. Their proofs are `run-steps` and `run-counted` in proofs/Runs.
-use Prim.Native.Nat.{ℕ, zero, suc}
+-- ended: the number of the definition's steps up to the budget, a non-running mode, or a refusal"): the statements. Their
+-- proofs are `run-steps`, `run-counted` and `run-ends` in proofs/Runs.
+use Prim.Native.Nat.{ℕ, zero, suc, _<_}
 use mathlib.Core.Path.{_≡_}
 use Rattle.bus.specs.Memory.{Memory}
 use Rattle.bus.specs.declared.Refusal.{Refusal}
-use Rattle.bus.specs.declared.Verdict.the-variants.{Refused}
+use Rattle.bus.specs.declared.Verdict.the-variants.{Accepted, Refused}
 use Rattle.machine.specs.State.{State}
 use Rattle.stepping.specs.Step.{stepOf}
 use Rattle.machine.specs.declared.Mode.the-variants.{Fatal}
-use Rattle.processor.specs.Run.{Run, runOf}
+use Rattle.processor.specs.Run.{Run, afterOf, runOf}
+use Rattle.processor.specs.declared.After.{After}
+use Rattle.processor.specs.declared.After.the-variants.{Counted, Stopped}
 
 -- the state and memory after n steps
 unfoldable pub stepsOf : ℕ → State → Memory → State × Memory
@@ -34,3 +37,16 @@ pub record Counts (r : Run) (after : State × Memory) : Type 0 where
 abbrev pub RunCounted : Type 0
 RunCounted =
     (budget : ℕ) (s : State) (m : Memory) → Counts (runOf budget s m) (stepsOf (runOf budget s m .count) s m)
+
+-- what step number i comes to, the first being 0: counted, or stop and why
+abbrev pub stepEndOf : ℕ → State → Memory → After
+stepEndOf i s m = afterOf (stepOf (stepsOf i s m .0) (stepsOf i s m .1) .answer)
+
+-- which count a run has: each step before it is counted; below the budget the next step stops the run, with its verdict
+pub record Ends (budget : ℕ) (s : State) (m : Memory) (r : Run) : Type 0 where
+  pub counted : (i : ℕ) → i < r .count → stepEndOf i s m ≡ Counted
+  pub stopped : r .count < budget → stepEndOf (r .count) s m ≡ Stopped (r .verdict)
+  pub spent : r .count ≡ budget → r .verdict ≡ Accepted
+
+abbrev pub RunEnds : Type 0
+RunEnds = (budget : ℕ) (s : State) (m : Memory) → Ends budget s m (runOf budget s m)

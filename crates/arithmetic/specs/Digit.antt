@@ -1,5 +1,5 @@
 -- Each bit of AND, OR, XOR and NOT (document 000, "Bitwise"): bit k of the result is made of bit k of the operands. Of two
--- bits the lesser is their and, the greater their or, and `differ` their exclusive or.
+-- bits the lesser is their and, the greater their or, and the last digit of their sum their exclusive or.
 use Prim.Native.Nat.{ℕ, zero, suc, _+_, _-_, _*_, _/_, _%_, _^_, _<_, _≤_, min, max}
 use mathlib.Core.Path.{_≡_, ap, _∙_}
 use native.Mathlib.Nat.{mod-lt, mul-comm, mul-sub, mul-le-mul-right}
@@ -19,13 +19,10 @@ lesser a b = omega arith
 greater : (a b : ℕ) → max (a % 2) (b % 2) < 2
 greater a b = omega arith
 
-differ-small : (x y : ℕ) → x < 2 → y < 2 → differ x y < 2
-differ-small zero y hx hy = hy
-differ-small (suc x) zero hx hy = hx
-differ-small (suc x) (suc y) hx hy = differ-small x y (omega arith) (omega arith)
-
-differs : (a b : ℕ) → differ (a % 2) (b % 2) < 2
-differs a b = differ-small (a % 2) (b % 2) (omega arith) (omega arith)
+differ-sum : (x y : ℕ) → x < 2 → y < 2 → differ x y ≡ (x + y) % 2
+differ-sum zero y hx hy = omega arith
+differ-sum (suc x) zero hx hy = omega arith
+differ-sum (suc x) (suc y) hx hy = differ-sum x y (omega arith) (omega arith) ∙ omega arith
 
 last-and : (a b : ℕ) → bitAnd a b % 2 ≡ min (a % 2) (b % 2)
 last-and a b = ap (λ (n : ℕ). n % 2) (and-step a b) ∙ lowest (bitAnd (a / 2) (b / 2)) (min (a % 2) (b % 2)) (lesser a b)
@@ -33,8 +30,11 @@ last-and a b = ap (λ (n : ℕ). n % 2) (and-step a b) ∙ lowest (bitAnd (a / 2
 last-or : (a b : ℕ) → bitOr a b % 2 ≡ max (a % 2) (b % 2)
 last-or a b = ap (λ (n : ℕ). n % 2) (or-step a b) ∙ lowest (bitOr (a / 2) (b / 2)) (max (a % 2) (b % 2)) (greater a b)
 
-last-xor : (a b : ℕ) → bitXor a b % 2 ≡ differ (a % 2) (b % 2)
-last-xor a b = ap (λ (n : ℕ). n % 2) (xor-step a b) ∙ lowest (bitXor (a / 2) (b / 2)) (differ (a % 2) (b % 2)) (differs a b)
+last-xor : (a b : ℕ) → bitXor a b % 2 ≡ (a % 2 + b % 2) % 2
+last-xor a b =
+    let d : differ (a % 2) (b % 2) ≡ (a % 2 + b % 2) % 2 = differ-sum (a % 2) (b % 2) (omega arith) (omega arith) in
+    ap (λ (n : ℕ). n % 2) (xor-step a b ∙ ap (λ (n : ℕ). bitXor (a / 2) (b / 2) * 2 + n) d)
+    ∙ lowest (bitXor (a / 2) (b / 2)) ((a % 2 + b % 2) % 2) (omega arith)
 
 -- the complement of a number of j + k bits: that of its upper j bits, then that of its lower k
 pub complement : (a j k : ℕ) → a < 2 ^ (j + k)
@@ -75,7 +75,7 @@ unfolding orOf
 or-bit a b psw k = ap (λ (n : ℕ). n % 2) (or-shr a b k) ∙ last-or (a / 2 ^ k) (b / 2 ^ k)
 
 -- XOR
-pub xor-bit : (a b psw k : ℕ) → bitAt k (xorOf a b psw .value) ≡ differ (bitAt k a) (bitAt k b)
+pub xor-bit : (a b psw k : ℕ) → bitAt k (xorOf a b psw .value) ≡ (bitAt k a + bitAt k b) % 2
 unfolding xorOf
 xor-bit a b psw k = ap (λ (n : ℕ). n % 2) (xor-shr a b k) ∙ last-xor (a / 2 ^ k) (b / 2 ^ k)
 

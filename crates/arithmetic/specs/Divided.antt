@@ -17,7 +17,8 @@ use Rattle.arithmetic.specs.Bit.{bitAt, bit-small}
 use Rattle.arithmetic.specs.Truncation.{Truncated}
 use Rattle.arithmetic.specs.Division.{quotient-word, overflows-bit, truncates}
 
-divide-placed : (a b psw : ℕ)
+-- every flag of DIV at its place: CY is kept, S and Z are those of the quotient
+pub divide-placed : (a b psw : ℕ)
     → Placed psw (bitAt 3 psw) (quotientOverflowsOf a b) (quotientOf a b) (divideOf a b psw .psw)
 unfolding divideOf
 divide-placed a b psw =
@@ -46,8 +47,13 @@ pub divide-unsigned : (a b psw : ℕ) → b ≢ 0
 unfolding divideUnsignedOf
 divide-unsigned a b psw n = (sym (div-add-mod' a b), mod-lt a (omega arith))
 
+-- every flag of DIVU at its place: OV is 0, CY is kept, S and Z are those of the quotient
+pub divide-unsigned-placed : (a b psw : ℕ) → a < 2 ^ 32
+    → Placed psw (bitAt 3 psw) 0 (divideUnsignedOf a b psw .reg2) (divideUnsignedOf a b psw .psw)
+unfolding divideUnsignedOf
+divide-unsigned-placed a b psw ha =
+    keep-carry-placed psw 0 (a / b) (omega arith) (omega (arith, div-le-self a b))
+
 -- OV of DIVU is 0
 pub divide-unsigned-overflow : (a b psw : ℕ) → a < 2 ^ 32 → bitAt 2 (divideUnsignedOf a b psw .psw) ≡ 0
-unfolding divideUnsignedOf
-divide-unsigned-overflow a b psw ha =
-    keep-carry-placed psw 0 (a / b) (omega arith) (omega (arith, div-le-self a b)) .at-ov
+divide-unsigned-overflow a b psw ha = divide-unsigned-placed a b psw ha .at-ov

@@ -24,7 +24,8 @@ pub record Words (w : ℕ) (p : Pair) : Type 0 where
   pub low : p .reg2 < 2 ^ 32
   pub both : whole p ≡ w
 
-words-placed : (w psw : ℕ) → w < 2 ^ 64 → Placed psw (bitAt 3 psw) (overflowsOf w) (w % 2 ^ 32) (wordsOf w psw .psw)
+-- every flag of a product at its place: CY is kept, S and Z are those of the low word
+pub words-placed : (w psw : ℕ) → w < 2 ^ 64 → Placed psw (bitAt 3 psw) (overflowsOf w) (w % 2 ^ 32) (wordsOf w psw .psw)
 unfolding wordsOf
 words-placed w psw h = keep-carry-placed psw (overflowsOf w) (w % 2 ^ 32) (overflow-small w h) (omega arith)
 
@@ -33,11 +34,14 @@ pub words-whole : (w psw : ℕ) → w < 2 ^ 64 → Words w (wordsOf w psw)
 unfolding wordsOf
 words-whole w psw h = record { high = omega arith; low = omega arith; both = omega arith }
 
+-- MUL: r30 and reg2 are words, those of the product
+pub multiply-words : (a b psw : ℕ) → Words (productOf a b) (multiplyOf a b psw)
+unfolding multiplyOf
+multiply-words a b psw = words-whole (productOf a b) psw (product-word a b)
+
 -- MUL: the two words, read as one signed number, are the product of the signed readings
 pub multiply-signed : (a b psw : ℕ) → a < 2 ^ 32 → b < 2 ^ 32 → signed64 (whole (multiplyOf a b psw)) ≡ signed a *ℤ signed b
-unfolding multiplyOf
-multiply-signed a b psw ha hb =
-    ap signed64 (words-whole (productOf a b) psw (product-word a b) .both) ∙ product-signed a b ha hb
+multiply-signed a b psw ha hb = ap signed64 (multiply-words a b psw .both) ∙ product-signed a b ha hb
 
 -- OV of MUL: the product of the signed readings is no signed word
 pub multiply-overflow : (a b psw : ℕ) → a < 2 ^ 32 → b < 2 ^ 32
@@ -48,10 +52,10 @@ multiply-overflow a b psw ha hb =
     ∙ product-overflow (productOf a b) (product-word a b)
     ∙ ap (λ (z : ℤ). bitOf (outside z)) (product-signed a b ha hb)
 
--- MULU: the two words make up the product
-pub multiply-unsigned : (a b psw : ℕ) → a < 2 ^ 32 → b < 2 ^ 32 → whole (multiplyUnsignedOf a b psw) ≡ a * b
+-- MULU: r30 and reg2 are words, and make up the product
+pub multiply-unsigned : (a b psw : ℕ) → a < 2 ^ 32 → b < 2 ^ 32 → Words (a * b) (multiplyUnsignedOf a b psw)
 unfolding multiplyUnsignedOf
-multiply-unsigned a b psw ha hb = words-whole (a * b) psw (unsigned-word a b ha hb) .both
+multiply-unsigned a b psw ha hb = words-whole (a * b) psw (unsigned-word a b ha hb)
 
 -- OV of MULU, by the same rule: the 64-bit product, read signed, is no signed word
 pub multiply-unsigned-overflow : (a b psw : ℕ) → a < 2 ^ 32 → b < 2 ^ 32

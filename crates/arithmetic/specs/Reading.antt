@@ -1,12 +1,12 @@
 -- A signed word as the difference of two natural numbers, and as a magnitude with a sign.
-use Prim.Native.Nat.{ℕ, suc, _+_, _-_, _*_, _/_, _%_, _^_, _<_, _≤_}
+use Prim.Native.Nat.{ℕ, zero, suc, _+_, _-_, _*_, _/_, _%_, _^_, _<_, _≤_}
 use mathlib.Core.Path.{_≡_, refl, sym, ap, _∙_}
 use mathlib.Core.Bool.{Bool, true, false}
 use native.Mathlib.Decide.{decLt}
 use native.Mathlib.Omega.{arith}
 use borrow.Author.Tests.{lt-ltb, le-ltb, lt-leb, le-leb, eq-eqb, ne-eqb}
 use lib.Dec.{ltb}
-use lib.IntN.{ℤ, pos, negsuc, negℤ, subℕ}
+use lib.IntN.{ℤ, pos, negsuc, negℤ, natAbs, subℕ}
 use Rattle.word.specs.Choose.{pick}
 use Rattle.word.specs.Extend.{signedOf}
 use Rattle.arithmetic.specs.Flag.{bitOf}
@@ -60,6 +60,18 @@ magnitude-small a =
           let g : 2 ^ 31 ≤ a = omega arith in
           omega (arith, magnitude-high a g)
     ]
+
+-- the magnitude is the absolute value of the signed reading
+pub magnitude-absolute : (a : ℕ) → a < 2 ^ 32 → natAbs (signed a) ≡ magnitudeOf a
+magnitude-absolute a h =
+    elim (decLt a (2 ^ 31)) [
+      | yes l ↦ ap natAbs (signed-low a l)
+      | no l ↦ ap natAbs (signed-high a h (omega arith)) ∙ opposite (magnitudeOf a)
+    ]
+  where
+    opposite : (n : ℕ) → natAbs (negℤ (pos n)) ≡ n
+    opposite zero = refl
+    opposite (suc n) = refl
 
 -- what `outside` tests, at either sign
 pub outside-negative : (n : ℕ) → outside (negsuc n) ≡ ltb (2 ^ 31 - 1) n

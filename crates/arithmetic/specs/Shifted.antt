@@ -9,48 +9,54 @@ use lib.IntN.{pos, _+ℤ_, _*ℤ_}
 use lib.Pow.{pow-pos, shr-le}
 use Rattle.arithmetic.specs.Shift.{leftOutOf, rightOutOf, arithmeticRightOf, shiftLeftOf, shiftRightOf, shiftArithmeticOf}
 use Rattle.arithmetic.specs.Integer.{signed}
-use Rattle.arithmetic.specs.Places.{flags-placed}
+use Rattle.arithmetic.specs.Places.{Placed, flags-placed}
 use Rattle.arithmetic.specs.Bit.{bitAt}
 use Rattle.arithmetic.specs.Floor.{sar-low, sar-high, sar-word, floor-high, floor-low, left-out, right-some, right-zero, right-bit}
 
-left-placed : (a b psw : ℕ) → bitAt 3 (shiftLeftOf a b psw .psw) ≡ leftOutOf a (b % 32)
+-- every flag of SHL at its place: OV is 0, S and Z are those of the result
+pub shift-left-placed : (a b psw : ℕ)
+    → Placed psw (leftOutOf a (b % 32)) 0 (shiftLeftOf a b psw .value) (shiftLeftOf a b psw .psw)
 unfolding shiftLeftOf
-left-placed a b psw = flags-placed psw (leftOutOf a (b % 32)) 0 (a * 2 ^ (b % 32) % 2 ^ 32) (left-bit a (b % 32)) (omega arith) (omega arith) .at-cy
+shift-left-placed a b psw = flags-placed psw (leftOutOf a (b % 32)) 0 (a * 2 ^ (b % 32) % 2 ^ 32) (left-bit a (b % 32)) (omega arith) (omega arith)
   where
     left-bit : (a n : ℕ) → leftOutOf a n < 2
     left-bit a n = unfold leftOutOf in omega arith
 
 -- CY of SHL: bit 32 - n of the operand, and 0 where nothing moves
 pub shift-left-out : (a b psw : ℕ) → bitAt 3 (shiftLeftOf a b psw .psw) ≡ bitAt (32 - b % 32) a
-shift-left-out a b psw = left-placed a b psw ∙ left-out a (b % 32) (omega arith)
+shift-left-out a b psw = shift-left-placed a b psw .at-cy ∙ left-out a (b % 32) (omega arith)
 
 pub shift-left-none : (a b psw : ℕ) → a < 2 ^ 32 → b % 32 ≡ 0 → bitAt 3 (shiftLeftOf a b psw .psw) ≡ 0
 shift-left-none a b psw ha e = shift-left-out a b psw ∙ ap (λ (n : ℕ). bitAt (32 - n) a) e ∙ omega arith
 
-right-placed : (a b psw : ℕ) → a < 2 ^ 32 → bitAt 3 (shiftRightOf a b psw .psw) ≡ rightOutOf a (b % 32)
+-- every flag of SHR at its place
+pub shift-right-placed : (a b psw : ℕ) → a < 2 ^ 32
+    → Placed psw (rightOutOf a (b % 32)) 0 (shiftRightOf a b psw .value) (shiftRightOf a b psw .psw)
 unfolding shiftRightOf
-right-placed a b psw ha =
-    flags-placed psw (rightOutOf a (b % 32)) 0 (a / 2 ^ (b % 32)) (right-bit a (b % 32)) (omega arith) (omega (arith, shr-le a (b % 32))) .at-cy
+shift-right-placed a b psw ha =
+    flags-placed psw (rightOutOf a (b % 32)) 0 (a / 2 ^ (b % 32)) (right-bit a (b % 32)) (omega arith) (omega (arith, shr-le a (b % 32)))
 
 -- CY of SHR: bit n - 1 of the operand, and 0 where nothing moves
 pub shift-right-out : (a b psw : ℕ) → a < 2 ^ 32 → 0 < b % 32 → bitAt 3 (shiftRightOf a b psw .psw) ≡ bitAt (b % 32 - 1) a
-shift-right-out a b psw ha h = right-placed a b psw ha ∙ right-some a (b % 32) h
+shift-right-out a b psw ha h = shift-right-placed a b psw ha .at-cy ∙ right-some a (b % 32) h
 
 pub shift-right-none : (a b psw : ℕ) → a < 2 ^ 32 → b % 32 ≡ 0 → bitAt 3 (shiftRightOf a b psw .psw) ≡ 0
-shift-right-none a b psw ha e = right-placed a b psw ha ∙ right-zero a (b % 32) e
+shift-right-none a b psw ha e = shift-right-placed a b psw ha .at-cy ∙ right-zero a (b % 32) e
 
-sar-placed : (a b psw : ℕ) → a < 2 ^ 32 → bitAt 3 (shiftArithmeticOf a b psw .psw) ≡ rightOutOf a (b % 32)
+-- every flag of SAR at its place
+pub shift-arithmetic-placed : (a b psw : ℕ) → a < 2 ^ 32
+    → Placed psw (rightOutOf a (b % 32)) 0 (shiftArithmeticOf a b psw .value) (shiftArithmeticOf a b psw .psw)
 unfolding shiftArithmeticOf
-sar-placed a b psw ha =
-    flags-placed psw (rightOutOf a (b % 32)) 0 (arithmeticRightOf a (b % 32)) (right-bit a (b % 32)) (omega arith) (sar-word a (b % 32) ha) .at-cy
+shift-arithmetic-placed a b psw ha =
+    flags-placed psw (rightOutOf a (b % 32)) 0 (arithmeticRightOf a (b % 32)) (right-bit a (b % 32)) (omega arith) (sar-word a (b % 32) ha)
 
 -- CY of SAR: as of SHR
 pub shift-arithmetic-out : (a b psw : ℕ) → a < 2 ^ 32 → 0 < b % 32
     → bitAt 3 (shiftArithmeticOf a b psw .psw) ≡ bitAt (b % 32 - 1) a
-shift-arithmetic-out a b psw ha h = sar-placed a b psw ha ∙ right-some a (b % 32) h
+shift-arithmetic-out a b psw ha h = shift-arithmetic-placed a b psw ha .at-cy ∙ right-some a (b % 32) h
 
 pub shift-arithmetic-none : (a b psw : ℕ) → a < 2 ^ 32 → b % 32 ≡ 0 → bitAt 3 (shiftArithmeticOf a b psw .psw) ≡ 0
-shift-arithmetic-none a b psw ha e = sar-placed a b psw ha ∙ right-zero a (b % 32) e
+shift-arithmetic-none a b psw ha e = shift-arithmetic-placed a b psw ha .at-cy ∙ right-zero a (b % 32) e
 
 -- SAR, read signed, is the signed reading divided by 2 ^ n and rounded down: what is left over is not negative and less
 -- than 2 ^ n

@@ -1,11 +1,12 @@
 -- What the drawing calls answer and leave where a test refuses, and where all of them pass. Assumes nothing.
 use Prim.Native.Nat.{ℕ, _<_, _≤_}
-use mathlib.Core.Path.{_≡_}
+use native.Mathlib.Omega.{arith}
+use mathlib.Core.Path.{_≡_, sym, ap, _∙_}
 use mathlib.Core.Bool.{true, false}
 use mathlib.Core.List.{List, []}
-use lib.ListN.{length, take, drop}
+use lib.ListN.{length, take, drop, length-take, length-drop}
 use lib.Dec.{ltb}
-use borrow.Author.Tests.{eq-eqb, ne-eqb, lt-ltb, le-ltb, ltb-true}
+use borrow.Author.Tests.{eq-eqb, ne-eqb, lt-ltb, le-ltb, ltb-true, eqb-true}
 use Rattle.bus.specs.Refusal.{vramOk, unless}
 use Rattle.bus.proofs.Accepted.{unless-passed}
 use Rattle.bus.specs.Registers.{registersOk}
@@ -75,3 +76,17 @@ module _ (v : List ℕ) (c : ℕ) where
       let later = unless (ltb c 2048) Index Accepted in
       let p = unless-passed (vramOk (length v)) VramLength later e in
       ltb-true c 2048 (unless-passed (ltb c 2048) Index Accepted (p .1) .0)
+
+  accepted-length : characterVerdictOf v c ≡ Accepted → length v ≡ 262144
+  unfolding characterVerdictOf vramOk
+  accepted-length e =
+      eqb-true (length v) 262144
+      (unless-passed (vramOk (length v)) VramLength (unless (ltb c 2048) Index Accepted) e .0)
+
+  -- an accepted lookup gives 16 bytes
+  pub character-sixteen : characterVerdictOf v c ≡ Accepted → length (characterOf v c) ≡ 16
+  unfolding characterAddressOf
+  character-sixteen e =
+      let l = accepted-length e in
+      let h = character-small e in
+      ap length (sym (character-accepted l h .1)) ∙ simp (length-take, length-drop) (omega arith)

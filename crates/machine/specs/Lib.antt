@@ -1,4 +1,5 @@
 pub mod State
 pub mod System
 pub mod PswMask
+pub mod AbsoluteValue
 pub mod Exception

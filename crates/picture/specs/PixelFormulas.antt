@@ -1,19 +1,21 @@
 -- What a background world and an object make of a pixel, written over the integers with no bias, as paper 01 gives it, and
--- the two theorems that the definitions of drawing are these.
-use Prim.Native.Nat.{ℕ, _+_, _*_, _/_, _%_, _^_}
+-- the theorems that the definitions of drawing are these: of a world, of an object, and of a whole pixel.
+use Prim.Native.Nat.{ℕ, zero, suc, _+_, _*_, _/_, _%_, _^_}
 use mathlib.Core.Path.{_≡_, refl, ap, subst, _∙_}
 use mathlib.Core.Bool.{Bool, true, false, _&&_, not}
 use mathlib.Core.List.{List}
 use lib.ListN.{getD}
+use lib.Dec.{eqb}
 use lib.IntN.{ℤ, pos, _+ℤ_, _-ℤ_}
 use lib.Signed.{leZ, ltZ}
 use Rattle.word.specs.Choose.{pick}
 use Rattle.word.specs.LittleEndian.{halfAt}
-use Rattle.bus.specs.Registers.{gpltOf, jpltOf}
+use Rattle.bus.specs.Registers.{gpltOf, jpltOf, sptOf, bkcolOf}
 use Rattle.picture.specs.Character.{cellPixelOf}
-use Rattle.picture.specs.World.{overOf, scxOf, scyOf, columnInOf, rowInOf, worldShownOf, worldCoversOf, rowCoveredOf, columnCoveredOf}
+use Rattle.picture.specs.World.{worldOf, endOf, skippedOf, bgmOf, overOf, scxOf, scyOf, columnInOf, rowInOf, worldShownOf, worldCoversOf, rowCoveredOf, columnCoveredOf}
 use Rattle.picture.specs.Background.{mapNumberOf, cellAddressOf, sourceCellAddressOf, sourcePixelOf, backgroundPixelOf}
-use Rattle.picture.specs.Object.{objectShownOf, objectRowOf, objectPixelOf}
+use Rattle.picture.specs.Object.{objectOf, objectShownOf, objectRowOf, objectPixelOf, objectAfterOf, groupCountOf, objectsPixelOf, groupPixelOf}
+use Rattle.picture.specs.Pixel.{counterOf, worldPixelOf, worldsPixelOf, pixelOf}
 use Rattle.picture.specs.Integers.{aboveZero}
 use Rattle.picture.specs.Floors.{modZ}
 use Rattle.picture.specs.Fields.{GY, W}
@@ -122,3 +124,51 @@ unfolding objectPixelOf
 object-formula vram regs w o eye x y before =
     let r : objectRowOf o y ≡ aboveZero (modZ (pos y -ℤ JY o) 256) = ap aboveZero (object-row o y) in
     rw (object-covers w o eye x y, object-offset o eye x, r)
+
+-- the loop over worlds of Pixel and Object over these two: `count` objects from object k downwards
+unfoldable pub objectsPixel : List ℕ → List ℕ → List ℕ → ℕ → ℕ → ℕ → ℕ → ℕ → ℕ → ℕ
+objectsPixel vram regs w eye x y zero k before = before
+objectsPixel vram regs w eye x y (suc count) k before =
+    objectsPixel vram regs w eye x y count (objectAfterOf k) (objectPixel vram regs w (objectOf vram k) eye x y before)
+
+-- a world, at an object counter
+unfoldable pub worldPixel : List ℕ → List ℕ → List ℕ → ℕ → ℕ → ℕ → ℕ → ℕ → ℕ
+worldPixel vram regs w counter eye x y before =
+    pick (skippedOf w) before
+    (pick (eqb (bgmOf w) 3)
+    (objectsPixel vram regs w eye x y (groupCountOf regs counter) (sptOf regs counter) before)
+    (backgroundPixel vram regs w eye x y before))
+
+-- worlds n - 1 to 0
+unfoldable pub worldsPixel : List ℕ → List ℕ → ℕ → ℕ → ℕ → ℕ → ℕ → ℕ → ℕ
+worldsPixel vram regs eye x y zero counter before = before
+worldsPixel vram regs eye x y (suc n) counter before =
+    pick (endOf (worldOf vram n)) before
+    (worldsPixel vram regs eye x y n (counterOf (worldOf vram n) counter)
+    (worldPixel vram regs (worldOf vram n) counter eye x y before))
+
+module _ (vram regs : List ℕ) (eye x y : ℕ) where
+  objects-formula : (w : List ℕ) (count k before : ℕ)
+      → objectsPixelOf vram regs w eye x y count k before ≡ objectsPixel vram regs w eye x y count k before
+  unfolding objectsPixelOf objectsPixel
+  objects-formula w zero k before = refl
+  objects-formula w (suc count) k before =
+      rw (object-formula vram regs w (objectOf vram k) eye x y before) (objects-formula w count (objectAfterOf k) _)
+
+  world-formula : (w : List ℕ) (counter before : ℕ)
+      → worldPixelOf vram regs w counter eye x y before ≡ worldPixel vram regs w counter eye x y before
+  unfolding worldPixelOf worldPixel groupPixelOf
+  world-formula w counter before =
+      rw (background-formula vram regs w eye x y before, objects-formula w (groupCountOf regs counter) (sptOf regs counter) before)
+
+  worlds-formula : (n counter before : ℕ)
+      → worldsPixelOf vram regs eye x y n counter before ≡ worldsPixel vram regs eye x y n counter before
+  unfolding worldsPixelOf worldsPixel
+  worlds-formula zero counter before = refl
+  worlds-formula (suc n) counter before =
+      rw (world-formula (worldOf vram n) counter before, worlds-formula n (counterOf (worldOf vram n) counter) _)
+
+  -- a pixel starts as BKCOL, and worlds 31 to 0 paint over it by paper 01's formulas
+  pub pixel-formula : pixelOf vram regs eye x y ≡ worldsPixel vram regs eye x y 32 3 (bkcolOf regs)
+  unfolding pixelOf
+  pixel-formula = worlds-formula 32 3 (bkcolOf regs)

@@ -1,13 +1,16 @@
 -- Sign extension to 32 bits, as one definition over the width, and the signed reading of a
 -- number at any width. `half` is half the range of the width: 2 ^ (bits - 1), so 16 for five bits and
--- 32,768 for sixteen. `extended-signed` says that extension keeps the signed reading, at every width.
-use Prim.Native.Nat.{ℕ, zero, suc, _+_, _-_, _*_, _<_, _≤_, _^_}
+-- 32,768 for sixteen. `extended-signed` says that extension keeps the signed reading, at every width,
+-- `extended-word` that it gives a word, and `extended-bits` that the bits above the width are copies of the sign.
+use Prim.Native.Nat.{ℕ, zero, suc, _+_, _-_, _*_, _/_, _%_, _<_, _≤_, _^_}
 use native.Mathlib.Decide.{decLt}
+use native.Mathlib.Nat.{div-eq-of-lt}
 use native.Mathlib.Omega.{arith}
 use mathlib.Core.Path.{_≡_, refl, sym, ap, _∙_}
 use borrow.Author.Tests.{lt-ltb, le-ltb}
 use lib.Dec.{ltb}
 use lib.IntN.{ℤ, pos, negsuc, _-ℤ_}
+use lib.Pow.{pow-pos, pow-mono, pow-add, high, high-ones}
 use Rattle.word.specs.Choose.{pick}
 
 -- x, whose sign is at `half`, at 32 bits: the bits above the width are copies of the sign
@@ -17,6 +20,17 @@ extendOf half x = pick (ltb x half) x (x + (2 ^ 32 - 2 * half))
 -- the signed reading of x at the width whose half range is `half`
 unfoldable pub signedOf : ℕ → ℕ → ℤ
 signedOf half x = pick (ltb x half) (pos x) (pos x -ℤ pos (2 * half))
+
+-- sign extension gives a word
+pub extended-word : (half x : ℕ) → half ≤ 2 ^ 31 → x < 2 * half → extendOf half x < 2 ^ 32
+unfolding extendOf
+extended-word half x small h =
+    elim (decLt x half) [
+      | yes p ↦ simp (lt-ltb x half p) (omega arith)
+      | no n ↦
+          let above : half ≤ x = omega arith in
+          simp (le-ltb x half above) (omega arith)
+    ]
 
 -- a difference below zero
 below-zero : (a b : ℕ) → a < b → pos a -ℤ pos b ≡ negsuc (b - suc a)
@@ -45,4 +59,38 @@ extended-signed half x small h =
     elim (decLt x half) [
       | yes p ↦ kept half x small p
       | no n ↦ copied half x small (omega arith) h
+    ]
+
+module _ (k j x : ℕ) (low : k ≤ j) (less : j < 32) where
+  clear : x < 2 ^ k → x / 2 ^ j % 2 ≡ x / 2 ^ k
+  clear h =
+      let wide : x < 2 ^ j = omega (arith, pow-mono low) in
+      ap (λ (n : ℕ). n % 2) (div-eq-of-lt wide) ∙ sym (div-eq-of-lt h)
+
+  set : 2 ^ k ≤ x → x < 2 * 2 ^ k → (x + (2 ^ 32 - 2 * 2 ^ k)) / 2 ^ j % 2 ≡ x / 2 ^ k
+  set above h =
+      let mono : 2 ^ k ≤ 2 ^ j = pow-mono low in
+      let all : 32 - j + j ≡ 32 = omega arith in
+      let ones : 2 ^ 32 - 2 ^ j ≡ (2 ^ (32 - j) - 1) * 2 ^ j = rw all at (high-ones (32 - j) j) in
+      let half : 2 ^ k ≤ 2 ^ 31 = pow-mono {i = k} {j = 31} (omega arith) in
+      let most : 2 ^ j ≤ 2 ^ 32 = pow-mono {i = j} {j = 32} (omega arith) in
+      let parts : x + (2 ^ 32 - 2 * 2 ^ k) ≡ (2 ^ (32 - j) - 1) * 2 ^ j + (x + 2 ^ j - 2 * 2 ^ k) = omega arith in
+      let next : 1 + (31 - j) ≡ 32 - j = omega arith in
+      let even : 2 ^ (32 - j) ≡ 2 * 2 ^ (31 - j) = rw next at (pow-add 2 1 (31 - j)) in
+      let odd : (2 ^ (32 - j) - 1) % 2 ≡ 1 = omega (arith, pow-pos (31 - j)) in
+      let sign : x ≡ 1 * 2 ^ k + (x - 2 ^ k) = omega arith in
+      ap (λ (n : ℕ). n / 2 ^ j % 2) parts
+      ∙ ap (λ (n : ℕ). n % 2) (high (2 ^ (32 - j) - 1) j (omega arith))
+      ∙ odd
+      ∙ sym (ap (λ (n : ℕ). n / 2 ^ k) sign ∙ high 1 k (omega arith))
+
+-- each bit from the sign on is a copy of the sign, which is bit k of a number of k + 1 bits
+pub extended-bits : (k j x : ℕ) → x < 2 * 2 ^ k → k ≤ j → j < 32 → extendOf (2 ^ k) x / 2 ^ j % 2 ≡ x / 2 ^ k
+unfolding extendOf
+extended-bits k j x h low less =
+    elim (decLt x (2 ^ k)) [
+      | yes p ↦ simp (lt-ltb x (2 ^ k) p) (clear k j x low less p)
+      | no n ↦
+          let above : 2 ^ k ≤ x = omega arith in
+          simp (le-ltb x (2 ^ k) above) (set k j x low less above h)
     ]
