@@ -72,7 +72,7 @@ fn elsewhere(vram: &[u8], pak: &[u8], regs: &[u16; 13], address: u32, last: u32)
 // A halfword of WRAM, and one of ROM, where the address is in its region.
 pub fn wram_half(wram: &[u8], address: u32) -> u32
     requires { ⌜ (length (now wram) ≡ 65536) × (address / 16777216 % 8 ≡ 5) ⌝ }
-    ensures { λ r. ⌜ ((rom vram pak regs : List ℕ) → Reads (memoryOf rom (now (wram .entry)) vram pak regs) 2 address r) ⌝ }
+    ensures { λ r. ⌜ ((rom vram pak regs : List ℕ) → Reads (memoryOf rom (now (wram .entry)) vram pak regs) 2 address r) × (r < 65536) ⌝ }
 {
     let i = (address % 65536 - address % 2) as usize;
     word::half_at(wram, i)
@@ -80,7 +80,7 @@ pub fn wram_half(wram: &[u8], address: u32) -> u32
 
 pub fn rom_half(rom: &[u8], address: u32) -> u32
     requires { ⌜ (romOk (length (now rom)) ≡ true) × (address / 16777216 % 8 ≡ 7) ⌝ }
-    ensures { λ r. ⌜ ((wram vram pak regs : List ℕ) → Reads (memoryOf (now (rom .entry)) wram vram pak regs) 2 address r) ⌝ }
+    ensures { λ r. ⌜ ((wram vram pak regs : List ℕ) → Reads (memoryOf (now (rom .entry)) wram vram pak regs) 2 address r) × (r < 65536) ⌝ }
 {
     let i = pak::masked(address - address % 2, rom.len());
     word::half_at(rom, i)

@@ -15,7 +15,7 @@ wram-half-requires c κs = search needs
 returns : tie.Need-returns
 returns c =
     let a = c .before .before .before .before .before .before .args in
-    c .wram-half .ensures (now (a .rom)) (now (a .vram)) (now (a .pak)) (now (a .regs))
+    c .wram-half .ensures .0 (now (a .rom)) (now (a .vram)) (now (a .pak)) (now (a .regs))
 
 rom-half-requires : tie.Need-rom-half-requires
 rom-half-requires c κs = search needs
@@ -23,7 +23,7 @@ rom-half-requires c κs = search needs
 returns-2 : tie.Need-returns-2
 returns-2 c =
     let a = c .before .before .before .before .before .before .before .args in
-    c .rom-half .ensures (now (a .wram)) (now (a .vram)) (now (a .pak)) (now (a .regs))
+    c .rom-half .ensures .0 (now (a .wram)) (now (a .vram)) (now (a .pak)) (now (a .regs))
 
 add-elsewhere : tie.Need-add-elsewhere
 add-elsewhere c = search needs

@@ -35,11 +35,14 @@ returns c =
     let b = c .before .before .before in
     let a = b .args in
     let here = found (a .address) 7 (b .pre .1) in
-    λ wram vram pak regs.
-    record {
-      means = c .half-at .ensures .0 ∙ rw (c .before .masked .ensures .0) (sym (span-half (memoryOf (now (a .rom)) wram vram pak regs) (a .address) romAt _ (rom-span-half (memoryOf (now (a .rom)) wram vram pak regs) (a .address) here (b .pre .0))));
-      fits = c .half-at .ensures .1;
-    }
+    let fits = c .half-at .ensures .1 in (
+      λ wram vram pak regs.
+          record {
+            means = c .half-at .ensures .0 ∙ rw (c .before .masked .ensures .0) (sym (span-half (memoryOf (now (a .rom)) wram vram pak regs) (a .address) romAt _ (rom-span-half (memoryOf (now (a .rom)) wram vram pak regs) (a .address) here (b .pre .0))));
+            fits = fits;
+          },
+      fits,
+    )
 
 pub rom-half-spec : {M : Type 1} → statement M
 rom-half-spec = tie.close (tie.spec sub-masked masked-requires half-at-requires returns)

@@ -25,11 +25,14 @@ returns c =
     let b = c .before .before in
     let a = b .args in
     let here = found (a .address) 5 (b .pre .1) in
-    λ rom vram pak regs.
-    record {
-      means = c .half-at .ensures .0 ∙ sym (span-half (memoryOf rom (now (a .wram)) vram pak regs) (a .address) wramAt _ (wram-span-half (memoryOf rom (now (a .wram)) vram pak regs) (a .address) here));
-      fits = c .half-at .ensures .1;
-    }
+    let fits = c .half-at .ensures .1 in (
+      λ rom vram pak regs.
+          record {
+            means = c .half-at .ensures .0 ∙ sym (span-half (memoryOf rom (now (a .wram)) vram pak regs) (a .address) wramAt _ (wram-span-half (memoryOf rom (now (a .wram)) vram pak regs) (a .address) here));
+            fits = fits;
+          },
+      fits,
+    )
 
 pub wram-half-spec : {M : Type 1} → statement M
 wram-half-spec = tie.close (tie.spec sub-i cast-i half-at-requires returns)

@@ -1,5 +1,6 @@
 -- `stepping::step::running`: what was fetched is what the definition fetches; then the instruction's own case.
 use borrow.Author.Needs.{needs}
+use mathlib.Core.Path.{_≡_, sym, _∙_}
 use Rattle.stepping.specs.Step.{runningStepOf}
 use Rattle.stepping.proofs.step.running.Statement.{statement}
 use Rattle.stepping.proofs.step.running.Tie as tie
@@ -11,7 +12,10 @@ two-requires : tie.Need-two-requires
 two-requires c κs = search needs
 
 second-requires : tie.Need-second-requires
-second-requires c κs = search needs
+second-requires c κs =
+    let pre = c .before .before .before .before .before .before .before .before .before .before .before .before .before .before .before .before .before .before .before .before .pre in
+    let k = c .before .before .before .before .before .before .before .before .before .before .before .half .kept .1 in
+    record { rom-ok = pre .rom-ok; wram-ok = k .0 ∙ pre .wram-ok; vram-ok = k .1 .0 ∙ pre .vram-ok; pak-ok = rw (k .1 .1 .0) (pre .pak-ok) }
 
 following-requires : tie.Need-following-requires
 following-requires c κs = search needs
@@ -23,24 +27,30 @@ enum-known-i : tie.Need-enum-known-i
 enum-known-i c = search needs
 
 execute-requires : tie.Need-execute-requires
-execute-requires c κs = search needs
+execute-requires c κs =
+    let pre = c .before .before .before .before .before .before .before .before .before .before .before .before .before .before .before .before .before .before .before .before .before .before .before .before .before .before .before .before .before .before .before .before .before .before .before .before .before .before .pre in
+    let k = c .before .before .before .before .before .before .before .before .before .before .before .before .before .before .before .before .before .before .before .before .before .before .before .before .before .before .before .before .before .half .kept .1 in
+    let l = c .before .before .before .before .before .before .before .before .before .before .before .before .before .before .before .before .before .second .kept .1 in
+    record { rom-ok = pre .rom-ok; wram-ok = l .0 ∙ k .0 ∙ pre .wram-ok; vram-ok = l .1 .0 ∙ k .1 .0 ∙ pre .vram-ok; pak-ok = rw (l .1 .1 .0, k .1 .1 .0) (pre .pak-ok) }
 
 enum-told : tie.Need-enum-told
 enum-told c = search needs
 
 same-length : tie.Need-same-length
-same-length c = search needs
+same-length c = c .before .before .before .before .before .before .execute .kept .1 .0 ∙ c .before .before .before .before .before .before .before .before .before .before .before .before .before .before .before .before .before .before .before .before .before .before .before .before .second .kept .1 .0 ∙ c .before .before .before .before .before .before .before .before .before .before .before .before .before .before .before .before .before .before .before .before .before .before .before .before .before .before .before .before .before .before .before .before .before .before .before .before .half .kept .1 .0
 
 same-length-2 : tie.Need-same-length-2
-same-length-2 c = search needs
+same-length-2 c = c .before .before .before .before .before .before .execute .kept .1 .1 .0 ∙ c .before .before .before .before .before .before .before .before .before .before .before .before .before .before .before .before .before .before .before .before .before .before .before .before .second .kept .1 .1 .0 ∙ c .before .before .before .before .before .before .before .before .before .before .before .before .before .before .before .before .before .before .before .before .before .before .before .before .before .before .before .before .before .before .before .before .before .before .before .before .half .kept .1 .1 .0
 
 same-length-3 : tie.Need-same-length-3
-same-length-3 c = search needs
+same-length-3 c = c .before .before .before .before .before .before .execute .kept .1 .1 .1 .0 ∙ c .before .before .before .before .before .before .before .before .before .before .before .before .before .before .before .before .before .before .before .before .before .before .before .before .second .kept .1 .1 .1 .0 ∙ c .before .before .before .before .before .before .before .before .before .before .before .before .before .before .before .before .before .before .before .before .before .before .before .before .before .before .before .before .before .before .before .before .before .before .before .before .half .kept .1 .1 .1 .0
 
 returns : tie.Need-returns
 unfolding runningStepOf
 returns c =
-    rw (← c .before .before .before .before .before .before .before .before .before .before .before .before .before .before .before .before .before .before .before .before .before .before .before .before .half .ensures, ← c .before .before .before .before .before .before .before .before .before .before .before .before .before .before .before .before .before .before .before .before .before .before .before .two .ensures, ← c .before .before .before .before .before .before .before .before .before .before .before .before .before .before .before .before .before .before .second .ensures, ← c .before .before .before .before .before .before .before .before .before .before .before .before .before .before .before .before .before .following .ensures, ← c .before .before .before .before .before .before .before .before .before .before .before .before .before .before .before .before .decode .ensures, c .before .before .before .before .before .before .before .before .before .before .before .before .before .before .i .given .1) (c .before .before .before .before .before .before .execute .ensures)
+    let first = c .before .before .before .before .before .before .before .before .before .before .before .before .before .before .before .before .before .before .before .before .before .before .before .before .before .before .before .before .before .before .before .before .before .before .before .before .half .ensures in
+    let second = c .before .before .before .before .before .before .before .before .before .before .before .before .before .before .before .before .before .before .before .before .before .before .before .before .second .ensures in
+    rw (← first .0, ← c .before .before .before .before .before .before .before .before .before .before .before .before .before .before .before .before .before .before .before .before .before .before .before .before .before .before .before .before .before .two .ensures, ← first .1, ← second .0, ← second .1, ← c .before .before .before .before .before .before .before .before .before .before .before .before .before .before .before .before .before .following .ensures, ← c .before .before .before .before .before .before .before .before .before .before .before .before .before .before .before .before .decode .ensures, c .before .before .before .before .before .before .before .before .before .before .before .before .before .before .i .given .1) (c .before .before .before .before .before .before .execute .ensures)
 
 same-length-4 : tie.Need-same-length-4
 same-length-4 c = search needs
@@ -54,7 +64,9 @@ same-length-6 c = search needs
 returns-2 : tie.Need-returns-2
 unfolding runningStepOf
 returns-2 c =
-    rw (← c .before .before .before .before .before .before .before .before .before .before .half .ensures, ← c .before .before .before .before .before .before .before .before .before .two .ensures, ← c .before .before .before .before .second .ensures, ← c .before .before .before .following .ensures, ← c .before .before .decode .ensures, c .enum-told .given .1)
+    let first = c .before .before .before .before .before .before .before .before .before .before .before .before .before .before .before .before .before .before .before .before .before .before .half .ensures in
+    let second = c .before .before .before .before .before .before .before .before .before .before .second .ensures in
+    rw (← first .0, ← c .before .before .before .before .before .before .before .before .before .before .before .before .before .before .before .two .ensures, ← first .1, ← second .0, ← second .1, ← c .before .before .before .following .ensures, ← c .before .before .decode .ensures, c .enum-told .given .1)
 
 pub running-spec : {M : Type 1} → statement M
 running-spec =
