@@ -1,6 +1,5 @@
 -- What the bus's public calls answer, for every input: the refusal, or the access done. A refusal changes nothing.
 use Prim.Native.Nat.{ℕ}
-use Rattle.bus.specs.declared.Loaded.{Loaded}
 use Rattle.bus.specs.declared.Verdict.{Verdict}
 use Rattle.bus.specs.declared.Verdict.the-variants as verdict
 use Rattle.bus.specs.Memory.{Memory, verdictOf, loadOf}

@@ -1,6 +1,6 @@
 -- The conditions after CMP (document 000, "Conditional Branch"): of reg2 = a and reg1 = b, each comparison that a
 -- condition is named after, of the words as they stand and of their signed readings.
-use Prim.Native.Nat.{ℕ, _^_, _<_, _≤_}
+use Prim.Native.Nat.{ℕ, _^_, _<_}
 use mathlib.Core.Path.{_≡_, sym, ap, _∙_}
 use mathlib.Core.Bool.{Bool, not}
 use lib.Dec.{ltb, leb, eqb}

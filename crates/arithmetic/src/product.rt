@@ -5,7 +5,7 @@ use crate::flag::keep_carry;
 ghost use mathlib.Core.Path.{_≡_};
 ghost use Prim.Native.Nat.{_<_, _≤_, _^_};
 ghost use Rattle.arithmetic.specs.Sign.{magnitudeOf};
-ghost use Rattle.arithmetic.specs.Product.{extend64Of, overflowsOf, wordsOf, negative64Of, multiplyOf, multiplyUnsignedOf};
+ghost use Rattle.arithmetic.specs.Product.{extend64Of, wordsOf, negative64Of, multiplyOf, multiplyUnsignedOf};
 
 // The signed word x at 64 bits.
 fn extend64(x: u64) -> u64

@@ -1,8 +1,8 @@
 -- The lent memories with the drawing registers, and what loads and stores mean: paper 01, "Addresses".
 -- A load is the little-endian number of its bytes, at every size. A store is a composition of steps
 -- that are total: put a byte (nothing at a register), put a register (nothing elsewhere).
-use Prim.Native.Nat.{ℕ, zero, suc, _+_, _-_, _*_, _/_, _%_, _^_, _<_}
-use mathlib.Core.Bool.{Bool, true, false}
+use Prim.Native.Nat.{ℕ, zero, suc, _+_, _-_, _/_, _%_, _^_, _<_}
+use mathlib.Core.Bool.{true}
 use mathlib.Core.List.{List, [], _∷_}
 use mathlib.Core.Path.{_≡_}
 use lib.ListN.{getD, set, length}

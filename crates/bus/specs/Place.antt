@@ -2,8 +2,8 @@
 -- later requests can speak of it: a register of 000 that the model keeps silent, an address of the register
 -- range where 000 lists none, and the ranges of the VIP with nothing behind them.
 use Prim.Native.Nat.{ℕ, _+_, _-_, _*_, _/_, _%_, _^_}
-use mathlib.Core.List.{List, [], _∷_}
-use lib.ListN.{getD, length}
+use mathlib.Core.List.{[], _∷_}
+use lib.ListN.{getD}
 use lib.Dec.{ltb, eqb}
 use Rattle.word.specs.Choose.{pick, member, indexOf}
 use Rattle.bus.specs.Registers.{drawingAddresses, silentAddresses, versionAddress}

@@ -6,7 +6,7 @@ ghost use Prim.Native.Nat.{ℕ, _%_, _<_, _*_};
 ghost use lib.ListN.{length};
 ghost use Rattle.bus.specs.Place.{regionOf};
 ghost use Rattle.bus.specs.Refusal.{pakOk};
-ghost use Rattle.bus.specs.Memory.{memoryOf, Reads, putByte, storeByteOf, storeHalfOf, storeWordOf};
+ghost use Rattle.bus.specs.Memory.{memoryOf, Reads, storeByteOf, storeHalfOf, storeWordOf};
 
 // An address mod the length of a memory, which is a power of two.
 pub fn masked(address: u32, length: usize) -> usize

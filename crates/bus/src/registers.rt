@@ -1,6 +1,6 @@
 // The drawing registers among the VIP's addresses.
 ghost use mathlib.Core.Path.{_≡_};
-ghost use Prim.Native.Nat.{_<_, _≤_, _+_, _-_, _%_};
+ghost use Prim.Native.Nat.{_<_, _+_, _-_, _%_};
 ghost use Rattle.word.specs.Choose.{indexOf};
 ghost use Rattle.bus.specs.Registers.{drawingAddresses, keptOf};
 

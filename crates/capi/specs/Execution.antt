@@ -1,7 +1,6 @@
 -- What the C boundary gives for a step and a run (include/vb.h): paper 01's refusal number or VB_MISUSE, the number of
 -- the answer and the code of its cause, and the records with the mode as a number.
 use Prim.Native.Nat.{ℕ}
-use mathlib.Core.Bool.{Bool}
 use lib.Dec.{ltb, eqb}
 use Rattle.word.specs.Choose.{pick}
 use Rattle.bus.specs.Refusal.{numberOf, verdictNumber}

@@ -7,7 +7,6 @@ use machine::Answer;
 use machine::Mode;
 use processor::Processor;
 ghost use mathlib.Core.Path.{_≡_};
-ghost use Prim.Native.Nat.{_≤_};
 ghost use Rattle.bus.specs.Memory.{memoryOf};
 ghost use Rattle.processor.specs.Calls.{resetOf};
 ghost use Rattle.capi.specs.Execution.{answerRefusal, answerNumber, answerCode, modeNumber, modeIn, processorIn, processorOut, misuseNumber, stepGives, stepAt, runGives, runAt};

@@ -11,7 +11,6 @@ use Rattle.decode.specs.declared.ImmediateOperation.{ImmediateOperation}
 use Rattle.decode.specs.declared.LongOperation.{LongOperation}
 use Rattle.decode.specs.declared.LongOperation.the-variants.{Movhi}
 use Rattle.decode.specs.declared.Width.{Width}
-use Rattle.decode.specs.declared.Instruction.{Instruction}
 use Rattle.decode.specs.declared.Instruction.the-variants.{Register, Immediate, Setf, Ldsr, Stsr, Bcond, Jr, Jal, Long, Load, In, Store, Out}
 use Rattle.decode.specs.declared.Decoded.{Decoded}
 use Rattle.decode.specs.declared.Decoded.the-variants.{Modelled, NotModelled}

@@ -1,7 +1,7 @@
 -- Paper 01, "Checks worth a day each": its table of worked examples. A row is a question and the answer that
 -- the paper prints; `answer` answers a question by the definitions that the contracts name; `rows-hold` is the one
 -- statement about the list.
-use Prim.Native.Nat.{ℕ, zero, suc, _+_, _-_, _*_, _/_, _%_, _^_}
+use Prim.Native.Nat.{ℕ, zero, suc, _+_, _-_, _*_, _^_}
 use mathlib.Core.List.{List, [], _∷_, map}
 use mathlib.Core.Path.{_≡_, refl}
 use lib.ListN.{replicate}

@@ -1,7 +1,6 @@
 -- What each instruction does to the processor and the memory (document 000, "Instruction Set"; paper 01,
 -- "Instructions"), in the groups of 000. `next` is the address of the following instruction.
 use Prim.Native.Nat.{ℕ, _+_, _%_, _^_}
-use mathlib.Core.Bool.{Bool}
 use mathlib.Core.List.{List}
 use lib.Dec.{eqb}
 use lib.ListN.{getD}

@@ -12,7 +12,7 @@ use machine::register::put;
 use machine::system;
 ghost use mathlib.Core.Path.{_≡_};
 ghost use mathlib.Core.List.{List};
-ghost use Prim.Native.Nat.{ℕ, _+_, _%_, _^_};
+ghost use Prim.Native.Nat.{ℕ, _%_};
 ghost use Rattle.bus.specs.Memory.{Memory};
 ghost use Rattle.machine.specs.State.{stateOf, leaves, evenOf};
 ghost use Rattle.instructions.specs.Execute.{executeOf, plusOf};

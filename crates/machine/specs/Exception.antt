@@ -1,8 +1,6 @@
 -- Exceptions (document 000, "Exception Processing", "List of Exceptions"; paper 01): the code, handler and restore PC
 -- of each cause, and the one entry that all of them take.
 use Prim.Native.Nat.{ℕ, _+_, _*_, _/_, _%_}
-use mathlib.Core.Bool.{Bool}
-use mathlib.Core.List.{List}
 use lib.Dec.{ltb, eqb}
 use lib.ListN.{getD, set}
 use Rattle.word.specs.Choose.{pick}
@@ -24,7 +22,7 @@ codeOf (Trap vector) = 0xFFA0 + vector % 32
 abbrev pub handlerOf : Cause → ℕ
 handlerOf ZeroDivision = 0xFFFFFF80
 handlerOf Illegal = 0xFFFFFF90
-handlerOf (Trap vector) = pick (ltb vector 16) 0xFFFFFFA0 0xFFFFFFB0
+handlerOf (Trap vector) = pick (ltb (vector % 32) 16) 0xFFFFFFA0 0xFFFFFFB0
 
 -- the restore PC, of an instruction at pc whose next is at `next`
 abbrev pub restoreOf : Cause → ℕ → ℕ → ℕ

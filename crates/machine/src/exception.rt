@@ -35,7 +35,7 @@ fn handler(cause: Cause) -> u32
 fn trap_handler(vector: u32) -> u32
     ensures { λ r. ⌜ r ≡ handlerOf (Cause.Trap vector) ⌝ }
 {
-    if vector < 16 {
+    if vector % 32 < 16 {
         return 0xFFFFFFA0;
     }
     0xFFFFFFB0

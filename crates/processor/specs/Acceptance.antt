@@ -1,6 +1,6 @@
 -- Refusals 1 to 5 of a step and a run (paper 01, "Refusal numbers"): those of the bus, then what 5 says of the processor.
 use Prim.Native.Nat.{ℕ, _%_, _^_}
-use mathlib.Core.Bool.{Bool, true, false}
+use mathlib.Core.Bool.{Bool, false}
 use mathlib.Core.List.{List}
 use lib.Dec.{eqb, leb}
 use lib.ListN.{getD, length}

@@ -1,18 +1,16 @@
 -- What the public calls answer, for every input: refusals 1 to 5 first, which change nothing; then the step or the run.
 use Prim.Native.Nat.{ℕ}
-use mathlib.Core.List.{List, [], _∷_}
 use lib.ListN.{replicate}
 use Rattle.bus.specs.Memory.{Memory}
 use Rattle.bus.specs.declared.Verdict.{Verdict}
 use Rattle.bus.specs.declared.Verdict.the-variants as verdict
-use Rattle.machine.specs.State.{State, Stepped}
 use Rattle.stepping.specs.Step.{stepOf}
 use Rattle.machine.specs.declared.Mode.the-variants.{Running}
 use Rattle.machine.specs.declared.Answer.{Answer}
 use Rattle.machine.specs.declared.Answer.the-variants.{Refused}
 use Rattle.processor.specs.Record.{stateIn, processorOf}
 use Rattle.processor.specs.Acceptance.{acceptanceOf}
-use Rattle.processor.specs.Run.{Run, runOf}
+use Rattle.processor.specs.Run.{runOf}
 use Rattle.processor.specs.declared.Processor.{Processor}
 use Rattle.processor.specs.declared.Machine.{Machine}
 

@@ -1,5 +1,4 @@
 // A step, a run and a reset. Refusals 1 to 5 are tested once, here.
-use crate::Finished;
 use crate::Machine;
 use crate::Processor;
 use crate::Ran;

@@ -1,6 +1,6 @@
 -- Little-endian numbers in a list of bytes (paper 01, "Addresses": "little-endian").
 -- A number's bytes stand lowest first; the same definitions serve a halfword and a word.
-use Prim.Native.Nat.{ℕ, zero, suc, _+_, _*_, _/_, _%_}
+use Prim.Native.Nat.{ℕ, _+_, _*_, _/_, _%_}
 use mathlib.Core.List.{List, [], _∷_}
 use lib.ListN.{getD, set}
 
