@@ -2,6 +2,7 @@
 //! comparison of all that either could have changed.
 
 use crate::random::Random;
+use model::DrawingRegisters;
 
 /// Lent memories. Each vector is allocated at exactly the length it lends.
 #[derive(Clone, Debug, PartialEq, Eq)]
@@ -114,4 +115,14 @@ pub fn random_drawing(random: &mut Random) -> model::DrawingRegisters {
 /// The number a refusal has at the C boundary; 0 for none.
 pub fn number_of<T>(answer: &Result<T, model::Refusal>) -> u32 {
     answer.as_ref().err().map_or(0, |refusal| refusal.number())
+}
+
+/// Register `number` of 13, in the order of vb.h, and its largest value.
+pub fn register(drawing: &mut DrawingRegisters, number: usize) -> (&mut u16, u16) {
+    match number {
+        0..=3 => (&mut drawing.spt[number], 0x3FF),
+        4..=7 => (&mut drawing.gplt[number - 4], 0xFF),
+        8..=11 => (&mut drawing.jplt[number - 8], 0xFF),
+        _ => (&mut drawing.bkcol, 3),
+    }
 }

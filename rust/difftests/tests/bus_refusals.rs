@@ -2,7 +2,7 @@
 //! combination of broken conditions, where the lowest number must win.
 
 use difftests::access::{by_library, by_model, Call, CALLS};
-use difftests::machine::Buffers;
+use difftests::machine::{register, Buffers};
 use model::DrawingRegisters;
 
 const MIB16: usize = 16_777_216;
@@ -120,16 +120,6 @@ fn pak_lengths() {
         (2 * MIB16, 4),
     ] {
         expect_for_all(&Given { pak, ..ACCEPTED }, expected);
-    }
-}
-
-/// Register `number` of 13, in the order of vb.h, and its largest value.
-fn register(drawing: &mut DrawingRegisters, number: usize) -> (&mut u16, u16) {
-    match number {
-        0..=3 => (&mut drawing.spt[number], 0x3FF),
-        4..=7 => (&mut drawing.gplt[number - 4], 0xFF),
-        8..=11 => (&mut drawing.jplt[number - 8], 0xFF),
-        _ => (&mut drawing.bkcol, 3),
     }
 }
 

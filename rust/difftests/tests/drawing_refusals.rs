@@ -4,6 +4,7 @@
 
 #![cfg(feature = "drawing")]
 
+use difftests::machine::register;
 use difftests::random::Random;
 use difftests::scene::{crowded, draw_by_library, draw_by_model, Draw};
 use model::DrawingRegisters;
@@ -57,16 +58,6 @@ fn vram_lengths() {
     {
         expect_number(Draw::Frame { frame: 0 }, length, &ACCEPTED, expected);
         expect_number(Draw::Strip { frame: 1, strip: 0 }, length, &ACCEPTED, expected);
-    }
-}
-
-/// Register `number` of 13, in the order of vb.h, and its largest value.
-fn register(drawing: &mut DrawingRegisters, number: usize) -> (&mut u16, u16) {
-    match number {
-        0..=3 => (&mut drawing.spt[number], 0x3FF),
-        4..=7 => (&mut drawing.gplt[number - 4], 0xFF),
-        8..=11 => (&mut drawing.jplt[number - 8], 0xFF),
-        _ => (&mut drawing.bkcol, 3),
     }
 }
 
