@@ -28,7 +28,7 @@ handler-address : (c : Cause) → Address (handlerOf c)
 handler-address ZeroDivision = record { word = omega arith; even = refl }
 handler-address Illegal = record { word = omega arith; even = refl }
 handler-address (Trap vector) =
-    pick-each Address (ltb vector 16) 0xFFFFFFA0 0xFFFFFFB0
+    pick-each Address (ltb (vector % 32) 16) 0xFFFFFFA0 0xFFFFFFB0
     record { word = omega arith; even = refl } record { word = omega arith; even = refl }
 
 restore-address : (c : Cause) (pc next : ℕ) → Address pc → Address next → Address (restoreOf c pc next)
