@@ -7,3 +7,5 @@ pub mod Small
 pub mod Windows
 pub mod Lists
 pub mod Strips
+pub mod Mirrors
+pub mod Masks
