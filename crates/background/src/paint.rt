@@ -3,9 +3,9 @@ ghost use mathlib.Core.Path.{_≡_};
 ghost use Prim.Native.Nat.{_+_, _-_, _/_, _%_, _<_, _≤_};
 ghost use lib.ListN.{length, getD};
 ghost use Rattle.word.specs.LittleEndian.{halfAt};
-ghost use Rattle.picture.specs.Character.{rowAddressOf};
+ghost use Rattle.picture.specs.Character.{rowAddressOf, valueOf, shadeOf};
 ghost use Rattle.picture.specs.Background.{cellAddressOf, sourcePixelOf, affineFloorOf};
-ghost use Rattle.picture.specs.Buffer.{repaintedOf, Span};
+ghost use Rattle.picture.specs.Buffer.{repaintedOf, Span, Block};
 use crate::cell::cell_address;
 use crate::source::affine_floor;
 use picture::half;
@@ -14,6 +14,7 @@ use picture::row_address;
 use picture::shaded;
 use picture::span;
 use picture::value;
+use picture::whole;
 use picture::wide;
 
 // What a source pixel is picked from, and its seven neighbours of the same cell row: the cell, its character row and its palette.
@@ -77,6 +78,153 @@ pub fn plain_span(
         cell_span(vram, registers, w, buffer, r, x, end, at, sy);
         x = end;
     }
+}
+
+// Rows `top` to `bottom` - 1 of eight columns, which show a cell from its row y on.
+pub fn whole_rows(
+    vram: &[u8],
+    buffer: &mut [u16; 384],
+    top: usize,
+    bottom: usize,
+    from: usize,
+    cell: usize,
+    palette: usize,
+    y: usize,
+)
+    requires { ⌜ length (now buffer) ≡ 384 ⌝ }
+    requires { ⌜ (length (now vram) ≡ 262144) × ((from + 8 ≤ 384) × ((top ≤ bottom) × ((bottom ≤ 8) × (y + (bottom - top) ≤ 8)))) ⌝ }
+    ensures { λ _. ⌜ Block top bottom from (from + 8) (λ x r. shadeOf palette (valueOf cell (halfAt (now (vram .entry)) (rowAddressOf cell (y + (r - top)))) (x - from))) (now (buffer .entry)) (now (buffer .exit)) ⌝ }
+{
+    let mut r = top;
+    while r < bottom {
+        let row = wide(half(vram, row_address(cell, y + (r - top))));
+        whole(buffer, from, r, cell, row, palette);
+        r += 1;
+    }
+}
+
+// Rows `top` to `bottom` - 1 of columns that show a cell from its row y and its column `column` on.
+pub fn part_rows(
+    vram: &[u8],
+    buffer: &mut [u16; 384],
+    top: usize,
+    bottom: usize,
+    from: usize,
+    to: usize,
+    cell: usize,
+    palette: usize,
+    column: usize,
+    y: usize,
+)
+    requires { ⌜ length (now buffer) ≡ 384 ⌝ }
+    requires { ⌜ (length (now vram) ≡ 262144) × ((from ≤ to) × ((to ≤ 384) × ((top ≤ bottom) × ((bottom ≤ 8) × ((column + (to - from) ≤ 8) × (y + (bottom - top) ≤ 8)))))) ⌝ }
+    ensures { λ _. ⌜ Block top bottom from to (λ x r. shadeOf palette (valueOf cell (halfAt (now (vram .entry)) (rowAddressOf cell (y + (r - top)))) (column + (x - from)))) (now (buffer .entry)) (now (buffer .exit)) ⌝ }
+{
+    let mut r = top;
+    while r < bottom {
+        let row = wide(half(vram, row_address(cell, y + (r - top))));
+        span(buffer, from, to, r, cell, row, palette, column);
+        r += 1;
+    }
+}
+
+// A block whose source lies in one cell: column `from` of row `top` shows source pixel (sx, sy), and so on right and down.
+pub fn cell_block(
+    vram: &[u8],
+    registers: &[u16; 13],
+    w: &[u16; 11],
+    buffer: &mut [u16; 384],
+    top: usize,
+    bottom: usize,
+    from: usize,
+    to: usize,
+    sx: usize,
+    sy: usize,
+)
+    requires { ⌜ length (now buffer) ≡ 384 ⌝ }
+    requires { ⌜ (length (now vram) ≡ 262144) × ((from ≤ to) × ((to ≤ 384) × ((top ≤ bottom) × ((bottom ≤ 8) × ((sx % 8 + (to - from) ≤ 8) × (sy % 8 + (bottom - top) ≤ 8)))))) ⌝ }
+    ensures { λ _. ⌜ Block top bottom from to (λ x r. sourcePixelOf (now (vram .entry)) (now (registers .entry)) (now (w .entry)) (sx + (x - from)) (sy + (r - top))) (now (buffer .entry)) (now (buffer .exit)) ⌝ }
+{
+    let cell = wide(half(vram, cell_address(w, sx / 8, sy / 8)));
+    let palette = wide(registers[4 + cell / 16384]);
+    if from + 8 == to {
+        whole_rows(vram, buffer, top, bottom, from, cell, palette, sy % 8);
+        return;
+    }
+    part_rows(
+        vram,
+        buffer,
+        top,
+        bottom,
+        from,
+        to,
+        cell,
+        palette,
+        sx % 8,
+        sy % 8,
+    );
+}
+
+// A block whose source lies in one row of cells.
+pub fn cells_block(
+    vram: &[u8],
+    registers: &[u16; 13],
+    w: &[u16; 11],
+    buffer: &mut [u16; 384],
+    top: usize,
+    bottom: usize,
+    from: usize,
+    to: usize,
+    sx: usize,
+    sy: usize,
+)
+    requires { ⌜ length (now buffer) ≡ 384 ⌝ }
+    requires { ⌜ (length (now vram) ≡ 262144) × ((from ≤ to) × ((to ≤ 384) × ((top ≤ bottom) × ((bottom ≤ 8) × ((sx < 33554432) × (sy % 8 + (bottom - top) ≤ 8)))))) ⌝ }
+    ensures { λ _. ⌜ Block top bottom from to (λ x r. sourcePixelOf (now (vram .entry)) (now (registers .entry)) (now (w .entry)) (sx + (x - from)) (sy + (r - top))) (now (buffer .entry)) (now (buffer .exit)) ⌝ }
+{
+    let mut x = from;
+    while x < to {
+        let at = sx + (x - from);
+        let next = least(to, x + (8 - at % 8));
+        cell_block(vram, registers, w, buffer, top, bottom, x, next, at, sy);
+        x = next;
+    }
+}
+
+// A block that reads its background from (sx, sy) on right and down: its rows lie in one row of cells or in two.
+pub fn plain_block(
+    vram: &[u8],
+    registers: &[u16; 13],
+    w: &[u16; 11],
+    buffer: &mut [u16; 384],
+    top: usize,
+    bottom: usize,
+    from: usize,
+    to: usize,
+    sx: usize,
+    sy: usize,
+)
+    requires { ⌜ length (now buffer) ≡ 384 ⌝ }
+    requires { ⌜ (length (now vram) ≡ 262144) × ((from ≤ to) × ((to ≤ 384) × ((top ≤ bottom) × ((bottom ≤ 8) × ((sx < 33554432) × (sy < 33554432)))))) ⌝ }
+    ensures { λ _. ⌜ Block top bottom from to (λ x r. sourcePixelOf (now (vram .entry)) (now (registers .entry)) (now (w .entry)) (sx + (x - from)) (sy + (r - top))) (now (buffer .entry)) (now (buffer .exit)) ⌝ }
+{
+    let mid = least(bottom, top + (8 - sy % 8));
+    cells_block(vram, registers, w, buffer, top, mid, from, to, sx, sy);
+    if mid == bottom {
+        return;
+    }
+    cells_block(
+        vram,
+        registers,
+        w,
+        buffer,
+        mid,
+        bottom,
+        from,
+        to,
+        sx,
+        sy + (mid - top),
+    );
 }
 
 // A column of the strip, its row r painted over by source pixel (sx, sy).

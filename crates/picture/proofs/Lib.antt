@@ -3,6 +3,7 @@
 -- in a list that is given by its numbers, and `Strips` which addresses a strip has.
 pub mod Pairs
 pub mod Spans
+pub mod Blocks
 pub mod Small
 pub mod Windows
 pub mod Lists
