@@ -10,6 +10,7 @@ use Rattle.bus.specs.Registers.{gpltOf}
 use Rattle.picture.specs.Character.{shadeOf, valueOf, rowAddressOf, cellPixelOf, pairOf}
 use Rattle.picture.specs.Background.{cellAddressOf, sourceCellAddressOf, sourcePixelOf}
 use Rattle.picture.specs.Buffer.{repaintedOf, Block}
+use Rattle.background.specs.Row.{CellAt}
 use Rattle.picture.proofs.Blocks.{block-change}
 
 -- a function that agrees at the pixel of a row repaints it alike
@@ -19,10 +20,6 @@ repainted-change r f g h e = rw (e (pairOf h r))
 
 module _ (vram regs w : List ℕ) (sx sy cell row palette : ℕ) where
   module _ (e : cell ≡ halfAt vram (cellAddressOf w (sx / 8) (sy / 8))) (f : row ≡ halfAt vram (rowAddressOf cell (sy % 8))) (g : palette ≡ getD regs (4 + cell / 16384) 0) where
-    pub source-pixel : (v : ℕ) → shadeOf palette (valueOf cell row (sx % 8)) v ≡ sourcePixelOf vram regs w sx sy v
-    unfolding sourcePixelOf sourceCellAddressOf cellPixelOf gpltOf
-    source-pixel v = rw (← e, ← f, ← g)
-
     pub source-pixel-along : (k : ℕ) → sx % 8 + k < 8 → (v : ℕ) → shadeOf palette (valueOf cell row (sx % 8 + k)) v ≡ sourcePixelOf vram regs w (sx + k) sy v
     unfolding sourcePixelOf sourceCellAddressOf cellPixelOf gpltOf
     source-pixel-along k h v =
@@ -62,6 +59,20 @@ module _ (vram regs w : List ℕ) (top bottom from to sx sy half address cell pa
         zero x r v l h t u =
             let z : x - from ≡ sx % 8 + (x - from) = omega arith in
             ap (λ n. shadeOf palette (valueOf cell (halfAt vram (rowAddressOf cell (sy % 8 + (r - top)))) n) v) z
+
+-- a column painted by a pixel of a cell, from its row and its palette as they were read
+pub cell-repainted : (vram regs : List ℕ) (q cell column r row palette h : ℕ) → row ≡ halfAt vram (rowAddressOf cell r) → palette ≡ getD regs (4 + cell / 16384) 0
+    → repaintedOf q (shadeOf palette (valueOf cell row column)) h ≡ repaintedOf q (cellPixelOf vram (gpltOf regs) cell column r) h
+unfolding cellPixelOf gpltOf
+cell-repainted vram regs q cell column r row palette h f g =
+    repainted-change q (shadeOf palette (valueOf cell row column)) (cellPixelOf vram (gpltOf regs) cell column r) h (λ v. rw (f, g))
+
+-- .. which is a source pixel where the cell is the one there
+pub source-repainted : (vram regs w : List ℕ) (q sx sy u v cell h : ℕ) → u ≡ sx / 8 → v ≡ sy / 8 → CellAt vram w u v cell
+    → repaintedOf q (cellPixelOf vram (gpltOf regs) cell (sx % 8) (sy % 8)) h ≡ repaintedOf q (sourcePixelOf vram regs w sx sy) h
+unfolding sourcePixelOf sourceCellAddressOf
+source-repainted vram regs w q sx sy u v cell h e f c =
+    repainted-change q (cellPixelOf vram (gpltOf regs) cell (sx % 8) (sy % 8)) (sourcePixelOf vram regs w sx sy) h (λ p. rw (c .same, e, f))
 
 -- a parameter's index wraps at 16 bits, however it is reduced before
 pub index-wraps : (b k : ℕ) → (b + k % 65536) % 65536 ≡ (b + k) % 65536

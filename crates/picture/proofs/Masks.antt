@@ -4,6 +4,7 @@ use Prim.Native.Nat.{ℕ, zero, suc, _+_, _-_, _*_, _/_, _%_, _^_, _<_, _≤_}
 use native.Mathlib.Omega.{arith}
 use native.Mathlib.Decide.{ℕ-discrete}
 use borrow.Author.Tests.{eq-eqb, ne-eqb}
+use mathlib.Core.Bool.{Bool, true, false}
 use mathlib.Core.Path.{_≡_, refl, sym, ap, _∙_}
 use lib.Dec.{eqb}
 use lib.Bits.{bitAnd, bitOr, and-high, and-zero-r, or-zero-l, or-zero-r}
@@ -90,10 +91,10 @@ one-of-three p (suc (suc zero)) u h = or-zero-r _ ∙ or-zero-l _
 one-of-three p (suc (suc (suc zero))) u h = or-zero-l _
 one-of-three p (suc (suc (suc (suc v)))) u h = absurd (omega arith)
 
--- what a value leaves of a column
-pub kept-of : (h v r : ℕ) → r < 8 → h - bitAnd h (pick (eqb v 0) 0 (3 * 2 ^ (2 * r))) ≡ pick (eqb v 0) h (h - pairOf h r * 2 ^ (2 * r))
-kept-of h zero r l = rw (and-zero-r h) (omega arith)
-kept-of h (suc v) r l = simp (ne-eqb (suc v) 0 (λ e. omega arith)) (ap (λ x. h - x) (pair-masked h r l))
+-- what is left of a column
+pub kept-of : (h r : ℕ) (b : Bool) → r < 8 → h - bitAnd h (pick b 0 (3 * 2 ^ (2 * r))) ≡ pick b h (h - pairOf h r * 2 ^ (2 * r))
+kept-of h r true l = rw (and-zero-r h) (omega arith)
+kept-of h r false l = ap (λ x. h - x) (pair-masked h r l)
 
 -- a pair taken out and another put in
 with-pair-sum : (h r v : ℕ) → h - pairOf h r * 2 ^ (2 * r) + v * 2 ^ (2 * r) ≡ withPairOf h r v

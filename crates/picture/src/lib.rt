@@ -10,7 +10,7 @@ ghost use Rattle.picture.specs.Signed.{edgeOf, flagOf};
 ghost use Rattle.picture.specs.Character.{pairOf, characterAddressOf, flippedOf, rowAddressOf, valueOf, shadeOf};
 ghost use Rattle.picture.specs.World.{worldOf, columnsOf, rowsOf, windowLeftOf};
 ghost use Rattle.picture.specs.Object.{objectOf, objectLeftOf};
-ghost use Rattle.picture.specs.Buffer.{withPairOf, repaintedOf, Span};
+ghost use Rattle.picture.specs.Buffer.{repaintedOf, Span};
 
 // The halfword at an address of VRAM.
 pub fn half(vram: &[u8], a: usize) -> u16
@@ -101,16 +101,6 @@ pub fn pair(h: usize, k: usize) -> usize
     (h >> (2 * k)) % 4
 }
 
-// A halfword with v at bits 2k and 2k + 1.
-pub fn with_pair(h: u16, k: usize, v: usize) -> u16
-    requires { ⌜ (k < 8) × (v < 4) ⌝ }
-    ensures { λ r. ⌜ r ≡ withPairOf h k v ⌝ }
-{
-    let whole = h as usize;
-    let old = (whole >> (2 * k)) % 4;
-    (whole - (old << (2 * k)) + (v << (2 * k))) as u16
-}
-
 // A position of 0 to 7, mirrored where flipped.
 pub fn flipped(flip: bool, k: usize) -> usize
     requires { ⌜ k < 8 ⌝ }
@@ -146,25 +136,39 @@ pub fn value(cell: usize, row: usize, column: usize) -> usize
     pair(row, flipped(cell / 8192 % 2 == 1, column))
 }
 
-// What a value makes of a pixel: 0 leaves it as it was, any other is looked up in the palette.
-pub fn shade(palette: usize, v: usize, before: usize) -> usize
-    requires { ⌜ (v < 4) × (before < 4) ⌝ }
-    ensures { λ r. ⌜ (r ≡ shadeOf palette v before) × (r < 4) ⌝ }
+// The first of two halfwords where b holds, else the second.
+pub fn choice(b: bool, x: u16, y: u16) -> u16
+    ensures { λ r. ⌜ r ≡ pick b x y ⌝ }
 {
-    let looked_up = pair(palette, v);
-    if v == 0 {
-        return before;
+    if b {
+        return x;
     }
-    looked_up
+    y
 }
 
-// A column of the strip, its row r painted over by a value.
+// Two bits at their place in row r of a column.
+pub fn placed(v: usize, r: usize) -> u16
+    requires { ⌜ (v < 4) × (r < 8) ⌝ }
+    ensures { λ h. ⌜ h ≡ v * 2 ^ (2 * r) ⌝ }
+{
+    (v << (2 * r)) as u16
+}
+
+// What is left of a column where row r is painted over; all of it where the paint is blank.
+pub fn kept(h: u16, r: usize, blank: bool) -> u16
+    requires { ⌜ r < 8 ⌝ }
+    ensures { λ n. ⌜ n ≡ pick blank h (h - pairOf h r * 2 ^ (2 * r)) ⌝ }
+{
+    h - (h & choice(blank, 0, placed(3, r)))
+}
+
+// A column of the strip, its row r painted over by a value: 0 leaves it as it was, any other is looked up in the palette.
 pub fn shaded(h: u16, r: usize, palette: usize, v: usize) -> u16
     requires { ⌜ (r < 8) × (v < 4) ⌝ }
     ensures { λ n. ⌜ n ≡ repaintedOf r (shadeOf palette v) h ⌝ }
 {
-    let before = pair(wide(h), r);
-    with_pair(h, r, shade(palette, v, before))
+    let looked_up = pair(palette, v);
+    kept(h, r, v == 0) + choice(v == 0, 0, placed(looked_up, r))
 }
 
 // The columns of a world.
@@ -246,30 +250,12 @@ pub fn mirrored(row: u16) -> u16
     pairs_exchanged(nibbles_exchanged(bytes_exchanged(row)))
 }
 
-// The first of two halfwords where b holds, else the second.
-pub fn choice(b: bool, x: u16, y: u16) -> u16
-    ensures { λ r. ⌜ r ≡ pick b x y ⌝ }
-{
-    if b {
-        return x;
-    }
-    y
-}
-
 // A character row as its cell shows it, its values from left to right.
 pub fn facing(cell: usize, row: usize) -> u16
     ensures { λ f. ⌜ ((k : ℕ) → k < 8 → pairOf f k ≡ valueOf cell row k) ⌝ }
 {
     let seen = (row % 65536) as u16;
     choice(cell / 8192 % 2 == 1, mirrored(seen), seen)
-}
-
-// Two bits at their place in row r of a column.
-pub fn placed(v: usize, r: usize) -> u16
-    requires { ⌜ (v < 4) × (r < 8) ⌝ }
-    ensures { λ h. ⌜ h ≡ v * 2 ^ (2 * r) ⌝ }
-{
-    (v << (2 * r)) as u16
 }
 
 // Whether pair k of a halfword is n; read from a byte of it, so that no place is at the end of the number.
@@ -293,20 +279,12 @@ pub fn tint(palette: usize, r: usize, f: u16, k: usize) -> u16
     one | two | three
 }
 
-// What value k of a row leaves of a column: all of it for 0, else all but row r.
-pub fn kept(h: u16, r: usize, f: u16, k: usize) -> u16
-    requires { ⌜ (r < 8) × (k < 8) ⌝ }
-    ensures { λ n. ⌜ n ≡ pick (eqb (pairOf f k) 0) h (h - pairOf h r * 2 ^ (2 * r)) ⌝ }
-{
-    h - (h & choice(holds(f, k, 0), 0, placed(3, r)))
-}
-
 // A column of the strip, its row r painted over by value k of a row; no branch, so that eight are painted at once.
 pub fn painted(h: u16, r: usize, palette: usize, f: u16, k: usize) -> u16
     requires { ⌜ (r < 8) × (k < 8) ⌝ }
     ensures { λ n. ⌜ n ≡ repaintedOf r (shadeOf palette (pairOf f k)) h ⌝ }
 {
-    kept(h, r, f, k) + tint(palette, r, f, k)
+    kept(h, r, holds(f, k, 0)) + tint(palette, r, f, k)
 }
 
 // The eight columns of a character row painted over row r of the strip.

@@ -1,13 +1,9 @@
--- `picture::kept` meets its contract: by the value nothing or the mask of row r is taken out. Assumes nothing.
+-- `picture::kept` meets its contract: nothing or the mask of row r is taken out. Assumes nothing.
 use borrow.Author.Needs.{needs}
 use Rattle.picture.proofs.kept.Statement.{statement}
 use Rattle.picture.proofs.kept.Tie as tie
 use lib.Bits.{and-le-l}
-use Rattle.picture.specs.Character.{pairOf}
 use Rattle.picture.proofs.Masks.{kept-of}
-
-holds-requires : tie.Need-holds-requires
-holds-requires c κs = search needs
 
 placed-requires : tie.Need-placed-requires
 placed-requires c κs = search needs
@@ -20,8 +16,8 @@ sub-result c = and-le-l _ _
 
 returns : tie.Need-returns
 returns c =
-    rw (c .choice .ensures, c .before .before .holds .ensures, c .before .placed .ensures)
-    (kept-of (c .before .before .before .args .h) (pairOf (c .before .before .before .args .f) (c .before .before .before .args .k)) (c .before .before .before .args .r) (c .before .before .before .pre .0))
+    let a = c .before .before .args in
+    rw (c .choice .ensures, c .before .placed .ensures) (kept-of (a .h) (a .r) (a .blank) (c .before .before .pre))
 
 pub kept-spec : {M : Type 1} → statement M
-kept-spec = tie.close (tie.spec holds-requires placed-requires choice-requires sub-result returns)
+kept-spec = tie.close (tie.spec placed-requires choice-requires sub-result returns)

@@ -6,6 +6,9 @@ use native.Mathlib.Omega.{arith}
 use Rattle.picture.specs.Character.{pairOf}
 use Rattle.picture.proofs.Masks.{repainted-sum, repainted-fits}
 
+holds-requires : tie.Need-holds-requires
+holds-requires c κs = search needs
+
 kept-requires : tie.Need-kept-requires
 kept-requires c κs = search needs
 
@@ -14,16 +17,14 @@ tint-requires c κs = search needs
 
 returns : tie.Need-returns
 returns c =
-    rw (c .before .kept .ensures, c .tint .ensures)
-    (repainted-sum (c .before .before .args .h) (c .before .before .args .r) (c .before .before .args .palette) (pairOf (c .before .before .args .f) (c .before .before .args .k)) (c .before .before .pre .0))
+    let a = c .before .before .before .args in
+    rw (c .before .kept .ensures, c .before .before .holds .ensures, c .tint .ensures)
+    (repainted-sum (a .h) (a .r) (a .palette) (pairOf (a .f) (a .k)) (c .before .before .before .pre .0))
 
 add-result : tie.Need-add-result
 add-result c =
-    omega (
-      arith,
-      returns c,
-      repainted-fits (c .before .before .args .h) (c .before .before .args .r) (c .before .before .args .palette) (pairOf (c .before .before .args .f) (c .before .before .args .k)) (search needs) (c .before .before .pre .0),
-    )
+    let a = c .before .before .before .args in
+    omega (arith, returns c, repainted-fits (a .h) (a .r) (a .palette) (pairOf (a .f) (a .k)) (search needs) (c .before .before .before .pre .0))
 
 pub painted-spec : {M : Type 1} → statement M
-painted-spec = tie.close (tie.spec kept-requires tint-requires add-result returns)
+painted-spec = tie.close (tie.spec holds-requires kept-requires tint-requires add-result returns)
