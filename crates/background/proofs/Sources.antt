@@ -1,13 +1,14 @@
 -- How a source pixel comes from its cell, its character row and its palette, which eight pixels side by side share.
 -- Assumes nothing.
-use Prim.Native.Nat.{ℕ, _+_, _-_, _/_, _%_, _<_, _≤_}
+use Prim.Native.Nat.{ℕ, _+_, _-_, _*_, _/_, _%_, _<_, _≤_}
 use native.Mathlib.Omega.{arith}
 use mathlib.Core.Path.{_≡_, ap, _∙_}
 use mathlib.Core.List.{List}
 use lib.ListN.{getD}
 use Rattle.word.specs.LittleEndian.{halfAt}
 use Rattle.bus.specs.Registers.{gpltOf}
-use Rattle.picture.specs.Character.{shadeOf, valueOf, rowAddressOf, cellPixelOf, pairOf}
+use Rattle.picture.specs.Signed.{bitOf}
+use Rattle.picture.specs.Character.{shadeOf, valueOf, flippedOf, rowAddressOf, cellPixelOf, pairOf}
 use Rattle.picture.specs.Background.{cellAddressOf, sourceCellAddressOf, sourcePixelOf}
 use Rattle.picture.specs.Buffer.{repaintedOf, Block}
 use Rattle.background.specs.Row.{CellAt}
@@ -60,19 +61,16 @@ module _ (vram regs w : List ℕ) (top bottom from to sx sy half address cell pa
             let z : x - from ≡ sx % 8 + (x - from) = omega arith in
             ap (λ n. shadeOf palette (valueOf cell (halfAt vram (rowAddressOf cell (sy % 8 + (r - top)))) n) v) z
 
--- a column painted by a pixel of a cell, from its row and its palette as they were read
-pub cell-repainted : (vram regs : List ℕ) (q cell column r row palette h : ℕ) → row ≡ halfAt vram (rowAddressOf cell r) → palette ≡ getD regs (4 + cell / 16384) 0
-    → repaintedOf q (shadeOf palette (valueOf cell row column)) h ≡ repaintedOf q (cellPixelOf vram (gpltOf regs) cell column r) h
-unfolding cellPixelOf gpltOf
-cell-repainted vram regs q cell column r row palette h f g =
-    repainted-change q (shadeOf palette (valueOf cell row column)) (cellPixelOf vram (gpltOf regs) cell column r) h (λ v. rw (f, g))
-
--- .. which is a source pixel where the cell is the one there
-pub source-repainted : (vram regs w : List ℕ) (q sx sy u v cell h : ℕ) → u ≡ sx / 8 → v ≡ sy / 8 → CellAt vram w u v cell
-    → repaintedOf q (cellPixelOf vram (gpltOf regs) cell (sx % 8) (sy % 8)) h ≡ repaintedOf q (sourcePixelOf vram regs w sx sy) h
-unfolding sourcePixelOf sourceCellAddressOf
-source-repainted vram regs w q sx sy u v cell h e f c =
-    repainted-change q (cellPixelOf vram (gpltOf regs) cell (sx % 8) (sy % 8)) (sourcePixelOf vram regs w sx sy) h (λ p. rw (c .same, e, f))
+-- a column painted by a pixel of the cell there, from its palette and where its character begins
+pub source-repainted : (vram regs w : List ℕ) (q sx sy u v cell palette character h : ℕ) → u ≡ sx / 8 → v ≡ sy / 8
+    → CellAt vram regs w u v cell palette character
+    → repaintedOf q (shadeOf palette (valueOf cell (halfAt vram (character + 2 * flippedOf (bitOf 12 cell) (sy % 8))) (sx % 8))) h
+    ≡ repaintedOf q (sourcePixelOf vram regs w sx sy) h
+unfolding sourcePixelOf sourceCellAddressOf cellPixelOf rowAddressOf
+source-repainted vram regs w q sx sy u v cell palette character h e f c =
+    repainted-change q
+    (shadeOf palette (valueOf cell (halfAt vram (character + 2 * flippedOf (bitOf 12 cell) (sy % 8))) (sx % 8)))
+    (sourcePixelOf vram regs w sx sy) h (λ p. rw (c .shades, c .begins, c .same, e, f))
 
 -- a parameter's index wraps at 16 bits, however it is reduced before
 pub index-wraps : (b k : ℕ) → (b + k % 65536) % 65536 ≡ (b + k) % 65536

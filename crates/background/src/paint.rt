@@ -1,15 +1,17 @@
 // Painting a row of a strip from a background.
 ghost use mathlib.Core.Path.{_≡_};
-ghost use Prim.Native.Nat.{_+_, _-_, _/_, _%_, _<_, _≤_};
+ghost use Prim.Native.Nat.{_+_, _-_, _*_, _/_, _%_, _<_, _≤_};
 ghost use lib.ListN.{length, getD};
 ghost use Rattle.word.specs.LittleEndian.{halfAt};
-ghost use Rattle.picture.specs.Character.{rowAddressOf, valueOf, shadeOf, cellPixelOf};
-ghost use Rattle.bus.specs.Registers.{gpltOf};
+ghost use Rattle.picture.specs.Character.{rowAddressOf, flippedOf, valueOf, shadeOf};
+ghost use Rattle.picture.specs.Signed.{bitOf};
 ghost use Rattle.picture.specs.Background.{cellAddressOf, sourcePixelOf, affineFloorOf};
 ghost use Rattle.picture.specs.Buffer.{repaintedOf, Span, Block};
 ghost use Rattle.background.specs.Row.{CellAt};
 use crate::cell::cell_address;
 use crate::source::affine_floor;
+use picture::character_address;
+use picture::flipped;
 use picture::half;
 use picture::least;
 use picture::row_address;
@@ -229,52 +231,61 @@ pub fn plain_block(
     );
 }
 
-// A cell that was read, and the cell column and row that it was read for.
+// A cell that was read, with its palette and where its character begins, and the cell column and row that it was read for.
 pub struct CellRead {
     pub u: usize,
     pub v: usize,
     pub cell: usize,
+    pub palette: usize,
+    pub character: usize,
 }
 
 // The cell at a cell column and row.
-pub fn read(vram: &[u8], w: &[u16; 11], u: usize, v: usize) -> CellRead
+pub fn read(vram: &[u8], registers: &[u16; 13], w: &[u16; 11], u: usize, v: usize) -> CellRead
     requires { ⌜ length (now vram) ≡ 262144 ⌝ }
-    ensures { λ h. ⌜ (h .u ≡ u) × ((h .v ≡ v) × CellAt (now (vram .entry)) (now (w .entry)) (h .u) (h .v) (h .cell)) ⌝ }
+    ensures { λ h. ⌜ (h .u ≡ u) × ((h .v ≡ v) × CellAt (now (vram .entry)) (now (registers .entry)) (now (w .entry)) (h .u) (h .v) (h .cell) (h .palette) (h .character)) ⌝ }
 {
     let cell = wide(half(vram, cell_address(w, u, v)));
-    CellRead { u, v, cell }
+    let palette = wide(registers[4 + cell / 16384]);
+    let character = character_address(cell % 2048);
+    CellRead {
+        u,
+        v,
+        cell,
+        palette,
+        character,
+    }
 }
 
 // The cell at a cell column and row, read anew where the last one was another.
-pub fn held(vram: &[u8], w: &[u16; 11], last: CellRead, u: usize, v: usize) -> CellRead
-    requires { ⌜ (length (now vram) ≡ 262144) × (CellAt (now vram) (now w) (last .u) (last .v) (last .cell)) ⌝ }
-    ensures { λ h. ⌜ (h .u ≡ u) × ((h .v ≡ v) × CellAt (now (vram .entry)) (now (w .entry)) (h .u) (h .v) (h .cell)) ⌝ }
+pub fn held(
+    vram: &[u8],
+    registers: &[u16; 13],
+    w: &[u16; 11],
+    last: CellRead,
+    u: usize,
+    v: usize,
+) -> CellRead
+    requires { ⌜ (length (now vram) ≡ 262144) × (CellAt (now vram) (now registers) (now w) (last .u) (last .v) (last .cell) (last .palette) (last .character)) ⌝ }
+    ensures { λ h. ⌜ (h .u ≡ u) × ((h .v ≡ v) × CellAt (now (vram .entry)) (now (registers .entry)) (now (w .entry)) (h .u) (h .v) (h .cell) (h .palette) (h .character)) ⌝ }
 {
     if last.u != u {
-        return read(vram, w, u, v);
+        return read(vram, registers, w, u, v);
     }
     if last.v != v {
-        return read(vram, w, u, v);
+        return read(vram, registers, w, u, v);
     }
     last
 }
 
-// A column of the strip, its row r painted over by the pixel of a cell that source pixel (sx, sy) is.
-pub fn cell_shaded(
-    vram: &[u8],
-    registers: &[u16; 13],
-    h: u16,
-    r: usize,
-    cell: usize,
-    sx: usize,
-    sy: usize,
-) -> u16
-    requires { ⌜ (length (now vram) ≡ 262144) × ((r < 8) × (cell < 65536)) ⌝ }
-    ensures { λ n. ⌜ n ≡ repaintedOf r (cellPixelOf (now (vram .entry)) (gpltOf (now (registers .entry))) cell (sx % 8) (sy % 8)) h ⌝ }
+// A column of the strip, its row r painted over by the pixel of a cell at source pixel (sx, sy).
+pub fn cell_shaded(vram: &[u8], h: u16, r: usize, c: CellRead, sx: usize, sy: usize) -> u16
+    requires { ⌜ (length (now vram) ≡ 262144) × ((r < 8) × (c .character ≤ 131056)) ⌝ }
+    ensures { λ n. ⌜ n ≡ repaintedOf r (shadeOf (c .palette) (valueOf (c .cell) (halfAt (now (vram .entry)) (c .character + 2 * flippedOf (bitOf 12 (c .cell)) (sy % 8))) (sx % 8))) h ⌝ }
 {
-    let row = wide(half(vram, row_address(cell, sy % 8)));
-    let palette = wide(registers[4 + cell / 16384]);
-    shaded(h, r, palette, value(cell, row, sx % 8))
+    let y = flipped(c.cell / 4096 % 2 == 1, sy % 8);
+    let row = wide(half(vram, c.character + 2 * y));
+    shaded(h, r, c.palette, value(c.cell, row, sx % 8))
 }
 
 // A span of row r of an affine world: from (mx, my), n steps and more along (dx, dy).
@@ -296,15 +307,14 @@ pub fn affine_span(
     requires { ⌜ (length (now vram) ≡ 262144) × ((from ≤ to) × ((to ≤ 384) × ((r < 8) × ((mx < 65536) × ((my < 65536) × ((dx < 65536) × ((dy < 65536) × (n < 65000)))))))) ⌝ }
     ensures { λ _. ⌜ Span r from to (λ x. sourcePixelOf (now (vram .entry)) (now (registers .entry)) (now (w .entry)) (affineFloorOf mx dx (n + (x - from))) (affineFloorOf my dy (n + (x - from)))) (now (buffer .entry)) (now (buffer .exit)) ⌝ }
 {
-    let mut last = read(vram, w, 0, 0);
+    let mut last = read(vram, registers, w, 0, 0);
     let mut x = from;
     while x < to {
         let steps = n + (x - from);
         let sx = affine_floor(mx, dx, steps);
         let sy = affine_floor(my, dy, steps);
-        last = held(vram, w, last, sx / 8, sy / 8);
-        let cell = last.cell;
-        buffer[x] = cell_shaded(vram, registers, buffer[x], r, cell, sx, sy);
+        last = held(vram, registers, w, last, sx / 8, sy / 8);
+        buffer[x] = cell_shaded(vram, buffer[x], r, last, sx, sy);
         x += 1;
     }
 }

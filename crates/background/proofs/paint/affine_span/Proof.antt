@@ -16,7 +16,7 @@ abbrev Inv-loop : tie.InvT-loop
 Inv-loop vram registers w buffer₀ r from to mx my dx dy n last₀ x₀ buffer last x =
     (from ≤ x)
     × ((x ≤ to)
-    × (CellAt vram w (last .u) (last .v) (last .cell)
+    × (CellAt vram registers w (last .u) (last .v) (last .cell) (last .palette) (last .character)
     × Span r from x (λ y. sourcePixelOf vram registers w (affineFloorOf mx dx (n + (y - from))) (affineFloorOf my dy (n + (y - from)))) buffer₀ buffer))
 
 abbrev μ-loop : tie.MeasureT-loop
@@ -50,7 +50,7 @@ element-copy-out-cell-shaded : tie.Need-element-copy-out-cell-shaded Inv-loop μ
 element-copy-out-cell-shaded c = omega arith
 
 cell-shaded-requires : tie.Need-cell-shaded-requires Inv-loop μ-loop
-cell-shaded-requires c κs = (omega arith, (omega arith, c .before .held .ensures .1 .1 .small))
+cell-shaded-requires c κs = (c .before .before .before .before .before .before .before .before .pre .1 .0, (c .before .before .before .before .before .before .before .before .pre .1 .1 .1 .1 .0, c .before .held .ensures .1 .1 .low))
 
 mul-buffer : tie.Need-mul-buffer Inv-loop μ-loop
 mul-buffer c = omega (arith, c .before .before .before .before .before .before .before .before .before .pre .1 .1 .1 .0)
@@ -70,7 +70,7 @@ loop-again c =
     let h = c .before .before .held .ensures in
     let inv = c .before .before .before .before .before .before .loop .inv in
     let e : c .cell-shaded .result ≡ repaintedOf (a .r) (sourcePixelOf (a .vram .now) (a .registers .now) (a .w .now) (c .before .before .before .before .affine-floor .result) (c .before .before .before .affine-floor2 .result)) (getD (c .before .before .before .before .before .before .loop .buffer) (c .before .before .before .before .before .before .loop .x) 0) =
-    c .cell-shaded .ensures ∙ source-repainted (a .vram .now) (a .registers .now) (a .w .now) (a .r) _ _ _ _ _ _ (h .0) (h .1 .0) (h .1 .1)
+    c .cell-shaded .ensures ∙ source-repainted (a .vram .now) (a .registers .now) (a .w .now) (a .r) _ _ _ _ _ _ _ _ (h .0) (h .1 .0) (h .1 .1)
     in (
       omega arith,
       (
