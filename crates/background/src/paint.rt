@@ -1,4 +1,4 @@
-// Painting a row of a strip from a background.
+// Painting a strip from a background: spans of a row, and blocks of columns and rows.
 ghost use mathlib.Core.Path.{_≡_};
 ghost use Prim.Native.Nat.{_+_, _-_, _*_, _/_, _%_, _<_, _≤_};
 ghost use lib.ListN.{length, getD};
