@@ -5,7 +5,7 @@ use native.Mathlib.Decide.{ℕ-discrete}
 use mathlib.Core.Path.{_≡_, ap}
 use mathlib.Core.List.{List}
 use borrow.Author.Tests.{eq-eqb, ne-eqb}
-use Rattle.picture.specs.World.{bgmOf}
+use Rattle.picture.specs.World.{bgmOf, myOf}
 use Rattle.picture.specs.Background.{sourceXOf, sourceYOf, normalXOf, normalYOf, biasXOf, affineXOf, affineYOf, plainLeftOf, affineParameterOf, affineShiftOf, affineFloorOf, sourcePixelOf}
 use Rattle.background.specs.Row.{rowBiasOf}
 
@@ -62,3 +62,13 @@ pub plain-pixel : (vram regs w : List ℕ) (eye i j k p b y : ℕ) → bgmOf w <
     ≡ sourcePixelOf vram regs w (sourceXOf vram w eye (i + k) j) (sourceYOf vram w eye (i + k) j) v
 plain-pixel vram regs w eye i j k p b y h l e f g v =
     rw (f, g, e, plain-x vram w eye i j k h (rw e at l), plain-y vram w eye i j k h (rw e at l))
+
+-- the pixel of a normal world, k columns and m rows from where its window's row j starts
+pub normal-pixel : (vram regs w : List ℕ) (eye i j k m : ℕ) → bgmOf w ≡ 0
+    → (v : ℕ) → sourcePixelOf vram regs w (plainLeftOf w eye + i + k) (normalYOf w j + m) v
+    ≡ sourcePixelOf vram regs w (sourceXOf vram w eye (i + k) (j + m)) (sourceYOf vram w eye (i + k) (j + m)) v
+unfolding sourceXOf sourceYOf normalXOf normalYOf
+normal-pixel vram regs w eye i j k m e v =
+    let p : plainLeftOf w eye + i + k ≡ plainLeftOf w eye + (i + k) = omega arith in
+    let q : myOf w + 8384512 + j + m ≡ myOf w + 8384512 + (j + m) = omega arith in
+    simp (eq-eqb (bgmOf w) 0 e) (rw (p, q))

@@ -5,9 +5,10 @@ ghost use Prim.Native.Nat.{_+_, _-_, _*_, _<_, _≤_};
 ghost use lib.ListN.{length};
 ghost use Rattle.picture.specs.World.{bgmOf, windowLeftOf, columnsOf, worldShownOf};
 ghost use Rattle.picture.specs.Background.{sourcePixelOf, sourceXOf, sourceYOf, backgroundPixelOf};
-ghost use Rattle.picture.specs.Buffer.{Span, Strip};
+ghost use Rattle.picture.specs.Buffer.{Span, Block, Strip};
 ghost use Rattle.background.specs.Row.{rowBiasOf};
 use crate::paint::affine_span;
+use crate::paint::plain_block;
 use crate::paint::plain_span;
 use crate::source::affine_parameter;
 use crate::source::affine_shift;
@@ -18,6 +19,7 @@ use crate::source::plain_left;
 use picture::clipped;
 use picture::columns;
 use picture::flag;
+use picture::least;
 use picture::rows;
 use picture::wide;
 use picture::window_left;
@@ -135,6 +137,44 @@ pub fn strip_row(
     );
 }
 
+// How far a is past b, 0 where it is not.
+pub fn past(a: usize, b: usize) -> usize
+    ensures { λ r. ⌜ r ≡ a - b ⌝ }
+{
+    if a < b {
+        return 0;
+    }
+    a - b
+}
+
+// A strip's columns `from` to `to` - 1, which are in a normal world's window; rows may be outside of it.
+pub fn normal_block(
+    vram: &[u8],
+    registers: &[u16; 13],
+    w: &[u16; 11],
+    buffer: &mut [u16; 384],
+    from: usize,
+    to: usize,
+    eye: usize,
+    strip: usize,
+)
+    requires { ⌜ length (now buffer) ≡ 384 ⌝ }
+    requires { ⌜ (length (now vram) ≡ 262144) × ((from ≤ to) × ((to ≤ 384) × ((strip < 28) × (bgmOf (now w) ≡ 0)))) ⌝ }
+    requires { ⌜ (worldShownOf (now w) eye ≡ true) × ((windowLeftOf (now w) eye ≤ from + 1024) × (to + 1024 ≤ windowLeftOf (now w) eye + columnsOf (now w))) ⌝ }
+    ensures { λ _. ⌜ Block 0 8 from to (λ x r. backgroundPixelOf (now (vram .entry)) (now (registers .entry)) (now (w .entry)) eye x (8 * strip + r)) (now (buffer .entry)) (now (buffer .exit)) ⌝ }
+{
+    let top = (wide(w[3]) + 32768) % 65536;
+    let y = 8 * strip + 32768;
+    let first = least(8, past(top, y));
+    let last = least(8, past(top + rows(w), y));
+    if last <= first {
+        return;
+    }
+    let sx = plain_left(w, eye) + (from + 1024 - window_left(w, eye));
+    let sy = normal_y(w, y + first - top);
+    plain_block(vram, registers, w, buffer, first, last, from, to, sx, sy);
+}
+
 // What a background world shows an eye of a strip, painted over what is there.
 pub fn strip(
     vram: &[u8],
@@ -155,6 +195,10 @@ pub fn strip(
     let from = clipped(left);
     let to = clipped(left + columns(w));
     if to <= from {
+        return;
+    }
+    if w[0] / 4096 % 4 == 0 {
+        normal_block(vram, registers, w, buffer, from, to, eye, strip);
         return;
     }
     let mut r = 0;

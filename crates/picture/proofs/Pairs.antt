@@ -22,26 +22,6 @@ pub pair-lt : (h k : ℕ) → pairOf h k < 4
 unfolding pairOf
 pair-lt h k = omega arith
 
--- the machine's shift of a pair to its place does not reach past 64 bits, and is part of the halfword
-pub shifted-pair-le : (h k : ℕ) → k < 8 → (h / 2 ^ (2 * k) % 4 * 2 ^ (2 * k)) % 2 ^ 64 ≤ h
-shifted-pair-le h =
-    below-eight (λ k. (h / 2 ^ (2 * k) % 4 * 2 ^ (2 * k)) % 2 ^ 64 ≤ h)
-    (omega arith) (omega arith) (omega arith) (omega arith) (omega arith) (omega arith) (omega arith) (omega arith)
-
-pub shifted-fits : (h v : ℕ) → h < 65536 → v < 4 → (k : ℕ) → k < 8
-    → h - (h / 2 ^ (2 * k) % 4 * 2 ^ (2 * k)) % 2 ^ 64 + (v * 2 ^ (2 * k)) % 2 ^ 64 < 65536
-shifted-fits h v b s =
-    below-eight (λ k. h - (h / 2 ^ (2 * k) % 4 * 2 ^ (2 * k)) % 2 ^ 64 + (v * 2 ^ (2 * k)) % 2 ^ 64 < 65536)
-    (omega arith) (omega arith) (omega arith) (omega arith) (omega arith) (omega arith) (omega arith) (omega arith)
-
-pub shifted-with-pair : (h v : ℕ) → v < 4 → (k : ℕ) → k < 8
-    → h - (h / 2 ^ (2 * k) % 4 * 2 ^ (2 * k)) % 2 ^ 64 + (v * 2 ^ (2 * k)) % 2 ^ 64 ≡ withPairOf h k v
-unfolding withPairOf pairOf
-shifted-with-pair h v s =
-    below-eight (λ k. h - (h / 2 ^ (2 * k) % 4 * 2 ^ (2 * k)) % 2 ^ 64 + (v * 2 ^ (2 * k)) % 2 ^ 64
-    ≡ h - h / 2 ^ (2 * k) % 4 * 2 ^ (2 * k) + v * 2 ^ (2 * k))
-    (omega arith) (omega arith) (omega arith) (omega arith) (omega arith) (omega arith) (omega arith) (omega arith)
-
 -- a pair that was put is read back
 pub pair-with-same : (h v : ℕ) → v < 4 → (k : ℕ) → k < 8 → pairOf (withPairOf h k v) k ≡ v
 unfolding withPairOf pairOf

@@ -37,6 +37,12 @@ module _ (r from x : ℕ) (f : ℕ → ℕ → ℕ) (a b : List ℕ) where
             | no n ↦ getD-set-other b x y _ 0 n ∙ s .inside y u (omega arith)
           ]
 
+-- the next column, by its distance from the first
+pub span-next : (r from k : ℕ) (f : ℕ → ℕ → ℕ) (g : ℕ → ℕ) (a b : List ℕ) → Span r from (from + k) f a b → from + k < length b → f (from + k) ≡ g
+    → Span r from (from + (k + 1)) f a (set b (from + k) (repaintedOf r g (getD b (from + k) 0)))
+span-next r from k f g a b s h e =
+    let p : from + (k + 1) ≡ from + k + 1 = omega arith in rw (p, ← e) (span-more r from (from + k) f a b s (omega arith) h)
+
 -- two spans side by side
 pub span-join : (r from mid to : ℕ) (f : ℕ → ℕ → ℕ) (a b c : List ℕ) → from ≤ mid → mid ≤ to
     → Span r from mid f a b → Span r mid to f b c → Span r from to f a c

@@ -21,6 +21,15 @@ pub record Span (r from to : ℕ) (f : ℕ → ℕ → ℕ) (before after : List
   pub below : (x : ℕ) → x < from → getD after x 0 ≡ getD before x 0
   pub above : (x : ℕ) → to ≤ x → getD after x 0 ≡ getD before x 0
 
+-- columns from to to - 1 of rows top to bottom - 1 were taken through f, of a pixel's column and row, and nothing else changed
+pub record Block (top bottom from to : ℕ) (f : ℕ → ℕ → ℕ → ℕ) (before after : List ℕ) : Type 0 where
+  pub size : length after ≡ length before
+  pub inside : (x r : ℕ) → from ≤ x → x < to → top ≤ r → r < bottom → pairOf (getD after x 0) r ≡ f x r (pairOf (getD before x 0) r)
+  pub left : (x : ℕ) → x < from → getD after x 0 ≡ getD before x 0
+  pub right : (x : ℕ) → to ≤ x → getD after x 0 ≡ getD before x 0
+  pub above : (x r : ℕ) → r < top → r < 8 → pairOf (getD after x 0) r ≡ pairOf (getD before x 0) r
+  pub below : (x r : ℕ) → bottom ≤ r → r < 8 → pairOf (getD after x 0) r ≡ pairOf (getD before x 0) r
+
 -- rows 0 to n - 1 of the strip were taken through f, of a pixel's column and row, and the other rows kept
 pub record Rows (n : ℕ) (f : ℕ → ℕ → ℕ → ℕ) (before after : List ℕ) : Type 0 where
   pub size : length after ≡ length before

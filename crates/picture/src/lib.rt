@@ -1,14 +1,16 @@
 // The picture: what a pixel is (specs/), and the reads of VRAM and of the records that it is made of.
 // These functions are `pub` for the crates that paint; none is a call of the library's users.
 ghost use mathlib.Core.Path.{_≡_};
-ghost use Prim.Native.Nat.{_+_, _-_, _*_, _<_, _≤_, min};
+ghost use Prim.Native.Nat.{ℕ, _+_, _-_, _*_, _/_, _%_, _^_, _<_, _≤_, min};
 ghost use lib.ListN.{length};
+ghost use lib.Dec.{eqb};
+ghost use Rattle.word.specs.Choose.{pick};
 ghost use Rattle.word.specs.LittleEndian.{halfAt};
 ghost use Rattle.picture.specs.Signed.{edgeOf, flagOf};
 ghost use Rattle.picture.specs.Character.{pairOf, characterAddressOf, flippedOf, rowAddressOf, valueOf, shadeOf};
 ghost use Rattle.picture.specs.World.{worldOf, columnsOf, rowsOf, windowLeftOf};
 ghost use Rattle.picture.specs.Object.{objectOf, objectLeftOf};
-ghost use Rattle.picture.specs.Buffer.{withPairOf, repaintedOf, Span};
+ghost use Rattle.picture.specs.Buffer.{repaintedOf, Span};
 
 // The halfword at an address of VRAM.
 pub fn half(vram: &[u8], a: usize) -> u16
@@ -99,16 +101,6 @@ pub fn pair(h: usize, k: usize) -> usize
     (h >> (2 * k)) % 4
 }
 
-// A halfword with v at bits 2k and 2k + 1.
-pub fn with_pair(h: u16, k: usize, v: usize) -> u16
-    requires { ⌜ (k < 8) × (v < 4) ⌝ }
-    ensures { λ r. ⌜ r ≡ withPairOf h k v ⌝ }
-{
-    let whole = h as usize;
-    let old = (whole >> (2 * k)) % 4;
-    (whole - (old << (2 * k)) + (v << (2 * k))) as u16
-}
-
 // A position of 0 to 7, mirrored where flipped.
 pub fn flipped(flip: bool, k: usize) -> usize
     requires { ⌜ k < 8 ⌝ }
@@ -144,25 +136,39 @@ pub fn value(cell: usize, row: usize, column: usize) -> usize
     pair(row, flipped(cell / 8192 % 2 == 1, column))
 }
 
-// What a value makes of a pixel: 0 leaves it as it was, any other is looked up in the palette.
-pub fn shade(palette: usize, v: usize, before: usize) -> usize
-    requires { ⌜ (v < 4) × (before < 4) ⌝ }
-    ensures { λ r. ⌜ (r ≡ shadeOf palette v before) × (r < 4) ⌝ }
+// The first of two halfwords where b holds, else the second.
+pub fn choice(b: bool, x: u16, y: u16) -> u16
+    ensures { λ r. ⌜ r ≡ pick b x y ⌝ }
 {
-    let looked_up = pair(palette, v);
-    if v == 0 {
-        return before;
+    if b {
+        return x;
     }
-    looked_up
+    y
 }
 
-// A column of the strip, its row r painted over by a value.
+// Two bits at their place in row r of a column.
+pub fn placed(v: usize, r: usize) -> u16
+    requires { ⌜ (v < 4) × (r < 8) ⌝ }
+    ensures { λ h. ⌜ h ≡ v * 2 ^ (2 * r) ⌝ }
+{
+    (v << (2 * r)) as u16
+}
+
+// What is left of a column where row r is painted over; all of it where the paint is blank.
+pub fn kept(h: u16, r: usize, blank: bool) -> u16
+    requires { ⌜ r < 8 ⌝ }
+    ensures { λ n. ⌜ n ≡ pick blank h (h - pairOf h r * 2 ^ (2 * r)) ⌝ }
+{
+    h - (h & choice(blank, 0, placed(3, r)))
+}
+
+// A column of the strip, its row r painted over by a value: 0 leaves it as it was, any other is looked up in the palette.
 pub fn shaded(h: u16, r: usize, palette: usize, v: usize) -> u16
     requires { ⌜ (r < 8) × (v < 4) ⌝ }
     ensures { λ n. ⌜ n ≡ repaintedOf r (shadeOf palette v) h ⌝ }
 {
-    let before = pair(wide(h), r);
-    with_pair(h, r, shade(palette, v, before))
+    let looked_up = pair(palette, v);
+    kept(h, r, v == 0) + choice(v == 0, 0, placed(looked_up, r))
 }
 
 // The columns of a world.
@@ -215,6 +221,93 @@ pub fn object_left(o: &[u16; 4], eye: usize) -> usize
     edge(eye, (wide(o[0]) + 512) % 1024, (wide(o[1]) + 512) % 1024)
 }
 
+// The bytes of a halfword exchanged.
+pub fn bytes_exchanged(h: u16) -> u16
+    ensures { λ r. ⌜ r ≡ h / 256 + h % 256 * 256 ⌝ }
+{
+    h / 256 + h % 256 * 256
+}
+
+// The halves of both bytes of a halfword exchanged.
+pub fn nibbles_exchanged(h: u16) -> u16
+    ensures { λ r. ⌜ r ≡ (h / 16 % 16 + h / 4096 * 256) + (h % 16 * 16 + h / 256 % 16 * 4096) ⌝ }
+{
+    (h / 16 % 16 + h / 4096 * 256) + (h % 16 * 16 + h / 256 % 16 * 4096)
+}
+
+// The pairs of each half byte of a halfword exchanged.
+pub fn pairs_exchanged(h: u16) -> u16
+    ensures { λ r. ⌜ r ≡ (h / 4 % 4 + h / 64 % 4 * 16 + h / 1024 % 4 * 256 + h / 16384 * 4096) + (h % 4 * 4 + h / 16 % 4 * 64 + h / 256 % 4 * 1024 + h / 4096 % 4 * 16384) ⌝ }
+{
+    (h / 4 % 4 + h / 64 % 4 * 16 + h / 1024 % 4 * 256 + h / 16384 * 4096)
+        + (h % 4 * 4 + h / 16 % 4 * 64 + h / 256 % 4 * 1024 + h / 4096 % 4 * 16384)
+}
+
+// The eight pairs of a halfword in the opposite order.
+pub fn mirrored(row: u16) -> u16
+    ensures { λ m. ⌜ ((k : ℕ) → k < 8 → pairOf m k ≡ pairOf row (7 - k)) ⌝ }
+{
+    pairs_exchanged(nibbles_exchanged(bytes_exchanged(row)))
+}
+
+// A character row as its cell shows it, its values from left to right.
+pub fn facing(cell: usize, row: usize) -> u16
+    ensures { λ f. ⌜ ((k : ℕ) → k < 8 → pairOf f k ≡ valueOf cell row k) ⌝ }
+{
+    let seen = (row % 65536) as u16;
+    choice(cell / 8192 % 2 == 1, mirrored(seen), seen)
+}
+
+// Whether pair k of a halfword is n; read from a byte of it, so that no place is at the end of the number.
+pub fn holds(f: u16, k: usize, n: u16) -> bool
+    requires { ⌜ (k < 8) × (n < 4) ⌝ }
+    ensures { λ b. ⌜ b ≡ eqb (pairOf f k) n ⌝ }
+{
+    let byte = (f >> (8 * (k / 4))) % 256;
+    let unit: u16 = 1 << (2 * (k % 4));
+    byte & (3 * unit) == n * unit
+}
+
+// What value k of a row paints at row r of a column: its shade in its place, nothing for 0.
+pub fn tint(palette: usize, r: usize, f: u16, k: usize) -> u16
+    requires { ⌜ (r < 8) × (k < 8) ⌝ }
+    ensures { λ h. ⌜ h ≡ pick (eqb (pairOf f k) 0) 0 (pairOf palette (pairOf f k) * 2 ^ (2 * r)) ⌝ }
+{
+    let one = choice(holds(f, k, 1), placed(pair(palette, 1), r), 0);
+    let two = choice(holds(f, k, 2), placed(pair(palette, 2), r), 0);
+    let three = choice(holds(f, k, 3), placed(pair(palette, 3), r), 0);
+    one | two | three
+}
+
+// A column of the strip, its row r painted over by value k of a row; no branch, so that eight are painted at once.
+pub fn painted(h: u16, r: usize, palette: usize, f: u16, k: usize) -> u16
+    requires { ⌜ (r < 8) × (k < 8) ⌝ }
+    ensures { λ n. ⌜ n ≡ repaintedOf r (shadeOf palette (pairOf f k)) h ⌝ }
+{
+    kept(h, r, holds(f, k, 0)) + tint(palette, r, f, k)
+}
+
+// The eight columns of a character row painted over row r of the strip.
+pub fn whole(
+    buffer: &mut [u16; 384],
+    from: usize,
+    r: usize,
+    cell: usize,
+    row: usize,
+    palette: usize,
+)
+    requires { ⌜ length (now buffer) ≡ 384 ⌝ }
+    requires { ⌜ (from + 8 ≤ 384) × (r < 8) ⌝ }
+    ensures { λ _. ⌜ Span r from (from + 8) (λ x. shadeOf palette (valueOf cell row (x - from))) (now (buffer .entry)) (now (buffer .exit)) ⌝ }
+{
+    let f = facing(cell, row);
+    let mut k = 0;
+    while k < 8 {
+        buffer[from + k] = painted(buffer[from + k], r, palette, f, k);
+        k += 1;
+    }
+}
+
 // Columns of a character row, from `column` on, painted over row r of the strip.
 pub fn span(
     buffer: &mut [u16; 384],
@@ -230,6 +323,10 @@ pub fn span(
     requires { ⌜ (from ≤ to) × ((to ≤ 384) × ((r < 8) × (column + (to - from) ≤ 8))) ⌝ }
     ensures { λ _. ⌜ Span r from to (λ x. shadeOf palette (valueOf cell row (column + (x - from)))) (now (buffer .entry)) (now (buffer .exit)) ⌝ }
 {
+    if from + 8 == to {
+        whole(buffer, from, r, cell, row, palette);
+        return;
+    }
     let mut x = from;
     while x < to {
         buffer[x] = shaded(buffer[x], r, palette, value(cell, row, column + (x - from)));

@@ -1,25 +1,34 @@
--- `picture::shaded` meets its contract. Assumes nothing.
+-- `picture::shaded` meets its contract: what is kept and what is added make the repainted column. Assumes nothing.
 use borrow.Author.Needs.{needs}
 use Rattle.picture.proofs.shaded.Statement.{statement}
 use Rattle.picture.proofs.shaded.Tie as tie
-use Rattle.picture.specs.Buffer.{repaintedOf}
-
-wide-requires : tie.Need-wide-requires
-wide-requires c κs = search needs
+use native.Mathlib.Omega.{arith}
+use Rattle.picture.proofs.Masks.{repainted-sum, repainted-fits}
 
 pair-requires : tie.Need-pair-requires
 pair-requires c κs = search needs
 
-shade-requires : tie.Need-shade-requires
-shade-requires c κs = search needs
+kept-requires : tie.Need-kept-requires
+kept-requires c κs = search needs
 
-with-pair-requires : tie.Need-with-pair-requires
-with-pair-requires c κs = search needs
+placed-requires : tie.Need-placed-requires
+placed-requires c κs = search needs
+
+choice-requires : tie.Need-choice-requires
+choice-requires c κs = search needs
 
 returns : tie.Need-returns
-unfolding repaintedOf
-returns c = rw (c .with-pair .ensures, c .before .shade .ensures .0, c .before .before .pair .ensures .0, c .before .before .before .wide .ensures .0)
+returns c =
+    let a = c .before .before .before .before .args in
+    rw (c .before .before .kept .ensures, c .choice .ensures, c .before .placed .ensures, c .before .before .before .pair .ensures .0)
+    (repainted-sum (a .h) (a .r) (a .palette) (a .v) (c .before .before .before .before .pre .0))
+
+add-result : tie.Need-add-result
+add-result c =
+    let a = c .before .before .before .before .args in
+    omega (arith, returns c, repainted-fits (a .h) (a .r) (a .palette) (a .v) (search needs) (c .before .before .before .before .pre .0))
 
 pub shaded-spec : {M : Type 1} → statement M
 shaded-spec =
-    tie.close (tie.spec wide-requires pair-requires shade-requires with-pair-requires returns)
+    tie.close
+    (tie.spec pair-requires kept-requires placed-requires choice-requires add-result returns)

@@ -1,10 +1,11 @@
--- `picture::span` meets its contract: column after column, the pixels so far are taken through their values. Assumes nothing.
+-- `picture::span` meets its contract: eight columns at once, else column after column, the pixels so far are taken through their
+-- values. Assumes nothing.
 use Prim.Native.Nat.{_+_, _-_, _≤_}
 use native.Mathlib.Omega.{arith}
 use Rattle.picture.specs.Character.{shadeOf, valueOf}
-use mathlib.Core.Path.{_≡_}
+use mathlib.Core.Path.{_≡_, ap}
 use Rattle.picture.specs.Buffer.{Span}
-use Rattle.picture.proofs.Spans.{span-none, span-more}
+use Rattle.picture.proofs.Spans.{span-none, span-more, span-change}
 use Rattle.picture.proofs.span.Statement.{statement}
 use Rattle.picture.proofs.span.Tie as tie
 
@@ -15,6 +16,19 @@ Inv-loop buffer₀ from to r cell row palette column x₀ buffer x =
 
 abbrev μ-loop : tie.MeasureT-loop
 μ-loop buffer₀ from to r cell row palette column x₀ buffer x = to - x
+
+add-if1 : tie.Need-add-if1 Inv-loop μ-loop
+add-if1 c = omega arith
+
+whole-requires : tie.Need-whole-requires Inv-loop μ-loop
+whole-requires c κs = omega arith
+
+returns : tie.Need-returns Inv-loop μ-loop
+returns c =
+    let a = c .before .before .before .args in
+    span-change _ _ _ _ _ _ _
+    (λ x v l h. let e : x - a .from ≡ a .column + (x - a .from) = omega arith in ap (λ n. shadeOf (a .palette) (valueOf (a .cell) (a .row) n) v) e)
+    (rw (c .before .before .if1 .taken) at (c .whole .ensures))
 
 loop-holds : tie.Need-loop-holds Inv-loop μ-loop
 loop-holds c = (omega arith, (omega arith, span-none _ _ _ _))
@@ -60,9 +74,9 @@ loop-again c =
       ),
     )
 
-returns : tie.Need-returns Inv-loop μ-loop
-returns c =
-    let e : c .before .loop .x ≡ c .before .before .args .to = omega arith in
+returns-2 : tie.Need-returns-2 Inv-loop μ-loop
+returns-2 c =
+    let e : c .before .loop .x ≡ c .before .before .before .args .to = omega arith in
     rw e at (c .before .loop .inv .1 .1)
 
 pub span-spec : {M : Type 1} → statement M
@@ -71,6 +85,9 @@ span-spec =
     (tie.spec
     Inv-loop
     μ-loop
+    add-if1
+    whole-requires
+    returns
     loop-holds
     mul-shaded
     element-copy-out-shaded
@@ -83,4 +100,4 @@ span-spec =
     add-x
     loop-less
     loop-again
-    returns)
+    returns-2)

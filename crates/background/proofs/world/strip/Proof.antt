@@ -1,4 +1,5 @@
--- `background::world::strip` meets its contract: row after row, the window's columns are painted and all others kept. Assumes nothing.
+-- `background::world::strip` meets its contract: at once or row after row, the window's columns are painted
+-- and all others kept. Assumes nothing.
 use Rattle.background.proofs.world.strip.Statement.{statement}
 use Rattle.background.proofs.world.strip.Tie as tie
 use Prim.Native.Nat.{_+_, _-_, _*_, _≤_}
@@ -10,6 +11,7 @@ use Rattle.picture.specs.World.{worldShownOf}
 use Rattle.picture.specs.Background.{backgroundPixelOf}
 use Rattle.picture.specs.Buffer.{Rows}
 use Rattle.picture.proofs.Spans.{rows-none, rows-more, rows-all, strip-kept}
+use Rattle.picture.proofs.Blocks.{block-strip}
 use Rattle.picture.proofs.Small.{background-small}
 use Rattle.picture.proofs.Windows.{background-hidden}
 use Rattle.background.proofs.Clipping.{clipped-outside, clipped-empty}
@@ -52,6 +54,27 @@ returns-2 c = let a = c .before .before .before .before .before .before .before 
     strip-kept _ _ (λ x r v u q. clipped-empty (a .vram .now) (a .registers .now) (a .w .now) (a .eye) x (8 * a .strip + r) v _ _ u
     (omega (arith, c .before .before .before .clipped .ensures)) (omega (arith, c .before .clipped2 .ensures)) (c .if2 .taken))
 
+element-copy-out-if3 : tie.Need-element-copy-out-if3 Inv-loop μ-loop
+element-copy-out-if3 c = search needs
+
+normal-block-requires : tie.Need-normal-block-requires Inv-loop μ-loop
+unfolding worldShownOf
+normal-block-requires c κs = (
+  omega arith,
+  (
+    (omega arith, (omega arith, (omega arith, (omega arith, c .before .if3 .taken)))),
+    (sym (c .before .before .before .before .before .before .before .before .before .flag .ensures) ∙ not-false _ (c .before .before .before .before .before .before .before .before .if1 .left), (omega arith, omega arith)),
+  ),
+)
+
+returns-3 : tie.Need-returns-3 Inv-loop μ-loop
+returns-3 c =
+    let a = c .before .before .before .before .before .before .before .before .before .before .before .before .before .args in
+    block-strip _ _ _ _ _
+    (λ x r v u. clipped-outside (a .vram .now) (a .registers .now) (a .w .now) (a .eye) x (8 * a .strip + r) v _ _ u
+    (omega (arith, c .before .before .before .before .before .before .before .clipped .ensures)) (omega (arith, c .before .before .before .before .before .clipped2 .ensures)))
+    (c .normal-block .ensures)
+
 loop-holds : tie.Need-loop-holds Inv-loop μ-loop
 loop-holds c = (omega arith, rows-none _ _)
 
@@ -61,7 +84,7 @@ strip-row-requires c κs = (
   omega (arith, c .before .before .loop .inv .1 .size),
   (
     (omega arith, (omega arith, (omega arith, (omega arith, omega arith)))),
-    (sym (c .before .before .before .before .before .before .before .before .before .flag .ensures) ∙ not-false _ (c .before .before .before .before .before .before .before .before .if1 .left), (omega arith, omega arith)),
+    (sym (c .before .before .before .before .before .before .before .before .before .before .before .flag .ensures) ∙ not-false _ (c .before .before .before .before .before .before .before .before .before .before .if1 .left), (omega arith, omega arith)),
   ),
 )
 
@@ -72,17 +95,17 @@ loop-less : tie.Need-loop-less Inv-loop μ-loop
 loop-less c = omega arith
 
 loop-again : tie.Need-loop-again Inv-loop μ-loop
-loop-again c = let a = c .before .before .before .before .before .before .before .before .before .before .before .before .before .args in (
+loop-again c = let a = c .before .before .before .before .before .before .before .before .before .before .before .before .before .before .before .args in (
   omega arith,
   rows-more _ _ _ _ _ _ _ (c .before .before .loop-test .taken)
       (λ x v h. background-small (a .vram .now) (a .registers .now) (a .w .now) (a .eye) x _ v h)
       (λ x v u. clipped-outside (a .vram .now) (a .registers .now) (a .w .now) (a .eye) x _ v _ _ u
-      (omega (arith, c .before .before .before .before .before .before .before .clipped .ensures)) (omega (arith, c .before .before .before .before .before .clipped2 .ensures)))
+      (omega (arith, c .before .before .before .before .before .before .before .before .before .clipped .ensures)) (omega (arith, c .before .before .before .before .before .before .before .clipped2 .ensures)))
       (c .before .before .before .loop .inv .1) (c .strip-row .ensures),
 )
 
-returns-3 : tie.Need-returns-3 Inv-loop μ-loop
-returns-3 c = let e : c .before .loop .r ≡ 8 = omega arith in
+returns-4 : tie.Need-returns-4 Inv-loop μ-loop
+returns-4 c = let e : c .before .loop .r ≡ 8 = omega arith in
     rows-all _ _ _ (rw e at (c .before .loop .inv .1))
 
 pub strip-spec : {M : Type 1} → statement M
@@ -100,9 +123,12 @@ strip-spec =
     add-clipped
     clipped-requires-2
     returns-2
+    element-copy-out-if3
+    normal-block-requires
+    returns-3
     loop-holds
     strip-row-requires
     add-r
     loop-less
     loop-again
-    returns-3)
+    returns-4)
