@@ -1,5 +1,5 @@
 // The bus's public calls: each tests refusals 1 to 5 and then loads or stores. They take the drawing registers by
-// value, and a store gives them back.
+// value, and a store gives them back. Only accesses to region 0, the VIP, are lent a copy of them.
 use bus::Drawing;
 use bus::Loaded;
 use bus::Refusal;
