@@ -1,10 +1,11 @@
 // The bus's public calls: each tests refusals 1 to 5 and then loads or stores. They take the drawing registers by
-// value, and a store gives them back.
+// value, and a store gives them back. Only accesses to region 0, the VIP, are lent a copy of them.
 use bus::Drawing;
 use bus::Loaded;
 use bus::Refusal;
 use bus::Verdict;
 use bus::load;
+use bus::outside;
 use bus::refusals;
 use bus::store;
 ghost use mathlib.Core.Path.{_≡_};
@@ -34,10 +35,16 @@ pub fn load_byte(
 ) -> Load
     ensures { λ r. ⌜ r ≡ checkedLoadOf (memoryOf (now (rom .entry)) (now (wram .entry)) (now (vram .entry)) (now (pak .entry)) (drawing .regs)) 1 address ⌝ }
 {
-    let regs = drawing.regs;
-    let verdict = refusals::verdict(rom.len(), wram.len(), vram.len(), pak.len(), &regs);
+    let verdict = refusals::verdict(rom.len(), wram.len(), vram.len(), pak.len(), &drawing.regs);
     match verdict {
-        Verdict::Accepted => Load::Value(load::byte(rom, wram, vram, pak, &regs, address)),
+        Verdict::Accepted => {
+            if address / 16777216 % 8 == 0 {
+                let regs = drawing.regs;
+                return Load::Value(load::byte(rom, wram, vram, pak, &regs, address));
+            }
+            let value = outside::byte(rom, wram, pak, address);
+            Load::Value(Loaded { value })
+        }
         Verdict::Refused(refusal) => Load::Refused(refusal),
     }
 }
@@ -53,10 +60,16 @@ pub fn load_half(
 ) -> Load
     ensures { λ r. ⌜ r ≡ checkedLoadOf (memoryOf (now (rom .entry)) (now (wram .entry)) (now (vram .entry)) (now (pak .entry)) (drawing .regs)) 2 address ⌝ }
 {
-    let regs = drawing.regs;
-    let verdict = refusals::verdict(rom.len(), wram.len(), vram.len(), pak.len(), &regs);
+    let verdict = refusals::verdict(rom.len(), wram.len(), vram.len(), pak.len(), &drawing.regs);
     match verdict {
-        Verdict::Accepted => Load::Value(load::half(rom, wram, vram, pak, &regs, address)),
+        Verdict::Accepted => {
+            if address / 16777216 % 8 == 0 {
+                let regs = drawing.regs;
+                return Load::Value(load::half(rom, wram, vram, pak, &regs, address));
+            }
+            let value = outside::half(rom, wram, pak, address);
+            Load::Value(Loaded { value })
+        }
         Verdict::Refused(refusal) => Load::Refused(refusal),
     }
 }
@@ -72,10 +85,16 @@ pub fn load_word(
 ) -> Load
     ensures { λ r. ⌜ r ≡ checkedLoadOf (memoryOf (now (rom .entry)) (now (wram .entry)) (now (vram .entry)) (now (pak .entry)) (drawing .regs)) 4 address ⌝ }
 {
-    let regs = drawing.regs;
-    let verdict = refusals::verdict(rom.len(), wram.len(), vram.len(), pak.len(), &regs);
+    let verdict = refusals::verdict(rom.len(), wram.len(), vram.len(), pak.len(), &drawing.regs);
     match verdict {
-        Verdict::Accepted => Load::Value(load::word(rom, wram, vram, pak, &regs, address)),
+        Verdict::Accepted => {
+            if address / 16777216 % 8 == 0 {
+                let regs = drawing.regs;
+                return Load::Value(load::word(rom, wram, vram, pak, &regs, address));
+            }
+            let value = outside::word(rom, wram, pak, address);
+            Load::Value(Loaded { value })
+        }
         Verdict::Refused(refusal) => Load::Refused(refusal),
     }
 }
@@ -93,19 +112,26 @@ pub fn store_byte(
     ensures verdict { λ r. ⌜ r .verdict ≡ verdictOf (memoryOf (now (rom .entry)) (now (wram .entry)) (now (vram .entry)) (now (pak .entry)) (drawing .regs)) ⌝ }
     ensures memory { λ r. ⌜ (let m = memoryOf (now (rom .entry)) (now (wram .entry)) (now (vram .entry)) (now (pak .entry)) (drawing .regs) in memoryOf (now (rom .entry)) (now (wram .exit)) (now (vram .exit)) (now (pak .exit)) (r .drawing .regs) ≡ checkedStoreOf m (storeByteOf m address value)) ⌝ }
 {
-    let mut regs = drawing.regs;
-    let verdict = refusals::verdict(rom.len(), wram.len(), vram.len(), pak.len(), &regs);
+    let verdict = refusals::verdict(rom.len(), wram.len(), vram.len(), pak.len(), &drawing.regs);
     match verdict {
         Verdict::Accepted => {
-            store::byte(rom, wram, vram, pak, &mut regs, address, value);
+            if address / 16777216 % 8 == 0 {
+                let mut regs = drawing.regs;
+                store::byte(rom, wram, vram, pak, &mut regs, address, value);
+                return Stored {
+                    verdict: Verdict::Accepted,
+                    drawing: Drawing { regs },
+                };
+            }
+            outside::put_byte(wram, pak, address, value);
             Stored {
                 verdict: Verdict::Accepted,
-                drawing: Drawing { regs },
+                drawing,
             }
         }
         Verdict::Refused(refusal) => Stored {
             verdict: Verdict::Refused(refusal),
-            drawing: Drawing { regs },
+            drawing,
         },
     }
 }
@@ -123,19 +149,26 @@ pub fn store_half(
     ensures verdict { λ r. ⌜ r .verdict ≡ verdictOf (memoryOf (now (rom .entry)) (now (wram .entry)) (now (vram .entry)) (now (pak .entry)) (drawing .regs)) ⌝ }
     ensures memory { λ r. ⌜ (let m = memoryOf (now (rom .entry)) (now (wram .entry)) (now (vram .entry)) (now (pak .entry)) (drawing .regs) in memoryOf (now (rom .entry)) (now (wram .exit)) (now (vram .exit)) (now (pak .exit)) (r .drawing .regs) ≡ checkedStoreOf m (storeHalfOf m address value)) ⌝ }
 {
-    let mut regs = drawing.regs;
-    let verdict = refusals::verdict(rom.len(), wram.len(), vram.len(), pak.len(), &regs);
+    let verdict = refusals::verdict(rom.len(), wram.len(), vram.len(), pak.len(), &drawing.regs);
     match verdict {
         Verdict::Accepted => {
-            store::half(rom, wram, vram, pak, &mut regs, address, value);
+            if address / 16777216 % 8 == 0 {
+                let mut regs = drawing.regs;
+                store::half(rom, wram, vram, pak, &mut regs, address, value);
+                return Stored {
+                    verdict: Verdict::Accepted,
+                    drawing: Drawing { regs },
+                };
+            }
+            outside::put_half(wram, pak, address, value);
             Stored {
                 verdict: Verdict::Accepted,
-                drawing: Drawing { regs },
+                drawing,
             }
         }
         Verdict::Refused(refusal) => Stored {
             verdict: Verdict::Refused(refusal),
-            drawing: Drawing { regs },
+            drawing,
         },
     }
 }
@@ -153,19 +186,26 @@ pub fn store_word(
     ensures verdict { λ r. ⌜ r .verdict ≡ verdictOf (memoryOf (now (rom .entry)) (now (wram .entry)) (now (vram .entry)) (now (pak .entry)) (drawing .regs)) ⌝ }
     ensures memory { λ r. ⌜ (let m = memoryOf (now (rom .entry)) (now (wram .entry)) (now (vram .entry)) (now (pak .entry)) (drawing .regs) in memoryOf (now (rom .entry)) (now (wram .exit)) (now (vram .exit)) (now (pak .exit)) (r .drawing .regs) ≡ checkedStoreOf m (storeWordOf m address value)) ⌝ }
 {
-    let mut regs = drawing.regs;
-    let verdict = refusals::verdict(rom.len(), wram.len(), vram.len(), pak.len(), &regs);
+    let verdict = refusals::verdict(rom.len(), wram.len(), vram.len(), pak.len(), &drawing.regs);
     match verdict {
         Verdict::Accepted => {
-            store::word(rom, wram, vram, pak, &mut regs, address, value);
+            if address / 16777216 % 8 == 0 {
+                let mut regs = drawing.regs;
+                store::word(rom, wram, vram, pak, &mut regs, address, value);
+                return Stored {
+                    verdict: Verdict::Accepted,
+                    drawing: Drawing { regs },
+                };
+            }
+            outside::put_word(wram, pak, address, value);
             Stored {
                 verdict: Verdict::Accepted,
-                drawing: Drawing { regs },
+                drawing,
             }
         }
         Verdict::Refused(refusal) => Stored {
             verdict: Verdict::Refused(refusal),
-            drawing: Drawing { regs },
+            drawing,
         },
     }
 }

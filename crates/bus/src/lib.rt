@@ -2,6 +2,7 @@
 // and paper 01's refusals 1 to 5. The functions here are for the crates above; the calls that test
 // their arguments and refuse are those of the crate access.
 pub mod load;
+pub mod outside;
 mod pak;
 pub mod refusals;
 mod registers;

@@ -1,0 +1,94 @@
+-- `bus::outside::word` meets its contract: by region, a word of WRAM, of ROM, of pak RAM, or 0.
+-- Assumes nothing.
+use borrow.Author.Needs.{needs}
+use Prim.Native.Nat.{ℕ, _+_, _-_, _*_, _/_, _%_, _<_, _≤_}
+use mathlib.Core.Path.{_≡_, sym, _∙_}
+use native.Mathlib.Omega.{arith}
+use lib.ListN.{length}
+use denote.Ref.{now}
+use Rattle.bus.specs.Memory.{memoryOf}
+use Rattle.bus.specs.Place.{wramAt, romAt, regionOf}
+use Rattle.bus.proofs.Power.{rom-power, rom-as-pak, power-pos, power-room}
+use Rattle.bus.proofs.Spans.{span-word, wram-span-word, rom-span-word}
+use Rattle.bus.proofs.Accesses.{Quiet, found, missed, nothing-word}
+use Rattle.bus.proofs.outside.word.Statement.{statement}
+use Rattle.bus.proofs.outside.word.Tie as tie
+
+sub-i : tie.Need-sub-i
+sub-i c = search needs
+
+cast-i : tie.Need-cast-i
+cast-i c = search needs
+
+word-at-requires : tie.Need-word-at-requires
+word-at-requires c κs = search needs
+
+returns : tie.Need-returns
+returns c =
+    let a = c .before .before .before .before .before .args in
+    let here = found (a .address) 5 (c .before .if1 .taken) in
+    λ vram regs.
+    let m = memoryOf (now (a .rom)) (now (a .wram)) vram (now (a .pak)) regs in
+    record { means = c .word-at .ensures ∙ sym (span-word m (a .address) wramAt _ (wram-span-word m (a .address) here)); fits = omega arith }
+
+sub-masked : tie.Need-sub-masked
+sub-masked c = search needs
+
+masked-requires : tie.Need-masked-requires
+masked-requires c κs =
+    let b = c .before .before .before .before .before in
+    let n = length (now (b .args .rom)) in
+    (rom-as-pak n (b .pre .0), power-pos 2 n (rom-power n (b .pre .0)))
+
+word-at-requires-2 : tie.Need-word-at-requires-2
+word-at-requires-2 c κs =
+    let b = c .before .before .before .before .before .before in
+    let n = length (now (b .args .rom)) in
+    let a = b .args in
+    rw (c .masked .ensures .0) (power-room n (rom-power n (b .pre .0)) (a .address - a .address % 4) 3 (omega arith))
+
+returns-2 : tie.Need-returns-2
+returns-2 c =
+    let b = c .before .before .before .before .before .before .before in
+    let a = b .args in
+    let here = found (a .address) 7 (c .before .before .if2 .taken) in
+    λ vram regs.
+    let m = memoryOf (now (a .rom)) (now (a .wram)) vram (now (a .pak)) regs in
+    record { means = c .word-at2 .ensures ∙ rw (c .before .masked .ensures .0) (sym (span-word m (a .address) romAt _ (rom-span-word m (a .address) here (b .pre .0)))); fits = omega arith }
+
+word-requires : tie.Need-word-requires
+word-requires c κs =
+    let b = c .before .before .before .before .before .before in
+    (found (b .args .address) 6 (c .if3 .taken), b .pre .2)
+
+returns-3 : tie.Need-returns-3
+returns-3 c =
+    let a = c .before .before .before .before .before .before .before .args in
+    λ vram regs. c .word .ensures (now (a .rom)) (now (a .wram)) vram regs
+
+returns-4 : tie.Need-returns-4
+returns-4 c =
+    let b = c .before .before .before .before .before .before in
+    let a = b .args in
+    let quiet : Quiet (regionOf (a .address)) = (missed (a .address) 5 (c .before .before .if1 .left), (missed (a .address) 7 (c .before .if2 .left), (missed (a .address) 0 (b .pre .3), missed (a .address) 6 (c .if3 .left)))) in
+    λ vram regs.
+    record {
+      means = sym (nothing-word (memoryOf (now (a .rom)) (now (a .wram)) vram (now (a .pak)) regs) (a .address) quiet);
+      fits = omega arith;
+    }
+
+pub word-spec : {M : Type 1} → statement M
+word-spec =
+    tie.close
+    (tie.spec
+    sub-i
+    cast-i
+    word-at-requires
+    returns
+    sub-masked
+    masked-requires
+    word-at-requires-2
+    returns-2
+    word-requires
+    returns-3
+    returns-4)
