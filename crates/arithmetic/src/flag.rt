@@ -1,4 +1,4 @@
-// The flags of PSW: CY, OV, S and Z in bits 3 to 0, ID in bit 12.
+// The flags of PSW: CY, OV, S and Z in bits 3 to 0, ID in bit 12. `pub` for the crates above alone.
 ghost use mathlib.Core.Path.{_≡_};
 ghost use Prim.Native.Nat.{_<_};
 ghost use Rattle.arithmetic.specs.Flag.{bitOf, flagsOf, keepCarryOf, setIdOf, clearIdOf, setEpOf, setNpOf, clearAeOf, regularOf, duplexedOf};
