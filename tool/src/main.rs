@@ -10,8 +10,10 @@ mod difference;
 mod explain;
 mod failure;
 mod files;
+mod givers;
 mod interrupt;
 mod json;
+mod judge;
 mod number;
 mod picture;
 mod progress;
@@ -36,8 +38,8 @@ use json::json;
     after_help = "Start with `vbmodel demo`; `vbmodel help COMMAND` has an example for each command.
 Numbers are decimal or, after 0x, hexadecimal; `_` may stand between digits. The file `-` is standard input.
 
-Exit status: 0 done (compare: equal); 1 compare: different; 2 refused or bad input; 3 why: the independent model and the
-proved library differ; 130 stopped by Ctrl-C."
+Exit status: 0 done (compare, judge: equal); 1 compare, judge: different; 2 refused or bad input; 3 why, compare --why,
+judge: the independent model and the proved library differ; 130 stopped by Ctrl-C."
 )]
 struct Cli {
     #[command(subcommand)]
@@ -54,6 +56,8 @@ enum Command {
     Draw(commands::draw::Options),
     /// Compares the model's frame with a die's capture of it
     Compare(commands::compare::Options),
+    /// Judges a whole lot: many captures against the model, with a report
+    Judge(commands::judge::Options),
     /// Tells which worlds and objects cover a pixel, and the bytes it answers to
     Why(commands::why::Options),
 }
@@ -65,6 +69,7 @@ impl Command {
             Command::Run(options) => options.json,
             Command::Draw(options) => options.json,
             Command::Compare(options) => options.json,
+            Command::Judge(options) => options.json,
             Command::Why(options) => options.json,
         }
     }
@@ -75,6 +80,7 @@ impl Command {
             Command::Run(options) => commands::run::run(options),
             Command::Draw(options) => commands::draw::run(options),
             Command::Compare(options) => commands::compare::run(options),
+            Command::Judge(options) => commands::judge::run(options),
             Command::Why(options) => commands::why::run(options),
         }
     }

@@ -3,6 +3,7 @@
 pub mod compare;
 pub mod demo;
 pub mod draw;
+pub mod judge;
 pub mod run;
 pub mod why;
 
