@@ -4,12 +4,14 @@
 mod assembler;
 mod called;
 mod capture;
+mod changes;
 mod commands;
 mod demo;
 mod difference;
 mod explain;
 mod failure;
 mod files;
+mod follow;
 mod givers;
 mod interrupt;
 mod json;
@@ -52,6 +54,8 @@ enum Command {
     Demo(commands::demo::Options),
     /// Runs a program from memory images and prints the answer, the count and the registers
     Run(Box<commands::run::Options>),
+    /// Follows a program: what each instruction does to registers and memory
+    Step(Box<commands::step::Options>),
     /// Draws a frame from VRAM and drawing registers and writes PNGs
     Draw(commands::draw::Options),
     /// Compares the model's frame with a die's capture of it
@@ -67,6 +71,7 @@ impl Command {
         match self {
             Command::Demo(_) => false,
             Command::Run(options) => options.json,
+            Command::Step(options) => options.json,
             Command::Draw(options) => options.json,
             Command::Compare(options) => options.json,
             Command::Judge(options) => options.json,
@@ -78,6 +83,7 @@ impl Command {
         match self {
             Command::Demo(options) => commands::demo::run(options),
             Command::Run(options) => commands::run::run(options),
+            Command::Step(options) => commands::step::run(options),
             Command::Draw(options) => commands::draw::run(options),
             Command::Compare(options) => commands::compare::run(options),
             Command::Judge(options) => commands::judge::run(options),

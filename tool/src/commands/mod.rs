@@ -4,7 +4,9 @@ pub mod compare;
 pub mod demo;
 pub mod draw;
 pub mod judge;
+pub mod ran;
 pub mod run;
+pub mod step;
 pub mod why;
 
 use serde::Serialize;
