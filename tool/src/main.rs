@@ -26,7 +26,7 @@ mod state;
 use std::ffi::OsString;
 use std::io::{stderr, stdout, ErrorKind, Write};
 
-use clap::{Parser, Subcommand};
+use clap::{CommandFactory, Parser, Subcommand};
 
 use commands::Report;
 use failure::Failure;
@@ -64,12 +64,16 @@ enum Command {
     Judge(commands::judge::Options),
     /// Tells which worlds and objects cover a pixel, and the bytes it answers to
     Why(commands::why::Options),
+    /// Prints completions for a shell
+    Completions(commands::pages::Completions),
+    /// Prints the manual page
+    Man(commands::pages::Man),
 }
 
 impl Command {
     fn json(&self) -> bool {
         match self {
-            Command::Demo(_) => false,
+            Command::Demo(_) | Command::Completions(_) | Command::Man(_) => false,
             Command::Run(options) => options.json,
             Command::Step(options) => options.json,
             Command::Draw(options) => options.json,
@@ -88,6 +92,10 @@ impl Command {
             Command::Compare(options) => commands::compare::run(options),
             Command::Judge(options) => commands::judge::run(options),
             Command::Why(options) => commands::why::run(options),
+            Command::Completions(options) => {
+                Ok(commands::pages::completions(options, Cli::command()))
+            }
+            Command::Man(_) => Ok(commands::pages::man(&Cli::command())),
         }
     }
 }

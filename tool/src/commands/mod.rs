@@ -4,6 +4,7 @@ pub mod compare;
 pub mod demo;
 pub mod draw;
 pub mod judge;
+pub mod pages;
 pub mod ran;
 pub mod run;
 pub mod step;

@@ -112,7 +112,8 @@ impl Told {
             written.to = loaded.unwrap_or(written.from);
         }
         let next = self.pc.wrapping_add(2 * self.halfwords.len() as u32);
-        self.jumped = (new.processor.pc != next).then_some(new.processor.pc);
+        // a machine that turns fatal stays where it is
+        self.jumped = (new.processor.pc != next && !turned_fatal).then_some(new.processor.pc);
         (self.exception, self.turned_fatal) = (exception, turned_fatal);
         self
     }
