@@ -6,9 +6,12 @@ use super::junit::escaped;
 use super::verdict::{Explained, EyeJudged, Pictures};
 use super::{Judged, Summary, Verdict};
 use crate::difference::Bounds;
+use crate::givers::Share;
 
 const STYLE: &str = include_str!("page.css");
 const SCRIPT: &str = include_str!("page.js");
+/// How many worlds and objects are listed at once.
+const LISTED: usize = 10;
 /// Nothing may be loaded but what stands in the page.
 const POLICY: &str =
     "default-src 'none'; img-src data:; style-src 'unsafe-inline'; script-src 'unsafe-inline'";
@@ -96,17 +99,31 @@ fn eye(one: &EyeJudged) -> String {
     if let Some(pictures) = &one.pictures {
         out += &shown(one.eye, pictures, bounds);
     }
-    out += "<table class=\"shares\">\n<tr><th>Pixels</th><th>What the model shows there</th><th>First at</th></tr>\n";
-    for share in &one.shares {
-        let (pixels, what) = (grouped(share.pixels as u64), escaped(&share.what));
-        let (column, row) = (share.column, share.row);
-        out += &format!(
-            "<tr><td>{pixels}</td><td>{what}</td><td>column {column}, row {row}</td></tr>\n"
-        );
-    }
-    out += "</table>\n";
+    out += &shares(&one.shares);
     out.extend(one.first.iter().map(explanation));
     out
+}
+
+/// The givers of the differing pixels; those beyond the tenth on demand.
+fn shares(all: &[Share]) -> String {
+    let table = |some: &[Share]| {
+        let head = "<tr><th>Pixels</th><th>What the model shows there</th><th>First at</th></tr>";
+        let row = |share: &Share| {
+            let (pixels, what) = (grouped(share.pixels as u64), escaped(&share.what));
+            let (column, row) = (share.column, share.row);
+            format!(
+                "<tr><td>{pixels}</td><td>{what}</td><td>column {column}, row {row}</td></tr>\n"
+            )
+        };
+        let rows: String = some.iter().map(row).collect();
+        format!("<table class=\"shares\">\n{head}\n{rows}</table>\n")
+    };
+    if all.len() <= LISTED {
+        return table(all);
+    }
+    let (first, more) = all.split_at(LISTED);
+    let count = more.len();
+    format!("{}<details><summary>{count} more</summary>\n{}</details>\n", table(first), table(more))
 }
 
 /// The three pictures, a frame around what differs.
