@@ -1,6 +1,6 @@
 // The bus: where an address leads, loads and stores over the lent memories, the drawing registers,
 // and paper 01's refusals 1 to 5. The functions here are for the crates above; the calls that test
-// their arguments and refuse are those of the crate access.
+// their arguments and refuse are those of the crate bus_calls.
 pub mod load;
 pub mod outside;
 mod pak;

@@ -7,11 +7,11 @@ use Rattle.bus.specs.Refusal.{numberOf, verdictNumber}
 use Rattle.bus.specs.Memory.{Memory}
 use Rattle.bus.specs.declared.Verdict.{Verdict}
 use Rattle.bus.specs.declared.Verdict.the-variants as verdict
-use Rattle.machine.specs.Exception.{codeOf}
-use Rattle.machine.specs.declared.Mode.{Mode}
-use Rattle.machine.specs.declared.Mode.the-variants.{Running, Halted, Fatal}
-use Rattle.machine.specs.declared.Answer.{Answer}
-use Rattle.machine.specs.declared.Answer.the-variants.{Ended, Trapped, TurnedFatal, WasHalted, WasFatal, Refused}
+use Rattle.processor_machine.specs.Exception.{codeOf}
+use Rattle.processor_machine.specs.declared.Mode.{Mode}
+use Rattle.processor_machine.specs.declared.Mode.the-variants.{Running, Halted, Fatal}
+use Rattle.processor_machine.specs.declared.Answer.{Answer}
+use Rattle.processor_machine.specs.declared.Answer.the-variants.{Ended, Trapped, TurnedFatal, WasHalted, WasFatal, Refused}
 use Rattle.processor.specs.Record.{stateIn}
 use Rattle.processor.specs.Acceptance.{acceptanceOf}
 use Rattle.processor.specs.Calls.{Done, Ran, checkedStepOf, checkedRunOf}

@@ -3,9 +3,9 @@ use crate::accesses::VbDrawing;
 use crate::numbers;
 use bus::Drawing;
 use bus::Verdict;
-use machine::Answer;
-use machine::Mode;
 use processor::Processor;
+use processor_machine::Answer;
+use processor_machine::Mode;
 ghost use mathlib.Core.Path.{_≡_};
 ghost use Rattle.bus.specs.Memory.{memoryOf};
 ghost use Rattle.processor.specs.Calls.{resetOf};
@@ -158,8 +158,8 @@ fn answer_code(answer: Answer) -> u32
 {
     match answer {
         Answer::Ended => 0,
-        Answer::Trapped(cause) => machine::exception::code(cause),
-        Answer::TurnedFatal(cause) => machine::exception::code(cause),
+        Answer::Trapped(cause) => processor_machine::exception::code(cause),
+        Answer::TurnedFatal(cause) => processor_machine::exception::code(cause),
         Answer::WasHalted => 0,
         Answer::WasFatal => 0,
         Answer::Refused(_) => 0,

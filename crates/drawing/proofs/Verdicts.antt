@@ -12,8 +12,8 @@ use Rattle.bus.proofs.Accepted.{unless-passed}
 use Rattle.bus.specs.Registers.{registersOk}
 use Rattle.bus.specs.declared.Verdict.the-variants.{Accepted, Refused}
 use Rattle.bus.specs.declared.Refusal.the-variants.{VramLength, State, Frame, Index}
-use Rattle.picture.specs.Character.{characterAddressOf}
-use Rattle.picture.specs.Strip.{stripOf, frameOf}
+use Rattle.drawing_pixel.specs.Character.{characterAddressOf}
+use Rattle.drawing_pixel.specs.Strip.{stripOf, frameOf}
 use Rattle.drawing.specs.Calls.{stripVerdictOf, drawStripOf, frameVerdictOf, drawFrameOf, characterVerdictOf, characterOf}
 
 module _ (v regs : List ℕ) (frame strip : ℕ) where

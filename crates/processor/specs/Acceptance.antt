@@ -10,8 +10,8 @@ use Rattle.bus.specs.Memory.{Memory, verdictAt}
 use Rattle.bus.specs.declared.Verdict.{Verdict}
 use Rattle.bus.specs.declared.Verdict.the-variants.{Accepted, Refused}
 use Rattle.bus.specs.declared.Refusal as refusal
-use Rattle.machine.specs.State.{State}
-use Rattle.machine.specs.System.{pswBitsOf}
+use Rattle.processor_machine.specs.State.{State}
+use Rattle.processor_machine.specs.System.{pswBitsOf}
 
 -- both tests hold
 abbrev pub both : Bool → Bool → Bool

@@ -24,15 +24,15 @@ fn even_ok(sys: &[u32; 8], pc: u32) -> bool
 fn formats_ok(sys: &[u32; 8], psw: u32) -> bool
     ensures { λ r. ⌜ r ≡ formatsOk (now (sys .entry)) psw ⌝ }
 {
-    if machine::system::psw_bits(psw) != psw {
+    if processor_machine::system::psw_bits(psw) != psw {
         return false;
     }
     let eipsw = sys[1];
-    if machine::system::psw_bits(eipsw) != eipsw {
+    if processor_machine::system::psw_bits(eipsw) != eipsw {
         return false;
     }
     let fepsw = sys[3];
-    machine::system::psw_bits(fepsw) == fepsw
+    processor_machine::system::psw_bits(fepsw) == fepsw
 }
 
 // Whether refusal 5 has nothing against the processor.

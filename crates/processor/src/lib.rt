@@ -7,8 +7,8 @@ mod stretch;
 
 use bus::Drawing;
 use bus::Verdict;
-use machine::Answer;
-use machine::Mode;
+use processor_machine::Answer;
+use processor_machine::Mode;
 
 // The processor's record.
 pub struct Processor {

@@ -2,14 +2,14 @@
 use crate::After;
 use crate::Finished;
 use bus::Verdict;
-use machine::Answer;
-use machine::Mode;
-use stepping::step;
+use processor_machine::Answer;
+use processor_machine::Mode;
+use processor_step::step;
 ghost use mathlib.Core.Path.{_≡_};
 ghost use lib.ListN.{length};
 ghost use Rattle.bus.specs.Memory.{memoryOf, Lengths};
-ghost use Rattle.machine.specs.State.{stateOf, steppedOf};
-ghost use Rattle.stepping.specs.Step.{stepOf};
+ghost use Rattle.processor_machine.specs.State.{stateOf, steppedOf};
+ghost use Rattle.processor_step.specs.Step.{stepOf};
 ghost use Rattle.processor.specs.Run.{afterOf, runOf, ranBy};
 
 // An ended or trapped instruction counts; anything else stops the run.
