@@ -9,24 +9,6 @@ mod registers;
 pub mod store;
 mod vip;
 
-// Why a call is refused: paper 01's refusals, in the order of their numbers (numberOf of specs/Refusal).
-pub enum Refusal {
-    RomLength,
-    WramLength,
-    VramLength,
-    PakLength,
-    State,
-    NotModelled,
-    Frame,
-    Index,
-}
-
-// Whether a call's memories and registers are accepted.
-pub enum Verdict {
-    Accepted,
-    Refused(Refusal),
-}
-
 // The drawing registers: SPT0 to SPT3, GPLT0 to GPLT3, JPLT0 to JPLT3, BKCOL.
 pub struct Drawing {
     pub regs: [u16; 13],

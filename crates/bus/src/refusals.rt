@@ -1,6 +1,6 @@
 // Refusals 1 to 5, as far as memories and drawing registers are their subject.
-use crate::Refusal;
-use crate::Verdict;
+use refusal::Refusal;
+use refusal::Verdict;
 ghost use mathlib.Core.Path.{_≡_};
 ghost use Prim.Native.Nat.{_^_};
 ghost use Rattle.bus.specs.Refusal.{romOk, pakOk};

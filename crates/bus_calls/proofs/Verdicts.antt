@@ -3,9 +3,9 @@ use Prim.Native.Nat.{ℕ}
 use mathlib.Core.Path.{_≡_, refl, sym, ap, _∙_}
 use lib.ListN.{length}
 use Rattle.bus.specs.declared.Loaded.{Loaded}
-use Rattle.bus.specs.declared.Refusal.{Refusal}
-use Rattle.bus.specs.declared.Verdict.{Verdict}
-use Rattle.bus.specs.declared.Verdict.the-variants.{Accepted, Refused}
+use Rattle.refusal.specs.declared.Refusal.{Refusal}
+use Rattle.refusal.specs.declared.Verdict.{Verdict}
+use Rattle.refusal.specs.declared.Verdict.the-variants.{Accepted, Refused}
 use Rattle.bus.specs.Memory.{Memory, Lengths, verdictOf, loadOf, Reads}
 use Rattle.bus.proofs.Accepted.{accepted-lengths}
 use Rattle.bus_calls.specs.declared.Load.{Load}

@@ -1,7 +1,7 @@
 -- What the bus's public calls answer, for every input: the refusal, or the access done. A refusal changes nothing.
 use Prim.Native.Nat.{ℕ}
-use Rattle.bus.specs.declared.Verdict.{Verdict}
-use Rattle.bus.specs.declared.Verdict.the-variants as verdict
+use Rattle.refusal.specs.declared.Verdict.{Verdict}
+use Rattle.refusal.specs.declared.Verdict.the-variants as verdict
 use Rattle.bus.specs.Memory.{Memory, verdictOf, loadOf}
 use Rattle.bus_calls.specs.declared.Load.{Load}
 use Rattle.bus_calls.specs.declared.Load.the-variants as load

@@ -2,12 +2,12 @@
 // value, and a store gives them back. Only accesses to region 0, the VIP, are lent a copy of them.
 use bus::Drawing;
 use bus::Loaded;
-use bus::Refusal;
-use bus::Verdict;
 use bus::load;
 use bus::outside;
 use bus::refusals;
 use bus::store;
+use refusal::Refusal;
+use refusal::Verdict;
 ghost use mathlib.Core.Path.{_≡_};
 ghost use Rattle.bus.specs.Memory.{memoryOf, verdictOf, storeByteOf, storeHalfOf, storeWordOf};
 ghost use Rattle.bus_calls.specs.Access.{checkedLoadOf, checkedStoreOf};

@@ -1,9 +1,10 @@
 // Loads and stores.
-use crate::numbers;
 use bus::Drawing;
 use bus_calls::Load;
+use refusal::number;
+use refusal::verdict_number;
 ghost use mathlib.Core.Path.{_≡_};
-ghost use Rattle.bus.specs.Refusal.{verdictNumber};
+ghost use Rattle.refusal.specs.Number.{verdictNumber};
 ghost use Rattle.bus.specs.Memory.{memoryOf, verdictOf, storeByteOf, storeHalfOf, storeWordOf};
 ghost use Rattle.bus_calls.specs.Access.{checkedLoadOf, checkedStoreOf};
 ghost use Rattle.capi.specs.Answers.{loadRefusal, loadValue};
@@ -36,7 +37,7 @@ fn loaded(answer: Load) -> VbLoaded
             value: l.value,
         },
         Load::Refused(refusal) => VbLoaded {
-            refusal: numbers::number(refusal),
+            refusal: number(refusal),
             value: 0,
         },
     }
@@ -105,7 +106,7 @@ pub extern "C" fn vb_store_byte(
     let verdict = stored.verdict;
     let after = stored.drawing.regs;
     VbStored {
-        refusal: numbers::verdict_number(verdict),
+        refusal: verdict_number(verdict),
         drawing: VbDrawing { regs: after },
     }
 }
@@ -128,7 +129,7 @@ pub extern "C" fn vb_store_half(
     let verdict = stored.verdict;
     let after = stored.drawing.regs;
     VbStored {
-        refusal: numbers::verdict_number(verdict),
+        refusal: verdict_number(verdict),
         drawing: VbDrawing { regs: after },
     }
 }
@@ -151,7 +152,7 @@ pub extern "C" fn vb_store_word(
     let verdict = stored.verdict;
     let after = stored.drawing.regs;
     VbStored {
-        refusal: numbers::verdict_number(verdict),
+        refusal: verdict_number(verdict),
         drawing: VbDrawing { regs: after },
     }
 }

@@ -1,8 +1,8 @@
 // The drawing calls: a strip, a frame, and the lookup of a character.
 use bus::Drawing;
-use bus::Refusal;
-use bus::Verdict;
 use bus::refusals;
+use refusal::Refusal;
+use refusal::Verdict;
 ghost use mathlib.Core.Path.{_≡_};
 ghost use Rattle.drawing.specs.Calls.{stripVerdictOf, drawStripOf, frameVerdictOf, drawFrameOf, characterVerdictOf, characterOf};
 

@@ -13,8 +13,8 @@ use Rattle.bus.specs.Registers.{registersOk}
 use Rattle.drawing_pixel.specs.Pixel.{pixelOf}
 use Rattle.drawing_pixel.specs.Strip.{storedPixelOf, inStripOf, stripOf, stripsOf, frameOf}
 use Rattle.bus.specs.Refusal.{vramOk}
-use Rattle.bus.specs.declared.Verdict.{Verdict}
-use Rattle.bus.specs.declared.Verdict.the-variants.{Accepted, Refused}
+use Rattle.refusal.specs.declared.Verdict.{Verdict}
+use Rattle.refusal.specs.declared.Verdict.the-variants.{Accepted, Refused}
 use Rattle.drawing.specs.Calls.{whenAccepted, stripVerdictOf, drawStripOf, frameVerdictOf, drawFrameOf}
 use Rattle.drawing_laws.specs.Drawn.{frameCall, stripCall, acceptedOf, drawsStripOf, afterOf, inImagesOf, PixelDrawn, ByteKept, LengthKept}
 use Rattle.drawing_laws.proofs.Registers.{bkcol-below}

@@ -3,8 +3,8 @@
 use Prim.Native.Nat.{ℕ, zero, suc}
 use mathlib.Core.List.{List}
 use Rattle.bus.specs.Memory.{Memory}
-use Rattle.bus.specs.declared.Verdict.{Verdict}
-use Rattle.bus.specs.declared.Verdict.the-variants as verdict
+use Rattle.refusal.specs.declared.Verdict.{Verdict}
+use Rattle.refusal.specs.declared.Verdict.the-variants as verdict
 use Rattle.processor_machine.specs.State.{State, stateOf, Stepped}
 use Rattle.processor_step.specs.Step.{stepOf}
 use Rattle.processor_machine.specs.declared.Answer.{Answer}

@@ -1,6 +1,6 @@
 // Refusals 1 to 5, with what 5 says of the processor.
-use bus::Refusal;
-use bus::Verdict;
+use refusal::Refusal;
+use refusal::Verdict;
 ghost use mathlib.Core.Path.{_≡_};
 ghost use Rattle.processor.specs.Acceptance.{evenOk, formatsOk, stateOk, acceptanceAt};
 

@@ -1,10 +1,10 @@
 // A stretch of steps, over registers and memories that were accepted.
 use crate::After;
 use crate::Finished;
-use bus::Verdict;
 use processor_machine::Answer;
 use processor_machine::Mode;
 use processor_step::step;
+use refusal::Verdict;
 ghost use mathlib.Core.Path.{_≡_};
 ghost use lib.ListN.{length};
 ghost use Rattle.bus.specs.Memory.{memoryOf, Lengths};

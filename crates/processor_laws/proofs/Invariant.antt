@@ -8,10 +8,10 @@ use borrow.Author.Tests.{eqb-true, eq-eqb, leb-true, le-leb}
 use lib.Dec.{eqb, leb}
 use lib.ListN.{length, getD}
 use Rattle.bus.specs.Memory.{Memory, verdictOf}
-use Rattle.bus.specs.Refusal.{unless}
-use Rattle.bus.specs.declared.Refusal as refusal
-use Rattle.bus.specs.declared.Verdict.{Verdict}
-use Rattle.bus.specs.declared.Verdict.the-variants.{Accepted, Refused}
+use Rattle.refusal.specs.Number.{unless}
+use Rattle.refusal.specs.declared.Refusal as refusal
+use Rattle.refusal.specs.declared.Verdict.{Verdict}
+use Rattle.refusal.specs.declared.Verdict.the-variants.{Accepted, Refused}
 use Rattle.bus.proofs.Accepted.{unless-passed}
 use Rattle.processor_machine.specs.State.{State}
 use Rattle.processor_machine.specs.System.{pswBitsOf}

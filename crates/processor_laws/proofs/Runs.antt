@@ -7,7 +7,7 @@ use Rattle.processor_arithmetic.specs.Flag.{flagOf}
 use Rattle.processor_arithmetic.specs.Condition.{conditionOf}
 use Rattle.processor_arithmetic.specs.Quotient.{divideOf, divideUnsignedOf}
 use Rattle.bus.specs.Memory.{Memory}
-use Rattle.bus.specs.declared.Verdict.the-variants as verdict
+use Rattle.refusal.specs.declared.Verdict.the-variants as verdict
 use Rattle.processor_decode.specs.Format.{twoOf}
 use Rattle.processor_decode.specs.Opcode.{decodeOf}
 use Rattle.processor_decode.specs.declared.Decoded.{Decoded}

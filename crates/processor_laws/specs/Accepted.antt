@@ -8,7 +8,7 @@ use lib.Bits.{bitAnd}
 use lib.ListN.{length, getD}
 use Rattle.bus.specs.Registers.{widthOf}
 use Rattle.bus.specs.Memory.{Memory, Lengths}
-use Rattle.bus.specs.declared.Verdict.the-variants.{Accepted}
+use Rattle.refusal.specs.declared.Verdict.the-variants.{Accepted}
 use Rattle.processor_machine.specs.State.{State}
 use Rattle.processor_step.specs.Step.{stepOf}
 use Rattle.processor.specs.Acceptance.{acceptanceOf}

@@ -4,8 +4,8 @@
 use Prim.Native.Nat.{ℕ, zero, suc, _<_}
 use mathlib.Core.Path.{_≡_}
 use Rattle.bus.specs.Memory.{Memory}
-use Rattle.bus.specs.declared.Refusal.{Refusal}
-use Rattle.bus.specs.declared.Verdict.the-variants.{Accepted, Refused}
+use Rattle.refusal.specs.declared.Refusal.{Refusal}
+use Rattle.refusal.specs.declared.Verdict.the-variants.{Accepted, Refused}
 use Rattle.processor_machine.specs.State.{State}
 use Rattle.processor_step.specs.Step.{stepOf}
 use Rattle.processor_machine.specs.declared.Mode.the-variants.{Fatal}

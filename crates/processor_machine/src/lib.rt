@@ -7,7 +7,7 @@ pub mod system;
 
 ghost use mathlib.Core.Path.{_≡_};
 ghost use Rattle.processor_machine.specs.State.{endedAt};
-use bus::Refusal;
+use refusal::Refusal;
 
 // The machine's mode.
 pub enum Mode {

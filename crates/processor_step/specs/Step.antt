@@ -4,7 +4,7 @@ use Prim.Native.Nat.{ℕ, _+_, _%_, _^_}
 use mathlib.Core.Bool.{Bool}
 use Rattle.word.specs.Choose.{pick}
 use Rattle.bus.specs.Memory.{Memory, loadOf}
-use Rattle.bus.specs.declared.Refusal as refusal
+use Rattle.refusal.specs.declared.Refusal as refusal
 use Rattle.processor_decode.specs.Format.{twoOf}
 use Rattle.processor_decode.specs.Opcode.{decodeOf}
 use Rattle.processor_decode.specs.declared.Decoded.{Decoded}

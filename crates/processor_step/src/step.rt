@@ -1,10 +1,10 @@
 // A step: the instruction at PC is fetched once, decoded and executed.
 use crate::execute::execute;
-use bus::Refusal;
 use processor_decode::Decoded;
 use processor_machine::Answer;
 use processor_machine::Control;
 use processor_machine::Mode;
+use refusal::Refusal;
 ghost use lib.ListN.{length};
 ghost use mathlib.Core.Path.{_≡_};
 ghost use Rattle.bus.specs.Memory.{memoryOf, Lengths};
