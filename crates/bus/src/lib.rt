@@ -10,8 +10,14 @@ pub mod store;
 mod vip;
 
 // The drawing registers: SPT0 to SPT3, GPLT0 to GPLT3, JPLT0 to JPLT3, BKCOL.
+pub type DrawingRegisters = [u16; 13];
+
+// What stands behind bus addresses and is not memory: the drawing registers. It is lent as an array, because a
+// reference to a struct is not walked by the prover and a struct by value costs a run its speed.
+pub type Device = [u16; 13];
+
 pub struct Drawing {
-    pub regs: [u16; 13],
+    pub regs: DrawingRegisters,
 }
 
 // What an access read.

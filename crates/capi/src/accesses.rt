@@ -12,7 +12,7 @@ ghost use Rattle.capi.specs.Answers.{loadRefusal, loadValue};
 // The drawing registers: SPT0 to SPT3, GPLT0 to GPLT3, JPLT0 to JPLT3, BKCOL.
 #[repr(C)]
 pub struct VbDrawing {
-    pub regs: [u16; 13],
+    pub regs: bus::DrawingRegisters,
 }
 
 #[repr(C)]

@@ -1,4 +1,5 @@
 // Painting a strip from a background: spans of a row, and blocks of columns and rows.
+use bus::DrawingRegisters;
 ghost use mathlib.Core.Path.{_≡_};
 ghost use Prim.Native.Nat.{_+_, _-_, _*_, _/_, _%_, _<_, _≤_};
 ghost use lib.ListN.{length, getD};
@@ -29,7 +30,13 @@ pub struct Fetched {
 }
 
 // What source pixel (sx, sy) is picked from.
-pub fn fetch(vram: &[u8], registers: &[u16; 13], w: &[u16; 11], sx: usize, sy: usize) -> Fetched
+pub fn fetch(
+    vram: &[u8],
+    registers: &DrawingRegisters,
+    w: &[u16; 11],
+    sx: usize,
+    sy: usize,
+) -> Fetched
     requires { ⌜ length (now vram) ≡ 262144 ⌝ }
     ensures { λ r. ⌜ (r .cell ≡ halfAt (now (vram .entry)) (cellAddressOf (now (w .entry)) (sx / 8) (sy / 8))) × ((r .row ≡ halfAt (now (vram .entry)) (rowAddressOf (r .cell) (sy % 8))) × (r .palette ≡ getD (now (registers .entry)) (4 + r .cell / 16384) 0)) ⌝ }
 {
@@ -42,7 +49,7 @@ pub fn fetch(vram: &[u8], registers: &[u16; 13], w: &[u16; 11], sx: usize, sy: u
 // A span of row r whose source lies in one cell: column `from` shows source pixel (sx, sy), and so on to the right.
 pub fn cell_span(
     vram: &[u8],
-    registers: &[u16; 13],
+    registers: &DrawingRegisters,
     w: &[u16; 11],
     buffer: &mut [u16; 384],
     r: usize,
@@ -62,7 +69,7 @@ pub fn cell_span(
 // A span of row r that reads its background from (sx, sy) on to the right.
 pub fn plain_span(
     vram: &[u8],
-    registers: &[u16; 13],
+    registers: &DrawingRegisters,
     w: &[u16; 11],
     buffer: &mut [u16; 384],
     r: usize,
@@ -135,7 +142,7 @@ pub fn part_rows(
 // A block whose source lies in one cell: column `from` of row `top` shows source pixel (sx, sy), and so on right and down.
 pub fn cell_block(
     vram: &[u8],
-    registers: &[u16; 13],
+    registers: &DrawingRegisters,
     w: &[u16; 11],
     buffer: &mut [u16; 384],
     top: usize,
@@ -172,7 +179,7 @@ pub fn cell_block(
 // A block whose source lies in one row of cells.
 pub fn cells_block(
     vram: &[u8],
-    registers: &[u16; 13],
+    registers: &DrawingRegisters,
     w: &[u16; 11],
     buffer: &mut [u16; 384],
     top: usize,
@@ -198,7 +205,7 @@ pub fn cells_block(
 // A block that reads its background from (sx, sy) on right and down: its rows lie in one row of cells or in two.
 pub fn plain_block(
     vram: &[u8],
-    registers: &[u16; 13],
+    registers: &DrawingRegisters,
     w: &[u16; 11],
     buffer: &mut [u16; 384],
     top: usize,
@@ -241,7 +248,13 @@ pub struct CellRead {
 }
 
 // The cell at a cell column and row.
-pub fn read(vram: &[u8], registers: &[u16; 13], w: &[u16; 11], u: usize, v: usize) -> CellRead
+pub fn read(
+    vram: &[u8],
+    registers: &DrawingRegisters,
+    w: &[u16; 11],
+    u: usize,
+    v: usize,
+) -> CellRead
     requires { ⌜ length (now vram) ≡ 262144 ⌝ }
     ensures { λ h. ⌜ (h .u ≡ u) × ((h .v ≡ v) × CellAt (now (vram .entry)) (now (registers .entry)) (now (w .entry)) (h .u) (h .v) (h .cell) (h .palette) (h .character)) ⌝ }
 {
@@ -260,7 +273,7 @@ pub fn read(vram: &[u8], registers: &[u16; 13], w: &[u16; 11], u: usize, v: usiz
 // The cell at a cell column and row, read anew where the last one was another.
 pub fn held(
     vram: &[u8],
-    registers: &[u16; 13],
+    registers: &DrawingRegisters,
     w: &[u16; 11],
     last: CellRead,
     u: usize,
@@ -291,7 +304,7 @@ pub fn cell_shaded(vram: &[u8], h: u16, r: usize, c: CellRead, sx: usize, sy: us
 // A span of row r of an affine world: from (mx, my), n steps and more along (dx, dy).
 pub fn affine_span(
     vram: &[u8],
-    registers: &[u16; 13],
+    registers: &DrawingRegisters,
     w: &[u16; 11],
     buffer: &mut [u16; 384],
     r: usize,

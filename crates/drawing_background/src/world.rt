@@ -1,4 +1,5 @@
 // What a background world shows of a strip: its window clipped to the image, row after row.
+use bus::DrawingRegisters;
 ghost use mathlib.Core.Path.{_≡_};
 ghost use mathlib.Core.Bool.{true};
 ghost use Prim.Native.Nat.{_+_, _-_, _*_, _<_, _≤_};
@@ -27,7 +28,7 @@ use drawing_pixel::window_left;
 // Columns `from` to `to` - 1 of row j of an affine world, on row r of the strip.
 pub fn affine_row(
     vram: &[u8],
-    registers: &[u16; 13],
+    registers: &DrawingRegisters,
     w: &[u16; 11],
     buffer: &mut [u16; 384],
     r: usize,
@@ -76,7 +77,7 @@ pub fn row_bias(vram: &[u8], w: &[u16; 11], eye: usize, j: usize) -> usize
 // Columns `from` to `to` - 1 of row j of a world, the first at offset i of its window, on row r of the strip.
 pub fn row(
     vram: &[u8],
-    registers: &[u16; 13],
+    registers: &DrawingRegisters,
     w: &[u16; 11],
     buffer: &mut [u16; 384],
     r: usize,
@@ -101,7 +102,7 @@ pub fn row(
 // Row r of a strip, whose columns `from` to `to` - 1 are in the world's window; the row may be outside of it.
 pub fn strip_row(
     vram: &[u8],
-    registers: &[u16; 13],
+    registers: &DrawingRegisters,
     w: &[u16; 11],
     buffer: &mut [u16; 384],
     r: usize,
@@ -150,7 +151,7 @@ pub fn past(a: usize, b: usize) -> usize
 // A strip's columns `from` to `to` - 1, which are in a normal world's window; rows may be outside of it.
 pub fn normal_block(
     vram: &[u8],
-    registers: &[u16; 13],
+    registers: &DrawingRegisters,
     w: &[u16; 11],
     buffer: &mut [u16; 384],
     from: usize,
@@ -178,7 +179,7 @@ pub fn normal_block(
 // What a background world shows an eye of a strip, painted over what is there.
 pub fn strip(
     vram: &[u8],
-    registers: &[u16; 13],
+    registers: &DrawingRegisters,
     w: &[u16; 11],
     buffer: &mut [u16; 384],
     eye: usize,

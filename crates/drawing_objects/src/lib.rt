@@ -1,5 +1,6 @@
 // Objects: paints what an object, and a group of objects, shows of a strip over what is there.
 // These functions are `pub` for the crates above; none is a call of the library's users.
+use bus::DrawingRegisters;
 ghost use mathlib.Core.Path.{_≡_};
 ghost use mathlib.Core.Bool.{true};
 ghost use Prim.Native.Nat.{ℕ, _+_, _-_, _*_, _<_, _≤_};
@@ -34,7 +35,7 @@ pub fn object_row(o: &[u16; 4], y: usize) -> usize
 // Row r of a strip, whose columns `from` to `to` - 1 are in the object's square; the row may be outside of it.
 pub fn object_span(
     vram: &[u8],
-    registers: &[u16; 13],
+    registers: &DrawingRegisters,
     w: &[u16; 11],
     o: &[u16; 4],
     buffer: &mut [u16; 384],
@@ -71,7 +72,7 @@ pub fn object_span(
 // What an object shows an eye of a strip, painted over what is there.
 pub fn object_strip(
     vram: &[u8],
-    registers: &[u16; 13],
+    registers: &DrawingRegisters,
     w: &[u16; 11],
     o: &[u16; 4],
     buffer: &mut [u16; 384],
@@ -101,7 +102,7 @@ pub fn object_strip(
 // Object k of an object world on a strip. Most objects have no row there, which their JY alone tells.
 pub fn paint_object(
     vram: &[u8],
-    registers: &[u16; 13],
+    registers: &DrawingRegisters,
     w: &[u16; 11],
     buffer: &mut [u16; 384],
     k: usize,
@@ -121,7 +122,7 @@ pub fn paint_object(
 }
 
 // How many objects group n has.
-pub fn group_count(registers: &[u16; 13], n: usize) -> usize
+pub fn group_count(registers: &DrawingRegisters, n: usize) -> usize
     requires { ⌜ (n < 4) × ((k : ℕ) → k < 4 → sptOf (now registers) k < 1024) ⌝ }
     ensures { λ r. ⌜ (r ≡ groupCountOf (now (registers .entry)) n) × (r ≤ 1024) ⌝ }
 {
@@ -134,7 +135,7 @@ pub fn group_count(registers: &[u16; 13], n: usize) -> usize
 // What group n of objects shows an eye of a strip, painted over what is there.
 pub fn group(
     vram: &[u8],
-    registers: &[u16; 13],
+    registers: &DrawingRegisters,
     w: &[u16; 11],
     buffer: &mut [u16; 384],
     n: usize,

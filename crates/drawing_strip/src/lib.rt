@@ -1,5 +1,6 @@
 // A strip: the loop over worlds for an eye, the strip of both eyes stored into an image, and a frame of strips.
 // These functions are `pub` for the crates above; none is a call of the library's users.
+use bus::DrawingRegisters;
 ghost use mathlib.Core.Path.{_≡_};
 ghost use Prim.Native.Nat.{ℕ, _+_, _-_, _*_, _<_, _≤_};
 ghost use lib.ListN.{length};
@@ -16,7 +17,7 @@ use drawing_pixel::world;
 // What world n shows an eye of a strip, painted over what is there; answers the object counter after it.
 pub fn paint_world(
     vram: &[u8],
-    registers: &[u16; 13],
+    registers: &DrawingRegisters,
     buffer: &mut [u16; 384],
     n: usize,
     counter: usize,
@@ -48,7 +49,7 @@ pub fn paint_world(
 // What worlds 31 to 0 show an eye of a strip, painted over what is there.
 pub fn paint_worlds(
     vram: &[u8],
-    registers: &[u16; 13],
+    registers: &DrawingRegisters,
     buffer: &mut [u16; 384],
     eye: usize,
     strip: usize,
@@ -93,7 +94,7 @@ pub fn store_strip(vram: &mut [u8], base: usize, strip: usize, columns: &[u16; 3
 }
 
 // A strip of a frame: worked out for both eyes, then stored into the two images.
-pub fn draw(vram: &mut [u8], registers: &[u16; 13], frame: usize, strip: usize)
+pub fn draw(vram: &mut [u8], registers: &DrawingRegisters, frame: usize, strip: usize)
     requires { ⌜ (length (now vram) ≡ 262144) × ((frame < 2) × (strip < 28)) ⌝ }
     requires { ⌜ ((k : ℕ) → k < 4 → sptOf (now registers) k < 1024) × (bkcolOf (now registers) < 4) ⌝ }
     ensures { λ _. ⌜ now (vram .exit) ≡ stripOf (now (vram .entry)) (now (registers .entry)) frame strip ⌝ }
@@ -108,7 +109,7 @@ pub fn draw(vram: &mut [u8], registers: &[u16; 13], frame: usize, strip: usize)
 }
 
 // A frame: strips 0 to 27.
-pub fn draw_all(vram: &mut [u8], registers: &[u16; 13], frame: usize)
+pub fn draw_all(vram: &mut [u8], registers: &DrawingRegisters, frame: usize)
     requires { ⌜ (length (now vram) ≡ 262144) × (frame < 2) ⌝ }
     requires { ⌜ ((k : ℕ) → k < 4 → sptOf (now registers) k < 1024) × (bkcolOf (now registers) < 4) ⌝ }
     ensures { λ _. ⌜ now (vram .exit) ≡ frameOf (now (vram .entry)) (now (registers .entry)) frame ⌝ }

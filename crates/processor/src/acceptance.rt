@@ -1,4 +1,5 @@
 // Refusals 1 to 5, with what 5 says of the processor.
+use bus::Device;
 use refusal::Refusal;
 use refusal::Verdict;
 ghost use mathlib.Core.Path.{_≡_};
@@ -57,7 +58,7 @@ pub fn acceptance(
     wram: usize,
     vram: usize,
     pak: usize,
-    device: &[u16; 13],
+    device: &Device,
     regs: &[u32; 32],
     sys: &[u32; 8],
     pc: u32,

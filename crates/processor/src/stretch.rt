@@ -1,6 +1,7 @@
 // A stretch of steps, over registers and memories that were accepted.
 use crate::After;
 use crate::Finished;
+use bus::Device;
 use processor_machine::Answer;
 use processor_machine::Mode;
 use processor_step::step;
@@ -32,7 +33,7 @@ pub fn run(
     wram: &mut [u8],
     vram: &mut [u8],
     pak: &mut [u8],
-    device: &mut [u16; 13],
+    device: &mut Device,
     regs: &mut [u32; 32],
     sys: &mut [u32; 8],
     pc: u32,

@@ -1,6 +1,7 @@
 // Load and Input, Store and Output. Each says what it does by its own case of executeOf, for every value of what it does
 // not touch.
 use crate::transfer;
+use bus::Device;
 use processor_decode::Instruction;
 use processor_decode::Width;
 use processor_machine::Control;
@@ -21,7 +22,7 @@ pub fn load(
     wram: &[u8],
     vram: &[u8],
     pak: &[u8],
-    device: &[u16; 13],
+    device: &Device,
     regs: &mut [u32; 32],
     width: Width,
     disp: u32,
@@ -45,7 +46,7 @@ pub fn input(
     wram: &[u8],
     vram: &[u8],
     pak: &[u8],
-    device: &[u16; 13],
+    device: &Device,
     regs: &mut [u32; 32],
     width: Width,
     disp: u32,
@@ -69,7 +70,7 @@ pub fn store(
     wram: &mut [u8],
     vram: &mut [u8],
     pak: &mut [u8],
-    device: &mut [u16; 13],
+    device: &mut Device,
     regs: &[u32; 32],
     width: Width,
     disp: u32,
@@ -93,7 +94,7 @@ pub fn output(
     wram: &mut [u8],
     vram: &mut [u8],
     pak: &mut [u8],
-    device: &mut [u16; 13],
+    device: &mut Device,
     regs: &[u32; 32],
     width: Width,
     disp: u32,

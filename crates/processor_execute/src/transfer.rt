@@ -1,4 +1,5 @@
 // What the load, input, store and output instructions do on the bus, whose lengths are accepted.
+use bus::Device;
 use processor_decode::Width;
 ghost use mathlib.Core.Path.{_≡_};
 ghost use lib.ListN.{length};
@@ -11,7 +12,7 @@ pub fn load(
     wram: &[u8],
     vram: &[u8],
     pak: &[u8],
-    device: &[u16; 13],
+    device: &Device,
     width: Width,
     address: u32,
 ) -> u32
@@ -40,7 +41,7 @@ pub fn input(
     wram: &[u8],
     vram: &[u8],
     pak: &[u8],
-    device: &[u16; 13],
+    device: &Device,
     width: Width,
     address: u32,
 ) -> u32
@@ -69,7 +70,7 @@ pub fn store(
     wram: &mut [u8],
     vram: &mut [u8],
     pak: &mut [u8],
-    device: &mut [u16; 13],
+    device: &mut Device,
     width: Width,
     address: u32,
     value: u32,

@@ -1,4 +1,5 @@
 // What each instruction does: `next` is the address of the following one.
+use bus::Device;
 use processor_decode::Instruction;
 use processor_execute::compute;
 use processor_execute::jump;
@@ -16,7 +17,7 @@ pub fn execute(
     wram: &mut [u8],
     vram: &mut [u8],
     pak: &mut [u8],
-    device: &mut [u16; 13],
+    device: &mut Device,
     regs: &mut [u32; 32],
     sys: &mut [u32; 8],
     i: Instruction,

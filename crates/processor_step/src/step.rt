@@ -1,5 +1,6 @@
 // A step: the instruction at PC is fetched once, decoded and executed.
 use crate::execute::execute;
+use bus::Device;
 use processor_decode::Decoded;
 use processor_machine::Answer;
 use processor_machine::Control;
@@ -17,7 +18,7 @@ fn half(
     wram: &mut [u8],
     vram: &mut [u8],
     pak: &mut [u8],
-    device: &mut [u16; 13],
+    device: &mut Device,
     pc: u32,
 ) -> u16
     requires { ⌜ Lengths (length (now rom)) (length (now wram)) (length (now vram)) (length (now pak)) ⌝ }
@@ -41,7 +42,7 @@ fn second(
     wram: &mut [u8],
     vram: &mut [u8],
     pak: &mut [u8],
-    device: &mut [u16; 13],
+    device: &mut Device,
     pc: u32,
     two: bool,
 ) -> u16
@@ -78,7 +79,7 @@ fn running(
     wram: &mut [u8],
     vram: &mut [u8],
     pak: &mut [u8],
-    device: &mut [u16; 13],
+    device: &mut Device,
     regs: &mut [u32; 32],
     sys: &mut [u32; 8],
     pc: u32,
@@ -108,7 +109,7 @@ pub fn step(
     wram: &mut [u8],
     vram: &mut [u8],
     pak: &mut [u8],
-    device: &mut [u16; 13],
+    device: &mut Device,
     regs: &mut [u32; 32],
     sys: &mut [u32; 8],
     pc: u32,
