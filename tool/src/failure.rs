@@ -1,14 +1,16 @@
 //! Why a command did not do what was asked.
 
+use serde::Serialize;
 use vb::Refusal;
 
-use crate::json::{number, object, text, Json};
-
 /// Exit status 2: refused, or bad input.
+#[derive(Clone, Debug, Serialize)]
 pub struct Failure {
-    pub message: String,
     /// Paper 01's number, where the library refused.
+    #[serde(skip_serializing_if = "Option::is_none")]
     pub refusal: Option<u32>,
+    #[serde(rename = "error")]
+    pub message: String,
 }
 
 impl Failure {
@@ -19,12 +21,5 @@ impl Failure {
     /// A refusal of the library, its message made by the caller.
     pub fn refused(refusal: &Refusal, message: String) -> Failure {
         Failure { message, refusal: Some(refusal.number()) }
-    }
-
-    pub fn json(&self) -> Json {
-        match self.refusal {
-            Some(given) => object([("refusal", number(given)), ("error", text(&self.message))]),
-            None => object([("error", text(&self.message))]),
-        }
     }
 }

@@ -1,83 +1,61 @@
-//! Values for machine use, printed as JSON.
+//! Values for machine use, printed as JSON on one line.
 
-use std::fmt;
+use std::io::{self, Write};
 
-pub enum Json {
-    Null,
-    Bool(bool),
-    Number(i128),
-    Text(String),
-    List(Vec<Json>),
-    Object(Vec<(String, Json)>),
+use serde::Serialize;
+use serde_json::ser::{Formatter, Serializer};
+
+/// A value with a space after each colon and comma, on one line.
+pub fn json(value: &impl Serialize) -> String {
+    let mut bytes = Vec::new();
+    let mut serializer = Serializer::with_formatter(&mut bytes, Spaced);
+    value.serialize(&mut serializer).expect("the tool's own values");
+    String::from_utf8(bytes).expect("JSON is UTF-8")
 }
 
-/// An object of named values.
-pub fn object<const N: usize>(members: [(&str, Json); N]) -> Json {
-    Json::Object(members.into_iter().map(|(name, value)| (name.to_string(), value)).collect())
-}
+/// Values by name, in this order.
+pub struct Named<V>(pub Vec<(String, V)>);
 
-pub fn text(value: impl ToString) -> Json {
-    Json::Text(value.to_string())
-}
-
-pub fn number(value: impl Into<i128>) -> Json {
-    Json::Number(value.into())
-}
-
-impl fmt::Display for Json {
-    fn fmt(&self, f: &mut fmt::Formatter) -> fmt::Result {
-        match self {
-            Json::Null => f.write_str("null"),
-            Json::Bool(value) => write!(f, "{value}"),
-            Json::Number(value) => write!(f, "{value}"),
-            Json::Text(value) => quoted(f, value),
-            Json::List(values) => {
-                f.write_str("[")?;
-                for (i, value) in values.iter().enumerate() {
-                    write!(f, "{}{value}", if i == 0 { "" } else { ", " })?;
-                }
-                f.write_str("]")
-            }
-            Json::Object(members) => {
-                f.write_str("{")?;
-                for (i, (name, value)) in members.iter().enumerate() {
-                    f.write_str(if i == 0 { "" } else { ", " })?;
-                    quoted(f, name)?;
-                    write!(f, ": {value}")?;
-                }
-                f.write_str("}")
-            }
-        }
+impl<V: Serialize> Serialize for Named<V> {
+    fn serialize<S: serde::Serializer>(&self, serializer: S) -> Result<S::Ok, S::Error> {
+        serializer.collect_map(self.0.iter().map(|(name, value)| (name, value)))
     }
 }
 
-fn quoted(f: &mut fmt::Formatter, text: &str) -> fmt::Result {
-    f.write_str("\"")?;
-    for c in text.chars() {
-        match c {
-            '"' | '\\' => write!(f, "\\{c}")?,
-            c if c < ' ' => write!(f, "\\u{:04x}", c as u32)?,
-            c => write!(f, "{c}")?,
-        }
+struct Spaced;
+
+fn comma<W: ?Sized + Write>(writer: &mut W, first: bool) -> io::Result<()> {
+    writer.write_all(if first { b"" } else { b", " })
+}
+
+impl Formatter for Spaced {
+    fn begin_array_value<W: ?Sized + Write>(&mut self, w: &mut W, first: bool) -> io::Result<()> {
+        comma(w, first)
     }
-    f.write_str("\"")
+
+    fn begin_object_key<W: ?Sized + Write>(&mut self, w: &mut W, first: bool) -> io::Result<()> {
+        comma(w, first)
+    }
+
+    fn begin_object_value<W: ?Sized + Write>(&mut self, w: &mut W) -> io::Result<()> {
+        w.write_all(b": ")
+    }
 }
 
 #[cfg(test)]
 mod tests {
     use super::*;
 
+    #[derive(Serialize)]
+    struct Value {
+        a: i32,
+        b: (bool, &'static str),
+        c: Option<u8>,
+    }
+
     #[test]
     fn values_print_as_json() {
-        let value = object([
-            ("a", number(1)),
-            ("b", Json::List(vec![Json::Bool(true), text("say \"x\\y\"\n")])),
-            ("c", object([])),
-            ("d", Json::Null),
-            ("e", number(-1)),
-        ]);
-        let expected =
-            r#"{"a": 1, "b": [true, "say \"x\\y\"\u000a"], "c": {}, "d": null, "e": -1}"#;
-        assert_eq!(value.to_string(), expected);
+        let value = Value { a: -1, b: (true, "say \"x\\y\"\n"), c: None };
+        assert_eq!(json(&value), r#"{"a": -1, "b": [true, "say \"x\\y\"\n"], "c": null}"#);
     }
 }

@@ -2,19 +2,31 @@
 #![forbid(unsafe_code)]
 
 mod assembler;
+mod called;
+mod capture;
 mod commands;
 mod demo;
+mod difference;
+mod explain;
 mod failure;
 mod files;
+mod interrupt;
 mod json;
+mod number;
 mod picture;
+mod progress;
+mod scene;
+mod setup;
+mod state;
 
-use std::io::Write;
+use std::ffi::OsString;
+use std::io::{stderr, stdout, ErrorKind, Write};
 
 use clap::{Parser, Subcommand};
 
 use commands::Report;
 use failure::Failure;
+use json::json;
 
 #[derive(Parser)]
 #[command(
@@ -22,8 +34,10 @@ use failure::Failure;
     version,
     about = "Runs, draws and compares the proved reference model of the console",
     after_help = "Start with `vbmodel demo`; `vbmodel help COMMAND` has an example for each command.
+Numbers are decimal or, after 0x, hexadecimal; `_` may stand between digits. The file `-` is standard input.
 
-Exit status: 0 done (compare: equal); 1 compare: different; 2 refused or bad input."
+Exit status: 0 done (compare: equal); 1 compare: different; 2 refused or bad input; 3 why: the independent model and the
+proved library differ; 130 stopped by Ctrl-C."
 )]
 struct Cli {
     #[command(subcommand)]
@@ -35,7 +49,7 @@ enum Command {
     /// Runs a small program for the console from reset and writes both frames as PNG
     Demo(commands::demo::Options),
     /// Runs a program from memory images and prints the answer, the count and the registers
-    Run(commands::run::Options),
+    Run(Box<commands::run::Options>),
     /// Draws a frame from VRAM and drawing registers and writes PNGs
     Draw(commands::draw::Options),
     /// Compares the model's frame with a die's capture of it
@@ -67,17 +81,53 @@ impl Command {
 }
 
 fn main() {
-    let command = Cli::parse().command;
-    let (text, status) = match command.run() {
-        Ok(report) if command.json() => (format!("{}\n", report.json), report.status),
-        Ok(report) => (report.text, report.status),
-        Err(failure) => {
-            eprintln!("vbmodel: {}", failure.message);
-            let json = if command.json() { format!("{}\n", failure.json()) } else { String::new() };
-            (json, 2)
+    let arguments: Vec<OsString> = std::env::args_os().collect();
+    let status = match Cli::try_parse_from(&arguments) {
+        Ok(Cli { command }) => told(command.run(), command.json()),
+        Err(error) if error.use_stderr() => {
+            warn(&error.to_string());
+            let wants_json = arguments.iter().any(|argument| argument == "--json");
+            let message = error.to_string();
+            let failure = Failure::bad(message.trim_start_matches("error: ").trim_end());
+            let text = if wants_json { json(&failure) + "\n" } else { String::new() };
+            printed(&text, 2)
         }
+        Err(help) => printed(&help.to_string(), 0),
     };
-    // a reader that has gone away is not an error of the command
-    let _ = std::io::stdout().write_all(text.as_bytes());
     std::process::exit(status);
+}
+
+/// Prints what a command did or why it did not, and gives the exit status.
+fn told(done: Result<Report, Failure>, as_json: bool) -> i32 {
+    match done {
+        Ok(report) => {
+            let text = if as_json { report.json + "\n" } else { report.text };
+            let status = printed(&text, report.status);
+            if let Some(failure) = report.failure {
+                warn(&format!("vbmodel: {}\n", failure.message));
+            }
+            status
+        }
+        Err(failure) => {
+            warn(&format!("vbmodel: {}\n", failure.message));
+            let text = if as_json { json(&failure) + "\n" } else { String::new() };
+            printed(&text, 2)
+        }
+    }
+}
+
+/// Prints to standard output. A reader that has gone away is no error of the command; anything else is one.
+fn printed(text: &str, status: i32) -> i32 {
+    let mut out = stdout().lock();
+    match out.write_all(text.as_bytes()).and_then(|()| out.flush()) {
+        Err(error) if error.kind() != ErrorKind::BrokenPipe => {
+            warn(&format!("vbmodel: standard output: {error}\n"));
+            2
+        }
+        _ => status,
+    }
+}
+
+fn warn(text: &str) {
+    let _ = stderr().write_all(text.as_bytes());
 }

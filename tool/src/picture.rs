@@ -1,19 +1,16 @@
-//! Pictures: the pixels of an image of VRAM, PNG files of them, and a die's capture read back.
+//! Pictures: the pixels of an image of VRAM, and PNG files of them.
 
-use png::{BitDepth, ColorType, Decoder, Encoder, Transformations};
-use vb::{COLUMNS, IMAGE_LENGTH, ROWS};
-
-use crate::failure::Failure;
-use crate::files::Input;
+use png::{BitDepth, ColorType, Encoder};
+use vb::{COLUMNS, ROWS};
 
 /// The red of pixel values 0 to 3 in a PNG.
-const SHADES: [u8; 4] = [0x00, 0x55, 0xAA, 0xFF];
+pub const SHADES: [u8; 4] = [0x00, 0x55, 0xAA, 0xFF];
 
 /// The largest number of PNG pixels to a pixel's side.
 pub const LARGEST_SCALE: usize = 16;
 
 /// One eye's picture: 384 by 224 values of 0 to 3, row by row.
-#[derive(Clone, PartialEq, Eq)]
+#[derive(Clone, Debug, PartialEq, Eq)]
 pub struct Picture {
     values: Vec<u8>,
 }
@@ -23,6 +20,12 @@ impl Picture {
     pub fn of_image(image: &[u8]) -> Picture {
         let value = |i: usize| vb::pixel(image, i % COLUMNS, i / COLUMNS);
         Picture { values: (0..COLUMNS * ROWS).map(value).collect() }
+    }
+
+    /// The picture of 384 by 224 values.
+    pub fn of_values(values: Vec<u8>) -> Picture {
+        assert_eq!(values.len(), COLUMNS * ROWS);
+        Picture { values }
     }
 
     pub fn value(&self, x: usize, y: usize) -> u8 {
@@ -60,74 +63,6 @@ impl Picture {
             (expected, _) => expected,
         };
         Sheet::new(COLUMNS, palette, at).png(scale)
-    }
-
-    /// A die's capture: a raw image of 24,576 bytes, or a PNG.
-    pub fn of_capture(input: &Input) -> Result<Picture, Failure> {
-        if input.bytes.starts_with(b"\x89PNG") {
-            return Picture::of_png(&input.bytes).map_err(|rule| Failure::bad(input.wrong(rule)));
-        }
-        if input.bytes.len() != IMAGE_LENGTH {
-            let rule = "a capture is a raw frame buffer of 24,576 bytes, or a PNG";
-            return Err(Failure::bad(input.wrong(rule)));
-        }
-        Ok(Picture::of_image(&input.bytes))
-    }
-
-    /// Reads 384 by 224 pixels, each a square of the same number of PNG pixels, in four shades of red or grey.
-    pub fn of_png(bytes: &[u8]) -> Result<Picture, String> {
-        let mut decoder = Decoder::new(bytes);
-        decoder.set_transformations(Transformations::EXPAND | Transformations::STRIP_16);
-        let broken = |error: png::DecodingError| format!("the PNG cannot be read: {error}");
-        let mut reader = decoder.read_info().map_err(broken)?;
-        let (width, height) = (reader.info().width as usize, reader.info().height as usize);
-        let scale = width / COLUMNS;
-        let fits = width == scale * COLUMNS && height == scale * ROWS;
-        if !fits || !(1..=LARGEST_SCALE).contains(&scale) {
-            return Err(format!(
-                "the PNG has {width} by {height} pixels; it must have 384 by 224, or 2 to 16 times that"
-            ));
-        }
-        let mut buffer = vec![0; reader.output_buffer_size()];
-        let frame = reader.next_frame(&mut buffer).map_err(broken)?;
-        let step = frame.color_type.samples();
-        let colour = |x: usize, y: usize| {
-            let at = y * frame.line_size + x * step;
-            let others = if step < 3 { [buffer[at]; 2] } else { [buffer[at + 1], buffer[at + 2]] };
-            [buffer[at], others[0], others[1]]
-        };
-        let mut values = Vec::with_capacity(COLUMNS * ROWS);
-        for y in 0..ROWS {
-            for x in 0..COLUMNS {
-                values.push(pixel_of(x, y, scale, colour)?);
-            }
-        }
-        Ok(Picture { values })
-    }
-}
-
-/// The value of pixel (x, y) whose square must be of one shade of red or grey.
-fn pixel_of(
-    x: usize,
-    y: usize,
-    scale: usize,
-    colour: impl Fn(usize, usize) -> [u8; 3],
-) -> Result<u8, String> {
-    let [red, green, blue] = colour(scale * x, scale * y);
-    for i in 0..scale * scale {
-        if colour(scale * x + i % scale, scale * y + i / scale) != [red, green, blue] {
-            return Err(format!(
-                "in the PNG, pixel ({x}, {y}) is not one square of {scale} by {scale}"
-            ));
-        }
-    }
-    let shade = SHADES.iter().position(|&shade| shade == red);
-    match shade.filter(|_| [green, blue] == [0; 2] || [green, blue] == [red; 2]) {
-        Some(value) => Ok(value as u8),
-        None => Err(format!(
-            "in the PNG, pixel ({x}, {y}) has the colour {red:02X}{green:02X}{blue:02X}; it must be red or grey of \
-             00, 55, AA or FF (values 0 to 3)"
-        )),
     }
 }
 
@@ -172,47 +107,15 @@ impl Sheet {
 mod tests {
     use super::*;
 
-    fn pattern() -> Picture {
-        Picture { values: (0..COLUMNS * ROWS).map(|i| (i * 7 / 5 % 4) as u8).collect() }
-    }
-
-    #[test]
-    fn a_png_reads_back_as_its_picture() {
-        for scale in [1, 2, 5] {
-            let back = Picture::of_png(&pattern().png(scale));
-            assert!(back == Ok(pattern()), "scale {scale}");
-        }
-    }
-
     #[test]
     fn pixels_lie_where_the_papers_say() {
         // pixel (1, 9): offset 66, bits 2 and 3
-        let mut image = vec![0; IMAGE_LENGTH];
+        let mut image = vec![0; vb::IMAGE_LENGTH];
         image[66] = 2 << 2;
         let picture = Picture::of_image(&image);
         assert_eq!(
             (picture.value(1, 9), picture.values.iter().map(|&v| v as u32).sum()),
             (2, 2u32)
         );
-    }
-
-    #[test]
-    fn wrong_pngs_are_named() {
-        let wide = pattern().side_by_side(&pattern(), 1);
-        let wrong = Picture::of_png(&wide).err().unwrap();
-        assert!(wrong.starts_with("the PNG has 768 by 224 pixels"), "{wrong}");
-        let grey = pattern().marked(&pattern(), 1);
-        let wrong = Picture::of_png(&grey).err().unwrap();
-        assert!(
-            wrong.contains("has the colour 2A2A2A; it must be red or grey of 00, 55, AA or FF"),
-            "{wrong}"
-        );
-        let both = pattern().anaglyph(&Picture::of_image(&[0xFF; IMAGE_LENGTH]), 1);
-        let wrong = Picture::of_png(&both).err().unwrap();
-        assert!(wrong.contains("pixel (0, 0) has the colour 00FFFF"), "{wrong}");
-        assert!(Picture::of_png(&pattern().png(1)[..100])
-            .err()
-            .unwrap()
-            .contains("cannot be read"));
     }
 }

@@ -32,7 +32,7 @@ fn draw_writes_either_frame_and_eye() {
     let all = folder.vbmodel(&format!("draw {SCENE} --eye all --scale 2 --out b --json"));
     assert_eq!(
         all.text,
-        "{\"frame\": 0, \"scale\": 2, \"written\": [\"b/frame0-left.png\", \"b/frame0-right.png\", \
+        "{\"frame\": 0, \"scale\": 2, \"as_is\": false, \"written\": [\"b/frame0-left.png\", \"b/frame0-right.png\", \
          \"b/frame0-side-by-side.png\", \"b/frame0-anaglyph.png\"]}\n"
     );
     let large = Rgb::read(&folder.read("b/frame0-right.png"));
@@ -55,7 +55,7 @@ fn draw_and_compare_refuse_bad_input() {
             ("--vram short.vram --drawing wide.drawing", "short.vram (262,143 bytes): refusal 3: VRAM has 262,143 bytes; it must have 262,144"),
             ("--vram out/vram.bin --drawing wide.drawing", "wide.drawing (26 bytes): refusal 5: BKCOL is 0x00000004; it must be at most 3 (2 bits)"),
             ("--vram out/vram.bin --drawing short.drawing", "short.drawing (25 bytes): the record has 25 bytes; it must have 26"),
-            ("--vram none --drawing short.drawing", "none: No such file or directory (os error 2)"),
+            ("--vram none --drawing short.drawing", "none: No such file or directory; it must be VRAM of 262,144 bytes"),
         ] {
             folder.refused(&format!("{command} {arguments}"), &format!("vbmodel: {message}"));
         }
@@ -75,7 +75,7 @@ fn draw_and_compare_refuse_bad_input() {
 }
 
 #[test]
-fn compare_finds_equal_pictures_equal() {
+fn wrong_7_compare_writes_no_picture_where_nothing_differs() {
     let folder = Folder::with_demo("compare-equal");
     folder.write("left.raw", &image(&folder.read("out/vram.bin"), 1, 0));
     assert_eq!(folder.vbmodel(&format!("draw {SCENE} --frame 1 --scale 4 --out large")).status, 0);
@@ -87,9 +87,9 @@ fn compare_finds_equal_pictures_equal() {
         assert_eq!((ran.status, ran.error.as_str()), (0, ""));
         assert_eq!(
             ran.text,
-            "left eye, frame 1: equal, 86,016 pixels\nright eye, frame 1: equal, 86,016 pixels\n\
-             written: m/compare-frame1-left.png\nwritten: m/compare-frame1-right.png\n"
+            "left eye, frame 1: equal, 86,016 pixels\nright eye, frame 1: equal, 86,016 pixels\n"
         );
+        assert!(!folder.path("m").exists(), "nothing differs, so there is nothing to mark");
     }
     // rows 224 to 255 are never drawn and not compared
     let mut raw = folder.read("left.raw");
@@ -99,7 +99,7 @@ fn compare_finds_equal_pictures_equal() {
 }
 
 #[test]
-fn compare_lists_and_marks_what_differs() {
+fn wrong_8_compare_json_names_capture_and_memory() {
     let folder = Folder::with_demo("compare-different");
     let vram = folder.read("out/vram.bin");
     let mut raw = image(&vram, 1, 1);
@@ -127,7 +127,8 @@ fn compare_lists_and_marks_what_differs() {
     assert_eq!(json.status, 1);
     assert_eq!(
         json.text,
-        "{\"equal\": false, \"frame\": 1, \"eyes\": [{\"eye\": \"right\", \"equal\": false, \"different\": 2, \
+        "{\"equal\": false, \"vram\": \"out/vram.bin\", \"drawing\": \"out/drawing.bin\", \"frame\": 1, \"eyes\": \
+         [{\"eye\": \"right\", \"capture\": \"right.raw\", \"equal\": false, \"different\": 2, \
          \"first\": [{\"column\": 0, \"row\": 0, \"expected\": 0, \"seen\": 3}]}], \
          \"written\": [\"m/compare-frame1-right.png\"]}\n"
     );
@@ -151,9 +152,10 @@ fn compare_refuses_other_captures() {
     for (file, message) in [
         (
             "short.raw",
-            "short.raw (24,575 bytes): a capture is a raw frame buffer of 24,576 bytes, or a PNG",
+            "short.raw (24,575 bytes): a capture is a raw frame buffer of 24,576 bytes, a whole VRAM of 262,144, or a PNG",
         ),
-        ("none.raw", "none.raw: No such file or directory (os error 2)"),
+        ("none.raw", "none.raw: No such file or directory; it must be a capture: a raw frame buffer of 24,576 bytes, a whole \
+          VRAM of 262,144, or a PNG"),
     ] {
         folder.refused(&format!("compare {SCENE} --left {file}"), &format!("vbmodel: {message}"));
     }
@@ -164,7 +166,10 @@ fn compare_refuses_other_captures() {
         ),
         ("torn.png", "in the PNG, pixel (0, 0) is not one square of 2 by 2"),
         ("cut.png", "the PNG cannot be read: "),
-        ("out/frame1-anaglyph.png", "it must be red or grey of 00, 55, AA or FF (values 0 to 3)"),
+        (
+            "out/frame1-anaglyph.png",
+            "it must be opaque red or grey of 00, 55, AA or FF (values 0 to 3)",
+        ),
     ] {
         let ran = folder.vbmodel(&format!("compare {SCENE} --left {file} --out marks"));
         assert_eq!((ran.status, ran.text.as_str()), (2, ""), "{file}");
@@ -194,7 +199,7 @@ fn why_tells_what_covers_a_pixel() {
         "<- the pixel\n",
         ": parameter HOFST\n",
         "\n  21  END: no world from here on is drawn\n",
-        "\n  31  its window does not hold the pixel\n",
+        "\n  31  its window (",
     ] {
         assert!(ran.text.contains(part), "{part}: {}", ran.text);
     }

@@ -50,9 +50,9 @@ fn it_prints_answer_count_pc_and_registers() {
 #[test]
 fn json_has_the_same() {
     let folder = with_rom("run-json", &[ADD_1_R1, BRANCH_TO_ITSELF]);
-    let ran = folder.vbmodel("run --rom a.rom --budget 1000000 --json");
+    let ran = folder.vbmodel("run --rom a.rom --budget 1_000_000 --json");
     assert_eq!(ran.status, 0);
-    let start = r#"{"answer": "budget", "count": 1000000, "mode": "running", "pc": 4294967282, "regs": [0, 1, 0, "#;
+    let start = r#"{"answer": "budget", "count": 1000000, "budget": 1000000, "mode": "running", "pc": 4294967282, "regs": [0, 1, 0, "#;
     assert!(ran.text.starts_with(start), "{}", ran.text);
     assert!(ran.text.contains(r#""system": {"eipc": 0, "#), "{}", ran.text);
     assert!(ran.text.ends_with("\"bkcol\": 0}, \"written\": []}\n"), "{}", ran.text);
@@ -93,13 +93,14 @@ fn pak_ram_is_read_and_written() {
 }
 
 #[test]
-fn a_fatal_exception_is_an_answer() {
+fn wrong_7_a_fatal_exception_says_which_it_was() {
     let folder = with_rom("run-fatal", &[ADD_1_R1, ILLEGAL]);
     let ran = folder.vbmodel("run --rom a.rom");
     assert_eq!(ran.status, 0);
     assert!(
         ran.text.starts_with(
-            "answer:       fatal: the processor met a fatal exception\ninstructions: 1 of"
+            "answer:       fatal: illegal instruction (exception 0xFF90) at 0xFFFFFFF2 while NP was set\n\
+             instructions: 1 of"
         ),
         "{}",
         ran.text
@@ -119,7 +120,9 @@ fn refusal_6_has_an_answer_and_status_2() {
     let json = folder.vbmodel("run --rom a.rom --json");
     assert_eq!(json.status, 2);
     assert!(
-        json.text.starts_with(r#"{"answer": "refused", "count": 1, "refusal": 6, "error": "#),
+        json.text.starts_with(
+            r#"{"answer": "refused", "count": 1, "budget": 20000000, "refusal": 6, "error": "#
+        ),
         "{}",
         json.text
     );
@@ -164,9 +167,9 @@ fn bad_files_are_told() {
     folder.write("long.drawing", &[0; 27]);
     std::fs::create_dir(folder.path("folder")).unwrap();
     for (arguments, message) in [
-        ("--rom none.rom", "none.rom: No such file or directory (os error 2)"),
-        ("--rom folder", "folder: is a folder, not a file"),
-        ("--rom /dev/zero", "/dev/zero (over 67,108,864 bytes): no memory of the console has more than 16,777,216 bytes"),
+        ("--rom none.rom", "none.rom: No such file or directory; it must be a ROM of a power of two from 1,024 to 16,777,216 bytes"),
+        ("--rom folder", "folder: is a folder; it must be a ROM of a power of two from 1,024 to 16,777,216 bytes"),
+        ("--rom /dev/zero", "/dev/zero: has over 67,108,864 bytes; it must be a ROM of a power of two from 1,024 to 16,777,216 bytes"),
         ("--rom a.rom --processor short.processor", "short.processor (171 bytes): the record has 171 bytes; it must have 172"),
         ("--rom a.rom --processor mode.processor", "mode.processor (172 bytes): the mode is 3; it must be 0 (running), 1 (halted) or 2 (fatal)"),
         ("--rom a.rom --drawing long.drawing", "long.drawing (27 bytes): the record has 27 bytes; it must have 26"),

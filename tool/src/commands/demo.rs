@@ -8,10 +8,11 @@ use vb::{grouped, Machine, Memories, Mode, Refusal, Stop, VRAM_LENGTH, WRAM_LENG
 
 use super::draw::{Eyes, Views};
 use super::Report;
+use crate::called;
 use crate::demo::rom;
 use crate::failure::Failure;
 use crate::files::Outputs;
-use crate::json::object;
+use crate::number;
 
 /// More instructions than a frame of the demo takes.
 const BUDGET: u64 = 5_000_000;
@@ -31,8 +32,8 @@ pub struct Options {
     #[arg(long, value_name = "FOLDER", default_value = "out")]
     out: PathBuf,
     /// PNG pixels to a pixel's side, 1 to 16
-    #[arg(long, value_name = "N", default_value_t = 2, value_parser = clap::value_parser!(u64).range(1..=16))]
-    scale: u64,
+    #[arg(long, value_name = "N", default_value = "2", value_parser = number::scale)]
+    scale: usize,
 }
 
 pub fn run(options: &Options) -> Result<Report, Failure> {
@@ -48,7 +49,7 @@ pub fn run(options: &Options) -> Result<Report, Failure> {
         let mut memories = Memories { rom: &rom, wram: &mut wram, vram: &mut vram, pak: &mut [] };
         let count = to_halt(&mut machine, &mut memories)?;
         machine.drawing.draw_frame(&mut vram, frame).map_err(refused)?;
-        for (name, png) in Views::of(&vram, frame).files(frame, Eyes::All, options.scale as usize) {
+        for (name, png) in Views::of(&vram, frame).files(frame, Eyes::All, options.scale) {
             outputs.add(options.out.join(name), png);
         }
         lines.push(format!(
@@ -65,7 +66,7 @@ pub fn run(options: &Options) -> Result<Report, Failure> {
     outputs.write()?;
     lines.extend(where_they_are(&options.out));
     lines.push(format!("took {} ms", begun.elapsed().as_millis()));
-    Ok(Report { text: lines.join("\n") + "\n", json: object([]), status: 0 })
+    Ok(Report::new(lines.join("\n") + "\n", &(), 0))
 }
 
 /// Runs to the next HALT. On the console the frame interrupt would end the one before; interrupts are not modelled,
@@ -97,9 +98,10 @@ fn where_they_are(out: &Path) -> Vec<String> {
         row("red/cyan", "anaglyph"),
         format!("memories and records after frame 1: {}", at("*.bin")),
         format!(
-            "next: vbmodel why left 192 120 --vram {} --drawing {}",
-            at("vram.bin"),
-            at("drawing.bin")
+            "next: {} why left 192 120 --vram {} --drawing {}",
+            called::name(),
+            called::quoted(&at("vram.bin")),
+            called::quoted(&at("drawing.bin"))
         ),
     ]
 }

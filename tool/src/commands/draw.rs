@@ -3,13 +3,15 @@
 use std::path::PathBuf;
 
 use clap::{Args, ValueEnum};
-use vb::{image_offset, IMAGE_LENGTH};
+use serde::Serialize;
+use vb::{image_offset, Refusal, IMAGE_LENGTH, VRAM_LENGTH};
 
-use super::{Report, Scene};
+use super::Report;
 use crate::failure::Failure;
-use crate::files::Outputs;
-use crate::json::{number, object, text, Json};
+use crate::files::{Input, Outputs};
+use crate::number;
 use crate::picture::Picture;
+use crate::scene::{Scene, VRAM};
 
 #[derive(Args)]
 #[command(
@@ -17,21 +19,32 @@ use crate::picture::Picture;
   vbmodel demo
   vbmodel draw --vram out/vram.bin --drawing out/drawing.bin --frame 1 --eye anaglyph --scale 3
 
+With --as-is the frame buffer is shown as it is in VRAM, and no drawing record is needed.
 A PNG has red 00, 55, AA and FF for the pixel values 0 to 3; `vbmodel compare` reads it back.
 Exit status: 0 drawn; 2 refused or bad input, and then nothing is written."
 )]
 pub struct Options {
-    #[command(flatten)]
-    scene: Scene,
+    /// VRAM, 262,144 bytes; - is standard input
+    #[arg(long, value_name = "FILE", required_unless_present = "state")]
+    vram: Option<PathBuf>,
+    /// The drawing record, 26 bytes: SPT0-3, GPLT0-3, JPLT0-3 and BKCOL as little-endian halfwords
+    #[arg(long, value_name = "FILE", required_unless_present_any = ["state", "as_is"])]
+    drawing: Option<PathBuf>,
+    /// A saved state, which holds both
+    #[arg(long, value_name = "FILE", conflicts_with_all = ["vram", "drawing"])]
+    state: Option<PathBuf>,
+    /// Show the frame buffer as it is in VRAM, without drawing
+    #[arg(long, conflicts_with = "drawing")]
+    as_is: bool,
     /// The frame buffer that is drawn and shown, 0 or 1
-    #[arg(long, value_name = "N", default_value_t = 0)]
+    #[arg(long, value_name = "N", default_value = "0", value_parser = number::word)]
     frame: u32,
     /// Which pictures to write
     #[arg(long, value_enum, default_value_t = Eyes::Both)]
     eye: Eyes,
     /// PNG pixels to a pixel's side, 1 to 16
-    #[arg(long, value_name = "N", default_value_t = 1, value_parser = clap::value_parser!(u64).range(1..=16))]
-    scale: u64,
+    #[arg(long, value_name = "N", default_value = "1", value_parser = number::scale)]
+    scale: usize,
     /// The folder for the pictures
     #[arg(long, value_name = "FOLDER", default_value = "out")]
     out: PathBuf,
@@ -99,26 +112,50 @@ impl Views {
 }
 
 pub fn run(options: &Options) -> Result<Report, Failure> {
-    let scene = options.scene.read()?;
-    let vram = scene.drawn(options.frame)?;
+    let vram = shown(options)?;
     let views = Views::of(&vram, options.frame);
     let mut outputs = Outputs::default();
-    for (name, png) in views.files(options.frame, options.eye, options.scale as usize) {
+    for (name, png) in views.files(options.frame, options.eye, options.scale) {
         outputs.add(options.out.join(name), png);
     }
     if let Some(path) = &options.save_vram {
         outputs.add(path, vram);
     }
     outputs.write()?;
-    let written = outputs.paths();
-    let lines: String = written.iter().map(|path| format!("written: {path}\n")).collect();
-    Ok(Report {
-        text: format!("frame {} drawn, both eyes\n{lines}", options.frame),
-        json: object([
-            ("frame", number(options.frame)),
-            ("scale", number(options.scale)),
-            ("written", Json::List(written.iter().map(text).collect())),
-        ]),
-        status: 0,
-    })
+    let Options { frame, scale, as_is, .. } = *options;
+    let told = Told { frame, scale, as_is, written: outputs.paths() };
+    let lines: String = told.written.iter().map(|path| format!("written: {path}\n")).collect();
+    let done = if options.as_is { "as it is in VRAM" } else { "drawn, both eyes" };
+    Ok(Report::new(format!("frame {} {done}\n{lines}", options.frame), &told, 0))
+}
+
+/// VRAM after drawing, or as it is.
+fn shown(options: &Options) -> Result<Vec<u8>, Failure> {
+    let Options { vram, drawing, state, frame, .. } = options;
+    let scene = Scene { vram: vram.clone(), drawing: drawing.clone(), state: state.clone() };
+    if !options.as_is {
+        return scene.read()?.drawn(*frame);
+    }
+    let vram = match (vram, state) {
+        (Some(path), _) => Input::read(path, VRAM)?,
+        _ => scene.read()?.vram,
+    };
+    let refused = |refusal: Refusal, message: String| Err(Failure::refused(&refusal, message));
+    if vram.bytes.len() != VRAM_LENGTH {
+        let refusal = Refusal::VramLength { given: vram.bytes.len() };
+        return refused(refusal.clone(), vram.wrong(&refusal));
+    }
+    if *frame > 1 {
+        let refusal = Refusal::Frame { given: *frame };
+        return refused(refusal.clone(), refusal.to_string());
+    }
+    Ok(vram.bytes)
+}
+
+#[derive(Serialize)]
+struct Told {
+    frame: u32,
+    scale: usize,
+    as_is: bool,
+    written: Vec<String>,
 }

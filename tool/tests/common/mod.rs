@@ -2,8 +2,9 @@
 #![allow(dead_code)]
 
 use std::fs;
+use std::io::Write;
 use std::path::{Path, PathBuf};
-use std::process::{Command, Output};
+use std::process::{Command, Output, Stdio};
 
 pub const WIDTH: usize = 384;
 pub const HEIGHT: usize = 224;
@@ -49,6 +50,32 @@ impl Folder {
     pub fn vbmodel(&self, arguments: &str) -> Ran {
         let output = Command::new(env!("CARGO_BIN_EXE_vbmodel"))
             .args(arguments.split_whitespace())
+            .current_dir(&self.0)
+            .output()
+            .unwrap();
+        Ran::of(output)
+    }
+
+    /// Runs the tool here with bytes at its standard input.
+    pub fn vbmodel_fed(&self, arguments: &str, bytes: &[u8]) -> Ran {
+        let mut child = Command::new(env!("CARGO_BIN_EXE_vbmodel"))
+            .args(arguments.split_whitespace())
+            .current_dir(&self.0)
+            .stdin(Stdio::piped())
+            .stdout(Stdio::piped())
+            .stderr(Stdio::piped())
+            .spawn()
+            .unwrap();
+        // a tool that refuses may have closed its end already
+        let _ = child.stdin.take().unwrap().write_all(bytes);
+        Ran::of(child.wait_with_output().unwrap())
+    }
+
+    /// Runs a line of shell here, the tool's path being in $VB.
+    pub fn shell(&self, line: &str) -> Ran {
+        let output = Command::new("sh")
+            .args(["-c", line])
+            .env("VB", env!("CARGO_BIN_EXE_vbmodel"))
             .current_dir(&self.0)
             .output()
             .unwrap();

@@ -1,0 +1,142 @@
+//! The colours of a PNG, read strictly: a sample that stands for no colour is told, and nothing may follow the image.
+
+use png::{BitDepth, ColorType, Decoder, Transformations};
+
+/// A PNG's pixels before they are taken for colours.
+pub struct Samples {
+    pub width: usize,
+    colour: ColorType,
+    depth: usize,
+    line: usize,
+    data: Vec<u8>,
+    palette: Vec<u8>,
+    transparent: Vec<u8>,
+}
+
+/// The parts of a PNG that decide what its samples mean.
+#[derive(Default)]
+struct Chunks<'a> {
+    palette: &'a [u8],
+    transparent: &'a [u8],
+}
+
+/// Goes through the chunks up to IEND, which must be the file's end.
+fn chunks(bytes: &[u8]) -> Result<Chunks<'_>, String> {
+    let mut found = Chunks::default();
+    let mut at = 8;
+    loop {
+        let head =
+            bytes.get(at..at + 8).ok_or("the PNG cannot be read: it ends before its IEND")?;
+        let length = u32::from_be_bytes([head[0], head[1], head[2], head[3]]) as usize;
+        let name = String::from_utf8_lossy(&head[4..8]).into_owned();
+        let end = at + 12 + length;
+        let data = bytes
+            .get(at + 8..at + 8 + length)
+            .filter(|_| end <= bytes.len())
+            .ok_or(format!("the PNG cannot be read: it ends inside its chunk {name}"))?;
+        match name.as_str() {
+            "PLTE" => found.palette = data,
+            "tRNS" => found.transparent = data,
+            "acTL" => return Err("the PNG is an animation; a capture is one picture".to_string()),
+            "IEND" if end < bytes.len() => {
+                let more = vb::grouped((bytes.len() - end) as u64);
+                return Err(format!(
+                    "{more} bytes follow the PNG's IEND; it must be the file's end"
+                ));
+            }
+            "IEND" => return Ok(found),
+            _ => {}
+        }
+        at = end;
+    }
+}
+
+impl Samples {
+    /// Reads a PNG whose size, width by height, `fits` accepts.
+    pub fn read(
+        bytes: &[u8],
+        fits: impl Fn(usize, usize) -> Result<(), String>,
+    ) -> Result<Samples, String> {
+        let mut decoder = Decoder::new(bytes);
+        decoder.set_transformations(Transformations::IDENTITY);
+        let broken = |error: png::DecodingError| format!("the PNG cannot be read: {error}");
+        let mut reader = decoder.read_info().map_err(broken)?;
+        fits(reader.info().width as usize, reader.info().height as usize)?;
+        let Chunks { palette, transparent } = chunks(bytes)?;
+        let mut data = vec![0; reader.output_buffer_size()];
+        let frame = reader.next_frame(&mut data).map_err(broken)?;
+        Ok(Samples {
+            width: frame.width as usize,
+            colour: frame.color_type,
+            depth: match frame.bit_depth {
+                BitDepth::One => 1,
+                BitDepth::Two => 2,
+                BitDepth::Four => 4,
+                BitDepth::Eight => 8,
+                BitDepth::Sixteen => 16,
+            },
+            line: frame.line_size,
+            data,
+            palette: palette.to_vec(),
+            transparent: transparent.to_vec(),
+        })
+    }
+
+    /// Sample n of a row as it is stored.
+    fn sample(&self, y: usize, n: usize) -> u16 {
+        let row = &self.data[y * self.line..];
+        match self.depth {
+            16 => u16::from_be_bytes([row[2 * n], row[2 * n + 1]]),
+            8 => u16::from(row[n]),
+            depth => {
+                let in_byte = 8 / depth;
+                let low = 8 - depth * (n % in_byte + 1);
+                u16::from(row[n / in_byte] >> low) & ((1 << depth) - 1)
+            }
+        }
+    }
+
+    /// A stored sample as one of 0 to 255; between two of them it is rounded, or refused where `exact`.
+    fn byte(&self, sample: u16, exact: bool) -> Result<u8, String> {
+        match self.depth {
+            16 if exact && !sample.is_multiple_of(257) => Err(format!(
+                "has the 16-bit sample {sample:04X}, which is none of 0000, 5555, AAAA and FFFF"
+            )),
+            16 => Ok(((u32::from(sample) + 128) / 257) as u8),
+            depth => Ok((u32::from(sample) * 255 / ((1 << depth) - 1)) as u8),
+        }
+    }
+
+    /// Red, green and blue of a PNG pixel, or what is wrong with it.
+    pub fn colour(&self, x: usize, y: usize, exact: bool) -> Result<[u8; 3], String> {
+        if self.colour == ColorType::Indexed {
+            return self.of_palette(usize::from(self.sample(y, x)));
+        }
+        let step = self.colour.samples();
+        let raw: Vec<u16> = (0..step).map(|n| self.sample(y, step * x + n)).collect();
+        let colours = if step < 3 { &raw[..1] } else { &raw[..3] };
+        let most = ((1u32 << self.depth) - 1) as u16;
+        if matches!(step, 2 | 4) && raw[step - 1] != most {
+            return Err(format!("has the alpha {:X} of {most:X}", raw[step - 1]));
+        }
+        let key: Vec<u16> =
+            self.transparent.chunks_exact(2).map(|h| u16::from_be_bytes([h[0], h[1]])).collect();
+        if matches!(step, 1 | 3) && key == colours {
+            return Err("has the colour that tRNS makes transparent".to_string());
+        }
+        let bytes = colours.iter().map(|&sample| self.byte(sample, exact));
+        let bytes: Vec<u8> = bytes.collect::<Result<_, _>>()?;
+        Ok(if step < 3 { [bytes[0]; 3] } else { [bytes[0], bytes[1], bytes[2]] })
+    }
+
+    fn of_palette(&self, index: usize) -> Result<[u8; 3], String> {
+        let count = self.palette.len() / 3;
+        let Some(colour) = self.palette.get(3 * index..3 * index + 3) else {
+            return Err(format!("has the palette index {index}; PLTE has {count} colours"));
+        };
+        match self.transparent.get(index) {
+            Some(&alpha) if alpha != 0xFF => Err(format!("has the alpha {alpha:X} of FF")),
+            _ => Ok([colour[0], colour[1], colour[2]]),
+        }
+    }
+}

@@ -1,0 +1,27 @@
+use super::*;
+
+fn question<'a>(vram: &'a [u8], drawing: &'a Drawing, library_value: u8) -> Question<'a> {
+    Question { vram, drawing, eye: Eye::Left, x: 3, y: 5, library_value, every_object: false }
+}
+
+#[test]
+fn wrong_7_a_disagreement_of_model_and_library_is_said_in_its_own_words() {
+    let vram = vec![0; vb::VRAM_LENGTH];
+    let drawing = Drawing { bkcol: 2, ..Drawing::default() };
+    let same = explain(&question(&vram, &drawing, 2)).unwrap();
+    assert!(same.agree && same.text().contains("the proved library draws 2, the same\n"));
+    let other = explain(&question(&vram, &drawing, 1)).unwrap();
+    assert!(!other.agree);
+    let words = "the proved library draws 1: they differ, a fault of the model or of the library, not of the die";
+    assert!(other.text().contains(words), "{}", other.text());
+}
+
+#[test]
+fn the_lists_are_held_against_each_other() {
+    let of = |library: Option<Vec<usize>>| Lists { model: vec![1, 2], library }.head();
+    assert!(of(None).ends_with("2, by the independent model:"));
+    assert!(of(Some(vec![1, 2])).ends_with("2, proved; the independent model's are the same:"));
+    assert!(
+        of(Some(vec![1])).contains("the proved library lists 1, the independent model 2: a fault")
+    );
+}

@@ -1,0 +1,78 @@
+//! A file that is read, `-` being standard input.
+
+use std::fs;
+use std::io::{self, Read};
+use std::path::{Path, PathBuf};
+use std::sync::atomic::{AtomicBool, Ordering};
+
+use vb::grouped;
+
+use super::Identity;
+use crate::failure::Failure;
+
+/// No memory of the console is larger than a quarter of this.
+const LARGEST: u64 = 64 << 20;
+
+/// A file's bytes, with its name for messages.
+#[derive(Clone)]
+pub struct Input {
+    pub path: PathBuf,
+    pub bytes: Vec<u8>,
+    /// None for standard input.
+    pub identity: Option<Identity>,
+}
+
+impl Input {
+    /// Reads a file; `wanted` says what it should be, for the message where there is none.
+    pub fn read(path: &Path, wanted: &str) -> Result<Input, Failure> {
+        let failed =
+            |what: String| Failure::bad(format!("{}: {what}; it must be {wanted}", path.display()));
+        if path == Path::new("-") {
+            let bytes = standard_input().map_err(failed)?;
+            return Ok(Input { path: PathBuf::from("standard input"), bytes, identity: None });
+        }
+        let file = fs::File::open(path).map_err(|error| failed(told(&error)))?;
+        let about = file.metadata().map_err(|error| failed(told(&error)))?;
+        if about.is_dir() {
+            return Err(failed("is a folder".to_string()));
+        }
+        let bytes = limited(file).map_err(failed)?;
+        Ok(Input { path: path.to_path_buf(), bytes, identity: Some(Identity::of(&about)) })
+    }
+
+    /// The file, its length, and what is wrong with it.
+    pub fn wrong(&self, rule: impl std::fmt::Display) -> String {
+        format!("{} ({} bytes): {rule}", self.path.display(), grouped(self.bytes.len() as u64))
+    }
+
+    pub fn name(&self) -> String {
+        self.path.display().to_string()
+    }
+}
+
+/// An error without the system's number.
+pub fn told(error: &io::Error) -> String {
+    let text = error.to_string();
+    match text.split_once(" (os error") {
+        Some((sentence, _)) => sentence.to_string(),
+        None => text,
+    }
+}
+
+fn limited(file: impl Read) -> Result<Vec<u8>, String> {
+    let mut bytes = Vec::new();
+    file.take(LARGEST + 1).read_to_end(&mut bytes).map_err(|error| told(&error))?;
+    match bytes.len() as u64 > LARGEST {
+        true => Err(format!("has over {} bytes", grouped(LARGEST))),
+        false => Ok(bytes),
+    }
+}
+
+/// Standard input can be read once.
+fn standard_input() -> Result<Vec<u8>, String> {
+    static TAKEN: AtomicBool = AtomicBool::new(false);
+    if TAKEN.swap(true, Ordering::Relaxed) {
+        return Err("standard input is named for two files".to_string());
+    }
+    limited(io::stdin().lock())
+}

@@ -1,0 +1,151 @@
+//! Files that are written: each is first written beside its place under a name of its own; only when all are there are
+//! they given their names.
+
+use std::fs::{self, File, Metadata, Permissions};
+use std::io::{self, Write};
+use std::os::unix::fs::PermissionsExt;
+use std::path::{Path, PathBuf};
+
+use tempfile::{Builder, NamedTempFile};
+
+use super::input::told;
+use super::place::{folder_of, Place};
+use super::Identity;
+use crate::failure::Failure;
+
+#[derive(Default)]
+pub struct Outputs {
+    files: Vec<(PathBuf, Vec<u8>)>,
+    kept: Vec<Identity>,
+}
+
+impl Outputs {
+    pub fn add(&mut self, path: impl Into<PathBuf>, bytes: Vec<u8>) {
+        self.files.push((path.into(), bytes));
+    }
+
+    /// A file that was read and may not be written over.
+    pub fn keep(&mut self, read: Option<Identity>) {
+        self.kept.extend(read);
+    }
+
+    pub fn paths(&self) -> Vec<String> {
+        self.files.iter().map(|(path, _)| path.display().to_string()).collect()
+    }
+
+    /// Whether these files could be written, found out by making and removing them under passing names.
+    pub fn test<'a>(paths: impl IntoIterator<Item = &'a Path>) -> Result<(), Failure> {
+        let mut outputs = Outputs::default();
+        paths.into_iter().for_each(|path| outputs.add(path, Vec::new()));
+        outputs.staged().map(|_| ())
+    }
+
+    pub fn write(&self) -> Result<(), Failure> {
+        let mut staged = self.staged()?;
+        // what cannot be taken back comes first: where it fails, no file has got its name
+        for (through, bytes, path) in &staged.through {
+            let written = File::options().write(true).open(through);
+            let written = written.and_then(|mut file| file.write_all(bytes));
+            written.map_err(|error| failed(path, &error))?;
+        }
+        for (passing, target, path) in std::mem::take(&mut staged.files) {
+            passing.persist(target).map_err(|error| {
+                Failure::bad(format!("{}: {}", path.display(), told(&error.error)))
+            })?;
+        }
+        staged.folders.clear();
+        Ok(())
+    }
+
+    fn staged(&self) -> Result<Staged<'_>, Failure> {
+        let mut staged = Staged::default();
+        let mut places: Vec<Place> = Vec::new();
+        for (path, bytes) in &self.files {
+            let place = Place::of(path, &mut |folder| make(folder, &mut staged.folders));
+            let place = place.map_err(|error| failed(path, &error))?;
+            if places.iter().any(|other| other.same(&place)) {
+                return Err(Failure::bad(format!("{}: named for two outputs", path.display())));
+            }
+            if self.kept.iter().any(|&read| place.is(read)) {
+                let rule = "is read by this command, and would be written over";
+                return Err(Failure::bad(format!(
+                    "{}: {rule}; nothing was written",
+                    path.display()
+                )));
+            }
+            staged.stage(&place, bytes, path).map_err(|error| failed(path, &error))?;
+            places.push(place);
+        }
+        Ok(staged)
+    }
+}
+
+fn failed(path: &Path, error: &io::Error) -> Failure {
+    Failure::bad(format!("{}: {}; nothing was written", path.display(), told(error)))
+}
+
+/// Files under their passing names with the names they will have and those that were asked for, what is written
+/// through, and the folders that were made. Files and folders are removed again unless they are taken out of here.
+#[derive(Default)]
+struct Staged<'a> {
+    files: Vec<(NamedTempFile, PathBuf, &'a Path)>,
+    through: Vec<(PathBuf, &'a [u8], &'a Path)>,
+    folders: Vec<PathBuf>,
+}
+
+impl<'a> Staged<'a> {
+    fn stage(&mut self, place: &Place, bytes: &'a [u8], path: &'a Path) -> io::Result<()> {
+        match place {
+            Place::Through { target, .. } => self.through.push((target.clone(), bytes, path)),
+            Place::File { target, now } => {
+                let mut builder = Builder::new();
+                let named = builder.prefix(".vbmodel-").suffix(".part");
+                let mut passing = named.tempfile_in(folder_of(target))?;
+                passing.as_file_mut().write_all(bytes)?;
+                let rights = now.as_ref().map_or_else(of_a_new_file, Metadata::permissions);
+                fs::set_permissions(passing.path(), rights)?;
+                self.files.push((passing, target.clone(), path));
+            }
+        }
+        Ok(())
+    }
+}
+
+/// The rights of a new file: a passing file has fewer.
+fn of_a_new_file() -> Permissions {
+    let status = fs::read_to_string("/proc/self/status").unwrap_or_default();
+    let mask = status.lines().find_map(|line| line.strip_prefix("Umask:"));
+    let mask = mask.and_then(|mask| u32::from_str_radix(mask.trim(), 8).ok()).unwrap_or(0o022);
+    Permissions::from_mode(0o666 & !mask)
+}
+
+/// Makes a folder and those above it, noting each that was not there.
+fn make(folder: &Path, made: &mut Vec<PathBuf>) -> io::Result<()> {
+    if folder.is_dir() {
+        return Ok(());
+    }
+    let parent = folder.parent().filter(|parent| !parent.as_os_str().is_empty());
+    if let Some(parent) = parent.filter(|_| !folder.exists()) {
+        make(parent, made)?;
+    }
+    // `new/..` is there as soon as `new` is
+    match fs::metadata(folder) {
+        Ok(there) if there.is_dir() => return Ok(()),
+        Ok(_) => {
+            let message = format!("{} is a file, not a folder", folder.display());
+            return Err(io::Error::other(message));
+        }
+        Err(_) => fs::create_dir(folder)?,
+    }
+    made.push(folder.to_path_buf());
+    Ok(())
+}
+
+impl Drop for Staged<'_> {
+    fn drop(&mut self) {
+        self.files.clear();
+        for folder in self.folders.iter().rev() {
+            let _ = fs::remove_dir(folder);
+        }
+    }
+}

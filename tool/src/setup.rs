@@ -1,0 +1,173 @@
+//! A machine from files: memories and records in, and those that are asked for out again.
+
+use std::path::{Path, PathBuf};
+
+use clap::Args;
+use vb::{Machine, Memories, Processor, Refusal, VRAM_LENGTH, WRAM_LENGTH};
+
+use crate::failure::Failure;
+use crate::files::{Input, Outputs};
+use crate::scene::{drawing_of, DRAWING, VRAM};
+
+const ROM: &str = "a ROM of a power of two from 1,024 to 16,777,216 bytes";
+const WRAM: &str = "WRAM of 65,536 bytes";
+const PAK: &str = "pak RAM of a power of two up to 16,777,216 bytes";
+const PROCESSOR: &str = "a processor record of 172 bytes";
+
+#[derive(Args)]
+pub struct Setup {
+    /// ROM, a power of two from 1,024 to 16,777,216 bytes; - is standard input
+    #[arg(long, value_name = "FILE")]
+    rom: PathBuf,
+    /// WRAM, 65,536 bytes [default: zeros]
+    #[arg(long, value_name = "FILE")]
+    wram: Option<PathBuf>,
+    /// VRAM, 262,144 bytes [default: zeros]
+    #[arg(long, value_name = "FILE")]
+    vram: Option<PathBuf>,
+    /// Pak RAM, a power of two up to 16,777,216 bytes [default: none]
+    #[arg(long, value_name = "FILE")]
+    pak: Option<PathBuf>,
+    /// The processor record, 172 bytes: 43 little-endian words in vb.h's order [default: reset]
+    #[arg(long, value_name = "FILE")]
+    processor: Option<PathBuf>,
+    /// The drawing record, 26 bytes: 13 little-endian halfwords in vb.h's order [default: reset]
+    #[arg(long, value_name = "FILE")]
+    drawing: Option<PathBuf>,
+}
+
+/// Where to write what a command leaves.
+#[derive(Args)]
+pub struct Saves {
+    /// Where to write WRAM afterwards
+    #[arg(long, value_name = "FILE")]
+    save_wram: Option<PathBuf>,
+    /// Where to write VRAM afterwards
+    #[arg(long, value_name = "FILE")]
+    save_vram: Option<PathBuf>,
+    /// Where to write pak RAM afterwards
+    #[arg(long, value_name = "FILE")]
+    save_pak: Option<PathBuf>,
+    /// Where to write the processor record afterwards
+    #[arg(long, value_name = "FILE")]
+    save_processor: Option<PathBuf>,
+    /// Where to write the drawing record afterwards
+    #[arg(long, value_name = "FILE")]
+    save_drawing: Option<PathBuf>,
+}
+
+/// The files that were named, by what they hold.
+struct Inputs {
+    rom: Input,
+    wram: Option<Input>,
+    vram: Option<Input>,
+    pak: Option<Input>,
+    processor: Option<Input>,
+    drawing: Option<Input>,
+}
+
+/// A machine with its memories.
+pub struct Bench {
+    inputs: Inputs,
+    pub machine: Machine,
+    pub rom: Vec<u8>,
+    pub wram: Vec<u8>,
+    pub vram: Vec<u8>,
+    pub pak: Vec<u8>,
+}
+
+impl Setup {
+    pub fn bench(&self) -> Result<Bench, Failure> {
+        let inputs = self.inputs()?;
+        let bytes = |file: &Option<Input>, length: usize| {
+            file.as_ref().map_or_else(|| vec![0; length], |file| file.bytes.clone())
+        };
+        Ok(Bench {
+            machine: inputs.machine()?,
+            rom: inputs.rom.bytes.clone(),
+            wram: bytes(&inputs.wram, WRAM_LENGTH),
+            vram: bytes(&inputs.vram, VRAM_LENGTH),
+            pak: bytes(&inputs.pak, 0),
+            inputs,
+        })
+    }
+
+    fn inputs(&self) -> Result<Inputs, Failure> {
+        let read = |path: &Option<PathBuf>, wanted: &str| {
+            path.as_deref().map(|path| Input::read(path, wanted)).transpose()
+        };
+        Ok(Inputs {
+            rom: Input::read(&self.rom, ROM)?,
+            wram: read(&self.wram, WRAM)?,
+            vram: read(&self.vram, VRAM)?,
+            pak: read(&self.pak, PAK)?,
+            processor: read(&self.processor, PROCESSOR)?,
+            drawing: read(&self.drawing, DRAWING)?,
+        })
+    }
+}
+
+impl Inputs {
+    fn machine(&self) -> Result<Machine, Failure> {
+        let mut machine = Machine::reset();
+        if let Some(file) = &self.processor {
+            let read = Processor::from_bytes(&file.bytes);
+            machine.processor = read.map_err(|rule| Failure::bad(file.wrong(rule)))?;
+        }
+        if let Some(file) = &self.drawing {
+            machine.drawing = drawing_of(file)?;
+        }
+        Ok(machine)
+    }
+}
+
+impl Bench {
+    /// The machine, and its memories lent.
+    pub fn lent(&mut self) -> (&mut Machine, Memories<'_>) {
+        let Bench { machine, rom, wram, vram, pak, .. } = self;
+        (machine, Memories { rom, wram, vram, pak })
+    }
+
+    /// Names the file that a refusal is about.
+    pub fn failure(&self, refusal: &Refusal) -> Failure {
+        let inputs = &self.inputs;
+        let drawing = |register: &str| {
+            ["SPT", "GPLT", "JPLT", "BKCOL"].iter().any(|name| register.starts_with(name))
+        };
+        let file = match refusal {
+            Refusal::RomLength { .. } => Some(&inputs.rom),
+            Refusal::WramLength { .. } => inputs.wram.as_ref(),
+            Refusal::VramLength { .. } => inputs.vram.as_ref(),
+            Refusal::PakLength { .. } => inputs.pak.as_ref(),
+            Refusal::State { register, .. } if drawing(register) => inputs.drawing.as_ref(),
+            Refusal::State { .. } => inputs.processor.as_ref(),
+            _ => None,
+        };
+        Failure::refused(refusal, file.map_or(refusal.to_string(), |file| file.wrong(refusal)))
+    }
+}
+
+impl Saves {
+    fn paths(&self) -> [Option<&Path>; 5] {
+        let Saves { save_wram, save_vram, save_pak, save_processor, save_drawing } = self;
+        [save_wram, save_vram, save_pak, save_processor, save_drawing].map(|path| path.as_deref())
+    }
+
+    /// Whether all of them could be written.
+    pub fn test(&self) -> Result<(), Failure> {
+        Outputs::test(self.paths().into_iter().flatten())
+    }
+
+    pub fn of(&self, bench: &Bench) -> Outputs {
+        let Bench { machine, wram, vram, pak, .. } = bench;
+        let (processor, drawing) = (machine.processor.to_bytes(), machine.drawing.to_bytes());
+        let all = [wram.clone(), vram.clone(), pak.clone(), processor, drawing];
+        let mut outputs = Outputs::default();
+        for (path, bytes) in self.paths().into_iter().zip(all) {
+            if let Some(path) = path {
+                outputs.add(path, bytes);
+            }
+        }
+        outputs
+    }
+}
