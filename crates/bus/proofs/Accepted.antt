@@ -7,11 +7,12 @@ use mathlib.Core.Path.{_≡_, refl, sym, ap, subst, _∙_}
 use native.Mathlib.Omega.{arith}
 use borrow.Author.Tests.{eqb-true, eq-eqb}
 use lib.ListN.{length}
-use Rattle.bus.specs.declared.Refusal.{Refusal}
-use Rattle.bus.specs.declared.Verdict.{Verdict}
-use Rattle.bus.specs.declared.Verdict.the-variants.{Accepted, Refused}
-use Rattle.bus.specs.declared.Refusal.the-variants.{RomLength, WramLength, VramLength, PakLength, State}
-use Rattle.bus.specs.Refusal.{romOk, wramOk, vramOk, pakOk, unless}
+use Rattle.refusal.specs.declared.Refusal.{Refusal}
+use Rattle.refusal.specs.declared.Verdict.{Verdict}
+use Rattle.refusal.specs.declared.Verdict.the-variants.{Accepted, Refused}
+use Rattle.refusal.specs.declared.Refusal.the-variants.{RomLength, WramLength, VramLength, PakLength, State}
+use Rattle.bus.specs.Refusal.{romOk, wramOk, vramOk, pakOk}
+use Rattle.refusal.specs.Number.{unless}
 use Rattle.bus.specs.Registers.{registersOk}
 use Rattle.bus.specs.Memory.{verdictAt, Lengths}
 

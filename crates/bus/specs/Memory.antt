@@ -9,10 +9,11 @@ use lib.ListN.{getD, set, length}
 use Rattle.word.specs.LittleEndian.{littleEndian}
 use Rattle.bus.specs.Registers.{version, keptOf, registersOk}
 use Rattle.bus.specs.Place.{Place, vramAt, wramAt, pakAt, romAt, drawingAt, versionAt, silent, unlisted, unmapped, soundUnit, hardware, nothing, expansion, placeOf}
-use Rattle.bus.specs.Refusal.{romOk, wramOk, vramOk, pakOk, unless}
-use Rattle.bus.specs.declared.Verdict.{Verdict}
-use Rattle.bus.specs.declared.Verdict.the-variants.{Accepted}
-use Rattle.bus.specs.declared.Refusal.the-variants.{RomLength, WramLength, VramLength, PakLength, State}
+use Rattle.bus.specs.Refusal.{romOk, wramOk, vramOk, pakOk}
+use Rattle.refusal.specs.Number.{unless}
+use Rattle.refusal.specs.declared.Verdict.{Verdict}
+use Rattle.refusal.specs.declared.Verdict.the-variants.{Accepted}
+use Rattle.refusal.specs.declared.Refusal.the-variants.{RomLength, WramLength, VramLength, PakLength, State}
 
 -- the lent memories, each a list of bytes, and the drawing registers
 pub record Memory : Type 0 where

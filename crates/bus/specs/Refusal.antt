@@ -1,35 +1,10 @@
--- Paper 01, "Refusal numbers": each refusal's number, the conditions of 1 to 4, and "lowest number first".
+-- Paper 01, "Refusal numbers": the conditions of 1 to 4. The numbers and "lowest number first" are those of the crate refusal.
 -- The condition of 5 that concerns the drawing registers is `registersOk` of Registers.
 use Prim.Native.Nat.{ℕ}
 use mathlib.Core.Bool.{Bool, true, false}
 use mathlib.Core.List.{List, [], _∷_}
 use lib.Dec.{eqb}
 use Rattle.word.specs.Choose.{member}
-use Rattle.bus.specs.declared.Refusal as refusal
-use Rattle.bus.specs.declared.Refusal.the-variants.{RomLength, WramLength, VramLength, PakLength, State, NotModelled, Frame, Index}
-use Rattle.bus.specs.declared.Verdict.{Verdict}
-use Rattle.bus.specs.declared.Verdict.the-variants.{Accepted, Refused}
-
--- paper 01's number of a refusal
-abbrev pub numberOf : refusal.Refusal → ℕ
-numberOf RomLength = 1
-numberOf WramLength = 2
-numberOf VramLength = 3
-numberOf PakLength = 4
-numberOf State = 5
-numberOf NotModelled = 6
-numberOf Frame = 7
-numberOf Index = 8
-
--- 0 for a call that was accepted, else the refusal's number
-abbrev pub verdictNumber : Verdict → ℕ
-verdictNumber Accepted = 0
-verdictNumber (Refused n) = numberOf n
-
--- the refusal unless its subject is right, and then what the later conditions say: the lowest number comes first
-abbrev pub unless : Bool → refusal.Refusal → Verdict → Verdict
-unless true n later = later
-unless false n later = Refused n
 
 -- the powers of two from 1,024 to 16,777,216
 abbrev pub romLengths : List ℕ

@@ -1,6 +1,6 @@
 // The bus: where an address leads, loads and stores over the lent memories, the drawing registers,
 // and paper 01's refusals 1 to 5. The functions here are for the crates above; the calls that test
-// their arguments and refuse are those of the crate access.
+// their arguments and refuse are those of the crate bus_calls.
 pub mod load;
 pub mod outside;
 mod pak;
@@ -9,27 +9,15 @@ mod registers;
 pub mod store;
 mod vip;
 
-// Why a call is refused: paper 01's refusals, in the order of their numbers (numberOf of specs/Refusal).
-pub enum Refusal {
-    RomLength,
-    WramLength,
-    VramLength,
-    PakLength,
-    State,
-    NotModelled,
-    Frame,
-    Index,
-}
-
-// Whether a call's memories and registers are accepted.
-pub enum Verdict {
-    Accepted,
-    Refused(Refusal),
-}
-
 // The drawing registers: SPT0 to SPT3, GPLT0 to GPLT3, JPLT0 to JPLT3, BKCOL.
+pub type DrawingRegisters = [u16; 13];
+
+// What stands behind bus addresses and is not memory: the drawing registers. It is lent as an array, because a
+// reference to a struct is not walked by the prover and a struct by value costs a run its speed.
+pub type Device = [u16; 13];
+
 pub struct Drawing {
-    pub regs: [u16; 13],
+    pub regs: DrawingRegisters,
 }
 
 // What an access read.

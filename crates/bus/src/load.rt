@@ -1,4 +1,5 @@
 // Loads from memories whose lengths are accepted: what the processor uses after one test.
+use crate::Device;
 use crate::Loaded;
 use crate::pak;
 use crate::vip;
@@ -12,7 +13,7 @@ ghost use Rattle.bus.specs.Refusal.{romOk, pakOk};
 ghost use Rattle.bus.specs.Memory.{memoryOf, Lengths, Reads};
 
 // A byte, a halfword and a word that stand neither in WRAM nor in ROM: of the VIP, of pak RAM, or 0.
-fn byte_elsewhere(vram: &[u8], pak: &[u8], regs: &[u16; 13], address: u32) -> u32
+fn byte_elsewhere(vram: &[u8], pak: &[u8], regs: &Device, address: u32) -> u32
     requires { ⌜ (length (now vram) ≡ 262144) × (pakOk (length (now pak)) ≡ true) × (regionOf address ≡ 5 → ⊥) × (regionOf address ≡ 7 → ⊥) ⌝ }
     ensures { λ r. ⌜ ((rom wram : List ℕ) → Reads (memoryOf rom wram (now (vram .entry)) (now (pak .entry)) (now (regs .entry))) 1 address r) ⌝ }
 {
@@ -26,7 +27,7 @@ fn byte_elsewhere(vram: &[u8], pak: &[u8], regs: &[u16; 13], address: u32) -> u3
     0
 }
 
-fn half_elsewhere(vram: &[u8], pak: &[u8], regs: &[u16; 13], address: u32) -> u32
+fn half_elsewhere(vram: &[u8], pak: &[u8], regs: &Device, address: u32) -> u32
     requires { ⌜ (length (now vram) ≡ 262144) × (pakOk (length (now pak)) ≡ true) × (regionOf address ≡ 5 → ⊥) × (regionOf address ≡ 7 → ⊥) ⌝ }
     ensures { λ r. ⌜ ((rom wram : List ℕ) → Reads (memoryOf rom wram (now (vram .entry)) (now (pak .entry)) (now (regs .entry))) 2 address r) ⌝ }
 {
@@ -40,7 +41,7 @@ fn half_elsewhere(vram: &[u8], pak: &[u8], regs: &[u16; 13], address: u32) -> u3
     0
 }
 
-fn word_elsewhere(vram: &[u8], pak: &[u8], regs: &[u16; 13], address: u32) -> u32
+fn word_elsewhere(vram: &[u8], pak: &[u8], regs: &Device, address: u32) -> u32
     requires { ⌜ (length (now vram) ≡ 262144) × (pakOk (length (now pak)) ≡ true) × (regionOf address ≡ 5 → ⊥) × (regionOf address ≡ 7 → ⊥) ⌝ }
     ensures { λ r. ⌜ ((rom wram : List ℕ) → Reads (memoryOf rom wram (now (vram .entry)) (now (pak .entry)) (now (regs .entry))) 4 address r) ⌝ }
 {
@@ -55,7 +56,7 @@ fn word_elsewhere(vram: &[u8], pak: &[u8], regs: &[u16; 13], address: u32) -> u3
 }
 
 // One of these, by its bytes `address` to `last`. It stands apart from the ways to WRAM and ROM, which are short.
-fn elsewhere(vram: &[u8], pak: &[u8], regs: &[u16; 13], address: u32, last: u32) -> u32
+fn elsewhere(vram: &[u8], pak: &[u8], regs: &Device, address: u32, last: u32) -> u32
     requires { ⌜ (length (now vram) ≡ 262144) × (pakOk (length (now pak)) ≡ true) × (regionOf address ≡ 5 → ⊥) × (regionOf address ≡ 7 → ⊥) × (address ≤ last) × (last - address < 4) × (last - address ≡ 2 → ⊥) ⌝ }
     ensures { λ r. ⌜ ((rom wram : List ℕ) → Reads (memoryOf rom wram (now (vram .entry)) (now (pak .entry)) (now (regs .entry))) (last - address + 1) address r) ⌝ }
 {
@@ -86,14 +87,7 @@ pub fn rom_half(rom: &[u8], address: u32) -> u32
     word::half_at(rom, i)
 }
 
-pub fn byte(
-    rom: &[u8],
-    wram: &[u8],
-    vram: &[u8],
-    pak: &[u8],
-    regs: &[u16; 13],
-    address: u32,
-) -> Loaded
+pub fn byte(rom: &[u8], wram: &[u8], vram: &[u8], pak: &[u8], regs: &Device, address: u32) -> Loaded
     requires { ⌜ Lengths (length (now rom)) (length (now wram)) (length (now vram)) (length (now pak)) ⌝ }
     ensures { λ r. ⌜ Reads (memoryOf (now (rom .entry)) (now (wram .entry)) (now (vram .entry)) (now (pak .entry)) (now (regs .entry))) 1 address (r .value) ⌝ }
 {
@@ -115,14 +109,7 @@ pub fn byte(
     }
 }
 
-pub fn half(
-    rom: &[u8],
-    wram: &[u8],
-    vram: &[u8],
-    pak: &[u8],
-    regs: &[u16; 13],
-    address: u32,
-) -> Loaded
+pub fn half(rom: &[u8], wram: &[u8], vram: &[u8], pak: &[u8], regs: &Device, address: u32) -> Loaded
     requires { ⌜ Lengths (length (now rom)) (length (now wram)) (length (now vram)) (length (now pak)) ⌝ }
     ensures { λ r. ⌜ Reads (memoryOf (now (rom .entry)) (now (wram .entry)) (now (vram .entry)) (now (pak .entry)) (now (regs .entry))) 2 address (r .value) ⌝ }
 {
@@ -142,14 +129,7 @@ pub fn half(
     }
 }
 
-pub fn word(
-    rom: &[u8],
-    wram: &[u8],
-    vram: &[u8],
-    pak: &[u8],
-    regs: &[u16; 13],
-    address: u32,
-) -> Loaded
+pub fn word(rom: &[u8], wram: &[u8], vram: &[u8], pak: &[u8], regs: &Device, address: u32) -> Loaded
     requires { ⌜ Lengths (length (now rom)) (length (now wram)) (length (now vram)) (length (now pak)) ⌝ }
     ensures { λ r. ⌜ Reads (memoryOf (now (rom .entry)) (now (wram .entry)) (now (vram .entry)) (now (pak .entry)) (now (regs .entry))) 4 address (r .value) ⌝ }
 {

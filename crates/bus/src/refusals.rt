@@ -1,6 +1,7 @@
 // Refusals 1 to 5, as far as memories and drawing registers are their subject.
-use crate::Refusal;
-use crate::Verdict;
+use crate::Device;
+use refusal::Refusal;
+use refusal::Verdict;
 ghost use mathlib.Core.Path.{_≡_};
 ghost use Prim.Native.Nat.{_^_};
 ghost use Rattle.bus.specs.Refusal.{romOk, pakOk};
@@ -84,7 +85,7 @@ fn limit(k: usize) -> u16
 }
 
 // Whether every drawing register is within its width.
-pub fn registers_ok(regs: &[u16; 13]) -> bool
+pub fn registers_ok(regs: &Device) -> bool
     ensures { λ r. ⌜ r ≡ registersOk (now (regs .entry)) ⌝ }
 {
     let mut k = 0;
@@ -98,7 +99,7 @@ pub fn registers_ok(regs: &[u16; 13]) -> bool
 }
 
 // The lowest of refusals 1 to 5 whose condition holds of the memories' lengths and the drawing registers.
-pub fn verdict(rom: usize, wram: usize, vram: usize, pak: usize, regs: &[u16; 13]) -> Verdict
+pub fn verdict(rom: usize, wram: usize, vram: usize, pak: usize, regs: &Device) -> Verdict
     ensures { λ r. ⌜ r ≡ verdictAt rom wram vram pak (now (regs .entry)) ⌝ }
 {
     if !rom_ok(rom) {

@@ -1,5 +1,6 @@
 // Stores into memories whose lengths are accepted: what the processor uses after one test. `value` is the
 // whole source register: a byte store writes its low 16 bits to a VIP register.
+use crate::Device;
 use crate::pak;
 use crate::vip;
 ghost use mathlib.Core.Path.{_≡_};
@@ -12,7 +13,7 @@ ghost use Rattle.bus.specs.Refusal.{pakOk};
 ghost use Rattle.bus.specs.Memory.{memoryOf, Lengths, storeByteOf, storeHalfOf, storeWordOf};
 
 // A byte, a halfword and a word that do not go to WRAM: to the VIP, to pak RAM, or nowhere.
-fn byte_elsewhere(vram: &mut [u8], pak: &mut [u8], regs: &mut [u16; 13], address: u32, value: u32)
+fn byte_elsewhere(vram: &mut [u8], pak: &mut [u8], regs: &mut Device, address: u32, value: u32)
     requires { ⌜ (length (now vram) ≡ 262144) × (pakOk (length (now pak)) ≡ true) × (regionOf address ≡ 5 → ⊥) ⌝ }
     ensures { λ r. ⌜ ((rom wram : List ℕ) → memoryOf rom wram (now (vram .exit)) (now (pak .exit)) (now (regs .exit)) ≡ storeByteOf (memoryOf rom wram (now (vram .entry)) (now (pak .entry)) (now (regs .entry))) address value) ⌝ }
 {
@@ -26,7 +27,7 @@ fn byte_elsewhere(vram: &mut [u8], pak: &mut [u8], regs: &mut [u16; 13], address
     }
 }
 
-fn half_elsewhere(vram: &mut [u8], pak: &mut [u8], regs: &mut [u16; 13], address: u32, value: u32)
+fn half_elsewhere(vram: &mut [u8], pak: &mut [u8], regs: &mut Device, address: u32, value: u32)
     requires { ⌜ (length (now vram) ≡ 262144) × (pakOk (length (now pak)) ≡ true) × (regionOf address ≡ 5 → ⊥) ⌝ }
     ensures { λ r. ⌜ ((rom wram : List ℕ) → memoryOf rom wram (now (vram .exit)) (now (pak .exit)) (now (regs .exit)) ≡ storeHalfOf (memoryOf rom wram (now (vram .entry)) (now (pak .entry)) (now (regs .entry))) address value) ⌝ }
 {
@@ -40,7 +41,7 @@ fn half_elsewhere(vram: &mut [u8], pak: &mut [u8], regs: &mut [u16; 13], address
     }
 }
 
-fn word_elsewhere(vram: &mut [u8], pak: &mut [u8], regs: &mut [u16; 13], address: u32, value: u32)
+fn word_elsewhere(vram: &mut [u8], pak: &mut [u8], regs: &mut Device, address: u32, value: u32)
     requires { ⌜ (length (now vram) ≡ 262144) × (pakOk (length (now pak)) ≡ true) × (regionOf address ≡ 5 → ⊥) ⌝ }
     ensures { λ r. ⌜ ((rom wram : List ℕ) → memoryOf rom wram (now (vram .exit)) (now (pak .exit)) (now (regs .exit)) ≡ storeWordOf (memoryOf rom wram (now (vram .entry)) (now (pak .entry)) (now (regs .entry))) address value) ⌝ }
 {
@@ -58,7 +59,7 @@ fn word_elsewhere(vram: &mut [u8], pak: &mut [u8], regs: &mut [u16; 13], address
 fn elsewhere(
     vram: &mut [u8],
     pak: &mut [u8],
-    regs: &mut [u16; 13],
+    regs: &mut Device,
     address: u32,
     last: u32,
     value: u32,
@@ -84,7 +85,7 @@ pub fn byte(
     wram: &mut [u8],
     vram: &mut [u8],
     pak: &mut [u8],
-    regs: &mut [u16; 13],
+    regs: &mut Device,
     address: u32,
     value: u32,
 )
@@ -105,7 +106,7 @@ pub fn half(
     wram: &mut [u8],
     vram: &mut [u8],
     pak: &mut [u8],
-    regs: &mut [u16; 13],
+    regs: &mut Device,
     address: u32,
     value: u32,
 )
@@ -133,7 +134,7 @@ pub fn word(
     wram: &mut [u8],
     vram: &mut [u8],
     pak: &mut [u8],
-    regs: &mut [u16; 13],
+    regs: &mut Device,
     address: u32,
     value: u32,
 )

@@ -1,4 +1,5 @@
 // Region 0 of the bus, the VIP: VRAM, the character mirror and the registers. Addresses are those of the bus.
+use crate::Device;
 use crate::registers;
 ghost use mathlib.Core.Path.{_≡_};
 ghost use mathlib.Core.List.{List};
@@ -32,7 +33,7 @@ fn wide(x: u16) -> u32
 }
 
 // The halfword of the register range at an even address: a drawing register, VER, or 0.
-fn register(regs: &[u16; 13], address: u32) -> u32
+fn register(regs: &Device, address: u32) -> u32
     requires { ⌜ (regionOf address ≡ 0) × (262144 ≤ address % 524288) × (address % 524288 < 491520) × (address % 2 ≡ 0) ⌝ }
     ensures { λ r. ⌜ ((rom wram vram pak : List ℕ) → Reads (memoryOf rom wram vram pak (now (regs .entry))) 2 address r) ⌝ }
 {
@@ -48,7 +49,7 @@ fn register(regs: &[u16; 13], address: u32) -> u32
 }
 
 // A byte, a halfword and a word of the VIP.
-pub fn byte(vram: &[u8], regs: &[u16; 13], address: u32) -> u32
+pub fn byte(vram: &[u8], regs: &Device, address: u32) -> u32
     requires { ⌜ (regionOf address ≡ 0) × (length (now vram) ≡ 262144) ⌝ }
     ensures { λ r. ⌜ ((rom wram pak : List ℕ) → Reads (memoryOf rom wram (now (vram .entry)) pak (now (regs .entry))) 1 address r) ⌝ }
 {
@@ -64,7 +65,7 @@ pub fn byte(vram: &[u8], regs: &[u16; 13], address: u32) -> u32
     h / 256
 }
 
-pub fn half(vram: &[u8], regs: &[u16; 13], address: u32) -> u32
+pub fn half(vram: &[u8], regs: &Device, address: u32) -> u32
     requires { ⌜ (regionOf address ≡ 0) × (length (now vram) ≡ 262144) ⌝ }
     ensures { λ r. ⌜ ((rom wram pak : List ℕ) → Reads (memoryOf rom wram (now (vram .entry)) pak (now (regs .entry))) 2 address r) ⌝ }
 {
@@ -76,7 +77,7 @@ pub fn half(vram: &[u8], regs: &[u16; 13], address: u32) -> u32
     register(regs, a)
 }
 
-pub fn word(vram: &[u8], regs: &[u16; 13], address: u32) -> u32
+pub fn word(vram: &[u8], regs: &Device, address: u32) -> u32
     requires { ⌜ (regionOf address ≡ 0) × (length (now vram) ≡ 262144) ⌝ }
     ensures { λ r. ⌜ ((rom wram pak : List ℕ) → Reads (memoryOf rom wram (now (vram .entry)) pak (now (regs .entry))) 4 address r) ⌝ }
 {
@@ -89,7 +90,7 @@ pub fn word(vram: &[u8], regs: &[u16; 13], address: u32) -> u32
 }
 
 // The low 16 bits of a value written to the register that holds an address, where there is one.
-fn put_register(regs: &mut [u16; 13], address: u32, value: u32)
+fn put_register(regs: &mut Device, address: u32, value: u32)
     requires { ⌜ (regionOf address ≡ 0) × (262144 ≤ address % 524288) × (address % 524288 < 491520) ⌝ }
     ensures { λ r. ⌜ ((rom wram vram pak : List ℕ) → memoryOf rom wram vram pak (now (regs .exit)) ≡ putRegister (memoryOf rom wram vram pak (now (regs .entry))) address value) ⌝ }
 {
@@ -101,7 +102,7 @@ fn put_register(regs: &mut [u16; 13], address: u32, value: u32)
 }
 
 // A byte, a halfword and a word stored in the VIP.
-pub fn put_byte(vram: &mut [u8], regs: &mut [u16; 13], address: u32, value: u32)
+pub fn put_byte(vram: &mut [u8], regs: &mut Device, address: u32, value: u32)
     requires { ⌜ (regionOf address ≡ 0) × (length (now vram) ≡ 262144) ⌝ }
     ensures { λ r. ⌜ ((rom wram pak : List ℕ) → memoryOf rom wram (now (vram .exit)) pak (now (regs .exit)) ≡ storeByteOf (memoryOf rom wram (now (vram .entry)) pak (now (regs .entry))) address value) ⌝ }
 {
@@ -113,7 +114,7 @@ pub fn put_byte(vram: &mut [u8], regs: &mut [u16; 13], address: u32, value: u32)
     put_register(regs, address, value);
 }
 
-pub fn put_half(vram: &mut [u8], regs: &mut [u16; 13], address: u32, value: u32)
+pub fn put_half(vram: &mut [u8], regs: &mut Device, address: u32, value: u32)
     requires { ⌜ (regionOf address ≡ 0) × (length (now vram) ≡ 262144) ⌝ }
     ensures { λ r. ⌜ ((rom wram pak : List ℕ) → memoryOf rom wram (now (vram .exit)) pak (now (regs .exit)) ≡ storeHalfOf (memoryOf rom wram (now (vram .entry)) pak (now (regs .entry))) address value) ⌝ }
 {
@@ -126,7 +127,7 @@ pub fn put_half(vram: &mut [u8], regs: &mut [u16; 13], address: u32, value: u32)
     put_register(regs, a, value);
 }
 
-pub fn put_word(vram: &mut [u8], regs: &mut [u16; 13], address: u32, value: u32)
+pub fn put_word(vram: &mut [u8], regs: &mut Device, address: u32, value: u32)
     requires { ⌜ (regionOf address ≡ 0) × (length (now vram) ≡ 262144) ⌝ }
     ensures { λ r. ⌜ ((rom wram pak : List ℕ) → memoryOf rom wram (now (vram .exit)) pak (now (regs .exit)) ≡ storeWordOf (memoryOf rom wram (now (vram .entry)) pak (now (regs .entry))) address value) ⌝ }
 {

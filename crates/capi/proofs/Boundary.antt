@@ -3,7 +3,7 @@ use Prim.Native.Nat.{ℕ, _<_, _≤_}
 use mathlib.Core.Path.{_≡_, ap, _∙_}
 use borrow.Author.Tests.{lt-ltb, le-ltb}
 use Rattle.bus.specs.Memory.{Memory}
-use Rattle.bus.specs.declared.Verdict.{Verdict}
+use Rattle.refusal.specs.declared.Verdict.{Verdict}
 use Rattle.processor.specs.Record.{stateIn}
 use Rattle.processor.specs.Acceptance.{acceptanceOf}
 use Rattle.processor.specs.Calls.{Done, Ran, checkedStepOf, checkedRunOf}

@@ -1,11 +1,11 @@
 -- What the C boundary gives for a call's answer: paper 01's number, 0 for none, and 0 for a value that was refused.
 use Prim.Native.Nat.{ℕ}
-use Rattle.bus.specs.Refusal.{numberOf}
-use Rattle.access.specs.declared.Load.{Load}
-use Rattle.access.specs.declared.Load.the-variants.{Value, Refused as LoadRefused}
-use Rattle.bus.specs.declared.Verdict.{Verdict}
-use Rattle.bus.specs.declared.Verdict.the-variants.{Accepted, Refused}
-use Rattle.picture.specs.Character.{characterAddressOf}
+use Rattle.refusal.specs.Number.{numberOf}
+use Rattle.bus_calls.specs.declared.Load.{Load}
+use Rattle.bus_calls.specs.declared.Load.the-variants.{Value, Refused as LoadRefused}
+use Rattle.refusal.specs.declared.Verdict.{Verdict}
+use Rattle.refusal.specs.declared.Verdict.the-variants.{Accepted, Refused}
+use Rattle.drawing_pixel.specs.Character.{characterAddressOf}
 
 -- the refusal of a load's answer
 abbrev pub loadRefusal : Load → ℕ

@@ -1,17 +1,18 @@
 // Loads and stores.
-use crate::numbers;
-use access::Load;
 use bus::Drawing;
+use bus_calls::Load;
+use refusal::number;
+use refusal::verdict_number;
 ghost use mathlib.Core.Path.{_≡_};
-ghost use Rattle.bus.specs.Refusal.{verdictNumber};
+ghost use Rattle.refusal.specs.Number.{verdictNumber};
 ghost use Rattle.bus.specs.Memory.{memoryOf, verdictOf, storeByteOf, storeHalfOf, storeWordOf};
-ghost use Rattle.access.specs.Access.{checkedLoadOf, checkedStoreOf};
+ghost use Rattle.bus_calls.specs.Access.{checkedLoadOf, checkedStoreOf};
 ghost use Rattle.capi.specs.Answers.{loadRefusal, loadValue};
 
 // The drawing registers: SPT0 to SPT3, GPLT0 to GPLT3, JPLT0 to JPLT3, BKCOL.
 #[repr(C)]
 pub struct VbDrawing {
-    pub regs: [u16; 13],
+    pub regs: bus::DrawingRegisters,
 }
 
 #[repr(C)]
@@ -36,7 +37,7 @@ fn loaded(answer: Load) -> VbLoaded
             value: l.value,
         },
         Load::Refused(refusal) => VbLoaded {
-            refusal: numbers::number(refusal),
+            refusal: number(refusal),
             value: 0,
         },
     }
@@ -54,7 +55,7 @@ pub extern "C" fn vb_load_byte(
     ensures { λ r. ⌜ (let answer = checkedLoadOf (memoryOf (now (rom .entry)) (now (wram .entry)) (now (vram .entry)) (now (pak .entry)) (drawing .regs)) 1 address in (r .refusal ≡ loadRefusal answer) × (r .value ≡ loadValue answer)) ⌝ }
 {
     let regs = drawing.regs;
-    loaded(access::load_byte(rom, wram, vram, pak, Drawing { regs }, address))
+    loaded(bus_calls::load_byte(rom, wram, vram, pak, Drawing { regs }, address))
 }
 
 #[no_mangle]
@@ -69,7 +70,7 @@ pub extern "C" fn vb_load_half(
     ensures { λ r. ⌜ (let answer = checkedLoadOf (memoryOf (now (rom .entry)) (now (wram .entry)) (now (vram .entry)) (now (pak .entry)) (drawing .regs)) 2 address in (r .refusal ≡ loadRefusal answer) × (r .value ≡ loadValue answer)) ⌝ }
 {
     let regs = drawing.regs;
-    loaded(access::load_half(rom, wram, vram, pak, Drawing { regs }, address))
+    loaded(bus_calls::load_half(rom, wram, vram, pak, Drawing { regs }, address))
 }
 
 #[no_mangle]
@@ -84,7 +85,7 @@ pub extern "C" fn vb_load_word(
     ensures { λ r. ⌜ (let answer = checkedLoadOf (memoryOf (now (rom .entry)) (now (wram .entry)) (now (vram .entry)) (now (pak .entry)) (drawing .regs)) 4 address in (r .refusal ≡ loadRefusal answer) × (r .value ≡ loadValue answer)) ⌝ }
 {
     let regs = drawing.regs;
-    loaded(access::load_word(rom, wram, vram, pak, Drawing { regs }, address))
+    loaded(bus_calls::load_word(rom, wram, vram, pak, Drawing { regs }, address))
 }
 
 #[no_mangle]
@@ -101,11 +102,11 @@ pub extern "C" fn vb_store_byte(
     ensures memory { λ r. ⌜ (let m = memoryOf (now (rom .entry)) (now (wram .entry)) (now (vram .entry)) (now (pak .entry)) (drawing .regs) in memoryOf (now (rom .entry)) (now (wram .exit)) (now (vram .exit)) (now (pak .exit)) (r .drawing .regs) ≡ checkedStoreOf m (storeByteOf m address value)) ⌝ }
 {
     let regs = drawing.regs;
-    let stored = access::store_byte(rom, wram, vram, pak, Drawing { regs }, address, value);
+    let stored = bus_calls::store_byte(rom, wram, vram, pak, Drawing { regs }, address, value);
     let verdict = stored.verdict;
     let after = stored.drawing.regs;
     VbStored {
-        refusal: numbers::verdict_number(verdict),
+        refusal: verdict_number(verdict),
         drawing: VbDrawing { regs: after },
     }
 }
@@ -124,11 +125,11 @@ pub extern "C" fn vb_store_half(
     ensures memory { λ r. ⌜ (let m = memoryOf (now (rom .entry)) (now (wram .entry)) (now (vram .entry)) (now (pak .entry)) (drawing .regs) in memoryOf (now (rom .entry)) (now (wram .exit)) (now (vram .exit)) (now (pak .exit)) (r .drawing .regs) ≡ checkedStoreOf m (storeHalfOf m address value)) ⌝ }
 {
     let regs = drawing.regs;
-    let stored = access::store_half(rom, wram, vram, pak, Drawing { regs }, address, value);
+    let stored = bus_calls::store_half(rom, wram, vram, pak, Drawing { regs }, address, value);
     let verdict = stored.verdict;
     let after = stored.drawing.regs;
     VbStored {
-        refusal: numbers::verdict_number(verdict),
+        refusal: verdict_number(verdict),
         drawing: VbDrawing { regs: after },
     }
 }
@@ -147,11 +148,11 @@ pub extern "C" fn vb_store_word(
     ensures memory { λ r. ⌜ (let m = memoryOf (now (rom .entry)) (now (wram .entry)) (now (vram .entry)) (now (pak .entry)) (drawing .regs) in memoryOf (now (rom .entry)) (now (wram .exit)) (now (vram .exit)) (now (pak .exit)) (r .drawing .regs) ≡ checkedStoreOf m (storeWordOf m address value)) ⌝ }
 {
     let regs = drawing.regs;
-    let stored = access::store_word(rom, wram, vram, pak, Drawing { regs }, address, value);
+    let stored = bus_calls::store_word(rom, wram, vram, pak, Drawing { regs }, address, value);
     let verdict = stored.verdict;
     let after = stored.drawing.regs;
     VbStored {
-        refusal: numbers::verdict_number(verdict),
+        refusal: verdict_number(verdict),
         drawing: VbDrawing { regs: after },
     }
 }

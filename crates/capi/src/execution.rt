@@ -1,11 +1,12 @@
 // A step, a run and a reset.
 use crate::accesses::VbDrawing;
-use crate::numbers;
 use bus::Drawing;
-use bus::Verdict;
-use machine::Answer;
-use machine::Mode;
 use processor::Processor;
+use processor_machine::Answer;
+use processor_machine::Mode;
+use refusal::Verdict;
+use refusal::number;
+use refusal::verdict_number;
 ghost use mathlib.Core.Path.{_≡_};
 ghost use Rattle.bus.specs.Memory.{memoryOf};
 ghost use Rattle.processor.specs.Calls.{resetOf};
@@ -123,7 +124,7 @@ fn misuse_number(v: Verdict) -> u32
 {
     match v {
         Verdict::Accepted => 255,
-        Verdict::Refused(n) => numbers::number(n),
+        Verdict::Refused(n) => number(n),
     }
 }
 
@@ -136,7 +137,7 @@ fn answer_refusal(answer: Answer) -> u32
         Answer::TurnedFatal(_) => 0,
         Answer::WasHalted => 0,
         Answer::WasFatal => 0,
-        Answer::Refused(n) => numbers::number(n),
+        Answer::Refused(n) => number(n),
     }
 }
 
@@ -158,8 +159,8 @@ fn answer_code(answer: Answer) -> u32
 {
     match answer {
         Answer::Ended => 0,
-        Answer::Trapped(cause) => machine::exception::code(cause),
-        Answer::TurnedFatal(cause) => machine::exception::code(cause),
+        Answer::Trapped(cause) => processor_machine::exception::code(cause),
+        Answer::TurnedFatal(cause) => processor_machine::exception::code(cause),
         Answer::WasHalted => 0,
         Answer::WasFatal => 0,
         Answer::Refused(_) => 0,
@@ -232,7 +233,7 @@ pub extern "C" fn vb_run(
     let after = s.processor;
     let device = s.drawing.regs;
     VbRan {
-        refusal: numbers::verdict_number(verdict),
+        refusal: verdict_number(verdict),
         count: s.count,
         processor: processor_out(after),
         drawing: VbDrawing { regs: device },

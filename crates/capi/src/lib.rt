@@ -1,5 +1,4 @@
 // The C boundary (include/vb.h): numbers, slices and #[repr(C)] records over the public calls.
 pub mod accesses;
 pub mod execution;
-mod numbers;
 pub mod pictures;

@@ -1,11 +1,12 @@
 // Drawing, and the lookup of a character.
 use crate::accesses::VbDrawing;
-use crate::numbers;
 use bus::Drawing;
-use bus::Verdict;
+use refusal::Verdict;
+use refusal::number;
+use refusal::verdict_number;
 ghost use mathlib.Core.Path.{_≡_};
 ghost use lib.ListN.{length};
-ghost use Rattle.bus.specs.Refusal.{verdictNumber};
+ghost use Rattle.refusal.specs.Number.{verdictNumber};
 ghost use Rattle.drawing.specs.Calls.{stripVerdictOf, drawStripOf, frameVerdictOf, drawFrameOf, characterVerdictOf, characterOf};
 ghost use Rattle.capi.specs.Answers.{partOffset};
 
@@ -23,7 +24,7 @@ pub extern "C" fn vb_draw_strip(vram: &mut [u8], drawing: VbDrawing, frame: u32,
     ensures memory { λ _. ⌜ now (vram .exit) ≡ drawStripOf (now (vram .entry)) (drawing .regs) frame strip ⌝ }
 {
     let regs = drawing.regs;
-    numbers::verdict_number(drawing::draw_strip(vram, Drawing { regs }, frame, strip))
+    verdict_number(drawing::draw_strip(vram, Drawing { regs }, frame, strip))
 }
 
 #[no_mangle]
@@ -32,7 +33,7 @@ pub extern "C" fn vb_draw_frame(vram: &mut [u8], drawing: VbDrawing, frame: u32)
     ensures memory { λ _. ⌜ now (vram .exit) ≡ drawFrameOf (now (vram .entry)) (drawing .regs) frame ⌝ }
 {
     let regs = drawing.regs;
-    numbers::verdict_number(drawing::draw_frame(vram, Drawing { regs }, frame))
+    verdict_number(drawing::draw_frame(vram, Drawing { regs }, frame))
 }
 
 #[no_mangle]
@@ -47,11 +48,11 @@ pub extern "C" fn vb_character(vram: &[u8], character: u32) -> VbPart
     match verdict {
         Verdict::Accepted => VbPart {
             refusal: 0,
-            offset: picture::character_address(character as usize) as u64,
+            offset: drawing_pixel::character_address(character as usize) as u64,
             length,
         },
         Verdict::Refused(refusal) => VbPart {
-            refusal: numbers::number(refusal),
+            refusal: number(refusal),
             offset: 0,
             length,
         },

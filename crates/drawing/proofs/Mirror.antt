@@ -3,7 +3,7 @@ use Prim.Native.Nat.{ℕ, _+_, _*_, _<_}
 use mathlib.Core.Path.{_≡_}
 use Rattle.bus.specs.Place.{placeOf, vramAt}
 use Rattle.bus.proofs.Mapped.{character-mirror}
-use Rattle.picture.specs.Character.{characterAddressOf}
+use Rattle.drawing_pixel.specs.Character.{characterAddressOf}
 
 pub character-mirrored : (romLength pakLength c i : ℕ) → c < 2048 → i < 16
     → placeOf romLength pakLength (0x78000 + 16 * c + i) ≡ vramAt (characterAddressOf c + i)

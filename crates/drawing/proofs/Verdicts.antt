@@ -7,13 +7,14 @@ use mathlib.Core.List.{List, []}
 use lib.ListN.{length, take, drop, length-take, length-drop}
 use lib.Dec.{ltb}
 use borrow.Author.Tests.{eq-eqb, ne-eqb, lt-ltb, le-ltb, ltb-true, eqb-true}
-use Rattle.bus.specs.Refusal.{vramOk, unless}
+use Rattle.bus.specs.Refusal.{vramOk}
+use Rattle.refusal.specs.Number.{unless}
 use Rattle.bus.proofs.Accepted.{unless-passed}
 use Rattle.bus.specs.Registers.{registersOk}
-use Rattle.bus.specs.declared.Verdict.the-variants.{Accepted, Refused}
-use Rattle.bus.specs.declared.Refusal.the-variants.{VramLength, State, Frame, Index}
-use Rattle.picture.specs.Character.{characterAddressOf}
-use Rattle.picture.specs.Strip.{stripOf, frameOf}
+use Rattle.refusal.specs.declared.Verdict.the-variants.{Accepted, Refused}
+use Rattle.refusal.specs.declared.Refusal.the-variants.{VramLength, State, Frame, Index}
+use Rattle.drawing_pixel.specs.Character.{characterAddressOf}
+use Rattle.drawing_pixel.specs.Strip.{stripOf, frameOf}
 use Rattle.drawing.specs.Calls.{stripVerdictOf, drawStripOf, frameVerdictOf, drawFrameOf, characterVerdictOf, characterOf}
 
 module _ (v regs : List ℕ) (frame strip : ℕ) where

@@ -4,13 +4,14 @@ use Prim.Native.Nat.{ℕ}
 use mathlib.Core.List.{List, []}
 use lib.ListN.{length, take, drop}
 use lib.Dec.{ltb}
-use Rattle.bus.specs.Refusal.{unless, vramOk}
+use Rattle.bus.specs.Refusal.{vramOk}
+use Rattle.refusal.specs.Number.{unless}
 use Rattle.bus.specs.Registers.{registersOk}
-use Rattle.bus.specs.declared.Verdict.{Verdict}
-use Rattle.bus.specs.declared.Verdict.the-variants.{Accepted, Refused}
-use Rattle.bus.specs.declared.Refusal.the-variants.{VramLength, State, Frame, Index}
-use Rattle.picture.specs.Character.{characterAddressOf}
-use Rattle.picture.specs.Strip.{stripOf, frameOf}
+use Rattle.refusal.specs.declared.Verdict.{Verdict}
+use Rattle.refusal.specs.declared.Verdict.the-variants.{Accepted, Refused}
+use Rattle.refusal.specs.declared.Refusal.the-variants.{VramLength, State, Frame, Index}
+use Rattle.drawing_pixel.specs.Character.{characterAddressOf}
+use Rattle.drawing_pixel.specs.Strip.{stripOf, frameOf}
 
 -- a list by a verdict: the second where accepted, else the first
 abbrev pub whenAccepted : Verdict → List ℕ → List ℕ → List ℕ

@@ -1,8 +1,8 @@
 // The drawing calls: a strip, a frame, and the lookup of a character.
 use bus::Drawing;
-use bus::Refusal;
-use bus::Verdict;
 use bus::refusals;
+use refusal::Refusal;
+use refusal::Verdict;
 ghost use mathlib.Core.Path.{_≡_};
 ghost use Rattle.drawing.specs.Calls.{stripVerdictOf, drawStripOf, frameVerdictOf, drawFrameOf, characterVerdictOf, characterOf};
 
@@ -24,7 +24,7 @@ pub fn draw_strip(vram: &mut [u8], drawing: Drawing, frame: u32, strip: u32) -> 
     if 27 < strip {
         return Verdict::Refused(Refusal::Index);
     }
-    strip::draw(vram, &regs, frame as usize, strip as usize);
+    drawing_strip::draw(vram, &regs, frame as usize, strip as usize);
     Verdict::Accepted
 }
 
@@ -43,7 +43,7 @@ pub fn draw_frame(vram: &mut [u8], drawing: Drawing, frame: u32) -> Verdict
     if 1 < frame {
         return Verdict::Refused(Refusal::Frame);
     }
-    strip::draw_all(vram, &regs, frame as usize);
+    drawing_strip::draw_all(vram, &regs, frame as usize);
     Verdict::Accepted
 }
 
@@ -58,7 +58,7 @@ pub fn character(vram: &[u8], c: u32) -> &[u8]
     if 2047 < c {
         return &vram[..0];
     }
-    let start = picture::character_address(c as usize);
+    let start = drawing_pixel::character_address(c as usize);
     let end = start + 16;
     &vram[start..end]
 }

@@ -9,21 +9,21 @@ use Rattle.word.specs.Choose.{pick}
 use Rattle.word.specs.Extend.{extendOf}
 use Rattle.bus.specs.Place.{Place, wramAt, vramAt, romAt, regionOf, mirrorOf, vipPlace, registerPlace, placeOf}
 use Rattle.bus.specs.Memory.{Memory, memoryOf, alignedOf}
-use Rattle.arithmetic.specs.Flag.{flagsOf, keepCarryOf, flagOf}
-use Rattle.arithmetic.specs.Sign.{magnitudeOf, negativeOf}
-use Rattle.arithmetic.specs.Sum.{sumOf, biasedOf, outsideOf}
-use Rattle.arithmetic.specs.Quotient.{divideOf, quotientOf, remainderOf, quotientOverflowsOf}
-use Rattle.arithmetic.specs.Condition.{conditionOf}
-use Rattle.decode.specs.Opcode.{decodeOf, shortRows, branchRows, longRows}
-use Rattle.decode.specs.declared.Decoded.{Decoded}
-use Rattle.decode.specs.declared.Decoded.the-variants.{Modelled, NotModelled}
-use Rattle.machine.specs.State.{State, stateOf}
-use Rattle.instructions.specs.Execute.{executeOf}
-use Rattle.machine.specs.declared.Mode.the-variants.{Running}
-use Rattle.picture.specs.Signed.{edgeOf}
-use Rattle.picture.specs.Character.{pairOf, characterAddressOf, shadeOf}
-use Rattle.picture.specs.World.{columnsOf, windowLeftOf, columnCoveredOf}
-use Rattle.picture.specs.Strip.{pixelOffsetOf, pixelPairOf}
+use Rattle.processor_arithmetic.specs.Flag.{flagsOf, keepCarryOf, flagOf}
+use Rattle.processor_arithmetic.specs.Sign.{magnitudeOf, negativeOf}
+use Rattle.processor_arithmetic.specs.Sum.{sumOf, biasedOf, outsideOf}
+use Rattle.processor_arithmetic.specs.Quotient.{divideOf, quotientOf, remainderOf, quotientOverflowsOf}
+use Rattle.processor_arithmetic.specs.Condition.{conditionOf}
+use Rattle.processor_decode.specs.Opcode.{decodeOf, shortRows, branchRows, longRows}
+use Rattle.processor_decode.specs.declared.Decoded.{Decoded}
+use Rattle.processor_decode.specs.declared.Decoded.the-variants.{Modelled, NotModelled}
+use Rattle.processor_machine.specs.State.{State, stateOf}
+use Rattle.processor_execute.specs.Execute.{executeOf}
+use Rattle.processor_machine.specs.declared.Mode.the-variants.{Running}
+use Rattle.drawing_pixel.specs.Signed.{edgeOf}
+use Rattle.drawing_pixel.specs.Character.{pairOf, characterAddressOf, shadeOf}
+use Rattle.drawing_pixel.specs.World.{columnsOf, windowLeftOf, columnCoveredOf}
+use Rattle.drawing_pixel.specs.Strip.{pixelOffsetOf, pixelPairOf}
 
 -- what a row asks
 pub data Question : Type 0 where

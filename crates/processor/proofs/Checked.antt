@@ -4,10 +4,10 @@ use mathlib.Core.List.{List}
 use mathlib.Core.Path.{_≡_, ap}
 use lib.ListN.{length}
 use Rattle.bus.specs.Memory.{Memory}
-use Rattle.bus.specs.declared.Verdict.{Verdict}
-use Rattle.bus.specs.declared.Verdict.the-variants.{Accepted}
-use Rattle.machine.specs.State.{stateOf, Stepped}
-use Rattle.stepping.specs.Step.{stepOf}
+use Rattle.refusal.specs.declared.Verdict.{Verdict}
+use Rattle.refusal.specs.declared.Verdict.the-variants.{Accepted}
+use Rattle.processor_machine.specs.State.{stateOf, Stepped}
+use Rattle.processor_step.specs.Step.{stepOf}
 use Rattle.processor.specs.Record.{systemIn, processorOf}
 use Rattle.processor.specs.Acceptance.{acceptanceAt}
 use Rattle.processor.specs.Run.{Run, runOf}

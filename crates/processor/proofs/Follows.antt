@@ -5,11 +5,11 @@ use mathlib.Core.Path.{_≡_, refl, sym, ap, _∙_}
 use native.Mathlib.Nat.{zero-add}
 use native.Mathlib.Omega.{arith}
 use Rattle.bus.specs.Memory.{Memory}
-use Rattle.bus.specs.declared.Verdict.{Verdict}
-use Rattle.bus.specs.declared.Verdict.the-variants.{Accepted}
-use Rattle.machine.specs.State.{State, Stepped, steppedOf}
-use Rattle.stepping.specs.Step.{stepOf}
-use Rattle.machine.specs.declared.Answer.{Answer}
+use Rattle.refusal.specs.declared.Verdict.{Verdict}
+use Rattle.refusal.specs.declared.Verdict.the-variants.{Accepted}
+use Rattle.processor_machine.specs.State.{State, Stepped, steppedOf}
+use Rattle.processor_step.specs.Step.{stepOf}
+use Rattle.processor_machine.specs.declared.Answer.{Answer}
 use Rattle.processor.specs.Run.{Run, runWith, afterOf, afterStep, oneMore, runOf}
 use Rattle.processor.specs.declared.After.{After}
 use Rattle.processor.specs.declared.After.the-variants.{Counted, Stopped}

@@ -4,10 +4,10 @@ use mathlib.Core.List.{List}
 use mathlib.Core.Path.{_≡_, refl}
 use native.Mathlib.Omega.{arith}
 use Rattle.bus.specs.Memory.{verdictAt, Lengths}
-use Rattle.bus.specs.Refusal.{unless}
-use Rattle.bus.specs.declared.Refusal as refusal
-use Rattle.bus.specs.declared.Verdict.{Verdict}
-use Rattle.bus.specs.declared.Verdict.the-variants.{Accepted, Refused}
+use Rattle.refusal.specs.Number.{unless}
+use Rattle.refusal.specs.declared.Refusal as refusal
+use Rattle.refusal.specs.declared.Verdict.{Verdict}
+use Rattle.refusal.specs.declared.Verdict.the-variants.{Accepted, Refused}
 use Rattle.bus.proofs.Accepted.{accepted-lengths}
 use Rattle.processor.specs.Acceptance.{thenOf, acceptanceAt, stateOk}
 

@@ -5,13 +5,13 @@ use mathlib.Core.List.{List}
 use lib.Dec.{eqb, leb}
 use lib.ListN.{getD, length}
 use Rattle.word.specs.Choose.{pick}
-use Rattle.bus.specs.Refusal.{unless}
+use Rattle.refusal.specs.Number.{unless}
 use Rattle.bus.specs.Memory.{Memory, verdictAt}
-use Rattle.bus.specs.declared.Verdict.{Verdict}
-use Rattle.bus.specs.declared.Verdict.the-variants.{Accepted, Refused}
-use Rattle.bus.specs.declared.Refusal as refusal
-use Rattle.machine.specs.State.{State}
-use Rattle.machine.specs.System.{pswBitsOf}
+use Rattle.refusal.specs.declared.Verdict.{Verdict}
+use Rattle.refusal.specs.declared.Verdict.the-variants.{Accepted, Refused}
+use Rattle.refusal.specs.declared.Refusal as refusal
+use Rattle.processor_machine.specs.State.{State}
+use Rattle.processor_machine.specs.System.{pswBitsOf}
 
 -- both tests hold
 abbrev pub both : Bool → Bool → Bool

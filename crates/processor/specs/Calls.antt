@@ -2,12 +2,12 @@
 use Prim.Native.Nat.{ℕ}
 use lib.ListN.{replicate}
 use Rattle.bus.specs.Memory.{Memory}
-use Rattle.bus.specs.declared.Verdict.{Verdict}
-use Rattle.bus.specs.declared.Verdict.the-variants as verdict
-use Rattle.stepping.specs.Step.{stepOf}
-use Rattle.machine.specs.declared.Mode.the-variants.{Running}
-use Rattle.machine.specs.declared.Answer.{Answer}
-use Rattle.machine.specs.declared.Answer.the-variants.{Refused}
+use Rattle.refusal.specs.declared.Verdict.{Verdict}
+use Rattle.refusal.specs.declared.Verdict.the-variants as verdict
+use Rattle.processor_step.specs.Step.{stepOf}
+use Rattle.processor_machine.specs.declared.Mode.the-variants.{Running}
+use Rattle.processor_machine.specs.declared.Answer.{Answer}
+use Rattle.processor_machine.specs.declared.Answer.the-variants.{Refused}
 use Rattle.processor.specs.Record.{stateIn, processorOf}
 use Rattle.processor.specs.Acceptance.{acceptanceOf}
 use Rattle.processor.specs.Run.{runOf}

@@ -2,7 +2,7 @@
 use Prim.Native.Nat.{ℕ}
 use mathlib.Core.List.{List, [], _∷_}
 use lib.ListN.{getD}
-use Rattle.machine.specs.State.{State, stateOf}
+use Rattle.processor_machine.specs.State.{State, stateOf}
 use Rattle.processor.specs.declared.Processor.{Processor}
 
 -- the stored system registers, in the state's order

@@ -3,12 +3,12 @@
 use Prim.Native.Nat.{ℕ, zero, suc}
 use mathlib.Core.List.{List}
 use Rattle.bus.specs.Memory.{Memory}
-use Rattle.bus.specs.declared.Verdict.{Verdict}
-use Rattle.bus.specs.declared.Verdict.the-variants as verdict
-use Rattle.machine.specs.State.{State, stateOf, Stepped}
-use Rattle.stepping.specs.Step.{stepOf}
-use Rattle.machine.specs.declared.Answer.{Answer}
-use Rattle.machine.specs.declared.Answer.the-variants.{Ended, Trapped, TurnedFatal, WasHalted, WasFatal, Refused}
+use Rattle.refusal.specs.declared.Verdict.{Verdict}
+use Rattle.refusal.specs.declared.Verdict.the-variants as verdict
+use Rattle.processor_machine.specs.State.{State, stateOf, Stepped}
+use Rattle.processor_step.specs.Step.{stepOf}
+use Rattle.processor_machine.specs.declared.Answer.{Answer}
+use Rattle.processor_machine.specs.declared.Answer.the-variants.{Ended, Trapped, TurnedFatal, WasHalted, WasFatal, Refused}
 use Rattle.processor.specs.declared.After.{After}
 use Rattle.processor.specs.declared.After.the-variants.{Counted, Stopped}
 use Rattle.processor.specs.declared.Finished.{Finished}

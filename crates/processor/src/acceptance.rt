@@ -1,6 +1,7 @@
 // Refusals 1 to 5, with what 5 says of the processor.
-use bus::Refusal;
-use bus::Verdict;
+use bus::Device;
+use refusal::Refusal;
+use refusal::Verdict;
 ghost use mathlib.Core.Path.{_≡_};
 ghost use Rattle.processor.specs.Acceptance.{evenOk, formatsOk, stateOk, acceptanceAt};
 
@@ -24,15 +25,15 @@ fn even_ok(sys: &[u32; 8], pc: u32) -> bool
 fn formats_ok(sys: &[u32; 8], psw: u32) -> bool
     ensures { λ r. ⌜ r ≡ formatsOk (now (sys .entry)) psw ⌝ }
 {
-    if machine::system::psw_bits(psw) != psw {
+    if processor_machine::system::psw_bits(psw) != psw {
         return false;
     }
     let eipsw = sys[1];
-    if machine::system::psw_bits(eipsw) != eipsw {
+    if processor_machine::system::psw_bits(eipsw) != eipsw {
         return false;
     }
     let fepsw = sys[3];
-    machine::system::psw_bits(fepsw) == fepsw
+    processor_machine::system::psw_bits(fepsw) == fepsw
 }
 
 // Whether refusal 5 has nothing against the processor.
@@ -57,7 +58,7 @@ pub fn acceptance(
     wram: usize,
     vram: usize,
     pak: usize,
-    device: &[u16; 13],
+    device: &Device,
     regs: &[u32; 32],
     sys: &[u32; 8],
     pc: u32,

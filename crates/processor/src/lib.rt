@@ -6,9 +6,9 @@ mod record;
 mod stretch;
 
 use bus::Drawing;
-use bus::Verdict;
-use machine::Answer;
-use machine::Mode;
+use processor_machine::Answer;
+use processor_machine::Mode;
+use refusal::Verdict;
 
 // The processor's record.
 pub struct Processor {

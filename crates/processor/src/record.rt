@@ -1,9 +1,9 @@
 // The record of the public calls, and the registers that are lent inside.
 use crate::Processor;
-use machine::Mode;
+use processor_machine::Mode;
 ghost use mathlib.Core.Path.{_≡_};
 ghost use Rattle.processor.specs.Record.{systemIn, processorOf};
-ghost use Rattle.machine.specs.State.{stateOf};
+ghost use Rattle.processor_machine.specs.State.{stateOf};
 
 // The stored system registers of a record, in the order of the lent ones.
 pub fn system(p: Processor) -> [u32; 8]

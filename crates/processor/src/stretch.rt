@@ -1,15 +1,16 @@
 // A stretch of steps, over registers and memories that were accepted.
 use crate::After;
 use crate::Finished;
-use bus::Verdict;
-use machine::Answer;
-use machine::Mode;
-use stepping::step;
+use bus::Device;
+use processor_machine::Answer;
+use processor_machine::Mode;
+use processor_step::step;
+use refusal::Verdict;
 ghost use mathlib.Core.Path.{_≡_};
 ghost use lib.ListN.{length};
 ghost use Rattle.bus.specs.Memory.{memoryOf, Lengths};
-ghost use Rattle.machine.specs.State.{stateOf, steppedOf};
-ghost use Rattle.stepping.specs.Step.{stepOf};
+ghost use Rattle.processor_machine.specs.State.{stateOf, steppedOf};
+ghost use Rattle.processor_step.specs.Step.{stepOf};
 ghost use Rattle.processor.specs.Run.{afterOf, runOf, ranBy};
 
 // An ended or trapped instruction counts; anything else stops the run.
@@ -32,7 +33,7 @@ pub fn run(
     wram: &mut [u8],
     vram: &mut [u8],
     pak: &mut [u8],
-    device: &mut [u16; 13],
+    device: &mut Device,
     regs: &mut [u32; 32],
     sys: &mut [u32; 8],
     pc: u32,

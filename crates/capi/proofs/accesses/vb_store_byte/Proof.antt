@@ -4,7 +4,7 @@ use borrow.Author.Needs.{needs}
 use Rattle.capi.proofs.accesses.vb_store_byte.Statement.{statement}
 use Rattle.capi.proofs.accesses.vb_store_byte.Tie as tie
 use mathlib.Core.Path.{_≡_, ap, _∙_}
-use Rattle.bus.specs.Refusal.{verdictNumber}
+use Rattle.refusal.specs.Number.{verdictNumber}
 
 store-byte-requires : tie.Need-store-byte-requires
 store-byte-requires c κs = search needs

@@ -4,7 +4,7 @@ use borrow.Author.Needs.{needs}
 use Rattle.capi.proofs.accesses.vb_store_half.Statement.{statement}
 use Rattle.capi.proofs.accesses.vb_store_half.Tie as tie
 use mathlib.Core.Path.{_≡_, ap, _∙_}
-use Rattle.bus.specs.Refusal.{verdictNumber}
+use Rattle.refusal.specs.Number.{verdictNumber}
 
 store-half-requires : tie.Need-store-half-requires
 store-half-requires c κs = search needs

@@ -4,7 +4,7 @@ use borrow.Author.Needs.{needs}
 use Rattle.capi.proofs.accesses.vb_store_word.Statement.{statement}
 use Rattle.capi.proofs.accesses.vb_store_word.Tie as tie
 use mathlib.Core.Path.{_≡_, ap, _∙_}
-use Rattle.bus.specs.Refusal.{verdictNumber}
+use Rattle.refusal.specs.Number.{verdictNumber}
 
 store-word-requires : tie.Need-store-word-requires
 store-word-requires c κs = search needs

@@ -3,7 +3,7 @@ use borrow.Author.Needs.{needs}
 use Rattle.capi.proofs.pictures.vb_draw_frame.Statement.{statement}
 use Rattle.capi.proofs.pictures.vb_draw_frame.Tie as tie
 use mathlib.Core.Path.{_∙_, ap}
-use Rattle.bus.specs.Refusal.{verdictNumber}
+use Rattle.refusal.specs.Number.{verdictNumber}
 
 draw-frame-requires : tie.Need-draw-frame-requires
 draw-frame-requires c κs = search needs

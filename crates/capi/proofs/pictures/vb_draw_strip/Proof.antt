@@ -3,7 +3,7 @@ use borrow.Author.Needs.{needs}
 use Rattle.capi.proofs.pictures.vb_draw_strip.Statement.{statement}
 use Rattle.capi.proofs.pictures.vb_draw_strip.Tie as tie
 use mathlib.Core.Path.{_∙_, ap}
-use Rattle.bus.specs.Refusal.{verdictNumber}
+use Rattle.refusal.specs.Number.{verdictNumber}
 
 draw-strip-requires : tie.Need-draw-strip-requires
 draw-strip-requires c κs = search needs

@@ -2,7 +2,7 @@
 use mathlib.Core.Path.{refl, sym, _∙_, ap}
 use borrow.Author.Needs.{needs}
 use Rattle.processor.proofs.Checked.{step-accepted}
-use Rattle.machine.specs.State.{Stepped}
+use Rattle.processor_machine.specs.State.{Stepped}
 use Rattle.processor.proofs.Lengths.{lengths-of-accepted}
 use Rattle.processor.specs.Record.{processorOf}
 use Rattle.processor.specs.Calls.{checkedStepOf, doneOf}

@@ -4,7 +4,7 @@ use Prim.Native.Nat.{_≤_, _-_}
 use native.Mathlib.Omega.{arith}
 use lib.ListN.{length}
 use Rattle.bus.specs.Memory.{memoryOf}
-use Rattle.machine.specs.State.{stateOf, leaves}
+use Rattle.processor_machine.specs.State.{stateOf, leaves}
 use Rattle.processor.proofs.Follows.{Follows, First, follows-start, follows-counted, follows-stopped, follows-finished, first-start, first-counted, first-stopped, first-finished}
 use Rattle.processor.proofs.stretch.run.Statement.{statement}
 use Rattle.processor.proofs.stretch.run.Tie as tie

@@ -1,0 +1,34 @@
+-- From the verdict that a call found to its answer. Assumes nothing.
+use Prim.Native.Nat.{ℕ}
+use mathlib.Core.Path.{_≡_, refl, sym, ap, _∙_}
+use lib.ListN.{length}
+use Rattle.bus.specs.declared.Loaded.{Loaded}
+use Rattle.refusal.specs.declared.Refusal.{Refusal}
+use Rattle.refusal.specs.declared.Verdict.{Verdict}
+use Rattle.refusal.specs.declared.Verdict.the-variants.{Accepted, Refused}
+use Rattle.bus.specs.Memory.{Memory, Lengths, verdictOf, loadOf, Reads}
+use Rattle.bus.proofs.Accepted.{accepted-lengths}
+use Rattle.bus_calls.specs.declared.Load.{Load}
+use Rattle.bus_calls.specs.declared.Load.the-variants as load
+use Rattle.bus_calls.specs.Access.{answerWhen, checkedLoadOf, checkedStoreOf}
+
+module _ (m : Memory) (found : Verdict) (e : found ≡ verdictOf m) where
+  pub found-lengths : found ≡ Accepted → Lengths (length (m .rom)) (length (m .wram)) (length (m .vram)) (length (m .pak))
+  found-lengths h =
+      accepted-lengths (length (m .rom)) (length (m .wram)) (length (m .vram)) (length (m .pak)) (m .regs) (sym e ∙ h)
+
+  pub load-accepted : (size a : ℕ) (r : Loaded) → found ≡ Accepted → Reads m size a (r .value) → load.Value r ≡ checkedLoadOf m size a
+  unfolding checkedLoadOf
+  load-accepted size a r h p = sym (rw (sym e ∙ h) (ap (λ (v : ℕ). load.Value (record { value = v })) (sym (p .means))))
+
+  pub load-refused : (size a : ℕ) (n : Refusal) → found ≡ Refused n → load.Refused n ≡ checkedLoadOf m size a
+  unfolding checkedLoadOf
+  load-refused size a n h = sym (rw (sym e ∙ h))
+
+  pub store-accepted : (left after : Memory) → found ≡ Accepted → left ≡ after → left ≡ checkedStoreOf m after
+  unfolding checkedStoreOf
+  store-accepted left after h p = p ∙ sym (rw (sym e ∙ h))
+
+  pub store-refused : (after : Memory) (n : Refusal) → found ≡ Refused n → m ≡ checkedStoreOf m after
+  unfolding checkedStoreOf
+  store-refused after n h = sym (rw (sym e ∙ h))

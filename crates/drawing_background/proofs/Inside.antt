@@ -1,0 +1,42 @@
+-- The tests that decide whether a cell column and row lie in a background, and the cell that is used then. Assumes nothing.
+use Prim.Native.Nat.{ℕ, _+_, _*_, _/_, _%_, _^_, _<_, _≤_}
+use native.Mathlib.Omega.{arith}
+use mathlib.Core.Path.{_≡_}
+use mathlib.Core.Bool.{true, false, and-false}
+use mathlib.Core.List.{List}
+use lib.ListN.{getD}
+use lib.Dec.{ltb}
+use borrow.Author.Tests.{lt-leb, le-leb, le-ltb, lt-ltb, eq-eqb, ne-eqb}
+use Rattle.drawing_pixel.specs.World.{scxOf, scyOf}
+use Rattle.drawing_pixel.specs.Background.{insideOf, cellAddressOf, mapCellAddressOf}
+
+pub outside-left : (w : List ℕ) (u v : ℕ) → u < 1048576 → false ≡ insideOf w u v
+unfolding insideOf
+outside-left w u v h = simp (lt-leb _ _ h)
+
+pub outside-right : (w : List ℕ) (u v a : ℕ) → a ≡ 2 ^ (6 + scxOf w) → 1048576 + a ≤ u → false ≡ insideOf w u v
+unfolding insideOf
+outside-right w u v a e h = rw (← e) (simp (le-ltb _ _ h, and-false))
+
+pub outside-above : (w : List ℕ) (u v : ℕ) → v < 1048576 → false ≡ insideOf w u v
+unfolding insideOf
+outside-above w u v h = simp (lt-leb _ _ h, and-false)
+
+pub inside-down : (w : List ℕ) (u v a d : ℕ) → a ≡ 2 ^ (6 + scxOf w) → d ≡ 2 ^ (6 + scyOf w)
+    → 1048576 ≤ u → u < 1048576 + a → 1048576 ≤ v → ltb v (1048576 + d) ≡ insideOf w u v
+unfolding insideOf
+inside-down w u v a d e f l h m = rw (← e, ← f) (simp (le-leb _ _ l, lt-ltb _ _ h, le-leb _ _ m))
+
+-- OVER clear, or inside: the cell of the map; else the overplane's
+pub cell-wrapped : (w : List ℕ) (u v : ℕ) → getD w 0 0 / 128 % 2 ≡ 0 → mapCellAddressOf w u v ≡ cellAddressOf w u v
+unfolding cellAddressOf
+cell-wrapped w u v e = simp (ne-eqb (getD w 0 0 / 128 % 2) 1 (λ f. omega arith))
+
+pub cell-inside : (w : List ℕ) (u v : ℕ) → insideOf w u v ≡ true → mapCellAddressOf w u v ≡ cellAddressOf w u v
+unfolding cellAddressOf
+cell-inside w u v e = rw e (simp and-false)
+
+pub cell-outside : (w : List ℕ) (u v : ℕ) → (getD w 0 0 / 128 % 2 ≡ 0 → ⊥) → insideOf w u v ≡ false
+    → 131072 + 2 * getD w 10 0 ≡ cellAddressOf w u v
+unfolding cellAddressOf
+cell-outside w u v n e = rw e (simp (eq-eqb (getD w 0 0 / 128 % 2) 1 (omega arith)))

@@ -1,0 +1,81 @@
+-- `drawing_background::paint::cells_block` meets its contract: cell after cell of a row of cells. Assumes nothing.
+use Rattle.drawing_background.proofs.paint.cells_block.Statement.{statement}
+use Rattle.drawing_background.proofs.paint.cells_block.Tie as tie
+use Prim.Native.Nat.{_+_, _-_, _≤_}
+use native.Mathlib.Omega.{arith}
+use mathlib.Core.Path.{_≡_, ap}
+use borrow.Author.Needs.{needs}
+use Rattle.drawing_pixel.specs.Background.{sourcePixelOf}
+use Rattle.drawing_pixel.specs.Buffer.{Block}
+use Rattle.drawing_pixel.proofs.Blocks.{block-no-column, block-beside, block-change}
+
+abbrev Inv-loop : tie.InvT-loop
+Inv-loop vram registers w buffer₀ top bottom from to sx sy x₀ buffer x =
+    (from ≤ x)
+    × ((x ≤ to) × Block top bottom from x (λ z r. sourcePixelOf vram registers w (sx + (z - from)) (sy + (r - top))) buffer₀ buffer)
+
+abbrev μ-loop : tie.MeasureT-loop
+μ-loop vram registers w buffer₀ top bottom from to sx sy x₀ buffer x = to - x
+
+loop-holds : tie.Need-loop-holds Inv-loop μ-loop
+loop-holds c = (omega arith, (omega arith, block-no-column _ _ _ _ _))
+
+sub-at : tie.Need-sub-at Inv-loop μ-loop
+sub-at c = omega arith
+
+add-at : tie.Need-add-at Inv-loop μ-loop
+add-at c = omega arith
+
+sub-least : tie.Need-sub-least Inv-loop μ-loop
+sub-least c = omega arith
+
+add-least : tie.Need-add-least Inv-loop μ-loop
+add-least c = omega arith
+
+least-requires : tie.Need-least-requires Inv-loop μ-loop
+least-requires c κs = search needs
+
+cell-block-requires : tie.Need-cell-block-requires Inv-loop μ-loop
+cell-block-requires c κs = omega (arith, c .before .before .before .loop .inv .1 .1 .size)
+
+loop-less : tie.Need-loop-less Inv-loop μ-loop
+loop-less c = omega arith
+
+loop-again : tie.Need-loop-again Inv-loop μ-loop
+loop-again c =
+    let a = c .before .before .before .before .before .before .args in
+    let x = c .before .before .before .before .loop .x in
+    let inv = c .before .before .before .before .loop .inv in (
+      omega arith,
+      (
+        omega arith,
+        block-beside _ _ _ x _ _ _ _ _ (inv .0) (omega arith) (inv .1 .1)
+            (block-change _ _ _ _ _ _ _ _
+            (λ z r v l h t u.
+            let e : a .sx + (x - a .from) + (z - x) ≡ a .sx + (z - a .from) = omega arith in
+            ap (λ s. sourcePixelOf (a .vram .now) (a .registers .now) (a .w .now) s (a .sy + (r - a .top)) v) e)
+            (c .cell-block .ensures)),
+      ),
+    )
+
+returns : tie.Need-returns Inv-loop μ-loop
+returns c =
+    let e : c .before .loop .x ≡ c .before .before .before .args .to = omega arith in
+    rw e at (c .before .loop .inv .1 .1)
+
+pub cells-block-spec : {M : Type 1} → statement M
+cells-block-spec =
+    tie.close
+    (tie.spec
+    Inv-loop
+    μ-loop
+    loop-holds
+    sub-at
+    add-at
+    sub-least
+    add-least
+    least-requires
+    cell-block-requires
+    loop-less
+    loop-again
+    returns)

@@ -1,0 +1,29 @@
+-- `drawing_background::source::affine_shift` meets its contract. Assumes nothing.
+use borrow.Author.Needs.{needs}
+use Rattle.drawing_background.proofs.source.affine_shift.Statement.{statement}
+use Rattle.drawing_background.proofs.source.affine_shift.Tie as tie
+use native.Mathlib.Omega.{arith}
+use borrow.Author.Tests.{eq-eqb, ne-eqb}
+use Rattle.drawing_pixel.specs.Background.{affineShiftOf}
+
+sub-result : tie.Need-sub-result
+sub-result c = search needs
+
+returns : tie.Need-returns
+unfolding affineShiftOf
+returns c = (simp (eq-eqb _ _ (c .before .if1 .taken)), omega arith)
+
+returns-2 : tie.Need-returns-2
+unfolding affineShiftOf
+returns-2 c = (simp (eq-eqb _ _ (c .before .if1 .taken)) (omega arith), omega arith)
+
+returns-3 : tie.Need-returns-3
+unfolding affineShiftOf
+returns-3 c = (simp (ne-eqb _ _ (c .before .if1 .left)) (omega arith), omega arith)
+
+returns-4 : tie.Need-returns-4
+unfolding affineShiftOf
+returns-4 c = (simp (ne-eqb _ _ (c .before .if1 .left)), omega arith)
+
+pub affine-shift-spec : {M : Type 1} → statement M
+affine-shift-spec = tie.close (tie.spec sub-result returns returns-2 returns-3 returns-4)

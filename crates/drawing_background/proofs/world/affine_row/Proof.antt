@@ -1,0 +1,59 @@
+-- `drawing_background::world::affine_row` meets its contract. Assumes nothing.
+use borrow.Author.Needs.{needs}
+use Rattle.drawing_background.proofs.world.affine_row.Statement.{statement}
+use Rattle.drawing_background.proofs.world.affine_row.Tie as tie
+use Prim.Native.Nat.{_-_}
+use Rattle.drawing_pixel.proofs.Spans.{span-change}
+use Rattle.drawing_background.proofs.Modes.{affine-pixel}
+
+affine-parameter-requires : tie.Need-affine-parameter-requires
+affine-parameter-requires c κs = search needs
+
+affine-parameter-requires-2 : tie.Need-affine-parameter-requires-2
+affine-parameter-requires-2 c κs = search needs
+
+affine-parameter-requires-3 : tie.Need-affine-parameter-requires-3
+affine-parameter-requires-3 c κs = search needs
+
+affine-parameter-requires-4 : tie.Need-affine-parameter-requires-4
+affine-parameter-requires-4 c κs = search needs
+
+affine-parameter-requires-5 : tie.Need-affine-parameter-requires-5
+affine-parameter-requires-5 c κs = search needs
+
+affine-shift-requires : tie.Need-affine-shift-requires
+affine-shift-requires c κs = search needs
+
+add-affine-span : tie.Need-add-affine-span
+add-affine-span c = search needs
+
+affine-span-requires : tie.Need-affine-span-requires
+affine-span-requires c κs = search needs
+
+returns : tie.Need-returns
+returns c = let a = c .before .before .before .before .before .before .before .before .before .args in
+    let pre = c .before .before .before .before .before .before .before .before .before .pre in
+    span-change _ _ _ _ _ _ _
+    (λ x v l h. affine-pixel (a .vram .now) (a .registers .now) (a .w .now) (a .eye) (a .i) (a .j) (x - a .from) _ _ _ _ _ _
+    (pre .1 .1 .1 .1 .1 .1 .1)
+    (c .before .before .before .before .before .before .before .affine-parameter .ensures .0)
+    (c .before .before .before .before .before .before .affine-parameter2 .ensures .0)
+    (c .before .before .before .before .before .affine-parameter3 .ensures .0)
+    (c .before .before .before .before .affine-parameter4 .ensures .0)
+    (c .before .before .before .affine-parameter5 .ensures .0)
+    (c .before .affine-shift .ensures .0) v)
+    (c .affine-span .ensures)
+
+pub affine-row-spec : {M : Type 1} → statement M
+affine-row-spec =
+    tie.close
+    (tie.spec
+    affine-parameter-requires
+    affine-parameter-requires-2
+    affine-parameter-requires-3
+    affine-parameter-requires-4
+    affine-parameter-requires-5
+    affine-shift-requires
+    add-affine-span
+    affine-span-requires
+    returns)

@@ -1,0 +1,38 @@
+-- `drawing_background::world::row_bias` meets its contract. Assumes nothing.
+use borrow.Author.Needs.{needs}
+use Rattle.drawing_background.proofs.world.row_bias.Statement.{statement}
+use Rattle.drawing_background.proofs.world.row_bias.Tie as tie
+use native.Mathlib.Omega.{arith}
+use borrow.Author.Tests.{eq-eqb, ne-eqb}
+use Rattle.drawing_background.specs.Row.{rowBiasOf}
+
+element-copy-out-if1 : tie.Need-element-copy-out-if1
+element-copy-out-if1 c = search needs
+
+bias-index-requires : tie.Need-bias-index-requires
+bias-index-requires c κs = search needs
+
+parameter-requires : tie.Need-parameter-requires
+parameter-requires c κs = search needs
+
+add-result : tie.Need-add-result
+add-result c = search needs
+
+returns : tie.Need-returns
+unfolding rowBiasOf
+returns c = (simp (eq-eqb _ _ (c .before .before .if1 .taken)) (rw (c .parameter .ensures .0, c .before .bias-index .ensures)), omega arith)
+
+returns-2 : tie.Need-returns-2
+unfolding rowBiasOf
+returns-2 c = (simp (ne-eqb _ _ (c .if1 .left)), omega arith)
+
+pub row-bias-spec : {M : Type 1} → statement M
+row-bias-spec =
+    tie.close
+    (tie.spec
+    element-copy-out-if1
+    bias-index-requires
+    parameter-requires
+    add-result
+    returns
+    returns-2)

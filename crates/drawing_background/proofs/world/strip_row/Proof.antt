@@ -1,0 +1,83 @@
+-- `drawing_background::world::strip_row` meets its contract: a row above or below the window is kept. Assumes nothing.
+use borrow.Author.Needs.{needs}
+use Rattle.drawing_background.proofs.world.strip_row.Statement.{statement}
+use Rattle.drawing_background.proofs.world.strip_row.Tie as tie
+use Prim.Native.Nat.{_+_, _*_}
+use native.Mathlib.Omega.{arith}
+use Rattle.drawing_pixel.proofs.Spans.{span-kept, span-change}
+use Rattle.drawing_pixel.proofs.Windows.{background-above, background-below}
+use Rattle.drawing_background.proofs.Clipping.{row-inside}
+
+element-copy-out-wide : tie.Need-element-copy-out-wide
+element-copy-out-wide c = search needs
+
+wide-requires : tie.Need-wide-requires
+wide-requires c κs = search needs
+
+add-top : tie.Need-add-top
+add-top c = search needs
+
+mul-y : tie.Need-mul-y
+mul-y c = search needs
+
+add-y : tie.Need-add-y
+add-y c = search needs
+
+add-y-2 : tie.Need-add-y-2
+add-y-2 c = search needs
+
+returns : tie.Need-returns
+returns c = let a = c .before .before .before .before .args in
+    span-kept _ _ _ _ _ (omega arith)
+    (λ x v l h. background-above (a .vram .now) (a .registers .now) (a .w .now) (a .eye) x (8 * a .strip + a .r) v (omega arith))
+
+rows-requires : tie.Need-rows-requires
+rows-requires c κs = search needs
+
+add-if2 : tie.Need-add-if2
+add-if2 c = search needs
+
+returns-2 : tie.Need-returns-2
+returns-2 c = let a = c .before .before .before .before .before .before .args in
+    span-kept _ _ _ _ _ (omega arith)
+    (λ x v l h. background-below (a .vram .now) (a .registers .now) (a .w .now) (a .eye) x (8 * a .strip + a .r) v (omega arith))
+
+add-row : tie.Need-add-row
+add-row c = search needs
+
+window-left-requires : tie.Need-window-left-requires
+window-left-requires c κs = search needs
+
+sub-row : tie.Need-sub-row
+sub-row c = search needs
+
+row-requires : tie.Need-row-requires
+row-requires c κs = search needs
+
+returns-3 : tie.Need-returns-3
+returns-3 c = let a = c .before .before .before .before .before .before .before .before .before .args in
+    let pre = c .before .before .before .before .before .before .before .before .before .pre in
+    span-change _ _ _ _ _ _ _
+    (λ x v l h. row-inside (a .vram .now) (a .registers .now) (a .w .now) (a .eye) x (8 * a .strip + a .r) v (a .from) _ _
+    (pre .1 .1 .0) (omega arith) (omega arith) (pre .1 .1 .1 .0) l (omega arith) (omega arith) (omega arith))
+    (c .row .ensures)
+
+pub strip-row-spec : {M : Type 1} → statement M
+strip-row-spec =
+    tie.close
+    (tie.spec
+    element-copy-out-wide
+    wide-requires
+    add-top
+    mul-y
+    add-y
+    add-y-2
+    returns
+    rows-requires
+    add-if2
+    returns-2
+    add-row
+    window-left-requires
+    sub-row
+    row-requires
+    returns-3)

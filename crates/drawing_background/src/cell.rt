@@ -1,0 +1,93 @@
+// Where the cell of a background lies: wrapping, the arrangement of maps, and the overplane.
+ghost use mathlib.Core.Path.{_≡_};
+ghost use Prim.Native.Nat.{_+_, _*_, _-_, _%_, _<_, _≤_, _^_, min};
+ghost use Rattle.drawing_pixel.specs.Background.{cellAddressOf, insideOf, mapNumberOf, mapCellAddressOf};
+use drawing_pixel::wide;
+
+// The low k bits of a number.
+pub fn low_bits(u: usize, k: usize) -> usize
+    requires { ⌜ k < 10 ⌝ }
+    ensures { λ r. ⌜ (r ≡ u % 2 ^ k) × (r < 512) ⌝ }
+{
+    u & ((1 << k) - 1)
+}
+
+// How many cells 2^sc maps have side by side.
+pub fn cells(sc: usize) -> usize
+    requires { ⌜ sc < 4 ⌝ }
+    ensures { λ r. ⌜ (r ≡ 2 ^ (6 + sc)) × (r ≤ 512) ⌝ }
+{
+    64 << sc
+}
+
+// A map row times the 2^k maps that stand side by side.
+pub fn maps_above(r: usize, k: usize) -> usize
+    requires { ⌜ (r < 8) × (k < 4) ⌝ }
+    ensures { λ n. ⌜ (n ≡ r * 2 ^ k) × (n < 64) ⌝ }
+{
+    r << k
+}
+
+// The exponent of how many maps stand side by side before they repeat.
+pub fn across(scx: usize, scy: usize) -> usize
+    requires { ⌜ (scx < 4) × (scy < 4) ⌝ }
+    ensures { λ r. ⌜ (r ≡ min scx (3 - scy)) × (r < 4) ⌝ }
+{
+    if scx <= 3 - scy {
+        return scx;
+    }
+    3 - scy
+}
+
+// The map at a map column and row of a world's background.
+pub fn map_number(w: &[u16; 11], column: usize, r: usize) -> usize
+    requires { ⌜ r < 8 ⌝ }
+    ensures { λ m. ⌜ (m ≡ mapNumberOf (now (w .entry)) column r) × (m < 16) ⌝ }
+{
+    let flags = wide(w[0]);
+    let k = across(flags / 1024 % 4, flags / 256 % 4);
+    (flags % 16 + (maps_above(r, k) + low_bits(column, k))) % 16
+}
+
+// Whether a cell column and row lie in a world's background.
+pub fn inside(w: &[u16; 11], u: usize, v: usize) -> bool
+    ensures { λ r. ⌜ r ≡ insideOf (now (w .entry)) u v ⌝ }
+{
+    let flags = wide(w[0]);
+    let across = cells(flags / 1024 % 4);
+    let down = cells(flags / 256 % 4);
+    if u < 1048576 {
+        return false;
+    }
+    if 1048576 + across <= u {
+        return false;
+    }
+    if v < 1048576 {
+        return false;
+    }
+    v < 1048576 + down
+}
+
+// Where the cell of a map lies, column and row wrapped to the background's size.
+pub fn map_cell_address(w: &[u16; 11], u: usize, v: usize) -> usize
+    ensures { λ r. ⌜ (r ≡ mapCellAddressOf (now (w .entry)) u v) × (r < 262143) ⌝ }
+{
+    let flags = wide(w[0]);
+    let column = low_bits(u, 6 + flags / 1024 % 4) / 64;
+    let row = low_bits(v, 6 + flags / 256 % 4) / 64;
+    let map = map_number(w, column, row);
+    131072 + 8192 * map + 2 * (64 * (v % 64) + u % 64)
+}
+
+// Where the cell used at a cell column and row lies.
+pub fn cell_address(w: &[u16; 11], u: usize, v: usize) -> usize
+    ensures { λ r. ⌜ (r ≡ cellAddressOf (now (w .entry)) u v) × (r < 262143) ⌝ }
+{
+    if w[0] / 128 % 2 == 0 {
+        return map_cell_address(w, u, v);
+    }
+    if inside(w, u, v) {
+        return map_cell_address(w, u, v);
+    }
+    131072 + 2 * wide(w[10])
+}

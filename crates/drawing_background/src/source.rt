@@ -1,0 +1,80 @@
+// The source of a window's offsets: parameters, and where a row of an affine world leads.
+ghost use mathlib.Core.Path.{_≡_};
+ghost use Prim.Native.Nat.{_+_, _*_, _%_, _<_, _≤_};
+ghost use lib.ListN.{length};
+ghost use Rattle.drawing_pixel.specs.Background.{parameterOf, plainLeftOf, normalYOf, biasIndexOf, affineShiftOf, affineFloorOf, affineParameterOf};
+use drawing_pixel::half;
+use drawing_pixel::wide;
+
+// Parameter k of a world; its index wraps at 16 bits.
+pub fn parameter(vram: &[u8], w: &[u16; 11], k: usize) -> usize
+    requires { ⌜ length (now vram) ≡ 262144 ⌝ }
+    ensures { λ r. ⌜ (r ≡ parameterOf (now (vram .entry)) (now (w .entry)) k) × (r < 65536) ⌝ }
+{
+    let index = std::num::wrapping_add_u16(w[9], (k % 65536) as u16);
+    wide(half(vram, 131072 + 2 * wide(index)))
+}
+
+// MX less MP for the left eye, plus MP for the right one.
+pub fn plain_left(w: &[u16; 11], eye: usize) -> usize
+    ensures { λ r. ⌜ (r ≡ plainLeftOf (now (w .entry)) eye) × ((8368128 ≤ r) × (r < 8409088)) ⌝ }
+{
+    let mx = (wide(w[4]) + 4096) % 8192;
+    let mp = (wide(w[5]) + 16384) % 32768;
+    if eye == 0 {
+        return mx + 8400896 - mp;
+    }
+    mx + mp + 8368128
+}
+
+// The source row of a normal or H-bias world's row j.
+pub fn normal_y(w: &[u16; 11], j: usize) -> usize
+    requires { ⌜ j < 65536 ⌝ }
+    ensures { λ r. ⌜ (r ≡ normalYOf (now (w .entry)) j) × (r < 16777216) ⌝ }
+{
+    (wide(w[6]) + 4096) % 8192 + 8384512 + j
+}
+
+// The index of an H-bias parameter.
+pub fn bias_index(eye: usize, j: usize) -> usize
+    requires { ⌜ j < 65536 ⌝ }
+    ensures { λ r. ⌜ r ≡ biasIndexOf eye j ⌝ }
+{
+    if eye == 0 {
+        return 2 * j;
+    }
+    2 * j + 1
+}
+
+// Parameter k of row j of an affine world, biased by 32,768.
+pub fn affine_parameter(vram: &[u8], w: &[u16; 11], j: usize, k: usize) -> usize
+    requires { ⌜ (length (now vram) ≡ 262144) × ((j < 65536) × (k < 8)) ⌝ }
+    ensures { λ r. ⌜ (r ≡ affineParameterOf (now (vram .entry)) (now (w .entry)) j k) × (r < 65536) ⌝ }
+{
+    (parameter(vram, w, 8 * j + k) + 32768) % 65536
+}
+
+// How far an affine row's MP moves an eye.
+pub fn affine_shift(eye: usize, mp: usize) -> usize
+    requires { ⌜ mp < 65536 ⌝ }
+    ensures { λ r. ⌜ (r ≡ affineShiftOf eye mp) × (r ≤ 32768) ⌝ }
+{
+    if eye == 0 {
+        if mp < 32768 {
+            return 32768 - mp;
+        }
+        return 0;
+    }
+    if mp < 32768 {
+        return 0;
+    }
+    mp - 32768
+}
+
+// A source coordinate n steps along an affine row.
+pub fn affine_floor(m: usize, d: usize, n: usize) -> usize
+    requires { ⌜ (m < 65536) × ((d < 65536) × (n < 65536)) ⌝ }
+    ensures { λ r. ⌜ r ≡ affineFloorOf m d n ⌝ }
+{
+    (64 * m + d * n + 4292870144 - 32768 * n) / 512
+}

@@ -1,0 +1,128 @@
+-- What a frame call and a strip call leave: `pixel-drawn`, every drawn pixel is the pixel of memory before the call, and
+-- `byte-kept` and `length-kept`, every other byte is as it was. Assumes nothing.
+use Prim.Native.Nat.{ℕ, zero, suc, _/_, _%_, _<_, _≤_}
+use mathlib.Core.Bool.{Bool, true, false, _&&_, and-false, and-assoc}
+use mathlib.Core.List.{List}
+use mathlib.Core.Path.{_≡_, refl, sym, _∙_}
+use native.Mathlib.Decide.{ℕ-discrete}
+use native.Mathlib.Omega.{arith}
+use lib.ListN.{length, getD}
+use lib.Dec.{eqb, ltb}
+use borrow.Author.Tests.{ltb-true, eqb-true, lt-ltb}
+use Rattle.bus.specs.Registers.{registersOk}
+use Rattle.drawing_pixel.specs.Pixel.{pixelOf}
+use Rattle.drawing_pixel.specs.Strip.{storedPixelOf, inStripOf, stripOf, stripsOf, frameOf}
+use Rattle.bus.specs.Refusal.{vramOk}
+use Rattle.refusal.specs.declared.Verdict.{Verdict}
+use Rattle.refusal.specs.declared.Verdict.the-variants.{Accepted, Refused}
+use Rattle.drawing.specs.Calls.{whenAccepted, stripVerdictOf, drawStripOf, frameVerdictOf, drawFrameOf}
+use Rattle.drawing_laws.specs.Drawn.{frameCall, stripCall, acceptedOf, drawsStripOf, afterOf, inImagesOf, PixelDrawn, ByteKept, LengthKept}
+use Rattle.drawing_laws.proofs.Registers.{bkcol-below}
+use Rattle.drawing_laws.proofs.Images.{pixel-outside-images}
+use Rattle.drawing_laws.proofs.PixelValue.{pixel-below}
+use Rattle.drawing_laws.proofs.StripBytes.{length-strip, strip-kept}
+use Rattle.drawing_laws.proofs.StripPixel.{pixel-of-strip, pixel-of-others}
+
+-- a strip's bytes are those of the images whose halfword in the column is the strip's
+in-strip-is : (frame s a : ℕ) → inStripOf frame s a ≡ (inImagesOf frame a && eqb (a % 64 / 2) s)
+unfolding inStripOf inImagesOf
+in-strip-is frame s a =
+    sym (and-assoc (ltb a 0x20000 && eqb (a / 0x8000 % 2) frame) (ltb (a % 0x8000) 0x6000) (eqb (a % 64 / 2) s))
+
+outside-strip : (frame s a : ℕ) → inImagesOf frame a ≡ false → inStripOf frame s a ≡ false
+outside-strip frame s a e = in-strip-is frame s a ∙ rw e
+
+module _ (vram regs : List ℕ) (frame : ℕ) where
+  strips-length : (n : ℕ) → length (stripsOf vram regs frame n) ≡ length vram
+  unfolding stripsOf
+  strips-length zero = refl
+  strips-length (suc n) = length-strip (stripsOf vram regs frame n) regs frame n ∙ strips-length n
+
+  strips-kept : (n a : ℕ) → ((s : ℕ) → s < n → inStripOf frame s a ≡ false)
+      → getD (stripsOf vram regs frame n) a 0 ≡ getD vram a 0
+  unfolding stripsOf
+  strips-kept zero a h = refl
+  strips-kept (suc n) a h =
+      strip-kept (stripsOf vram regs frame n) regs frame n a (h n (omega arith))
+      ∙ strips-kept n a (λ s b. h s (omega arith))
+
+  module _ (eye x y : ℕ) (l : length vram ≡ 262144) (ok : registersOk regs ≡ true) (f : frame < 2) (e : eye < 2) (c : x < 384)
+    where
+      strips-same : (n : ℕ) → pixelOf (stripsOf vram regs frame n) regs eye x y ≡ pixelOf vram regs eye x y
+      strips-same n =
+          pixel-outside-images vram (stripsOf vram regs frame n) regs frame eye x y ok
+          (λ a o. strips-kept n a (λ s _. outside-strip frame s a o))
+
+      strip-pixel : (before : List ℕ) → length before ≡ 262144
+          → (s : ℕ) → s < 28
+          → y / 8 ≡ s
+          → storedPixelOf (stripOf before regs frame s) frame eye x y ≡ pixelOf before regs eye x y
+      strip-pixel before m s r q =
+          pixel-of-strip before regs frame eye x s m f e c r
+          (λ row. pixel-below before regs eye x row (bkcol-below regs ok)) y q
+
+      strips-pixel : (n : ℕ) → n ≤ 28 → y / 8 < n
+          → storedPixelOf (stripsOf vram regs frame n) frame eye x y ≡ pixelOf vram regs eye x y
+      unfolding stripsOf
+      strips-pixel zero h r = absurd (omega arith)
+      strips-pixel (suc n) h r =
+          let before : List ℕ = stripsOf vram regs frame n in
+          let earlier : y / 8 < n → storedPixelOf (stripsOf vram regs frame n) frame eye x y ≡ pixelOf vram regs eye x y
+          = strips-pixel n (omega arith) in
+          elim (ℕ-discrete (y / 8) n) [
+            | yes q ↦ strip-pixel before (strips-length n ∙ l) n h q ∙ strips-same n
+            | no q ↦ pixel-of-others before regs frame eye x n y f e c (omega arith) q ∙ earlier (omega arith)
+          ]
+
+-- an accepted call leaves the frame or the strip drawn
+frame-accepted : (vram regs : List ℕ) (frame : ℕ) → length vram ≡ 262144 → registersOk regs ≡ true → frame < 2
+    → drawFrameOf vram regs frame ≡ frameOf vram regs frame
+unfolding drawFrameOf frameVerdictOf vramOk
+frame-accepted vram regs frame l ok f = simp (l, ok, lt-ltb frame 2 f)
+
+strip-accepted : (vram regs : List ℕ) (frame s : ℕ) → length vram ≡ 262144 → registersOk regs ≡ true → frame < 2
+    → ltb s 28 ≡ true
+    → drawStripOf vram regs frame s ≡ stripOf vram regs frame s
+unfolding drawStripOf stripVerdictOf vramOk
+strip-accepted vram regs frame s l ok f a = simp (l, ok, lt-ltb frame 2 f, a)
+
+pub pixel-drawn : PixelDrawn
+unfolding acceptedOf drawsStripOf afterOf frameOf
+pixel-drawn vram regs frame frameCall eye x y l ok f e c a d =
+    rw (frame-accepted vram regs frame l ok f)
+    (strips-pixel vram regs frame eye x y l ok f e c 28 (omega arith) (ltb-true (y / 8) 28 d))
+pixel-drawn vram regs frame (stripCall s) eye x y l ok f e c a d =
+    rw (strip-accepted vram regs frame s l ok f a)
+    (strip-pixel vram regs frame eye x y l ok f e c vram l s (ltb-true s 28 a) (eqb-true (y / 8) s d))
+
+-- a byte of a strip that the frame call does not draw lies in none of strips 0 to 27
+frame-others : (frame a : ℕ) → (inImagesOf frame a && ltb (a % 64 / 2) 28) ≡ false → (s : ℕ) → s < 28 → inStripOf frame s a ≡ false
+frame-others frame a h s r = in-strip-is frame s a ∙ go (eqb (a % 64 / 2) s) refl
+  where
+    go : (b : Bool) → eqb (a % 64 / 2) s ≡ b → (inImagesOf frame a && b) ≡ false
+    go false e = and-false (inImagesOf frame a)
+    go true e =
+        let q : a % 64 / 2 ≡ s = eqb-true (a % 64 / 2) s e in
+        rw (lt-ltb (a % 64 / 2) 28 (omega arith)) at h
+
+-- what drawing keeps of a list, a call keeps, refused or not
+kept-when : {A : Type 0} (f : List ℕ → A) (v : Verdict) (before after : List ℕ) → f after ≡ f before
+    → f (whenAccepted v before after) ≡ f before
+kept-when f Accepted before after e = e
+kept-when f (Refused n) before after e = refl
+
+pub byte-kept : ByteKept
+unfolding drawsStripOf afterOf frameOf drawFrameOf drawStripOf
+byte-kept vram regs frame frameCall a h =
+    kept-when (λ xs. getD xs a 0) (frameVerdictOf vram regs frame) vram (stripsOf vram regs frame 28)
+    (strips-kept vram regs frame 28 a (frame-others frame a h))
+byte-kept vram regs frame (stripCall s) a h =
+    kept-when (λ xs. getD xs a 0) (stripVerdictOf vram regs frame s) vram (stripOf vram regs frame s)
+    (strip-kept vram regs frame s a (in-strip-is frame s a ∙ h))
+
+pub length-kept : LengthKept
+unfolding afterOf frameOf drawFrameOf drawStripOf
+length-kept vram regs frame frameCall =
+    kept-when length (frameVerdictOf vram regs frame) vram (stripsOf vram regs frame 28) (strips-length vram regs frame 28)
+length-kept vram regs frame (stripCall s) =
+    kept-when length (stripVerdictOf vram regs frame s) vram (stripOf vram regs frame s) (length-strip vram regs frame s)

@@ -1,0 +1,71 @@
+-- Demand 3 (paper 01, "The bytes a pixel answers to"): the statements. Their proofs are `answerable`, `few`, `no-fewer`,
+-- `pixel-outside-images` and `listed-in-vram` in proofs/. Memories are lists of 262,144 numbers; that they are bytes is
+-- assumed only where it is said.
+use Prim.Native.Nat.{ℕ, _+_, _*_, _/_, _≤_, _<_}
+use mathlib.Core.Bool.{true, false}
+use mathlib.Core.List.{List, [], _∷_}
+use mathlib.Core.Path.{_≡_}
+use lib.ListN.{length, getD}
+use Rattle.bus.specs.Registers.{registersOk}
+use Rattle.drawing_pixel.specs.Pixel.{pixelOf}
+use Rattle.drawing_pixel.specs.Strip.{storedPixelOf}
+use Rattle.drawing_laws.specs.Drawn.{Call, acceptedOf, drawsStripOf, afterOf, inImagesOf}
+use Rattle.drawing_laws.specs.Covers.{coveringWorldsOf, coveringObjectsOf}
+use Rattle.drawing_laws.specs.SourceBytes.{sourceBytesOf}
+
+-- something holds of each number of a list
+abbrev pub Each : (ℕ → Type 0) → List ℕ → Type 0
+Each P [] = Unit {0}
+Each P (a ∷ rest) = P a × Each P rest
+
+-- two memories hold the same byte at an address
+abbrev pub SameByte : List ℕ → List ℕ → ℕ → Type 0
+SameByte first second a = getD second a 0 ≡ getD first a 0
+
+-- the tables, 32 world records of 32 bytes and 1,024 object records of 8, are the same in two memories
+pub record SameTables (first second : List ℕ) : Type 0 where
+  pub worlds : (a : ℕ) → 0x3D800 ≤ a → a < 0x3D800 + 32 * 32 → SameByte first second a
+  pub objects : (a : ℕ) → 0x3E000 ≤ a → a < 0x3E000 + 1024 * 8 → SameByte first second a
+
+-- a pixel that both calls draw is the same after them where tables and listed bytes were the same before them
+abbrev pub Answerable : Type 0
+Answerable =
+    (first second regs : List ℕ) (frame : ℕ) (one other : Call) (eye x y : ℕ) → length first ≡ 262144
+    → length second ≡ 262144
+    → registersOk regs ≡ true
+    → frame < 2
+    → eye < 2
+    → x < 384
+    → acceptedOf one ≡ true
+    → acceptedOf other ≡ true
+    → drawsStripOf one (y / 8) ≡ true
+    → drawsStripOf other (y / 8) ≡ true
+    → SameTables first second
+    → Each (SameByte first second) (sourceBytesOf first regs eye x y)
+    → storedPixelOf (afterOf second regs frame other) frame eye x y
+    ≡ storedPixelOf (afterOf first regs frame one) frame eye x y
+
+-- the list is short: at most 14 bytes for each covering background world, 2 for each covering object
+abbrev pub Few : Type 0
+Few =
+    (vram regs : List ℕ) (eye x y : ℕ)
+    → length (sourceBytesOf vram regs eye x y) ≤ 14 * coveringWorldsOf vram eye x y + 2 * coveringObjectsOf vram regs eye x y
+
+-- and what covers is listed: at least 4 bytes for each covering background world, 2 for each covering object
+abbrev pub NoFewer : Type 0
+NoFewer =
+    (vram regs : List ℕ) (eye x y : ℕ) → registersOk regs ≡ true
+    → 4 * coveringWorldsOf vram eye x y + 2 * coveringObjectsOf vram regs eye x y ≤ length (sourceBytesOf vram regs eye x y)
+
+-- memories that agree outside a frame's images have the same pixels
+abbrev pub PixelOutsideImages : Type 0
+PixelOutsideImages =
+    (first second regs : List ℕ) (frame eye x y : ℕ) → registersOk regs ≡ true
+    → ((a : ℕ) → inImagesOf frame a ≡ false → SameByte first second a)
+    → pixelOf second regs eye x y ≡ pixelOf first regs eye x y
+
+-- each listed address is one of VRAM, where memory holds bytes
+abbrev pub ListedInVram : Type 0
+ListedInVram =
+    (vram regs : List ℕ) (eye x y : ℕ) → ((a : ℕ) → getD vram a 0 < 256)
+    → Each (λ a. a < 262144) (sourceBytesOf vram regs eye x y)

@@ -1,0 +1,60 @@
+-- What the strip call and the frame call leave in VRAM (paper 01, "Drawing"): the statements. Their proofs are
+-- `pixel-drawn`, `byte-kept` and `length-kept` in proofs/. VRAM after a call is the list that the call's contract names.
+use Prim.Native.Nat.{ℕ, _/_, _%_, _<_}
+use mathlib.Core.Bool.{Bool, true, false, _&&_}
+use mathlib.Core.List.{List}
+use mathlib.Core.Path.{_≡_}
+use lib.ListN.{length, getD}
+use lib.Dec.{eqb, ltb}
+use Rattle.bus.specs.Registers.{registersOk}
+use Rattle.drawing_pixel.specs.Pixel.{pixelOf}
+use Rattle.drawing_pixel.specs.Strip.{storedPixelOf}
+use Rattle.drawing.specs.Calls.{drawStripOf, drawFrameOf}
+
+-- a call that draws: the frame call, or the strip call with its strip number
+pub data Call : Type 0 where
+  frameCall : Call
+  stripCall : ℕ → Call
+
+-- the strip numbers that are accepted: up to 27
+unfoldable pub acceptedOf : Call → Bool
+acceptedOf frameCall = true
+acceptedOf (stripCall s) = ltb s 28
+
+-- whether a call draws a strip: the frame call 0 to 27, the strip call its own
+unfoldable pub drawsStripOf : Call → ℕ → Bool
+drawsStripOf frameCall s = ltb s 28
+drawsStripOf (stripCall own) s = eqb s own
+
+-- VRAM after a call
+unfoldable pub afterOf : List ℕ → List ℕ → ℕ → Call → List ℕ
+afterOf vram regs frame frameCall = drawFrameOf vram regs frame
+afterOf vram regs frame (stripCall own) = drawStripOf vram regs frame own
+
+-- whether an address lies in one of a frame's two images
+unfoldable pub inImagesOf : ℕ → ℕ → Bool
+inImagesOf frame a = (ltb a 0x20000 && eqb (a / 0x8000 % 2) frame) && ltb (a % 0x8000) 0x6000
+
+-- a drawn pixel, as it stands after the call, is the pixel of memory as it was before it
+abbrev pub PixelDrawn : Type 0
+PixelDrawn =
+    (vram regs : List ℕ) (frame : ℕ) (call : Call) (eye x y : ℕ) → length vram ≡ 262144
+    → registersOk regs ≡ true
+    → frame < 2
+    → eye < 2
+    → x < 384
+    → acceptedOf call ≡ true
+    → drawsStripOf call (y / 8) ≡ true
+    → storedPixelOf (afterOf vram regs frame call) frame eye x y ≡ pixelOf vram regs eye x y
+
+-- a byte outside the frame's images, or of a strip that is not drawn, is kept; a column is 32 halfwords, one a strip
+abbrev pub ByteKept : Type 0
+ByteKept =
+    (vram regs : List ℕ) (frame : ℕ) (call : Call) (a : ℕ)
+    → (inImagesOf frame a && drawsStripOf call (a % 64 / 2)) ≡ false
+    → getD (afterOf vram regs frame call) a 0 ≡ getD vram a 0
+
+-- VRAM keeps its length
+abbrev pub LengthKept : Type 0
+LengthKept =
+    (vram regs : List ℕ) (frame : ℕ) (call : Call) → length (afterOf vram regs frame call) ≡ length vram

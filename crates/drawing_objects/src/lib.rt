@@ -1,0 +1,157 @@
+// Objects: paints what an object, and a group of objects, shows of a strip over what is there.
+// These functions are `pub` for the crates above; none is a call of the library's users.
+use bus::DrawingRegisters;
+ghost use mathlib.Core.Path.{_≡_};
+ghost use mathlib.Core.Bool.{true};
+ghost use Prim.Native.Nat.{ℕ, _+_, _-_, _*_, _<_, _≤_};
+ghost use lib.ListN.{length};
+ghost use Rattle.bus.specs.Registers.{sptOf};
+ghost use Rattle.drawing_pixel.specs.Object.{objectOf, objectShownOf, objectRowOf, objectLeftOf, objectPixelOf, groupCountOf, groupPixelOf};
+ghost use Rattle.drawing_pixel.specs.Buffer.{Span, Strip};
+use drawing_pixel::clipped;
+use drawing_pixel::flag;
+use drawing_pixel::half;
+use drawing_pixel::object;
+use drawing_pixel::object_left;
+use drawing_pixel::row_address;
+use drawing_pixel::span;
+use drawing_pixel::wide;
+
+// Whether an object of an object world is shown to an eye; the world's own flags hide nothing.
+pub fn shown(w: &[u16; 11], o: &[u16; 4], eye: usize) -> bool
+    ensures { λ r. ⌜ r ≡ objectShownOf (now (w .entry)) (now (o .entry)) eye ⌝ }
+{
+    flag(eye, o[1])
+}
+
+// The object's row at image row y.
+pub fn object_row(o: &[u16; 4], y: usize) -> usize
+    requires { ⌜ y < 256 ⌝ }
+    ensures { λ r. ⌜ r ≡ objectRowOf (now (o .entry)) y ⌝ }
+{
+    (y + 256 - wide(o[2]) % 256) % 256
+}
+
+// Row r of a strip, whose columns `from` to `to` - 1 are in the object's square; the row may be outside of it.
+pub fn object_span(
+    vram: &[u8],
+    registers: &DrawingRegisters,
+    w: &[u16; 11],
+    o: &[u16; 4],
+    buffer: &mut [u16; 384],
+    r: usize,
+    from: usize,
+    to: usize,
+    eye: usize,
+    strip: usize,
+)
+    requires { ⌜ length (now buffer) ≡ 384 ⌝ }
+    requires { ⌜ (length (now vram) ≡ 262144) × ((from ≤ to) × ((to ≤ 384) × ((r < 8) × (strip < 28)))) ⌝ }
+    requires { ⌜ (objectShownOf (now w) (now o) eye ≡ true) × ((objectLeftOf (now o) eye ≤ from + 1024) × (to + 1024 ≤ objectLeftOf (now o) eye + 8)) ⌝ }
+    ensures { λ _. ⌜ Span r from to (λ x. objectPixelOf (now (vram .entry)) (now (registers .entry)) (now (w .entry)) (now (o .entry)) eye x (8 * strip + r)) (now (buffer .entry)) (now (buffer .exit)) ⌝ }
+{
+    let row = object_row(o, 8 * strip + r);
+    if 8 <= row {
+        return;
+    }
+    let cell = wide(o[3]);
+    let pixels = wide(half(vram, row_address(cell, row)));
+    let palette = wide(registers[8 + cell / 16384]);
+    span(
+        buffer,
+        from,
+        to,
+        r,
+        cell,
+        pixels,
+        palette,
+        from + 1024 - object_left(o, eye),
+    );
+}
+
+// What an object shows an eye of a strip, painted over what is there.
+pub fn object_strip(
+    vram: &[u8],
+    registers: &DrawingRegisters,
+    w: &[u16; 11],
+    o: &[u16; 4],
+    buffer: &mut [u16; 384],
+    eye: usize,
+    strip: usize,
+)
+    requires { ⌜ length (now buffer) ≡ 384 ⌝ }
+    requires { ⌜ (length (now vram) ≡ 262144) × (strip < 28) ⌝ }
+    ensures { λ _. ⌜ Strip (λ x r. objectPixelOf (now (vram .entry)) (now (registers .entry)) (now (w .entry)) (now (o .entry)) eye x (8 * strip + r)) (now (buffer .entry)) (now (buffer .exit)) ⌝ }
+{
+    if !shown(w, o, eye) {
+        return;
+    }
+    let left = object_left(o, eye);
+    let from = clipped(left);
+    let to = clipped(left + 8);
+    if to <= from {
+        return;
+    }
+    let mut r = 0;
+    while r < 8 {
+        object_span(vram, registers, w, o, buffer, r, from, to, eye, strip);
+        r += 1;
+    }
+}
+
+// Object k of an object world on a strip. Most objects have no row there, which their JY alone tells.
+pub fn paint_object(
+    vram: &[u8],
+    registers: &DrawingRegisters,
+    w: &[u16; 11],
+    buffer: &mut [u16; 384],
+    k: usize,
+    eye: usize,
+    strip: usize,
+)
+    requires { ⌜ length (now buffer) ≡ 384 ⌝ }
+    requires { ⌜ (length (now vram) ≡ 262144) × ((strip < 28) × (k < 1024)) ⌝ }
+    ensures { λ _. ⌜ Strip (λ x r. objectPixelOf (now (vram .entry)) (now (registers .entry)) (now (w .entry)) (objectOf (now (vram .entry)) k) eye x (8 * strip + r)) (now (buffer .entry)) (now (buffer .exit)) ⌝ }
+{
+    let jy = wide(half(vram, 253952 + 8 * k + 4)) % 256;
+    if 15 <= (8 * strip + 263 - jy) % 256 {
+        return;
+    }
+    let o = object(vram, k);
+    object_strip(vram, registers, w, &o, buffer, eye, strip);
+}
+
+// How many objects group n has.
+pub fn group_count(registers: &DrawingRegisters, n: usize) -> usize
+    requires { ⌜ (n < 4) × ((k : ℕ) → k < 4 → sptOf (now registers) k < 1024) ⌝ }
+    ensures { λ r. ⌜ (r ≡ groupCountOf (now (registers .entry)) n) × (r ≤ 1024) ⌝ }
+{
+    if n == 0 {
+        return wide(registers[0]) + 1;
+    }
+    (wide(registers[n]) + 1023 - wide(registers[n - 1])) % 1024 + 1
+}
+
+// What group n of objects shows an eye of a strip, painted over what is there.
+pub fn group(
+    vram: &[u8],
+    registers: &DrawingRegisters,
+    w: &[u16; 11],
+    buffer: &mut [u16; 384],
+    n: usize,
+    eye: usize,
+    strip: usize,
+)
+    requires { ⌜ length (now buffer) ≡ 384 ⌝ }
+    requires { ⌜ (length (now vram) ≡ 262144) × (strip < 28) ⌝ }
+    requires { ⌜ (n < 4) × ((k : ℕ) → k < 4 → sptOf (now registers) k < 1024) ⌝ }
+    ensures { λ _. ⌜ Strip (λ x r. groupPixelOf (now (vram .entry)) (now (registers .entry)) (now (w .entry)) n eye x (8 * strip + r)) (now (buffer .entry)) (now (buffer .exit)) ⌝ }
+{
+    let mut left = group_count(registers, n);
+    let mut k = wide(registers[n]);
+    while 0 < left {
+        paint_object(vram, registers, w, buffer, k, eye, strip);
+        k = (k + 1023) % 1024;
+        left -= 1;
+    }
+}

@@ -1,0 +1,41 @@
+-- The carry of a sum, as the code tests it, and a choice by a test or by its opposite.
+use Prim.Native.Nat.{ℕ, _+_, _/_, _%_, _^_, _<_, _≤_}
+use mathlib.Core.Path.{_≡_, refl, ap, sym, _∙_}
+use mathlib.Core.Bool.{Bool, true, false, not}
+use native.Mathlib.Decide.{decLt}
+use native.Mathlib.Omega.{arith}
+use borrow.Author.Tests.{lt-ltb, le-ltb, lt-leb, le-leb}
+use lib.Dec.{ltb, leb}
+use Rattle.word.specs.Choose.{pick}
+use Rattle.processor_arithmetic.specs.Flag.{bitOf}
+
+-- a sum wrapped where it came out below its first part
+pub sum-carry : (a b : ℕ) → a < 2 ^ 32 → b < 2 ^ 32 → bitOf (ltb ((a + b) % 2 ^ 32) a) ≡ (a + b) / 2 ^ 32
+sum-carry a b ha hb =
+    elim (decLt ((a + b) % 2 ^ 32) a) [
+      | yes h ↦ simp (lt-ltb ((a + b) % 2 ^ 32) a h) (omega arith)
+      | no h ↦
+          let k : a ≤ (a + b) % 2 ^ 32 = omega arith in
+          simp (le-ltb ((a + b) % 2 ^ 32) a k) (omega arith)
+    ]
+
+pub bit-not : (b : Bool) → bitOf (not b) ≡ pick b 0 1
+bit-not true = refl
+bit-not false = refl
+
+pub bit-is : (b : Bool) → bitOf b ≡ pick b 1 0
+bit-is true = refl
+bit-is false = refl
+
+pub pick-not : {A : Type 0} (b : Bool) (x y : A) → pick (not b) x y ≡ pick b y x
+pick-not true x y = refl
+pick-not false x y = refl
+
+pub pick-leb : {A : Type 0} (m n : ℕ) (x y : A) → pick (leb m n) x y ≡ pick (ltb n m) y x
+pick-leb m n x y =
+    elim (decLt n m) [
+      | yes h ↦ simp (lt-ltb n m h, lt-leb m n h)
+      | no h ↦
+          let k : m ≤ n = omega arith in
+          simp (le-ltb n m k, le-leb m n k)
+    ]

@@ -1,0 +1,51 @@
+-- `processor_arithmetic::quotient::div`: the parts of the result, each by its callee's promise.
+use native.Mathlib.Omega.{arith}
+use borrow.Author.Needs.{needs}
+use Rattle.processor_arithmetic.proofs.Carry.{pick-not, pick-leb}
+use Rattle.processor_arithmetic.proofs.Magnitude.{magnitude-positive}
+use Rattle.processor_arithmetic.specs.Quotient.{divideOf, quotientOf, remainderOf}
+use Rattle.processor_arithmetic.proofs.quotient.div.Statement.{statement}
+use Rattle.processor_arithmetic.proofs.quotient.div.Tie as tie
+
+magnitude-requires : tie.Need-magnitude-requires
+magnitude-requires c κs = search needs
+
+magnitude-requires-2 : tie.Need-magnitude-requires-2
+magnitude-requires-2 c κs = search needs
+
+div-signed : tie.Need-div-signed
+div-signed c = rw (c .magnitude2 .ensures .0) (magnitude-positive _ (omega arith) (omega arith))
+
+signed-requires : tie.Need-signed-requires
+signed-requires c κs = search needs
+
+rem-signed : tie.Need-rem-signed
+rem-signed c = rw (c .before .magnitude2 .ensures .0) (magnitude-positive _ (omega arith) (omega arith))
+
+signed-requires-2 : tie.Need-signed-requires-2
+signed-requires-2 c κs = search needs
+
+overflows-requires : tie.Need-overflows-requires
+overflows-requires c κs = search needs
+
+keep-carry-requires : tie.Need-keep-carry-requires
+keep-carry-requires c κs = search needs
+
+returns : tie.Need-returns
+unfolding divideOf quotientOf remainderOf
+returns c =
+    rw (c .keep-carry .ensures, c .before .overflows .ensures .0, c .before .before .signed2 .ensures, c .before .before .before .signed .ensures, c .before .before .before .before .magnitude2 .ensures .0, c .before .before .before .before .before .magnitude .ensures .0, pick-not, pick-leb)
+
+pub div-spec : {M : Type 1} → statement M
+div-spec =
+    tie.close
+    (tie.spec
+    magnitude-requires
+    magnitude-requires-2
+    div-signed
+    signed-requires
+    rem-signed
+    signed-requires-2
+    overflows-requires
+    keep-carry-requires
+    returns)

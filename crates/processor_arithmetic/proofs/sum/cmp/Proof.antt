@@ -1,0 +1,15 @@
+-- `processor_arithmetic::sum::cmp`: the difference's flags.
+use borrow.Author.Needs.{needs}
+use Rattle.processor_arithmetic.specs.Sum.{compareOf}
+use Rattle.processor_arithmetic.proofs.sum.cmp.Statement.{statement}
+use Rattle.processor_arithmetic.proofs.sum.cmp.Tie as tie
+
+sub-requires : tie.Need-sub-requires
+sub-requires c κs = search needs
+
+returns : tie.Need-returns
+unfolding compareOf
+returns c = rw (c .sub .ensures)
+
+pub cmp-spec : {M : Type 1} → statement M
+cmp-spec = tie.close (tie.spec sub-requires returns)

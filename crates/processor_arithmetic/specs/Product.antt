@@ -1,0 +1,40 @@
+-- MUL and MULU (document 000, "Arithmetic"; paper 01): the 64-bit product, its high word to r30, its low word to reg2.
+use Prim.Native.Nat.{ℕ, _+_, _-_, _*_, _/_, _%_, _^_}
+use lib.Dec.{ltb, eqb}
+use Rattle.word.specs.Choose.{pick}
+use Rattle.processor_arithmetic.specs.Flag.{keepCarryOf, signOf}
+use Rattle.processor_arithmetic.specs.Sign.{magnitudeOf}
+use Rattle.processor_arithmetic.specs.declared.Pair.{Pair}
+
+-- a signed word at 64 bits
+unfoldable pub extend64Of : ℕ → ℕ
+extend64Of x = pick (ltb x (2 ^ 31)) x (x + (2 ^ 64 - 2 ^ 32))
+
+-- OV of a product, signed or not: 1 where "the full 64-bit result is not equivalent to the 64-bit value produced by
+-- sign-extending the lower 32 bits"
+unfoldable pub overflowsOf : ℕ → ℕ
+overflowsOf w = pick (eqb w (extend64Of (w % 2 ^ 32))) 0 1
+
+-- the two words of a 64-bit product; S and Z are the low word's
+unfoldable pub wordsOf : ℕ → ℕ → Pair
+wordsOf w psw =
+    let low = w % 2 ^ 32 in
+    record { r30 = w / 2 ^ 32; reg2 = low; psw = keepCarryOf psw (overflowsOf w) low }
+
+-- the 64-bit number of -m
+unfoldable pub negative64Of : ℕ → ℕ
+negative64Of m = (2 ^ 64 - m) % 2 ^ 64
+
+-- the signed product at 64 bits: the product of the magnitudes, negative where the signs differ
+unfoldable pub productOf : ℕ → ℕ → ℕ
+productOf a b =
+    let m = magnitudeOf a * magnitudeOf b in
+    pick (eqb (signOf a) (signOf b)) m (negative64Of m)
+
+-- MUL
+unfoldable pub multiplyOf : ℕ → ℕ → ℕ → Pair
+multiplyOf a b psw = wordsOf (productOf a b) psw
+
+-- MULU
+unfoldable pub multiplyUnsignedOf : ℕ → ℕ → ℕ → Pair
+multiplyUnsignedOf a b psw = wordsOf (a * b) psw

@@ -1,0 +1,39 @@
+-- Shifts with their flags (document 000, "Bitwise"; paper 01: amounts mod 32, CY the last bit out, clear for amount 0).
+use Prim.Native.Nat.{ℕ, _-_, _*_, _/_, _%_, _^_}
+use lib.Dec.{ltb}
+use Rattle.word.specs.Choose.{pick}
+use Rattle.processor_arithmetic.specs.Flag.{flagsOf}
+use Rattle.processor_arithmetic.specs.declared.Outcome.{Outcome}
+
+-- the last bit out to the left: bit 32 - n, which 2 ^ n takes to bit 32
+unfoldable pub leftOutOf : ℕ → ℕ → ℕ
+leftOutOf a n = a * 2 ^ n / 2 ^ 32 % 2
+
+-- the last bit out to the right: bit n - 1; for n = 0 it is 0
+unfoldable pub rightOutOf : ℕ → ℕ → ℕ
+rightOutOf a n = 2 * a / 2 ^ n % 2
+
+-- a shifted right with copies of its top bit: of a word with the top bit set, the complement is shifted
+unfoldable pub arithmeticRightOf : ℕ → ℕ → ℕ
+arithmeticRightOf a n = pick (ltb a (2 ^ 31)) (a / 2 ^ n) (2 ^ 32 - 1 - (2 ^ 32 - 1 - a) / 2 ^ n)
+
+-- SHL
+unfoldable pub shiftLeftOf : ℕ → ℕ → ℕ → Outcome
+shiftLeftOf a b psw =
+    let n = b % 32 in
+    let v = a * 2 ^ n % 2 ^ 32 in
+    record { value = v; psw = flagsOf psw (leftOutOf a n) 0 v }
+
+-- SHR
+unfoldable pub shiftRightOf : ℕ → ℕ → ℕ → Outcome
+shiftRightOf a b psw =
+    let n = b % 32 in
+    let v = a / 2 ^ n in
+    record { value = v; psw = flagsOf psw (rightOutOf a n) 0 v }
+
+-- SAR
+unfoldable pub shiftArithmeticOf : ℕ → ℕ → ℕ → Outcome
+shiftArithmeticOf a b psw =
+    let n = b % 32 in
+    let v = arithmeticRightOf a n in
+    record { value = v; psw = flagsOf psw (rightOutOf a n) 0 v }

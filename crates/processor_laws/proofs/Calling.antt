@@ -1,0 +1,101 @@
+-- `step-call-accepted`, `run-call-accepted` and `reset-accepted`: the statements of specs/Called.
+use Prim.Native.Nat.{ℕ, zero, suc, _^_, _<_}
+use mathlib.Core.Bool.{true}
+use mathlib.Core.List.{List, [], _∷_}
+use mathlib.Core.Path.{_≡_, refl}
+use native.Mathlib.Omega.{arith}
+use lib.ListN.{length, getD, replicate}
+use Rattle.bus.specs.Registers.{registersOk}
+use Rattle.bus.specs.Memory.{Memory}
+use Rattle.bus.proofs.Accepted.{lengths-accepted}
+use Rattle.processor_machine.specs.State.{State}
+use Rattle.processor_machine.specs.System.{pswBitsOf}
+use Rattle.processor_step.specs.Step.{stepOf}
+use Rattle.processor.specs.Acceptance.{evenOk, formatsOk, stateOk, acceptanceAt, acceptanceOf}
+use Rattle.processor.specs.Record.{systemIn, stateIn, processorOf}
+use Rattle.processor.specs.Run.{runOf}
+use Rattle.processor.specs.Calls.{checkedStepOf, checkedRunOf, resetOf}
+use Rattle.processor_laws.specs.Accepted.{Below, Machine}
+use Rattle.processor_laws.specs.Called.{StepCallAccepted, RunCallAccepted, ResetAccepted}
+use Rattle.processor_laws.proofs.Lists.{Each, each-at}
+use Rattle.processor_laws.proofs.Accepting.{step-accepted, run-accepted}
+
+-- numbers below n in a list that is written out
+listed : (n : ℕ) (xs : List ℕ) → 0 < n → Each (λ (x : ℕ). x < n) xs → Below n xs
+listed n xs h e i = each-at (λ (x : ℕ). x < n) xs i 0 e h
+
+-- a state and its record stand for the same machine
+same-acceptance : (s : State) (m : Memory) → acceptanceOf (stateIn (processorOf s)) m ≡ acceptanceOf s m
+unfolding acceptanceAt stateOk evenOk formatsOk
+same-acceptance s m = refl
+
+record-machine : (s : State) (m : Memory) → Machine s m → Machine (stateIn (processorOf s)) m
+record-machine s m h =
+    let z = h .sized in
+    let w = z .system-words in
+    record {
+      sized =
+          record {
+            general = z .general;
+            general-words = z .general-words;
+            system = refl;
+            system-words =
+                listed (2 ^ 32) (systemIn (processorOf s)) (omega arith)
+                (w 0, (w 1, (w 2, (w 3, (w 4, (w 5, (w 6, (w 7, tt))))))));
+            pc-word = z .pc-word;
+            psw-word = z .psw-word;
+            rom-bytes = z .rom-bytes;
+            wram-bytes = z .wram-bytes;
+            vram-bytes = z .vram-bytes;
+            pak-bytes = z .pak-bytes;
+            drawing = z .drawing;
+          };
+      accepted = rw (same-acceptance s m) (h .accepted);
+    }
+
+pub step-call-accepted : StepCallAccepted
+unfolding checkedStepOf
+step-call-accepted p m h =
+    rw (h .accepted)
+    (record-machine (stepOf (stateIn p) m .state) (stepOf (stateIn p) m .memory) (step-accepted (stateIn p) m h))
+
+pub run-call-accepted : RunCallAccepted
+unfolding checkedRunOf
+run-call-accepted budget p m h =
+    rw (h .accepted)
+    (record-machine (runOf budget (stateIn p) m .state) (runOf budget (stateIn p) m .memory)
+    (run-accepted budget (stateIn p) m h))
+
+zeros : (n k i : ℕ) → 0 < k → getD (replicate n 0) i 0 < k
+zeros zero k i h = h
+zeros (suc n) k zero h = h
+zeros (suc n) k (suc i) h = zeros n k i h
+
+pub reset-accepted : ResetAccepted
+unfolding resetOf acceptanceAt stateOk evenOk formatsOk pswBitsOf
+reset-accepted rom wram vram pak l r w v p =
+    record {
+      sized =
+          record {
+            general = refl;
+            general-words = λ i. zeros 32 (2 ^ 32) i (omega arith);
+            system = refl;
+            system-words =
+                let none : 0 < 2 ^ 32 = omega arith in
+                let code : 0xFFF0 < 2 ^ 32 = omega arith in
+                listed (2 ^ 32) (0 ∷ 0 ∷ 0 ∷ 0 ∷ 0xFFF0 ∷ 0 ∷ 0 ∷ 0 ∷ []) none
+                (none, (none, (none, (none, (code, (none, (none, (none, tt))))))));
+            pc-word = omega arith;
+            psw-word = omega arith;
+            rom-bytes = r;
+            wram-bytes = w;
+            vram-bytes = v;
+            pak-bytes = p;
+            drawing = refl;
+          };
+      accepted =
+          rw (lengths-accepted (length rom) (length wram) (length vram) (length pak) (replicate 13 0) l device);
+    }
+  where
+    device : registersOk (replicate 13 0) ≡ true
+    device = unfold registersOk in refl

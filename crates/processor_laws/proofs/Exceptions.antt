@@ -1,0 +1,89 @@
+-- An exception leaves an accepted machine, by its three entries: fatal, duplexed and regular.
+use Prim.Native.Nat.{ℕ, _+_, _*_, _/_, _%_, _^_, _<_}
+use mathlib.Core.Path.{refl}
+use native.Mathlib.Omega.{arith}
+use lib.Dec.{ltb, eqb}
+use lib.ListN.{getD, set}
+use Rattle.processor_arithmetic.specs.Flag.{flagOf}
+use Rattle.bus.specs.Memory.{Memory}
+use Rattle.processor_machine.specs.State.{State, Stepped}
+use Rattle.processor_machine.specs.Exception.{codeOf, handlerOf, restoreOf, fatalOf, duplexedEntryOf, regularEntryOf, enterOf, raiseOf}
+use Rattle.processor_machine.specs.declared.Cause.{Cause}
+use Rattle.processor_machine.specs.declared.Cause.the-variants.{ZeroDivision, Illegal, Trap}
+use Rattle.processor_laws.proofs.Lists.{pick-each}
+use Rattle.processor_laws.proofs.Invariant.{Format, Systems, Address, Good}
+use Rattle.processor_laws.proofs.Psw.{regular-format, duplexed-format}
+use Rattle.processor_laws.proofs.Registers.{set-systems, eipc-system, eipsw-system, fepc-system, fepsw-system, ecr-system}
+
+-- the machine after a step
+abbrev pub Left : Stepped → Type 0
+Left t = Good (t .state) (t .memory)
+
+code-small : (c : Cause) → codeOf c < 65536
+code-small ZeroDivision = omega arith
+code-small Illegal = omega arith
+code-small (Trap vector) = omega arith
+
+handler-address : (c : Cause) → Address (handlerOf c)
+handler-address ZeroDivision = record { word = omega arith; even = refl }
+handler-address Illegal = record { word = omega arith; even = refl }
+handler-address (Trap vector) =
+    pick-each Address (ltb (vector % 32) 16) 0xFFFFFFA0 0xFFFFFFB0
+    record { word = omega arith; even = refl } record { word = omega arith; even = refl }
+
+restore-address : (c : Cause) (pc next : ℕ) → Address pc → Address next → Address (restoreOf c pc next)
+restore-address ZeroDivision pc next p q = p
+restore-address Illegal pc next p q = p
+restore-address (Trap vector) pc next p q = q
+
+module _ (c : Cause) (s : State) (m : Memory) (g : Good s m) where
+  fatal-left : Left (fatalOf c s m)
+  fatal-left =
+      record {
+        generals = g .generals;
+        systems = g .systems;
+        address = g .address;
+        format = g .format;
+        memories = g .memories;
+      }
+
+  module _ (code handler restore saved : ℕ) (hc : code < 65536) (hh : Address handler) (hr : Address restore) (hs : Format saved) where
+    duplexed-left : Left (duplexedEntryOf c code restore saved s m)
+    duplexed-left =
+        let sys = set (set (s .sys) 2 restore) 3 saved in
+        let h : Systems sys = set-systems (set (s .sys) 2 restore) 3 saved (fepsw-system saved hs) (set-systems (s .sys) 2 restore (fepc-system restore (hr .word) (hr .even)) (g .systems)) in
+        let e : getD sys 4 0 % 65536 + code * 65536 < 2 ^ 32 = omega arith in
+        record {
+          generals = g .generals;
+          systems = set-systems sys 4 (getD sys 4 0 % 65536 + code * 65536) (ecr-system (getD sys 4 0 % 65536 + code * 65536) e) h;
+          address = record { word = omega arith; even = refl };
+          format = duplexed-format saved hs;
+          memories = g .memories;
+        }
+
+    regular-left : Left (regularEntryOf c code handler restore saved s m)
+    regular-left =
+        let sys = set (set (s .sys) 0 restore) 1 saved in
+        let h : Systems sys = set-systems (set (s .sys) 0 restore) 1 saved (eipsw-system saved hs) (set-systems (s .sys) 0 restore (eipc-system restore (hr .word) (hr .even)) (g .systems)) in
+        let w : getD sys 4 0 < 2 ^ 32 = h .each 4 .word in
+        let e : getD sys 4 0 / 65536 * 65536 + code < 2 ^ 32 = omega arith in
+        record {
+          generals = g .generals;
+          systems = set-systems sys 4 (getD sys 4 0 / 65536 * 65536 + code) (ecr-system (getD sys 4 0 / 65536 * 65536 + code) e) h;
+          address = hh;
+          format = regular-format saved hs;
+          memories = g .memories;
+        }
+
+    enter-left : Left (enterOf c code handler restore saved s m)
+    unfolding enterOf
+    enter-left =
+        pick-each Left (eqb (flagOf 32768 (s .psw)) 1) (fatalOf c s m) _ fatal-left
+        (pick-each Left (eqb (flagOf 16384 (s .psw)) 1) (duplexedEntryOf c code restore saved s m) (regularEntryOf c code handler restore saved s m) duplexed-left regular-left)
+
+-- an exception leaves an accepted machine
+pub raise-left : (c : Cause) (next : ℕ) (s : State) (m : Memory) → Address next → Good s m → Left (raiseOf c next s m)
+unfolding raiseOf
+raise-left c next s m hn g =
+    enter-left c s m g (codeOf c) (handlerOf c) (restoreOf c (s .pc) next) (s .psw) (code-small c) (handler-address c)
+    (restore-address c (s .pc) next (g .address) hn) (g .format)

@@ -1,0 +1,45 @@
+-- What holds of each number of a list still does after one is set, and what holds of both choices holds of the one
+-- chosen. Assumes nothing.
+use Prim.Native.Nat.{ℕ, zero, suc}
+use mathlib.Core.Bool.{Bool, true, false}
+use mathlib.Core.List.{List, [], _∷_, _++_}
+use native.Mathlib.Decide.{ℕ-discrete, decLt}
+use native.Mathlib.Omega.{arith}
+use lib.Dec.{eqb}
+use lib.ListN.{length, getD, set}
+use lib.Seq.{getD-set-same, getD-set-other, set-out}
+use Rattle.word.specs.Choose.{pick}
+use Rattle.processor_machine.specs.System.{rowOf}
+
+pub set-each : (P : ℕ → ℕ → Type 0) (l : List ℕ) (k v : ℕ) → ((j : ℕ) → P j (getD l j 0)) → P k v → (j : ℕ) → P j (getD (set l k v) j 0)
+set-each P l k v all new j =
+    elim (ℕ-discrete j k) [
+      | no ne ↦ rw (getD-set-other l k j v 0 ne) (all j)
+      | yes e ↦ elim (decLt k (length l)) [
+        | yes inside ↦ rw (e, getD-set-same l k v 0 inside) new
+        | no outside ↦ rw (set-out l k v (omega arith)) (all j)
+      ]
+    ]
+
+pub pick-each : {A : Type 0} (P : A → Type 0) (c : Bool) (a b : A) → P a → P b → P (pick c a b)
+pick-each P true a b p q = p
+pick-each P false a b p q = q
+
+-- something holds of each entry of a list
+abbrev pub Each : {A : Type 0} → (A → Type 0) → List A → Type 0
+Each P [] = Unit {0}
+Each P (a ∷ rest) = P a × Each P rest
+
+pub each-append : {A : Type 0} (P : A → Type 0) (xs ys : List A) → Each P xs → Each P ys → Each P (xs ++ ys)
+each-append P [] ys p q = q
+each-append P (x ∷ xs) ys p q = (p .0, each-append P xs ys (p .1) q)
+
+pub each-at : {A : Type 0} (P : A → Type 0) (xs : List A) (n : ℕ) (other : A) → Each P xs → P other → P (getD xs n other)
+each-at P [] n other p q = q
+each-at P (x ∷ xs) zero other p q = p .0
+each-at P (x ∷ xs) (suc n) other p q = each-at P xs n other (p .1) q
+
+-- and of each row of a table
+pub each-row : {A : Type 0} (P : A → Type 0) (n : ℕ) (rows : List (ℕ × A)) (other : A) → Each (λ (r : ℕ × A). P (r .1)) rows → P other → P (rowOf n rows other)
+each-row P n [] other p q = q
+each-row P n (r ∷ rs) other p q = pick-each P (eqb n (r .0)) (r .1) (rowOf n rs other) (p .0) (each-row P n rs other (p .1) q)

@@ -1,0 +1,125 @@
+-- A PSW stays within the bits of 0x000FF3FF: after results' flags, and with ID, EP, NP and AE set or cleared.
+use Prim.Native.Nat.{ℕ, _+_, _-_, _*_, _/_, _%_, _^_, _≤_, _<_}
+use mathlib.Core.Path.{_≡_, subst}
+use native.Mathlib.Omega.{arith}
+use lib.Dec.{eqb}
+use Rattle.processor_arithmetic.specs.Flag.{signOf, zeroOf, flagsOf, keepCarryOf, setIdOf, clearIdOf, setEpOf, setNpOf, clearAeOf, regularOf, duplexedOf}
+use Rattle.processor_arithmetic.specs.Bit.{bit-small}
+use Rattle.processor_machine.specs.System.{pswBitsOf}
+use Rattle.processor_laws.proofs.Invariant.{Format}
+
+pub kept-format : (v : ℕ) → Format (pswBitsOf v)
+unfolding pswBitsOf
+kept-format v = omega arith
+
+-- a PSW format is ten low bits, and eight from bit 12 on
+joined : (v high low : ℕ) → v ≡ high * 4096 + low → high < 256 → low < 1024 → Format v
+unfolding pswBitsOf
+joined v high low e hh hl =
+    let a : v % 1024 ≡ low = omega arith in
+    let b : v / 4096 ≡ high = omega arith in
+    let d : high % 256 ≡ high = omega arith in
+    let f : v / 4096 % 256 ≡ high = rw b d in
+    omega arith
+
+parted : (v : ℕ) → Format v → v ≡ v / 4096 * 4096 + v % 1024
+unfolding pswBitsOf
+parted v h = omega arith
+
+high-small : (v : ℕ) → Format v → v / 4096 < 256
+unfolding pswBitsOf
+high-small v h = omega arith
+
+-- the four low bits, and the three
+low-four : (psw r : ℕ) → Format psw → r < 16 → Format (psw / 16 * 16 + r)
+low-four psw r h hr =
+    let p = parted psw h in
+    let q = high-small psw h in
+    let l : psw % 1024 < 1024 = omega arith in
+    let e : psw / 16 ≡ psw / 4096 * 256 + psw % 1024 / 16 = omega arith in
+    joined (psw / 16 * 16 + r) (psw / 4096) (psw % 1024 / 16 * 16 + r) (omega arith) q (omega arith)
+
+low-three : (psw r : ℕ) → Format psw → r < 8 → Format (psw / 8 * 8 + r)
+low-three psw r h hr =
+    let p = parted psw h in
+    let q = high-small psw h in
+    let l : psw % 1024 < 1024 = omega arith in
+    let e : psw / 8 ≡ psw / 4096 * 512 + psw % 1024 / 8 = omega arith in
+    joined (psw / 8 * 8 + r) (psw / 4096) (psw % 1024 / 8 * 8 + r) (omega arith) q (omega arith)
+
+pub flags-format : (psw cy ov v : ℕ) → Format psw → cy < 2 → ov < 2 → v < 2 ^ 32 → Format (flagsOf psw cy ov v)
+unfolding flagsOf
+flags-format psw cy ov v h hc ho hv =
+    let hz : zeroOf v < 2 = bit-small (eqb v 0) in
+    let e : psw / 16 * 16 + (cy * 8 + ov * 4 + signOf v * 2 + zeroOf v) ≡ psw / 16 * 16 + cy * 8 + ov * 4 + signOf v * 2 + zeroOf v = omega arith in
+    subst Format e (low-four psw (cy * 8 + ov * 4 + signOf v * 2 + zeroOf v) h (omega arith))
+
+pub keep-carry-format : (psw ov v : ℕ) → Format psw → ov < 2 → v < 2 ^ 32 → Format (keepCarryOf psw ov v)
+unfolding keepCarryOf
+keep-carry-format psw ov v h ho hv =
+    let hz : zeroOf v < 2 = bit-small (eqb v 0) in
+    let e : psw / 8 * 8 + (ov * 4 + signOf v * 2 + zeroOf v) ≡ psw / 8 * 8 + ov * 4 + signOf v * 2 + zeroOf v = omega arith in
+    subst Format e (low-three psw (ov * 4 + signOf v * 2 + zeroOf v) h (omega arith))
+
+pub set-id-format : (psw : ℕ) → Format psw → Format (setIdOf psw)
+unfolding setIdOf
+set-id-format psw h = go (psw / 4096) (psw % 1024) (psw / 4096 % 2) (parted psw h) (omega arith) (high-small psw h) (omega arith)
+  where
+    go : (high low t : ℕ) → psw ≡ high * 4096 + low → t ≡ high / 1 % 2 → high < 256 → low < 1024 → Format (psw - t * 4096 + 4096)
+    go high low t e f hh hl =
+        let b : t * 1 ≤ high = omega arith in
+        let d : high - t * 1 + 1 < 256 = omega arith in
+        let g : psw - t * 4096 + 4096 ≡ (high - t * 1 + 1) * 4096 + low = omega arith in
+        joined (psw - t * 4096 + 4096) (high - t * 1 + 1) low g d hl
+
+pub clear-id-format : (psw : ℕ) → Format psw → Format (clearIdOf psw)
+unfolding clearIdOf
+clear-id-format psw h = go (psw / 4096) (psw % 1024) (psw / 4096 % 2) (parted psw h) (omega arith) (high-small psw h) (omega arith)
+  where
+    go : (high low t : ℕ) → psw ≡ high * 4096 + low → t ≡ high / 1 % 2 → high < 256 → low < 1024 → Format (psw - t * 4096)
+    go high low t e f hh hl =
+        let b : t * 1 ≤ high = omega arith in
+        let d : high - t * 1 < 256 = omega arith in
+        let g : psw - t * 4096 ≡ (high - t * 1) * 4096 + low = omega arith in
+        joined (psw - t * 4096) (high - t * 1) low g d hl
+
+set-ep-format : (psw : ℕ) → Format psw → Format (setEpOf psw)
+unfolding setEpOf
+set-ep-format psw h = go (psw / 4096) (psw % 1024) (psw / 16384 % 2) (parted psw h) (omega arith) (high-small psw h) (omega arith)
+  where
+    go : (high low t : ℕ) → psw ≡ high * 4096 + low → t ≡ high / 4 % 2 → high < 256 → low < 1024 → Format (psw - t * 16384 + 16384)
+    go high low t e f hh hl =
+        let b : t * 4 ≤ high = omega arith in
+        let d : high - t * 4 + 4 < 256 = omega arith in
+        let g : psw - t * 16384 + 16384 ≡ (high - t * 4 + 4) * 4096 + low = omega arith in
+        joined (psw - t * 16384 + 16384) (high - t * 4 + 4) low g d hl
+
+set-np-format : (psw : ℕ) → Format psw → Format (setNpOf psw)
+unfolding setNpOf
+set-np-format psw h = go (psw / 4096) (psw % 1024) (psw / 32768 % 2) (parted psw h) (omega arith) (high-small psw h) (omega arith)
+  where
+    go : (high low t : ℕ) → psw ≡ high * 4096 + low → t ≡ high / 8 % 2 → high < 256 → low < 1024 → Format (psw - t * 32768 + 32768)
+    go high low t e f hh hl =
+        let b : t * 8 ≤ high = omega arith in
+        let d : high - t * 8 + 8 < 256 = omega arith in
+        let g : psw - t * 32768 + 32768 ≡ (high - t * 8 + 8) * 4096 + low = omega arith in
+        joined (psw - t * 32768 + 32768) (high - t * 8 + 8) low g d hl
+
+clear-ae-format : (psw : ℕ) → Format psw → Format (clearAeOf psw)
+unfolding clearAeOf
+clear-ae-format psw h = go (psw / 4096) (psw % 1024) (psw / 8192 % 2) (parted psw h) (omega arith) (high-small psw h) (omega arith)
+  where
+    go : (high low t : ℕ) → psw ≡ high * 4096 + low → t ≡ high / 2 % 2 → high < 256 → low < 1024 → Format (psw - t * 8192)
+    go high low t e f hh hl =
+        let b : t * 2 ≤ high = omega arith in
+        let d : high - t * 2 < 256 = omega arith in
+        let g : psw - t * 8192 ≡ (high - t * 2) * 4096 + low = omega arith in
+        joined (psw - t * 8192) (high - t * 2) low g d hl
+
+pub regular-format : (psw : ℕ) → Format psw → Format (regularOf psw)
+unfolding regularOf
+regular-format psw h = clear-ae-format _ (set-id-format _ (set-ep-format psw h))
+
+pub duplexed-format : (psw : ℕ) → Format psw → Format (duplexedOf psw)
+unfolding duplexedOf
+duplexed-format psw h = clear-ae-format _ (set-id-format _ (set-np-format psw h))

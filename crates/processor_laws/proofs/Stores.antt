@@ -1,0 +1,136 @@
+-- A store leaves bytes, and a load of bytes fits its size.
+use Prim.Native.Nat.{ℕ, _+_, _-_, _*_, _/_, _%_, _^_, _<_}
+use mathlib.Core.List.{List}
+use mathlib.Core.Path.{_∙_}
+use native.Mathlib.Omega.{arith}
+use lib.ListN.{set}
+use Rattle.word.specs.Extend.{extended-word}
+use Rattle.bus.specs.Place.{Place, vramAt, wramAt, pakAt, romAt, drawingAt, versionAt, silent, unlisted, unmapped, soundUnit, hardware, nothing, expansion}
+use Rattle.bus.specs.Memory.{Memory, readPlace, byteOf, loadOf, putPlace, putDrawing, placeIn, putByte, putRegister, putHalfword, storeByteOf, storeHalfOf, storeWordOf}
+use Rattle.bus.proofs.Kept.{Shape, store-byte-shape, store-half-shape, store-word-shape, shape-accepted}
+use Rattle.processor_decode.specs.declared.Width.{Width}
+use Rattle.processor_decode.specs.declared.Width.the-variants.{Byte, Half, Word}
+use Rattle.processor_execute.specs.Transfer.{loadedOf, inputOf, storedOf}
+use Rattle.processor_laws.specs.Accepted.{Below}
+use Rattle.processor_laws.proofs.Lists.{set-each}
+use Rattle.processor_laws.proofs.Invariant.{Bytes, Memories}
+
+set-below : (l : List ℕ) (k v : ℕ) → Below 256 l → v < 256 → Below 256 (set l k v)
+set-below l k v h hv = set-each (λ (j x : ℕ). x < 256) l k v h hv
+
+place-bytes : (m : Memory) (p : Place) (b : ℕ) → b < 256 → Bytes m → Bytes (putPlace m p b)
+place-bytes m (vramAt i) b hb h =
+    record { rom = h .rom; wram = h .wram; vram = set-below (m .vram) i b (h .vram) hb; pak = h .pak }
+place-bytes m (wramAt i) b hb h =
+    record { rom = h .rom; wram = set-below (m .wram) i b (h .wram) hb; vram = h .vram; pak = h .pak }
+place-bytes m (pakAt i) b hb h =
+    record { rom = h .rom; wram = h .wram; vram = h .vram; pak = set-below (m .pak) i b (h .pak) hb }
+place-bytes m (romAt i) b hb h = h
+place-bytes m (drawingAt k x) b hb h = h
+place-bytes m (versionAt x) b hb h = h
+place-bytes m silent b hb h = h
+place-bytes m unlisted b hb h = h
+place-bytes m unmapped b hb h = h
+place-bytes m soundUnit b hb h = h
+place-bytes m hardware b hb h = h
+place-bytes m nothing b hb h = h
+place-bytes m expansion b hb h = h
+
+drawing-bytes : (m : Memory) (p : Place) (v : ℕ) → Bytes m → Bytes (putDrawing m p v)
+drawing-bytes m (vramAt i) v h = h
+drawing-bytes m (wramAt i) v h = h
+drawing-bytes m (pakAt i) v h = h
+drawing-bytes m (romAt i) v h = h
+drawing-bytes m (drawingAt k x) v h = record { rom = h .rom; wram = h .wram; vram = h .vram; pak = h .pak }
+drawing-bytes m (versionAt x) v h = h
+drawing-bytes m silent v h = h
+drawing-bytes m unlisted v h = h
+drawing-bytes m unmapped v h = h
+drawing-bytes m soundUnit v h = h
+drawing-bytes m hardware v h = h
+drawing-bytes m nothing v h = h
+drawing-bytes m expansion v h = h
+
+byte-bytes : (m : Memory) (a v : ℕ) → Bytes m → Bytes (putByte m a v)
+unfolding putByte
+byte-bytes m a v h = place-bytes m (placeIn m a) (v % 256) (omega arith) h
+
+register-bytes : (m : Memory) (a v : ℕ) → Bytes m → Bytes (putRegister m a v)
+unfolding putRegister
+register-bytes m a v h = drawing-bytes m (placeIn m a) (v % 65536) h
+
+halfword-bytes : (m : Memory) (a v : ℕ) → Bytes m → Bytes (putHalfword m a v)
+unfolding putHalfword
+halfword-bytes m a v h =
+    let n = putByte m a v in
+    register-bytes (putByte n (a + 1) (v / 256)) a v (byte-bytes n (a + 1) (v / 256) (byte-bytes m a v h))
+
+store-byte-bytes : (m : Memory) (a v : ℕ) → Bytes m → Bytes (storeByteOf m a v)
+unfolding storeByteOf
+store-byte-bytes m a v h = register-bytes (putByte m a v) a v (byte-bytes m a v h)
+
+store-half-bytes : (m : Memory) (a v : ℕ) → Bytes m → Bytes (storeHalfOf m a v)
+unfolding storeHalfOf
+store-half-bytes m a v h = halfword-bytes m (a - a % 2) v h
+
+store-word-bytes : (m : Memory) (a v : ℕ) → Bytes m → Bytes (storeWordOf m a v)
+unfolding storeWordOf
+store-word-bytes m a v h =
+    halfword-bytes (putHalfword m (a - a % 4) v) (a - a % 4 + 2) (v / 65536) (halfword-bytes m (a - a % 4) v h)
+
+-- lengths and widths are the bus's laws
+shape-memories : (m n : Memory) → Shape m n → Bytes n → Memories m → Memories n
+shape-memories m n p b h =
+    record { bytes = b; drawing = p .same-regs ∙ h .drawing; verdict = shape-accepted m n p (h .verdict) }
+
+pub stored-memories : (m : Memory) (w : Width) (a v : ℕ) → Memories m → Memories (storedOf m w a v)
+stored-memories m Byte a v h =
+    shape-memories m (storeByteOf m a v) (store-byte-shape m a v) (store-byte-bytes m a v (h .bytes)) h
+stored-memories m Half a v h =
+    shape-memories m (storeHalfOf m a v) (store-half-shape m a v) (store-half-bytes m a v (h .bytes)) h
+stored-memories m Word a v h =
+    shape-memories m (storeWordOf m a v) (store-word-shape m a v) (store-word-bytes m a v (h .bytes)) h
+
+read-byte : (m : Memory) (p : Place) → Bytes m → readPlace m p < 256
+read-byte m (vramAt i) h = h .vram i
+read-byte m (wramAt i) h = h .wram i
+read-byte m (pakAt i) h = h .pak i
+read-byte m (romAt i) h = h .rom i
+read-byte m (drawingAt k b) h = omega arith
+read-byte m (versionAt b) h = omega arith
+read-byte m silent h = omega arith
+read-byte m unlisted h = omega arith
+read-byte m unmapped h = omega arith
+read-byte m soundUnit h = omega arith
+read-byte m hardware h = omega arith
+read-byte m nothing h = omega arith
+read-byte m expansion h = omega arith
+
+module _ (m : Memory) (h : Bytes m) where
+  byte-small : (a : ℕ) → byteOf m a < 256
+  unfolding byteOf
+  byte-small a = read-byte m (placeIn m a) h
+
+  load-byte : (a : ℕ) → loadOf m 1 a < 256
+  unfolding loadOf
+  load-byte a = omega (arith, byte-small (a - a % 1))
+
+  pub load-half : (a : ℕ) → loadOf m 2 a < 65536
+  unfolding loadOf
+  load-half a = omega (arith, byte-small (a - a % 2), byte-small (a - a % 2 + 1))
+
+  load-word : (a : ℕ) → loadOf m 4 a < 2 ^ 32
+  unfolding loadOf
+  load-word a =
+      let s = a - a % 4 in
+      omega (arith, byte-small s, byte-small (s + 1), byte-small (s + 1 + 1), byte-small (s + 1 + 1 + 1))
+
+pub loaded-word : (m : Memory) (w : Width) (a : ℕ) → Bytes m → loadedOf m w a < 2 ^ 32
+loaded-word m Byte a h = extended-word 128 (loadOf m 1 a) (omega arith) (load-byte m h a)
+loaded-word m Half a h = extended-word 32768 (loadOf m 2 a) (omega arith) (load-half m h a)
+loaded-word m Word a h = load-word m h a
+
+pub input-word : (m : Memory) (w : Width) (a : ℕ) → Bytes m → inputOf m w a < 2 ^ 32
+input-word m Byte a h = omega (arith, load-byte m h a)
+input-word m Half a h = omega (arith, load-half m h a)
+input-word m Word a h = load-word m h a

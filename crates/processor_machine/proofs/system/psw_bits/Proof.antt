@@ -1,0 +1,19 @@
+-- `processor_machine::system::psw_bits`: the definition's own arithmetic.
+use native.Mathlib.Omega.{arith}
+use borrow.Author.Needs.{needs}
+use Rattle.processor_machine.specs.System.{pswBitsOf}
+use Rattle.processor_machine.proofs.system.psw_bits.Statement.{statement}
+use Rattle.processor_machine.proofs.system.psw_bits.Tie as tie
+
+mul-result : tie.Need-mul-result
+mul-result c = search needs
+
+add-result : tie.Need-add-result
+add-result c = search needs
+
+returns : tie.Need-returns
+unfolding pswBitsOf
+returns c = omega arith
+
+pub psw-bits-spec : {M : Type 1} → statement M
+psw-bits-spec = tie.close (tie.spec mul-result add-result returns)

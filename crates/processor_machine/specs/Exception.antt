@@ -1,0 +1,58 @@
+-- Exceptions (document 000, "Exception Processing", "List of Exceptions"; paper 01): the code, handler and restore PC
+-- of each cause, and the one entry that all of them take.
+use Prim.Native.Nat.{ℕ, _+_, _*_, _/_, _%_}
+use lib.Dec.{ltb, eqb}
+use lib.ListN.{getD, set}
+use Rattle.word.specs.Choose.{pick}
+use Rattle.processor_arithmetic.specs.Flag.{flagOf, regularOf, duplexedOf}
+use Rattle.bus.specs.Memory.{Memory}
+use Rattle.processor_machine.specs.State.{State, Stepped, stateOf, steppedOf}
+use Rattle.processor_machine.specs.declared.Mode.the-variants.{Fatal}
+use Rattle.processor_machine.specs.declared.Cause.{Cause}
+use Rattle.processor_machine.specs.declared.Cause.the-variants.{ZeroDivision, Illegal, Trap}
+use Rattle.processor_machine.specs.declared.Answer.the-variants.{Trapped, TurnedFatal}
+
+-- the code; a vector has five bits
+abbrev pub codeOf : Cause → ℕ
+codeOf ZeroDivision = 0xFF80
+codeOf Illegal = 0xFF90
+codeOf (Trap vector) = 0xFFA0 + vector % 32
+
+-- the handler's address
+abbrev pub handlerOf : Cause → ℕ
+handlerOf ZeroDivision = 0xFFFFFF80
+handlerOf Illegal = 0xFFFFFF90
+handlerOf (Trap vector) = pick (ltb (vector % 32) 16) 0xFFFFFFA0 0xFFFFFFB0
+
+-- the restore PC, of an instruction at pc whose next is at `next`
+abbrev pub restoreOf : Cause → ℕ → ℕ → ℕ
+restoreOf ZeroDivision pc next = pc
+restoreOf Illegal pc next = pc
+restoreOf (Trap vector) pc next = next
+
+-- an exception with NP set: "mode fatal, nothing else changes"
+abbrev pub fatalOf : Cause → State → Memory → Stepped
+fatalOf cause s m = steppedOf (TurnedFatal cause) (stateOf (s .regs) (s .sys) (s .pc) (s .psw) Fatal) m
+
+-- a duplexed exception: FEPC, FEPSW and the high half of ECR are filled
+abbrev pub duplexedEntryOf : Cause → ℕ → ℕ → ℕ → State → Memory → Stepped
+duplexedEntryOf cause code restore saved s m =
+    let sys = set (set (s .sys) 2 restore) 3 saved in
+    steppedOf (Trapped cause) (stateOf (s .regs) (set sys 4 (getD sys 4 0 % 65536 + code * 65536)) 0xFFFFFFD0 (duplexedOf saved) (s .mode)) m
+
+-- a regular exception: EIPC, EIPSW and the low half of ECR are filled
+abbrev pub regularEntryOf : Cause → ℕ → ℕ → ℕ → ℕ → State → Memory → Stepped
+regularEntryOf cause code handler restore saved s m =
+    let sys = set (set (s .sys) 0 restore) 1 saved in
+    steppedOf (Trapped cause) (stateOf (s .regs) (set sys 4 (getD sys 4 0 / 65536 * 65536 + code)) handler (regularOf saved) (s .mode)) m
+
+-- the entry, by NP (bit 15) and EP (bit 14): `saved` is the PSW that is saved
+unfoldable pub enterOf : Cause → ℕ → ℕ → ℕ → ℕ → State → Memory → Stepped
+enterOf cause code handler restore saved s m =
+    pick (eqb (flagOf 32768 (s .psw)) 1) (fatalOf cause s m)
+    (pick (eqb (flagOf 16384 (s .psw)) 1) (duplexedEntryOf cause code restore saved s m)
+    (regularEntryOf cause code handler restore saved s m))
+
+-- an exception of the instruction at PC
+unfoldable pub raiseOf : Cause → ℕ → State → Memory → Stepped
+raiseOf cause next s m = enterOf cause (codeOf cause) (handlerOf cause) (restoreOf cause (s .pc) next) (s .psw) s m

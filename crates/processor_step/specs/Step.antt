@@ -1,0 +1,49 @@
+-- A step (paper 01, "Instructions"): the instruction at PC is fetched once, decoded and executed. In halted or fatal
+-- mode a step "does nothing and says which"; an instruction that is not modelled is refusal 6.
+use Prim.Native.Nat.{ℕ, _+_, _%_, _^_}
+use mathlib.Core.Bool.{Bool}
+use Rattle.word.specs.Choose.{pick}
+use Rattle.bus.specs.Memory.{Memory, loadOf}
+use Rattle.refusal.specs.declared.Refusal as refusal
+use Rattle.processor_decode.specs.Format.{twoOf}
+use Rattle.processor_decode.specs.Opcode.{decodeOf}
+use Rattle.processor_decode.specs.declared.Decoded.{Decoded}
+use Rattle.processor_decode.specs.declared.Decoded.the-variants.{Modelled, NotModelled}
+use Rattle.processor_machine.specs.State.{State, Stepped, steppedOf}
+use Rattle.processor_execute.specs.Execute.{executeOf}
+use Rattle.processor_machine.specs.declared.Mode.{Mode}
+use Rattle.processor_machine.specs.declared.Mode.the-variants.{Running, Halted, Fatal}
+use Rattle.processor_machine.specs.declared.Answer.the-variants.{WasHalted, WasFatal, Refused}
+
+-- the first halfword, at PC
+abbrev pub firstOf : ℕ → Memory → ℕ
+firstOf pc m = loadOf m 2 pc
+
+-- the second halfword, read where the first asks for it; PC arithmetic wraps
+unfoldable pub secondOf : Bool → ℕ → Memory → ℕ
+secondOf two pc m = pick two (loadOf m 2 ((pc + 2) % 2 ^ 32)) 0
+
+-- the address of the following instruction
+unfoldable pub nextOf : Bool → ℕ → ℕ
+nextOf two pc = pick two ((pc + 4) % 2 ^ 32) ((pc + 2) % 2 ^ 32)
+
+-- what the decoded instruction does
+abbrev pub performOf : Decoded → ℕ → State → Memory → Stepped
+performOf (Modelled i) next s m = executeOf i next s m
+performOf NotModelled next s m = steppedOf (Refused refusal.the-variants.NotModelled) s m
+
+-- a step in running mode
+unfoldable pub runningStepOf : State → Memory → Stepped
+runningStepOf s m =
+    let first = firstOf (s .pc) m in
+    let two = twoOf first in
+    performOf (decodeOf first (secondOf two (s .pc) m)) (nextOf two (s .pc)) s m
+
+-- a step, by the mode
+abbrev pub stepInOf : Mode → State → Memory → Stepped
+stepInOf Running s m = runningStepOf s m
+stepInOf Halted s m = steppedOf WasHalted s m
+stepInOf Fatal s m = steppedOf WasFatal s m
+
+unfoldable pub stepOf : State → Memory → Stepped
+stepOf s m = stepInOf (s .mode) s m

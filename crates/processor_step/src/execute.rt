@@ -1,0 +1,156 @@
+// What each instruction does: `next` is the address of the following one.
+use bus::Device;
+use processor_decode::Instruction;
+use processor_execute::compute;
+use processor_execute::jump;
+use processor_execute::memory;
+use processor_machine::Control;
+use processor_machine::Mode;
+ghost use lib.ListN.{length};
+ghost use mathlib.Core.Path.{_≡_};
+ghost use Rattle.bus.specs.Memory.{memoryOf, Lengths};
+ghost use Rattle.processor_machine.specs.State.{stateOf, leaves};
+ghost use Rattle.processor_execute.specs.Execute.{executeOf};
+
+pub fn execute(
+    rom: &[u8],
+    wram: &mut [u8],
+    vram: &mut [u8],
+    pak: &mut [u8],
+    device: &mut Device,
+    regs: &mut [u32; 32],
+    sys: &mut [u32; 8],
+    i: Instruction,
+    pc: u32,
+    next: u32,
+    psw: u32,
+) -> Control
+    requires { ⌜ Lengths (length (now rom)) (length (now wram)) (length (now vram)) (length (now pak)) ⌝ }
+    ensures { λ r. ⌜ leaves (now (regs .exit)) (now (sys .exit)) r (memoryOf (now (rom .entry)) (now (wram .exit)) (now (vram .exit)) (now (pak .exit)) (now (device .exit))) ≡ executeOf i next (stateOf (now (regs .entry)) (now (sys .entry)) pc psw Mode.Running) (memoryOf (now (rom .entry)) (now (wram .entry)) (now (vram .entry)) (now (pak .entry)) (now (device .entry))) ⌝ }
+{
+    match i {
+        Instruction::Register { op, reg1, reg2 } => compute::register(
+            regs,
+            op,
+            reg1,
+            reg2,
+            next,
+            psw,
+        ),
+        Instruction::Mul { reg1, reg2 } => compute::mul(regs, reg1, reg2, next, psw),
+        Instruction::Div { reg1, reg2 } => compute::div(regs, sys, reg1, reg2, pc, next, psw),
+        Instruction::Mulu { reg1, reg2 } => compute::mulu(regs, reg1, reg2, next, psw),
+        Instruction::Divu { reg1, reg2 } => compute::divu(regs, sys, reg1, reg2, pc, next, psw),
+        Instruction::Jmp { reg1 } => jump::jmp(regs, reg1, psw),
+        Instruction::Immediate { op, imm, reg2 } => compute::immediate(
+            regs,
+            op,
+            imm,
+            reg2,
+            next,
+            psw,
+        ),
+        Instruction::Setf { cond, reg2 } => compute::setf(regs, cond, reg2, next, psw),
+        Instruction::Cli => jump::cli(next, psw),
+        Instruction::Sei => jump::sei(next, psw),
+        Instruction::Trap { vector } => jump::trap(sys, vector, pc, next, psw),
+        Instruction::Reti => jump::reti(sys, psw),
+        Instruction::Halt => jump::halt(next, psw),
+        Instruction::Ldsr { reg2, id } => jump::ldsr(regs, sys, reg2, id, next, psw),
+        Instruction::Stsr { id, reg2 } => jump::stsr(regs, sys, id, reg2, next, psw),
+        Instruction::Bcond { cond, disp } => jump::bcond(cond, disp, pc, next, psw),
+        Instruction::Jr { disp } => jump::jr(disp, pc, psw),
+        Instruction::Jal { disp } => jump::jal(regs, disp, pc, psw),
+        Instruction::Long {
+            op,
+            imm,
+            reg1,
+            reg2,
+        } => compute::long(regs, op, imm, reg1, reg2, next, psw),
+        Instruction::Load {
+            width,
+            disp,
+            reg1,
+            reg2,
+        } => {
+            memory::load(
+                rom,
+                wram,
+                vram,
+                pak,
+                device,
+                regs,
+                width,
+                disp,
+                reg1,
+                reg2,
+                next,
+                psw,
+            )
+        }
+        Instruction::In {
+            width,
+            disp,
+            reg1,
+            reg2,
+        } => {
+            memory::input(
+                rom,
+                wram,
+                vram,
+                pak,
+                device,
+                regs,
+                width,
+                disp,
+                reg1,
+                reg2,
+                next,
+                psw,
+            )
+        }
+        Instruction::Store {
+            width,
+            disp,
+            reg1,
+            reg2,
+        } => {
+            memory::store(
+                rom,
+                wram,
+                vram,
+                pak,
+                device,
+                regs,
+                width,
+                disp,
+                reg1,
+                reg2,
+                next,
+                psw,
+            )
+        }
+        Instruction::Out {
+            width,
+            disp,
+            reg1,
+            reg2,
+        } => {
+            memory::output(
+                rom,
+                wram,
+                vram,
+                pak,
+                device,
+                regs,
+                width,
+                disp,
+                reg1,
+                reg2,
+                next,
+                psw,
+            )
+        }
+        Instruction::Illegal => jump::illegal(sys, pc, next, psw),
+    }
+}

@@ -1,0 +1,137 @@
+// A step: the instruction at PC is fetched once, decoded and executed.
+use crate::execute::execute;
+use bus::Device;
+use processor_decode::Decoded;
+use processor_machine::Answer;
+use processor_machine::Control;
+use processor_machine::Mode;
+use refusal::Refusal;
+ghost use lib.ListN.{length};
+ghost use mathlib.Core.Path.{_≡_};
+ghost use Rattle.bus.specs.Memory.{memoryOf, Lengths};
+ghost use Rattle.processor_machine.specs.State.{stateOf, leaves};
+ghost use Rattle.processor_step.specs.Step.{firstOf, secondOf, nextOf, stepOf, runningStepOf};
+
+// The halfword at an address. The memories are lent as a step has them, so that no slice is copied on the short ways.
+fn half(
+    rom: &[u8],
+    wram: &mut [u8],
+    vram: &mut [u8],
+    pak: &mut [u8],
+    device: &mut Device,
+    pc: u32,
+) -> u16
+    requires { ⌜ Lengths (length (now rom)) (length (now wram)) (length (now vram)) (length (now pak)) ⌝ }
+    ensures value { λ r. ⌜ r ≡ firstOf pc (memoryOf (now (rom .entry)) (now (wram .entry)) (now (vram .entry)) (now (pak .entry)) (now (device .entry))) ⌝ }
+    ensures kept { λ r. ⌜ memoryOf (now (rom .entry)) (now (wram .exit)) (now (vram .exit)) (now (pak .exit)) (now (device .exit)) ≡ memoryOf (now (rom .entry)) (now (wram .entry)) (now (vram .entry)) (now (pak .entry)) (now (device .entry)) ⌝ }
+{
+    let region = pc / 16777216 % 8;
+    if region == 7 {
+        return bus::load::rom_half(rom, pc) as u16;
+    }
+    if region == 5 {
+        return bus::load::wram_half(wram, pc) as u16;
+    }
+    let v = bus::load::half(rom, wram, vram, pak, device, pc);
+    v.value as u16
+}
+
+// The second halfword, where the first asks for it.
+fn second(
+    rom: &[u8],
+    wram: &mut [u8],
+    vram: &mut [u8],
+    pak: &mut [u8],
+    device: &mut Device,
+    pc: u32,
+    two: bool,
+) -> u16
+    requires { ⌜ Lengths (length (now rom)) (length (now wram)) (length (now vram)) (length (now pak)) ⌝ }
+    ensures value { λ r. ⌜ r ≡ secondOf two pc (memoryOf (now (rom .entry)) (now (wram .entry)) (now (vram .entry)) (now (pak .entry)) (now (device .entry))) ⌝ }
+    ensures kept { λ r. ⌜ memoryOf (now (rom .entry)) (now (wram .exit)) (now (vram .exit)) (now (pak .exit)) (now (device .exit)) ≡ memoryOf (now (rom .entry)) (now (wram .entry)) (now (vram .entry)) (now (pak .entry)) (now (device .entry)) ⌝ }
+{
+    if !two {
+        return 0;
+    }
+    half(
+        rom,
+        wram,
+        vram,
+        pak,
+        device,
+        std::num::wrapping_add_u32(pc, 2),
+    )
+}
+
+// The address of the following instruction.
+fn following(pc: u32, two: bool) -> u32
+    ensures { λ r. ⌜ r ≡ nextOf two pc ⌝ }
+{
+    if two {
+        return std::num::wrapping_add_u32(pc, 4);
+    }
+    std::num::wrapping_add_u32(pc, 2)
+}
+
+// A step in running mode.
+fn running(
+    rom: &[u8],
+    wram: &mut [u8],
+    vram: &mut [u8],
+    pak: &mut [u8],
+    device: &mut Device,
+    regs: &mut [u32; 32],
+    sys: &mut [u32; 8],
+    pc: u32,
+    psw: u32,
+) -> Control
+    requires { ⌜ Lengths (length (now rom)) (length (now wram)) (length (now vram)) (length (now pak)) ⌝ }
+    ensures { λ r. ⌜ leaves (now (regs .exit)) (now (sys .exit)) r (memoryOf (now (rom .entry)) (now (wram .exit)) (now (vram .exit)) (now (pak .exit)) (now (device .exit))) ≡ runningStepOf (stateOf (now (regs .entry)) (now (sys .entry)) pc psw Mode.Running) (memoryOf (now (rom .entry)) (now (wram .entry)) (now (vram .entry)) (now (pak .entry)) (now (device .entry))) ⌝ }
+{
+    let first = half(rom, wram, vram, pak, device, pc);
+    let two = processor_decode::two(first);
+    let second = second(rom, wram, vram, pak, device, pc, two);
+    let next = following(pc, two);
+    match processor_decode::decode(first, second) {
+        Decoded::Modelled(i) => execute(rom, wram, vram, pak, device, regs, sys, i, pc, next, psw),
+        Decoded::NotModelled => Control {
+            pc,
+            psw,
+            mode: Mode::Running,
+            answer: Answer::Refused(Refusal::NotModelled),
+        },
+    }
+}
+
+// A step in any mode.
+pub fn step(
+    rom: &[u8],
+    wram: &mut [u8],
+    vram: &mut [u8],
+    pak: &mut [u8],
+    device: &mut Device,
+    regs: &mut [u32; 32],
+    sys: &mut [u32; 8],
+    pc: u32,
+    psw: u32,
+    mode: Mode,
+) -> Control
+    requires { ⌜ Lengths (length (now rom)) (length (now wram)) (length (now vram)) (length (now pak)) ⌝ }
+    ensures { λ r. ⌜ leaves (now (regs .exit)) (now (sys .exit)) r (memoryOf (now (rom .entry)) (now (wram .exit)) (now (vram .exit)) (now (pak .exit)) (now (device .exit))) ≡ stepOf (stateOf (now (regs .entry)) (now (sys .entry)) pc psw mode) (memoryOf (now (rom .entry)) (now (wram .entry)) (now (vram .entry)) (now (pak .entry)) (now (device .entry))) ⌝ }
+{
+    match mode {
+        Mode::Running => running(rom, wram, vram, pak, device, regs, sys, pc, psw),
+        Mode::Halted => Control {
+            pc,
+            psw,
+            mode: Mode::Halted,
+            answer: Answer::WasHalted,
+        },
+        Mode::Fatal => Control {
+            pc,
+            psw,
+            mode: Mode::Fatal,
+            answer: Answer::WasFatal,
+        },
+    }
+}
