@@ -109,9 +109,10 @@ fn deliver_3_compare_groups_differing_pixels_by_what_wins_there() {
         .map(|line| line.split_whitespace().next().unwrap().replace(',', "").parse().unwrap())
         .collect();
     assert_eq!(counts.iter().sum::<u64>(), 10_307, "{}", ran.text);
-    assert!(counts.windows(2).all(|pair| pair[0] >= pair[1]), "{}", ran.text);
+    assert!(counts[..10].windows(2).all(|pair| pair[0] >= pair[1]), "{}", ran.text);
+    assert_eq!((counts.len(), shares[10].ends_with(" others")), (11, true), "{}", ran.text);
     // each group's first pixel is given by what the group names
-    for line in shares {
+    for line in &shares[..10] {
         let words: Vec<&str> = line.split(|c: char| c == ',' || c.is_whitespace()).collect();
         let after = |name: &str| words[words.iter().rposition(|w| *w == name).unwrap() + 1];
         let why = folder.vbmodel(&format!("why left {} {} {SCENE}", after("column"), after("row")));
@@ -126,5 +127,7 @@ fn deliver_3_compare_groups_differing_pixels_by_what_wins_there() {
     let json = folder.vbmodel(&format!("{compare} --json"));
     let value: Value = serde_json::from_str(&json.text).unwrap();
     assert_eq!(value["eyes"][0]["models_agree"], true);
-    assert_eq!(value["eyes"][0]["why"].as_array().unwrap().len(), counts.len());
+    let all = value["eyes"][0]["why"].as_array().unwrap();
+    let pixels: u64 = all.iter().map(|share| share["pixels"].as_u64().unwrap()).sum();
+    assert!(all.len() > 10 && pixels == 10_307, "{} of {pixels}", all.len());
 }

@@ -23,6 +23,9 @@ use crate::scene::{Read, Scene};
 pub const CAPTURE: &str =
     "a capture: a raw frame buffer of 24,576 bytes, a whole VRAM of 262,144, or a PNG";
 
+/// How many worlds and objects are listed; the JSON has all.
+const LISTED: usize = 10;
+
 #[derive(Args)]
 #[command(after_help = "Example: a picture against the model's, then the pixel that differs
   vbmodel demo
@@ -227,9 +230,14 @@ impl EyeTold {
     fn why_text(&self) -> String {
         let Some(shares) = &self.why else { return String::new() };
         let mut text = "  by what the model shows there:\n".to_string();
-        for Share { what, pixels, column, row, .. } in shares {
+        for Share { what, pixels, column, row, .. } in shares.iter().take(LISTED) {
             let pixels = grouped(*pixels as u64);
             text += &format!("    {pixels:>6}  {what}, first at column {column}, row {row}\n");
+        }
+        let more = &shares[shares.len().min(LISTED)..];
+        if !more.is_empty() {
+            let pixels = grouped(more.iter().map(|share| share.pixels as u64).sum());
+            text += &format!("    {pixels:>6}  {} others\n", more.len());
         }
         if self.models_agree == Some(false) {
             text += &format!("  the independent model has other values there: {FAULT}\n");

@@ -1,0 +1,66 @@
+//! README as a new user follows it: its commands are run as they are printed, and they print what it shows.
+
+mod common;
+
+use std::fs;
+use std::os::unix::fs::symlink;
+use std::path::Path;
+
+use common::Folder;
+
+/// A section's commands, and what it shows of the last one before each block of text.
+fn blocks(title: &str) -> Vec<(Vec<String>, String)> {
+    let readme = Path::new(env!("CARGO_MANIFEST_DIR")).join("../README.md");
+    let readme = fs::read_to_string(readme).unwrap();
+    let section = readme.split(&format!("\n## {title}\n")).nth(1).expect("a section of README");
+    let section = section.split("\n## ").next().unwrap();
+    let (mut all, mut commands, mut shown) = (Vec::new(), Vec::new(), None::<String>);
+    for line in section.lines() {
+        match (&mut shown, line) {
+            (None, "```text") => shown = Some(String::new()),
+            (Some(text), "```") => {
+                all.push((std::mem::take(&mut commands), std::mem::take(text)));
+                shown = None;
+            }
+            (Some(text), line) => *text += &format!("{line}\n"),
+            (None, line) => commands.extend(line.strip_prefix("    ").map(str::to_string)),
+        }
+    }
+    all.push((commands, String::new()));
+    all
+}
+
+/// Runs a section's commands in a folder where `./vbmodel` is the tool.
+fn follow(folder: &Folder, title: &str) {
+    for (commands, shown) in blocks(title) {
+        let mut last = String::new();
+        for command in &commands {
+            let ran = folder.shell(command);
+            assert!(ran.status < 2, "{command}: {}", ran.error);
+            last = ran.text;
+        }
+        assert!(last.starts_with(&shown), "{commands:?} prints\n{last}\nand README shows\n{shown}");
+    }
+}
+
+fn repository(name: &str) -> Folder {
+    let folder = Folder::new(name);
+    symlink(env!("CARGO_BIN_EXE_vbmodel"), folder.path("vbmodel")).unwrap();
+    folder
+}
+
+#[test]
+fn done_when_readme_leads_from_a_folder_of_captures_to_a_report() {
+    let folder = repository("readme-judge");
+    follow(&folder, "Judging a lot");
+    let page = String::from_utf8(folder.read("report.html")).unwrap();
+    assert!(page.contains("<h2>die-2: different</h2>"));
+}
+
+#[test]
+fn done_when_readme_compares_and_follows_as_it_shows() {
+    let folder = repository("readme-compare");
+    assert_eq!(folder.shell("./vbmodel demo").status, 0);
+    follow(&folder, "Comparing a capture");
+    follow(&folder, "Following a program");
+}
