@@ -4,14 +4,18 @@
 mod assembler;
 mod called;
 mod capture;
+mod changes;
 mod commands;
 mod demo;
 mod difference;
 mod explain;
 mod failure;
 mod files;
+mod follow;
+mod givers;
 mod interrupt;
 mod json;
+mod judge;
 mod number;
 mod picture;
 mod progress;
@@ -22,7 +26,7 @@ mod state;
 use std::ffi::OsString;
 use std::io::{stderr, stdout, ErrorKind, Write};
 
-use clap::{Parser, Subcommand};
+use clap::{CommandFactory, Parser, Subcommand};
 
 use commands::Report;
 use failure::Failure;
@@ -36,8 +40,8 @@ use json::json;
     after_help = "Start with `vbmodel demo`; `vbmodel help COMMAND` has an example for each command.
 Numbers are decimal or, after 0x, hexadecimal; `_` may stand between digits. The file `-` is standard input.
 
-Exit status: 0 done (compare: equal); 1 compare: different; 2 refused or bad input; 3 why: the independent model and the
-proved library differ; 130 stopped by Ctrl-C."
+Exit status: 0 done (compare, judge: equal); 1 compare, judge: different; 2 refused or bad input; 3 why, compare --why,
+judge: the independent model and the proved library differ; 130 stopped by Ctrl-C."
 )]
 struct Cli {
     #[command(subcommand)]
@@ -50,21 +54,31 @@ enum Command {
     Demo(commands::demo::Options),
     /// Runs a program from memory images and prints the answer, the count and the registers
     Run(Box<commands::run::Options>),
+    /// Follows a program: what each instruction does to registers and memory
+    Step(Box<commands::step::Options>),
     /// Draws a frame from VRAM and drawing registers and writes PNGs
     Draw(commands::draw::Options),
     /// Compares the model's frame with a die's capture of it
     Compare(commands::compare::Options),
+    /// Judges a whole lot: many captures against the model, with a report
+    Judge(commands::judge::Options),
     /// Tells which worlds and objects cover a pixel, and the bytes it answers to
     Why(commands::why::Options),
+    /// Prints completions for a shell
+    Completions(commands::pages::Completions),
+    /// Prints the manual page
+    Man(commands::pages::Man),
 }
 
 impl Command {
     fn json(&self) -> bool {
         match self {
-            Command::Demo(_) => false,
+            Command::Demo(_) | Command::Completions(_) | Command::Man(_) => false,
             Command::Run(options) => options.json,
+            Command::Step(options) => options.json,
             Command::Draw(options) => options.json,
             Command::Compare(options) => options.json,
+            Command::Judge(options) => options.json,
             Command::Why(options) => options.json,
         }
     }
@@ -73,9 +87,15 @@ impl Command {
         match self {
             Command::Demo(options) => commands::demo::run(options),
             Command::Run(options) => commands::run::run(options),
+            Command::Step(options) => commands::step::run(options),
             Command::Draw(options) => commands::draw::run(options),
             Command::Compare(options) => commands::compare::run(options),
+            Command::Judge(options) => commands::judge::run(options),
             Command::Why(options) => commands::why::run(options),
+            Command::Completions(options) => {
+                Ok(commands::pages::completions(options, Cli::command()))
+            }
+            Command::Man(_) => Ok(commands::pages::man(&Cli::command())),
         }
     }
 }

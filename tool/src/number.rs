@@ -1,5 +1,7 @@
 //! Numbers as they are typed: decimal, or hexadecimal after 0x, with `_` between digits.
 
+use std::ops::RangeInclusive;
+
 /// A whole number below 2^64.
 pub fn whole(text: &str) -> Result<u64, String> {
     let wrong = || format!("`{text}` is no whole number; 1000, 1_000 and 0x3E8 are");
@@ -18,6 +20,29 @@ pub fn whole(text: &str) -> Result<u64, String> {
 /// A whole number below 2^32.
 pub fn word(text: &str) -> Result<u32, String> {
     u32::try_from(whole(text)?).map_err(|_| format!("`{text}` is above 0xFFFFFFFF"))
+}
+
+/// A register's value: a word, or a negative number as a word has it.
+pub fn register(text: &str) -> Result<u32, String> {
+    match text.strip_prefix('-') {
+        None => word(text),
+        Some(digits) => match word(digits)? {
+            size if size <= 0x8000_0000 => Ok(size.wrapping_neg()),
+            _ => Err(format!("`{text}` is below -0x80000000")),
+        },
+    }
+}
+
+/// One address, or two with `..` between: the first and the last.
+pub fn addresses(text: &str) -> Result<RangeInclusive<u32>, String> {
+    let (first, last) = match text.split_once("..") {
+        None => (word(text)?, word(text)?),
+        Some((first, last)) => (word(first)?, word(last)?),
+    };
+    match first <= last {
+        true => Ok(first..=last),
+        false => Err(format!("`{text}` ends before it begins")),
+    }
 }
 
 /// PNG pixels to a pixel's side.
@@ -58,6 +83,12 @@ mod tests {
         }
         assert_eq!(word("0xFFFF_FFFF"), Ok(u32::MAX));
         assert_eq!(word("0x1_0000_0000").unwrap_err(), "`0x1_0000_0000` is above 0xFFFFFFFF");
+        assert_eq!(register("-0x8000_0000"), Ok(0x8000_0000));
+        assert_eq!(register("-1"), Ok(u32::MAX));
+        assert!(register("-0x80000001").is_err());
+        assert_eq!(addresses("0x10..0x1F"), Ok(0x10..=0x1F));
+        assert_eq!(addresses("16"), Ok(16..=16));
+        assert!(addresses("2..1").is_err() && addresses("1..").is_err());
         assert_eq!(scale("0x11").unwrap_err(), "`0x11` is not within 1 to 16");
     }
 }

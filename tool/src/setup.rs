@@ -5,6 +5,7 @@ use std::path::{Path, PathBuf};
 use clap::Args;
 use vb::{Machine, Memories, Processor, Refusal, VRAM_LENGTH, WRAM_LENGTH};
 
+use crate::changes::Changes;
 use crate::failure::Failure;
 use crate::files::{Input, Outputs};
 use crate::scene::{drawing_of, DRAWING, VRAM};
@@ -34,6 +35,8 @@ pub struct Setup {
     /// The drawing record, 26 bytes: 13 little-endian halfwords in vb.h's order [default: reset]
     #[arg(long, value_name = "FILE")]
     drawing: Option<PathBuf>,
+    #[command(flatten)]
+    changes: Changes,
 }
 
 /// Where to write what a command leaves.
@@ -69,6 +72,8 @@ struct Inputs {
 /// A machine with its memories.
 pub struct Bench {
     inputs: Inputs,
+    /// What was done to what the files hold, in words.
+    pub notes: Vec<String>,
     pub machine: Machine,
     pub rom: Vec<u8>,
     pub wram: Vec<u8>,
@@ -82,14 +87,17 @@ impl Setup {
         let bytes = |file: &Option<Input>, length: usize| {
             file.as_ref().map_or_else(|| vec![0; length], |file| file.bytes.clone())
         };
-        Ok(Bench {
+        let mut bench = Bench {
             machine: inputs.machine()?,
             rom: inputs.rom.bytes.clone(),
             wram: bytes(&inputs.wram, WRAM_LENGTH),
             vram: bytes(&inputs.vram, VRAM_LENGTH),
             pak: bytes(&inputs.pak, 0),
+            notes: Vec::new(),
             inputs,
-        })
+        };
+        self.changes.make(&mut bench)?;
+        Ok(bench)
     }
 
     fn inputs(&self) -> Result<Inputs, Failure> {

@@ -116,7 +116,8 @@ fn wrong_8_compare_json_names_capture_and_memory() {
         ran.text,
         format!(
             "right eye, frame 1: different, 2 of 86,016 pixels\n  column 0, row 0: expected 0, seen 3\n  \
-             column 383, row 223: expected {before}, seen {after}\nwritten: m/compare-frame1-right.png\n"
+             column 383, row 223: expected {before}, seen {after}\n  all of them in columns 0 to 383, rows 0 to 223\n\
+             written: m/compare-frame1-right.png\n"
         )
     );
     let marked = Rgb::read(&folder.read("m/compare-frame1-right.png"));
@@ -129,7 +130,8 @@ fn wrong_8_compare_json_names_capture_and_memory() {
         json.text,
         "{\"equal\": false, \"vram\": \"out/vram.bin\", \"drawing\": \"out/drawing.bin\", \"frame\": 1, \"eyes\": \
          [{\"eye\": \"right\", \"capture\": \"right.raw\", \"equal\": false, \"different\": 2, \
-         \"first\": [{\"column\": 0, \"row\": 0, \"expected\": 0, \"seen\": 3}]}], \
+         \"first\": [{\"column\": 0, \"row\": 0, \"expected\": 0, \"seen\": 3}], \
+         \"bounds\": {\"left\": 0, \"top\": 0, \"right\": 383, \"bottom\": 223}}], \
          \"written\": [\"m/compare-frame1-right.png\"]}\n"
     );
     // the demo's two frames show different moments

@@ -212,7 +212,7 @@ fn help_has_an_example_for_each_command() {
     let folder = Folder::new("help");
     let all = folder.vbmodel("--help");
     assert_eq!(all.status, 0);
-    for command in ["demo", "run", "draw", "compare", "why"] {
+    for command in ["demo", "run", "step", "draw", "compare", "judge", "why"] {
         assert!(all.text.contains(&format!("  {command} ")), "{}", all.text);
         let help = folder.vbmodel(&format!("{command} --help"));
         assert_eq!(help.status, 0);

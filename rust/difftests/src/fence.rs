@@ -1,28 +1,15 @@
 //! Memory that ends, or begins, at a page that may not be touched: an access
 //! one byte outside a lent buffer stops the test. ROM may not be written.
 
-use std::ffi::{c_int, c_void};
 use std::ptr::null_mut;
 use std::slice;
 
-const PAGE: usize = 4_096;
-const NONE: c_int = 0;
-const READ: c_int = 1;
-const WRITE: c_int = 2;
-const PRIVATE_ANONYMOUS: c_int = 0x22;
+use libc::{
+    mmap, mprotect, munmap, MAP_ANONYMOUS, MAP_FAILED, MAP_PRIVATE, PROT_NONE, PROT_READ,
+    PROT_WRITE,
+};
 
-extern "C" {
-    fn mmap(
-        address: *mut c_void,
-        length: usize,
-        protection: c_int,
-        flags: c_int,
-        file: c_int,
-        offset: i64,
-    ) -> *mut c_void;
-    fn mprotect(address: *mut c_void, length: usize, protection: c_int) -> c_int;
-    fn munmap(address: *mut c_void, length: usize) -> c_int;
-}
+const PAGE: usize = 4_096;
 
 /// Which end of the buffer touches its fence.
 #[derive(Clone, Copy, Debug, PartialEq, Eq)]
@@ -49,9 +36,10 @@ impl Fenced {
         // SAFETY: a new private mapping; the usable pages lie inside it.
         let mapping = unsafe {
             let whole = usable + 2 * PAGE;
-            let mapping = mmap(null_mut(), whole, NONE, PRIVATE_ANONYMOUS, -1, 0).cast::<u8>();
-            assert_ne!(mapping as isize, -1, "no memory for a fenced buffer");
-            let opened = mprotect(mapping.add(PAGE).cast(), usable, READ | WRITE);
+            let mapping = mmap(null_mut(), whole, PROT_NONE, MAP_PRIVATE | MAP_ANONYMOUS, -1, 0);
+            assert_ne!(mapping, MAP_FAILED, "no memory for a fenced buffer");
+            let mapping = mapping.cast::<u8>();
+            let opened = mprotect(mapping.add(PAGE).cast(), usable, PROT_READ | PROT_WRITE);
             assert!(usable == 0 || opened == 0, "the buffer's pages stay closed");
             mapping
         };
@@ -63,7 +51,7 @@ impl Fenced {
     /// From now on a write stops the test.
     pub fn forbid_writing(&mut self) {
         // SAFETY: these are the mapping's usable pages.
-        let closed = unsafe { mprotect(self.mapping.add(PAGE).cast(), self.usable, READ) };
+        let closed = unsafe { mprotect(self.mapping.add(PAGE).cast(), self.usable, PROT_READ) };
         assert!(self.usable == 0 || closed == 0);
     }
 

@@ -3,15 +3,18 @@
 use std::path::PathBuf;
 
 use clap::Args;
+use model::world::Eye;
 use serde::Serialize;
 use vb::{grouped, COLUMNS, ROWS, VRAM_LENGTH};
 
 use super::draw::Views;
-use super::Report;
+use super::{why, Report};
 use crate::capture::{Capture, Level, Wanted};
-use crate::difference::{differences, Difference};
+use crate::difference::{differences, Bounds, Difference};
+use crate::explain::{eye_name, registers, FAULT};
 use crate::failure::Failure;
 use crate::files::{Input, Outputs};
+use crate::givers::{Givers, Share};
 use crate::number;
 use crate::picture::Picture;
 use crate::scene::{Read, Scene};
@@ -23,7 +26,7 @@ pub const CAPTURE: &str =
 #[derive(Args)]
 #[command(after_help = "Example: a picture against the model's, then the pixel that differs
   vbmodel demo
-  vbmodel compare --vram out/vram.bin --drawing out/drawing.bin --frame 1 --left out/frame0-left.png
+  vbmodel compare --vram out/vram.bin --drawing out/drawing.bin --frame 1 --left out/frame0-left.png --why
   vbmodel why left 220 40 --vram out/vram.bin --drawing out/drawing.bin
 
 A capture is a raw frame buffer of 24,576 bytes (rows 224 to 255 are not compared), a whole VRAM of 262,144 bytes, or a
@@ -31,7 +34,8 @@ PNG of 384 by 224 pixels, or 2 to 16 times that, in red or grey of 00, 55, AA an
 a PNG's sample may lie that far from its level, as analogue captures do; what was taken for each level is printed. Where something differs, a PNG marks it: the
 model's picture in grey, yellow where the capture is brighter and cyan where it is darker.
 
-Exit status: 0 equal; 1 different; 2 refused or bad input, and then nothing is written.")]
+Exit status: 0 equal; 1 different; 2 refused or bad input, and then nothing is written; 3 with --why, where the
+independent model and the proved library differ.")]
 pub struct Options {
     #[command(flatten)]
     scene: Scene,
@@ -53,6 +57,9 @@ pub struct Options {
     /// How many differing pixels to list for each eye
     #[arg(long, value_name = "N", default_value = "10", value_parser = number::word)]
     first: u32,
+    /// Group the differing pixels by the world or object that gives the model's value there
+    #[arg(long)]
+    why: bool,
     /// PNG pixels to a pixel's side, 1 to 16
     #[arg(long, value_name = "N", default_value = "1", value_parser = number::scale)]
     scale: usize,
@@ -82,6 +89,12 @@ struct EyeTold {
     equal: bool,
     different: usize,
     first: Vec<Difference>,
+    bounds: Option<Bounds>,
+    /// With --why: what gives the model's values there, and whether the independent model has them too.
+    #[serde(skip_serializing_if = "Option::is_none")]
+    why: Option<Vec<Share>>,
+    #[serde(skip_serializing_if = "Option::is_none")]
+    models_agree: Option<bool>,
     #[serde(skip_serializing_if = "Option::is_none")]
     levels: Option<Vec<Level>>,
 }
@@ -95,24 +108,22 @@ pub fn run(options: &Options) -> Result<Report, Failure> {
     outputs.keep(scene.drawing_file.identity);
     let mut eyes = Vec::new();
     for (number, input) in captures(options)? {
-        let (eye, expected) = [("left", &views.left), ("right", &views.right)][number as usize];
+        let (eye, expected) =
+            [(Eye::Left, &views.left), (Eye::Right, &views.right)][number as usize];
         let threshold = options.threshold.unwrap_or(0);
         let capture =
             Capture::read(&input, Wanted { frame: options.frame, eye: number, threshold })?;
         let found = differences(expected, &capture.picture);
         outputs.keep(input.identity);
         if !found.is_empty() {
-            mark(options, &mut outputs, eye, expected, &capture.picture);
+            mark(options, &mut outputs, eye_name(eye), expected, &capture.picture);
         }
-        let first = found.iter().take(options.first as usize).copied().collect();
-        eyes.push(EyeTold {
-            eye,
-            capture: input.name(),
-            equal: found.is_empty(),
-            different: found.len(),
-            first,
-            levels: capture.levels,
-        });
+        let mut told = EyeTold::of(eye, &input, &found, options.first as usize);
+        told.levels = capture.levels;
+        if let (true, Some(bounds)) = (options.why, told.bounds) {
+            told.explain(&scene, eye, &bounds, &found);
+        }
+        eyes.push(told);
     }
     outputs.write()?;
     Ok(report(options, &scene, eyes, &outputs))
@@ -155,10 +166,37 @@ fn report(options: &Options, scene: &Read, eyes: Vec<EyeTold>, outputs: &Outputs
     };
     let mut text: String = told.eyes.iter().map(|eye| eye.text(options.frame)).collect();
     text.extend(told.written.iter().map(|path| format!("written: {path}\n")));
-    Report::new(text, &told, if told.equal { 0 } else { 1 })
+    let fault = told.eyes.iter().any(|eye| eye.models_agree == Some(false));
+    let status = match told.equal {
+        _ if fault => why::FAULT,
+        true => 0,
+        false => 1,
+    };
+    Report::new(text, &told, status)
 }
 
 impl EyeTold {
+    fn of(eye: Eye, capture: &Input, found: &[Difference], first: usize) -> EyeTold {
+        EyeTold {
+            eye: eye_name(eye),
+            capture: capture.name(),
+            equal: found.is_empty(),
+            different: found.len(),
+            first: found.iter().take(first).copied().collect(),
+            bounds: Bounds::of(found),
+            why: None,
+            models_agree: None,
+            levels: None,
+        }
+    }
+
+    fn explain(&mut self, scene: &Read, eye: Eye, bounds: &Bounds, found: &[Difference]) {
+        let vram = &scene.vram.bytes;
+        let givers = Givers::of(vram, &registers(&scene.drawing), eye, bounds);
+        self.why = Some(givers.shares(vram, found));
+        self.models_agree = Some(givers.agree(found));
+    }
+
     fn text(&self, frame: u32) -> String {
         let all = grouped((COLUMNS * ROWS) as u64);
         let count = grouped(self.different as u64);
@@ -179,6 +217,22 @@ impl EyeTold {
         if self.different > self.first.len() {
             let more = grouped((self.different - self.first.len()) as u64);
             text += &format!("  and {more} more\n");
+        }
+        if let Some(bounds) = &self.bounds {
+            text += &format!("  all of them in {}\n", bounds.text());
+        }
+        text + &self.why_text()
+    }
+
+    fn why_text(&self) -> String {
+        let Some(shares) = &self.why else { return String::new() };
+        let mut text = "  by what the model shows there:\n".to_string();
+        for Share { what, pixels, column, row, .. } in shares {
+            let pixels = grouped(*pixels as u64);
+            text += &format!("    {pixels:>6}  {what}, first at column {column}, row {row}\n");
+        }
+        if self.models_agree == Some(false) {
+            text += &format!("  the independent model has other values there: {FAULT}\n");
         }
         text
     }

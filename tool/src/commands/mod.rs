@@ -3,7 +3,11 @@
 pub mod compare;
 pub mod demo;
 pub mod draw;
+pub mod judge;
+pub mod pages;
+pub mod ran;
 pub mod run;
+pub mod step;
 pub mod why;
 
 use serde::Serialize;

@@ -15,7 +15,8 @@ use vb::Drawing;
 use crate::failure::Failure;
 use covering::CoveringTold;
 pub use objects::Objects;
-pub use records::{span_text, ObjectRecord, WorldRecord};
+pub use records::{kind_text, span_text, ObjectRecord, WorldRecord};
+pub use text::FAULT;
 
 /// Everything that is told about one pixel.
 #[derive(Serialize)]

@@ -39,6 +39,16 @@ impl Explanation {
     }
 }
 
+impl Explanation {
+    /// A line that tells what gives the pixel its value.
+    pub fn winner(&self) -> String {
+        match self.covering.iter().find(|one| one.wins) {
+            Some(one) => one.line(),
+            None => format!("BKCOL gives {}", self.bkcol),
+        }
+    }
+}
+
 impl Lists {
     pub(super) fn head(&self) -> String {
         let count = self.model.len();

@@ -1,0 +1,167 @@
+//! `vbmodel judge`: a whole lot against the model, on all cores.
+
+use std::path::{Path, PathBuf};
+use std::sync::atomic::{AtomicUsize, Ordering};
+use std::sync::Mutex;
+use std::time::Instant;
+
+use clap::Args;
+use rayon::prelude::*;
+use serde::Serialize;
+
+use super::Report;
+use crate::failure::Failure;
+use crate::files::Outputs;
+use crate::interrupt;
+use crate::json::json;
+use crate::judge::{judge, junit, page, Judged, Lot, Part, Summary, Verdict, Wish};
+use crate::number;
+use crate::progress::Progress;
+
+#[derive(Args)]
+#[command(after_help = "Example: the demo's two frames as a lot, with a report to look at
+  vbmodel demo
+  mkdir lot
+  cp out/vram.bin lot/all.vram
+  cp out/drawing.bin lot/all.drawing
+  cp out/frame1-left.png lot/good.left.png
+  cp out/frame0-left.png lot/worn.left.png
+  vbmodel judge lot --html report.html
+
+A folder's files say by their names what they are: NAME.vram and NAME.drawing, or NAME.state (a saved state), is the scene
+of the part NAME; all.vram, all.drawing or all.state the scene of those that have none. NAME.left.png, NAME.right.png, or
+.raw, and NAME.dump, a whole VRAM, are captures of frame 0; NAME.frame1.left.png and so on those of frame 1.
+
+A manifest in TOML has a table for each part, and may have defaults above them:
+  drawing = \"all.drawing\"
+  [[part]]
+  name = \"die 7\"
+  vram = \"7.vram\"
+  frame = 1
+  left = \"7-left.png\"
+  right = \"7-right.png\"
+The names are name, state, vram, drawing, frame, left, right, capture (a whole VRAM) and threshold. A manifest in CSV has
+them as its first line, and a line for each part. Files are named from the manifest's folder.
+
+Exit status: 0 all equal; 1 some different; 2 some could not be judged, or nothing could; 3 the independent model and the
+proved library differ; 130 stopped by Ctrl-C. A part that could not be judged does not stop the others.")]
+pub struct Options {
+    /// A folder, or a manifest whose name ends in .toml or .csv
+    lot: PathBuf,
+    /// VRAM of the parts that have none
+    #[arg(long, value_name = "FILE")]
+    vram: Option<PathBuf>,
+    /// The drawing record of the parts that have none
+    #[arg(long, value_name = "FILE")]
+    drawing: Option<PathBuf>,
+    /// A saved state for the parts that have no scene
+    #[arg(long, value_name = "FILE", conflicts_with = "vram")]
+    state: Option<PathBuf>,
+    /// How far a PNG's sample may lie from 00, 55, AA or FF, 1 to 42 [default: not at all]
+    #[arg(long, value_name = "N", value_parser = number::threshold)]
+    threshold: Option<u8>,
+    /// How many differing pixels to explain for each eye
+    #[arg(long, value_name = "N", default_value = "3", value_parser = number::word)]
+    first: u32,
+    /// Where to write the report, one HTML page with its pictures
+    #[arg(long, value_name = "FILE")]
+    html: Option<PathBuf>,
+    /// Where to write the verdicts as JUnit XML
+    #[arg(long, value_name = "FILE")]
+    junit: Option<PathBuf>,
+    /// Print JSON, a line for each part and one for all
+    #[arg(long)]
+    pub json: bool,
+}
+
+/// The last line of the JSON.
+#[derive(Serialize)]
+struct Whole<'a> {
+    summary: Summary,
+    not_taken: &'a [String],
+    written: &'a [String],
+    #[serde(flatten)]
+    failure: Option<Failure>,
+}
+
+pub fn run(options: &Options) -> Result<Report, Failure> {
+    let begun = Instant::now();
+    let defaults = Part {
+        vram: options.vram.clone(),
+        drawing: options.drawing.clone(),
+        state: options.state.clone(),
+        threshold: options.threshold,
+        ..Part::default()
+    };
+    let lot = Lot::read(&options.lot, &defaults)?;
+    let files = [&options.html, &options.junit].into_iter().flatten().map(PathBuf::as_path);
+    Outputs::test(files)?;
+    interrupt::watch();
+    let wish = Wish { first: options.first as usize, pictures: options.html.is_some() };
+    let judged = all(&lot, wish);
+    let summary = Summary::of(&judged, lot.entries.len());
+
+    let mut outputs = Outputs::default();
+    judged.iter().flat_map(|one| &one.read).for_each(|read| outputs.keep(Some(*read)));
+    if let Some(path) = &options.html {
+        let title = format!("{} judged", name(&options.lot));
+        outputs.add(path, page(&title, &judged, &summary, &lot.not_taken).into_bytes());
+    }
+    if let Some(path) = &options.junit {
+        let seconds = begun.elapsed().as_secs_f64();
+        outputs.add(path, junit(&judged, &summary, seconds).into_bytes());
+    }
+    Ok(report(&lot, &judged, summary, &outputs))
+}
+
+fn name(lot: &Path) -> String {
+    lot.file_name().unwrap_or(lot.as_os_str()).to_string_lossy().into_owned()
+}
+
+/// Every part, in the lot's order; fewer where Ctrl-C came.
+fn all(lot: &Lot, wish: Wish) -> Vec<Judged> {
+    let progress = Mutex::new(Progress::new());
+    let done = AtomicUsize::new(0);
+    let judged = lot.entries.par_iter().map(|entry| {
+        if interrupt::asked() {
+            return None;
+        }
+        let judged = judge(entry, wish);
+        let done = done.fetch_add(1, Ordering::Relaxed) + 1;
+        if let Ok(mut progress) = progress.try_lock() {
+            progress.tell(|| format!("{done} of {} parts", lot.entries.len()));
+        }
+        Some(judged)
+    });
+    let judged: Vec<Option<Judged>> = judged.collect();
+    if let Ok(mut progress) = progress.lock() {
+        progress.clear();
+    }
+    judged.into_iter().flatten().collect()
+}
+
+fn report(lot: &Lot, judged: &[Judged], summary: Summary, outputs: &Outputs) -> Report {
+    let failure = outputs.write().err();
+    let written = if failure.is_none() { outputs.paths() } else { Vec::new() };
+    let mut text: String = judged.iter().map(line).collect();
+    if !lot.not_taken.is_empty() {
+        text += &format!("not taken by the naming rule: {}\n", lot.not_taken.join(", "));
+    }
+    text += &format!("{}\n", summary.text());
+    text.extend(written.iter().map(|path| format!("written: {path}\n")));
+    let mut lines: Vec<String> = judged.iter().map(json).collect();
+    let not_taken = lot.not_taken.as_slice();
+    lines.push(json(&Whole { summary, not_taken, written: &written, failure: failure.clone() }));
+    let status = if failure.is_some() { 2 } else { summary.status() };
+    Report { text, json: lines.join("\n"), status, failure }
+}
+
+fn line(one: &Judged) -> String {
+    let verdict = match one.verdict {
+        Verdict::Equal => "equal",
+        Verdict::Different => "different",
+        Verdict::Bad => "bad",
+        Verdict::Fault => "fault",
+    };
+    format!("{verdict:<9}  {}: {}\n", one.name, one.line())
+}

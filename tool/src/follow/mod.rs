@@ -1,0 +1,123 @@
+//! A program followed instruction by instruction: what each did, and where to stop.
+
+mod disassembly;
+mod place;
+mod told;
+
+use std::ops::RangeInclusive;
+
+use clap::Args;
+use vb::{Answer, Mode, Refusal};
+
+use crate::failure::Failure;
+use crate::interrupt;
+use crate::number;
+use crate::setup::Bench;
+use place::At;
+pub use told::Told;
+
+/// Where to stop before the budget is used up.
+#[derive(Args, Clone, Default)]
+pub struct Stops {
+    /// Stop when an instruction leads to this address; may be given again
+    #[arg(long, value_name = "ADDR", value_parser = number::word)]
+    until: Vec<u32>,
+    /// Stop before the instruction at this address, the first one too; may be given again
+    #[arg(long = "break", value_name = "ADDR", value_parser = number::word)]
+    breaks: Vec<u32>,
+    /// Stop after an instruction that writes there, by whatever mirror; may be given again
+    #[arg(long, value_name = "ADDR[..ADDR]", value_parser = number::addresses)]
+    watch: Vec<RangeInclusive<u32>>,
+}
+
+impl Stops {
+    pub fn is_empty(&self) -> bool {
+        self.until.is_empty() && self.breaks.is_empty() && self.watch.is_empty()
+    }
+}
+
+/// Why following ended.
+#[derive(Clone, Debug, PartialEq, Eq)]
+pub enum End {
+    Budget,
+    Halted,
+    Fatal,
+    NotModelled(Refusal),
+    Interrupted,
+    /// At an address of --until or --break.
+    Reached(u32),
+    /// A write into a range of --watch.
+    Watched(u32),
+    /// The one who is told wants no more.
+    Enough,
+}
+
+/// How many instructions ended, and why no more.
+pub struct Followed {
+    pub count: u64,
+    pub end: End,
+}
+
+/// Follows a program. `tell` is given each instruction, and answers whether to go on.
+pub fn follow(
+    bench: &mut Bench,
+    budget: u64,
+    stops: &Stops,
+    tell: &mut dyn FnMut(&Told) -> bool,
+) -> Result<Followed, Failure> {
+    // a run of nothing tests the machine
+    let (machine, mut memories) = bench.lent();
+    let tested = machine.run(&mut memories, 0);
+    tested.map_err(|refusal| bench.failure(&refusal))?;
+    let watched = stops.watch.iter().map(|range| place::range(bench, range));
+    let watched: Vec<(At, usize)> = watched.collect::<Result<_, _>>().map_err(Failure::bad)?;
+    let mut count = 0;
+    let ended = |count: u64, end: End| Ok(Followed { count, end });
+    loop {
+        match bench.machine.processor.mode {
+            Mode::Halted => return ended(count, End::Halted),
+            Mode::Fatal => return ended(count, End::Fatal),
+            Mode::Running => {}
+        }
+        let pc = bench.machine.processor.pc;
+        if stops.breaks.contains(&pc) {
+            return ended(count, End::Reached(pc));
+        }
+        if count == budget {
+            return ended(count, End::Budget);
+        }
+        if count % 65_536 == 0 && interrupt::asked() {
+            return ended(count, End::Interrupted);
+        }
+        let told = match step(bench) {
+            Ok(told) => told,
+            Err(refusal @ Refusal::NotModelled { .. }) => {
+                return ended(count, End::NotModelled(refusal))
+            }
+            Err(refusal) => return Err(bench.failure(&refusal)),
+        };
+        count += u64::from(!told.turned_fatal);
+        if !tell(&told) {
+            return ended(count, End::Enough);
+        }
+        if let Some(address) = told.written_within(bench, &watched) {
+            return ended(count, End::Watched(address));
+        }
+        let pc = bench.machine.processor.pc;
+        if stops.until.contains(&pc) {
+            return ended(count, End::Reached(pc));
+        }
+    }
+}
+
+/// One instruction done, and what it did.
+fn step(bench: &mut Bench) -> Result<Told, Refusal> {
+    let before = Told::before(bench)?;
+    let (machine, mut memories) = bench.lent();
+    let answer = machine.step(&mut memories)?;
+    let code = match answer {
+        Answer::Trapped(cause) | Answer::TurnedFatal(cause) => Some(cause.code()),
+        _ => None,
+    };
+    Ok(before.after(bench, code, matches!(answer, Answer::TurnedFatal(_))))
+}

@@ -1,0 +1,99 @@
+//! A lot read from a manifest or a folder.
+
+use std::collections::HashSet;
+use std::path::{Path, PathBuf};
+
+use super::{folder, manifest, Entry, Part};
+use crate::failure::Failure;
+
+/// The entries in order, the files of a folder that the naming rule does not take, and what parts leave out.
+#[derive(Default)]
+pub struct Lot {
+    pub entries: Vec<Entry>,
+    pub not_taken: Vec<String>,
+}
+
+impl Lot {
+    /// `defaults` stands in for what the lot itself leaves out.
+    pub fn read(path: &Path, defaults: &Part) -> Result<Lot, Failure> {
+        let mut lot = match path.extension().and_then(|end| end.to_str()) {
+            _ if path.is_dir() => folder::read(path)?,
+            Some("toml") => manifest::toml(path)?,
+            Some("csv") => manifest::csv(path)?,
+            _ if path.exists() => {
+                let rule = "a lot is a folder, or a manifest whose name ends in .toml or .csv";
+                return Err(Failure::bad(format!("{}: {rule}", path.display())));
+            }
+            _ => {
+                let wanted = "it must be a folder, or a manifest whose name ends in .toml or .csv";
+                let given = "No such file or directory";
+                return Err(Failure::bad(format!("{}: {given}; {wanted}", path.display())));
+            }
+        };
+        if lot.entries.is_empty() {
+            return Err(Failure::bad(format!("{}: has no part", path.display())));
+        }
+        lot.entries.iter_mut().for_each(|entry| entry.complete(defaults));
+        lot.refuse_repeated();
+        Ok(lot)
+    }
+
+    /// A name stands for one part: it is how a report finds it.
+    fn refuse_repeated(&mut self) {
+        let mut seen = HashSet::new();
+        for entry in &mut self.entries {
+            if !seen.insert(entry.name.clone()) && entry.part.is_ok() {
+                let message = format!("the name {} is given to an earlier part", entry.name);
+                entry.part = Err(Failure::bad(message));
+            }
+        }
+    }
+}
+
+impl Entry {
+    pub fn of(part: Part) -> Entry {
+        Entry { name: part.name.clone(), part: Ok(part) }
+    }
+
+    pub fn wrong(name: String, message: String) -> Entry {
+        Entry { name, part: Err(Failure::bad(message)) }
+    }
+
+    pub fn complete(&mut self, defaults: &Part) {
+        if let Ok(part) = &mut self.part {
+            part.complete(defaults);
+        }
+    }
+}
+
+impl Part {
+    /// Takes what the part leaves out. A part with a state of its own needs no VRAM, and the other way round.
+    fn complete(&mut self, defaults: &Part) {
+        let own = self.state.is_some() || self.vram.is_some();
+        let take = |own: &mut Option<PathBuf>, other: &Option<PathBuf>| {
+            if own.is_none() {
+                own.clone_from(other);
+            }
+        };
+        if self.state.is_none() {
+            take(&mut self.drawing, &defaults.drawing);
+        }
+        if !own {
+            take(&mut self.vram, &defaults.vram);
+            if self.vram.is_none() {
+                take(&mut self.state, &defaults.state);
+            }
+        }
+        self.frame = self.frame.or(defaults.frame);
+        self.threshold = self.threshold.or(defaults.threshold);
+    }
+
+    /// Makes the files' paths those in a folder.
+    pub fn within(mut self, folder: &Path) -> Part {
+        let Part { state, vram, drawing, left, right, capture, .. } = &mut self;
+        for path in [state, vram, drawing, left, right, capture].into_iter().flatten() {
+            *path = folder.join(&*path);
+        }
+        self
+    }
+}

@@ -1,0 +1,225 @@
+//! One part judged.
+
+use model::world::Eye;
+use serde::Serialize;
+use vb::{grouped, COLUMNS, ROWS, VRAM_LENGTH};
+
+use super::{Entry, Part};
+use crate::capture::{Capture, Level, Wanted};
+use crate::commands::compare::CAPTURE;
+use crate::commands::draw::Views;
+use crate::difference::{differences, Bounds, Difference};
+use crate::explain::{explain, eye_name, registers, Question};
+use crate::failure::Failure;
+use crate::files::{Identity, Input};
+use crate::givers::{Givers, Share};
+use crate::picture::Picture;
+use crate::scene::{Read, Scene};
+
+#[derive(Clone, Copy, Debug, PartialEq, Eq, Serialize)]
+#[serde(rename_all = "lowercase")]
+pub enum Verdict {
+    Equal,
+    Different,
+    /// It could not be judged.
+    Bad,
+    /// The independent model and the proved library differ.
+    Fault,
+}
+
+/// How much is told of a part that differs.
+#[derive(Clone, Copy)]
+pub struct Wish {
+    /// How many differing pixels are explained for each eye.
+    pub first: usize,
+    /// Whether pictures are wanted.
+    pub pictures: bool,
+}
+
+/// A part with its verdict; its members are those of the JSON.
+#[derive(Serialize)]
+pub struct Judged {
+    pub name: String,
+    pub verdict: Verdict,
+    pub frame: u32,
+    pub vram: Option<String>,
+    pub drawing: Option<String>,
+    pub eyes: Vec<EyeJudged>,
+    #[serde(flatten)]
+    pub failure: Option<Failure>,
+    #[serde(skip)]
+    pub read: Vec<Identity>,
+}
+
+#[derive(Serialize)]
+pub struct EyeJudged {
+    pub eye: &'static str,
+    pub capture: String,
+    pub equal: bool,
+    pub different: usize,
+    pub bounds: Option<Bounds>,
+    pub shares: Vec<Share>,
+    pub first: Vec<Explained>,
+    #[serde(skip_serializing_if = "Option::is_none")]
+    pub levels: Option<Vec<Level>>,
+    #[serde(skip)]
+    pub agree: bool,
+    #[serde(skip)]
+    pub pictures: Option<Pictures>,
+}
+
+/// A differing pixel, and why the model has its value.
+#[derive(Serialize)]
+pub struct Explained {
+    #[serde(flatten)]
+    pub pixel: Difference,
+    pub because: String,
+    #[serde(skip)]
+    pub text: String,
+}
+
+/// PNGs of the model's picture, of the capture, and of what differs.
+pub struct Pictures {
+    pub expected: Vec<u8>,
+    pub seen: Vec<u8>,
+    pub marked: Vec<u8>,
+}
+
+pub fn judge(entry: &Entry, wish: Wish) -> Judged {
+    let mut judged = Judged {
+        name: entry.name.clone(),
+        verdict: Verdict::Bad,
+        frame: 0,
+        vram: None,
+        drawing: None,
+        eyes: Vec::new(),
+        failure: None,
+        read: Vec::new(),
+    };
+    let done = match &entry.part {
+        Ok(part) => judged.part(part, wish),
+        Err(failure) => Err(failure.clone()),
+    };
+    judged.failure = done.err();
+    judged.verdict = match &judged {
+        Judged { failure: Some(_), .. } => Verdict::Bad,
+        Judged { eyes, .. } if eyes.iter().any(|eye| !eye.agree) => Verdict::Fault,
+        Judged { eyes, .. } if eyes.iter().all(|eye| eye.equal) => Verdict::Equal,
+        _ => Verdict::Different,
+    };
+    judged
+}
+
+impl Judged {
+    fn part(&mut self, part: &Part, wish: Wish) -> Result<(), Failure> {
+        self.frame = part.frame.unwrap_or(0);
+        let Part { state, vram, drawing, .. } = part.clone();
+        let scene = Scene { state, vram, drawing }.read()?;
+        (self.vram, self.drawing) = (Some(scene.vram.name()), Some(scene.drawing_file.name()));
+        self.read.extend(scene.vram.identity);
+        self.read.extend(scene.drawing_file.identity);
+        let views = Views::of(&scene.drawn(self.frame)?, self.frame);
+        for (eye, input) in captures(part)? {
+            self.read.extend(input.identity);
+            let threshold = part.threshold.unwrap_or(0);
+            let wanted = Wanted { frame: self.frame, eye: eye.number(), threshold };
+            let capture = Capture::read(&input, wanted)?;
+            let expected = if eye == Eye::Left { &views.left } else { &views.right };
+            self.eyes.push(judge_eye(&scene, eye, input.name(), expected, capture, wish)?);
+        }
+        Ok(())
+    }
+
+    /// One line for a list: what differs, or what is wrong.
+    pub fn line(&self) -> String {
+        if let Some(failure) = &self.failure {
+            return failure.message.clone();
+        }
+        let told: Vec<String> = self.eyes.iter().map(EyeJudged::line).collect();
+        format!("frame {}, {}", self.frame, told.join("; "))
+    }
+}
+
+/// The captures with their eyes; there must be one.
+fn captures(part: &Part) -> Result<Vec<(Eye, Input)>, Failure> {
+    let mut all = Vec::new();
+    if let Some(path) = &part.capture {
+        let input = Input::read(path, "a whole VRAM of 262,144 bytes")?;
+        if input.bytes.len() != VRAM_LENGTH {
+            let rule = "a capture of both eyes is a whole VRAM of 262,144 bytes";
+            return Err(Failure::bad(input.wrong(rule)));
+        }
+        all.extend([(Eye::Left, input.clone()), (Eye::Right, input)]);
+    }
+    for (eye, path) in [(Eye::Left, &part.left), (Eye::Right, &part.right)] {
+        if let Some(path) = path {
+            all.push((eye, Input::read(path, CAPTURE)?));
+        }
+    }
+    match all.is_empty() {
+        true => Err(Failure::bad("it has no capture: left, right, or a whole VRAM of both")),
+        false => Ok(all),
+    }
+}
+
+fn judge_eye(
+    scene: &Read,
+    eye: Eye,
+    name: String,
+    expected: &Picture,
+    capture: Capture,
+    wish: Wish,
+) -> Result<EyeJudged, Failure> {
+    let seen = &capture.picture;
+    let found = differences(expected, seen);
+    let bounds = Bounds::of(&found);
+    let mut judged = EyeJudged {
+        eye: eye_name(eye),
+        capture: name,
+        equal: found.is_empty(),
+        different: found.len(),
+        bounds,
+        shares: Vec::new(),
+        first: Vec::new(),
+        levels: capture.levels,
+        agree: true,
+        pictures: None,
+    };
+    if let Some(bounds) = bounds {
+        let vram = &scene.vram.bytes;
+        let givers = Givers::of(vram, &registers(&scene.drawing), eye, &bounds);
+        judged.shares = givers.shares(vram, &found);
+        judged.agree = givers.agree(&found);
+        let first = found.iter().take(wish.first).map(|pixel| explained(scene, eye, pixel));
+        judged.first = first.collect::<Result<_, _>>()?;
+        judged.pictures = wish.pictures.then(|| Pictures {
+            expected: expected.png(1),
+            seen: seen.png(1),
+            marked: expected.marked(seen, 1),
+        });
+    }
+    Ok(judged)
+}
+
+fn explained(scene: &Read, eye: Eye, pixel: &Difference) -> Result<Explained, Failure> {
+    let told = explain(&Question {
+        vram: &scene.vram.bytes,
+        drawing: &scene.drawing,
+        eye,
+        x: pixel.x as u32,
+        y: pixel.y as u32,
+        library_value: pixel.expected,
+        every_object: false,
+    })?;
+    Ok(Explained { pixel: *pixel, because: told.winner(), text: told.text() })
+}
+
+impl EyeJudged {
+    fn line(&self) -> String {
+        let Some(bounds) = &self.bounds else { return format!("{} eye equal", self.eye) };
+        let (count, all) = (grouped(self.different as u64), grouped((COLUMNS * ROWS) as u64));
+        let most =
+            self.shares.first().map_or(String::new(), |share| format!(", most by {}", share.what));
+        format!("{} eye: {count} of {all} pixels, {}{most}", self.eye, bounds.text())
+    }
+}

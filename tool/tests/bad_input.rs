@@ -1,0 +1,143 @@
+//! Every file that a command reads, in turn: missing, empty, short, long, a folder, unreadable, of another kind. Each is
+//! one line with the file, what was given and what is allowed; status 2; nothing is written.
+
+mod common;
+
+use std::fs;
+use std::os::unix::fs::PermissionsExt;
+
+use common::Folder;
+
+/// A file of a command: how it is named, and its length.
+struct Read {
+    command: &'static str,
+    option: &'static str,
+    length: usize,
+    /// What is said to be allowed.
+    allowed: &'static str,
+}
+
+const SCENE: &str = "--vram out/vram.bin --drawing out/drawing.bin";
+
+const FILES: [Read; 13] = [
+    Read {
+        command: "run",
+        option: "--rom",
+        length: 65_536,
+        allowed: "a power of two from 1,024 to 16,777,216",
+    },
+    Read { command: "run --rom out/rom.bin", option: "--wram", length: 65_536, allowed: "65,536" },
+    Read {
+        command: "run --rom out/rom.bin",
+        option: "--vram",
+        length: 262_144,
+        allowed: "262,144",
+    },
+    Read {
+        command: "run --rom out/rom.bin",
+        option: "--pak",
+        length: 65_536,
+        allowed: "a power of two up to 16,777,216",
+    },
+    Read { command: "run --rom out/rom.bin", option: "--processor", length: 172, allowed: "172" },
+    Read { command: "run --rom out/rom.bin", option: "--drawing", length: 26, allowed: "26" },
+    Read {
+        command: "step",
+        option: "--rom",
+        length: 65_536,
+        allowed: "a power of two from 1,024 to 16,777,216",
+    },
+    Read {
+        command: "draw --drawing out/drawing.bin",
+        option: "--vram",
+        length: 262_144,
+        allowed: "262,144",
+    },
+    Read { command: "draw --vram out/vram.bin", option: "--drawing", length: 26, allowed: "26" },
+    Read {
+        command: "why left 0 0 --vram out/vram.bin",
+        option: "--drawing",
+        length: 26,
+        allowed: "26",
+    },
+    Read { command: "draw", option: "--state", length: 1, allowed: "a saved state, form 1 or 2" },
+    Read { command: "compare SCENE", option: "--left", length: 24_576, allowed: "24,576" },
+    Read { command: "compare SCENE", option: "--capture", length: 262_144, allowed: "262,144" },
+];
+
+#[test]
+fn bad_input_every_file_in_turn() {
+    let folder = Folder::with_demo("bad-input");
+    fs::create_dir(folder.path("folder")).unwrap();
+    folder.write("empty", b"");
+    folder.write("other", &folder.read("out/frame0-left.png"));
+    for file in &FILES {
+        folder.write("short", &vec![0; file.length - 1]);
+        folder.write("long", &vec![0; file.length + 1]);
+        let save = if file.command.starts_with("run") { "--save-vram saved" } else { "" };
+        let out = if file.command.starts_with("draw") { "--out saved" } else { save };
+        for bad in ["missing", "empty", "short", "long", "folder", "other"] {
+            // pak RAM may be empty; a picture is a capture, though of another frame
+            if (bad == "empty" && file.option == "--pak")
+                || (bad == "other" && file.option == "--left")
+            {
+                continue;
+            }
+            let command = file.command.replace("SCENE", SCENE);
+            let command = format!("{command} {} {bad} {out}", file.option);
+            let ran = folder.vbmodel(&command);
+            assert_eq!((ran.status, ran.text.as_str()), (2, ""), "vbmodel {command}");
+            assert_eq!(ran.error.lines().count(), 1, "{}", ran.error);
+            assert!(ran.error.starts_with(&format!("vbmodel: {bad}")), "{command}: {}", ran.error);
+            assert!(ran.error.contains(file.allowed), "{command}: {}", ran.error);
+            let given = match bad {
+                "missing" => "No such file or directory".to_string(),
+                "folder" => "is a folder".to_string(),
+                _ => format!("({} bytes)", vb::grouped(folder.read(bad).len() as u64)),
+            };
+            assert!(ran.error.contains(&given), "{command}: {}", ran.error);
+            assert!(!folder.path("saved").exists(), "{command}");
+        }
+    }
+}
+
+/// As root every file can be read, so this is tried as nobody where that can be had.
+#[test]
+fn bad_input_a_file_that_may_not_be_read() {
+    let folder = Folder::with_demo("bad-input-rights");
+    fs::set_permissions(folder.path("out/vram.bin"), fs::Permissions::from_mode(0o000)).unwrap();
+    let as_root = fs::read(folder.path("out/vram.bin")).is_ok();
+    let command = format!("\"$VB\" draw {SCENE} --out saved");
+    let ran = match as_root {
+        true => folder.shell(&format!(
+            "command -v setpriv >/dev/null || exit 99; setpriv --reuid=65534 --clear-groups sh -c '{command}'"
+        )),
+        false => folder.shell(&command),
+    };
+    // the tool itself may lie where nobody may go
+    if ran.status == 99 || ran.status == 126 || ran.status == 127 {
+        return;
+    }
+    let message = "vbmodel: out/vram.bin: Permission denied; it must be VRAM of 262,144 bytes\n";
+    assert_eq!((ran.status, ran.error.as_str()), (2, message));
+}
+
+/// The aim is 30 ms on an idle machine; this one may be busy.
+#[test]
+fn speed_compare_and_why() {
+    let folder = Folder::with_demo("speed");
+    for command in [
+        format!("why left 192 120 {SCENE}"),
+        format!("compare {SCENE} --frame 1 --capture out/vram.bin"),
+        format!("compare {SCENE} --frame 1 --left out/frame0-left.png --why"),
+    ] {
+        let took = (0..5).map(|_| {
+            let begun = std::time::Instant::now();
+            assert!(folder.vbmodel(&command).status < 2);
+            begun.elapsed()
+        });
+        let least = took.min().unwrap();
+        println!("{command}: {least:?}");
+        assert!(least.as_millis() < 300, "{command}: {least:?}");
+    }
+}

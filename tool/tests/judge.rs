@@ -1,0 +1,307 @@
+//! `vbmodel judge` as a bench uses it: folders and manifests in, lines, JSON, JUnit XML and a page out.
+
+mod common;
+
+use std::fs;
+
+use common::Folder;
+use serde_json::Value;
+
+/// The demo's files, and a folder `lot` with a part that is equal, one that differs and one that is no capture.
+fn with_lot(name: &str) -> Folder {
+    let folder = Folder::with_demo(name);
+    fs::create_dir(folder.path("lot")).unwrap();
+    for (from, to) in [
+        ("vram.bin", "all.vram"),
+        ("drawing.bin", "all.drawing"),
+        ("frame1-left.png", "good.left.png"),
+        ("frame1-right.png", "good.right.png"),
+        ("frame0-left.png", "worn & <old>.left.png"),
+        ("frame1-right.png", "worn & <old>.right.png"),
+    ] {
+        fs::copy(folder.path(&format!("out/{from}")), folder.path(&format!("lot/{to}"))).unwrap();
+    }
+    folder
+}
+
+fn json_lines(text: &str) -> Vec<Value> {
+    text.lines().map(|line| serde_json::from_str(line).unwrap()).collect()
+}
+
+#[test]
+fn deliver_1_a_folder_is_judged_by_its_names() {
+    let folder = with_lot("judge-folder");
+    let ran = folder.vbmodel("judge lot");
+    assert_eq!((ran.status, ran.error.as_str()), (1, ""));
+    let lines: Vec<&str> = ran.text.lines().collect();
+    assert_eq!(lines[0], "equal      good: frame 0, left eye equal; right eye equal");
+    let start = "different  worn & <old>: frame 0, left eye: 10,307 of 86,016 pixels, columns ";
+    assert!(lines[1].starts_with(start) && lines[1].ends_with("; right eye equal"), "{}", lines[1]);
+    assert_eq!(lines[2..], ["2 parts: 1 equal, 1 different"]);
+    fs::remove_file(folder.path("lot/worn & <old>.left.png")).unwrap();
+    assert_eq!(folder.vbmodel("judge lot").status, 0);
+    // a part's own scene, frame 1, a whole VRAM for both eyes, and a file that is none of them
+    for (from, to) in [
+        ("vram.bin", "own.vram"),
+        ("drawing.bin", "own.drawing"),
+        ("frame1-left.png", "own.frame1.left.png"),
+        ("vram.bin", "all.vram"),
+        ("vram.bin", "dumped.frame1.dump"),
+        ("vram.bin", "notes.txt"),
+    ] {
+        fs::copy(folder.path(&format!("out/{from}")), folder.path(&format!("lot/{to}"))).unwrap();
+    }
+    let ran = folder.vbmodel("judge lot");
+    assert_eq!(ran.status, 0, "{}", ran.text);
+    for line in [
+        "equal      dumped.frame1: frame 1, left eye equal; right eye equal\n",
+        "equal      own.frame1: frame 1, left eye equal\n",
+        "not taken by the naming rule: notes.txt\n4 parts: 4 equal, 0 different\n",
+    ] {
+        assert!(ran.text.contains(line), "{line}: {}", ran.text);
+    }
+}
+
+const TOML: &str = "
+drawing = '../out/drawing.bin'
+frame = 1
+
+[[part]]
+name = 'good'
+vram = '../out/vram.bin'
+left = '../out/frame1-left.png'
+
+[[part]]
+name = 'worn'
+vram = '../out/vram.bin'
+frame = 0x0
+left = '../out/frame0-left.png'
+capture = '../out/vram.bin'
+
+[[part]]
+name = 'mistyped'
+vram = '../out/vram.bin'
+lift = '../out/frame1-left.png'
+";
+
+const CSV: &str = "name, vram, drawing, frame, left, right
+good, out/vram.bin, out/drawing.bin, 1, out/frame1-left.png,
+\"worn, old\", out/vram.bin, out/drawing.bin, 1, , out/frame0-right.png
+short, out/vram.bin
+none, out/vram.bin, out/drawing.bin, 1, out/none.png,
+";
+
+#[test]
+fn deliver_1_manifests_in_toml_and_csv_are_judged() {
+    let folder = Folder::with_demo("judge-manifests");
+    fs::create_dir(folder.path("lots")).unwrap();
+    folder.write("lots/a.toml", TOML.as_bytes());
+    let ran = folder.vbmodel("judge lots/a.toml");
+    assert_eq!(ran.status, 2, "{}", ran.text);
+    let starts = |text: &str, starts: &[&str]| {
+        assert_eq!(text.lines().count(), starts.len(), "{text}");
+        for (line, start) in text.lines().zip(starts) {
+            assert!(line.starts_with(start), "{line}\nnot\n{start}");
+        }
+    };
+    starts(
+        &ran.text,
+        &[
+            "equal      good: frame 1, left eye equal",
+            "different  worn: frame 0, left eye",
+            "bad        mistyped: lots/a.toml: unknown field `lift`, expected one of `name`, `state`",
+            "3 parts: 1 equal, 1 different, 1 bad",
+        ],
+    );
+    folder.write("b.csv", CSV.as_bytes());
+    let ran = folder.vbmodel("judge b.csv");
+    assert_eq!(ran.status, 2, "{}", ran.text);
+    starts(
+        &ran.text,
+        &[
+            "equal      good: frame 1, left eye equal",
+            "different  worn, old: frame 1, right eye: ",
+            "bad        line 4: b.csv: CSV error: record 3",
+            "bad        none: out/none.png: No such file or directory; it must be a capture",
+            "4 parts: 1 equal, 1 different, 2 bad",
+        ],
+    );
+}
+
+#[test]
+fn deliver_1_json_has_a_line_for_each_part_and_one_for_all() {
+    let folder = with_lot("judge-json");
+    let ran = folder.vbmodel("judge lot --json --first 2");
+    assert_eq!(ran.status, 1);
+    let lines = json_lines(&ran.text);
+    assert_eq!(lines.len(), 3);
+    assert_eq!((&lines[0]["name"], &lines[0]["verdict"]), (&"good".into(), &"equal".into()));
+    let left = &lines[1]["eyes"][0];
+    assert_eq!(left["capture"], "lot/worn & <old>.left.png");
+    assert_eq!(left["different"], 10_307);
+    assert_eq!(left["first"].as_array().unwrap().len(), 2);
+    let shares = left["shares"].as_array().unwrap();
+    let counted: u64 = shares.iter().map(|share| share["pixels"].as_u64().unwrap()).sum();
+    assert_eq!(counted, 10_307, "every differing pixel is accounted for once");
+    assert_eq!(lines[2]["summary"]["different"], 1);
+}
+
+#[test]
+fn deliver_1_junit_is_written_for_a_test_server() {
+    let folder = with_lot("judge-junit");
+    folder.write("lot/bad.left.png", b"no PNG");
+    let ran = folder.vbmodel("judge lot --junit reports/lot.xml");
+    assert_eq!(ran.status, 2);
+    assert!(ran.text.ends_with("written: reports/lot.xml\n"), "{}", ran.text);
+    let xml = String::from_utf8(folder.read("reports/lot.xml")).unwrap();
+    for part in [
+        "<testsuite name=\"vbmodel judge\" tests=\"3\" failures=\"1\" errors=\"1\" skipped=\"0\" time=\"",
+        "<testcase classname=\"vbmodel.judge\" name=\"good\"/>",
+        "name=\"worn &amp; &lt;old&gt;\"><failure message=\"frame 0, left eye: 10,307 of 86,016 pixels",
+        "name=\"bad\"><error message=\"lot/bad.left.png (6 bytes): a capture is a raw frame buffer",
+    ] {
+        assert!(xml.contains(part), "{part}: {xml}");
+    }
+    let parsed = std::process::Command::new("python3")
+        .args(["-c", "import sys, xml.dom.minidom as m; print(len(m.parse(sys.argv[1]).getElementsByTagName('testcase')))"])
+        .arg(folder.path("reports/lot.xml"))
+        .output();
+    if let Ok(parsed) = parsed {
+        assert_eq!(String::from_utf8_lossy(&parsed.stdout), "3\n");
+    }
+}
+
+#[test]
+fn deliver_1_the_page_needs_nothing_else_and_explains_a_failed_part() {
+    let folder = with_lot("judge-html");
+    assert_eq!(folder.vbmodel("judge lot --html report.html").status, 1);
+    let page = String::from_utf8(folder.read("report.html")).unwrap();
+    for part in [
+        "2 parts: 1 equal, 1 different",
+        "<tr class=\"equal\"><td>good</td>",
+        "<h2>worn &amp; &lt;old&gt;: different</h2>",
+        "10,307 of 86,016 pixels differ, in columns ",
+        "<svg viewBox=\"0 0 384 224\"><rect x=\"",
+        "<h3>right eye: equal</h3>",
+        "<th>What the model shows there</th>",
+        "<pre>pixel (220, 40) of the left eye: value 3\n",
+    ] {
+        assert!(page.contains(part), "{part}");
+    }
+    assert_eq!(page.matches("src=\"data:image/png;base64,").count(), 3);
+    for outside in ["http://", "https://", "src=\"/", "<link", "url("] {
+        assert!(!page.contains(outside), "{outside}");
+    }
+}
+
+#[test]
+fn deliver_1_one_bad_part_does_not_stop_the_others() {
+    let folder = with_lot("judge-bad");
+    fs::create_dir(folder.path("lot/folder.left.png")).unwrap();
+    folder.write("lot/empty.left.raw", b"");
+    folder.write("lot/short.vram", &[0; 262_143]);
+    folder.write("lot/short.right.raw", &[0; 24_576]);
+    folder.write("lot/wide.drawing", &[0xFF; 26]);
+    folder.write("lot/wide.right.raw", &[0; 24_576]);
+    folder.write("lot/lonely.state", b"x");
+    let ran = folder.vbmodel("judge lot");
+    assert_eq!(ran.status, 2);
+    for line in [
+        "bad        empty: lot/empty.left.raw (0 bytes): a capture is a raw frame buffer of 24,576 bytes, a whole VRAM of",
+        "bad        folder: lot/folder.left.png: is a folder; it must be a capture: ",
+        "equal      good: ",
+        "bad        lonely: lot/lonely.state (1 bytes): it ends inside its contents; it must be a saved state, form 1 or 2",
+        "bad        short: lot/short.vram (262,143 bytes): refusal 3: VRAM has 262,143 bytes; it must have 262,144",
+        "bad        wide: lot/wide.drawing (26 bytes): refusal 5: SPT0 is 0x0000FFFF; it must be at most 0x3FF (10 bits)",
+        "different  worn & <old>: ",
+        "7 parts: 1 equal, 1 different, 5 bad",
+    ] {
+        assert!(ran.text.lines().any(|l| l.starts_with(line)), "{line}\nnot in\n{}", ran.text);
+    }
+}
+
+#[test]
+fn bad_input_a_lot_that_is_none_is_told() {
+    let folder = with_lot("judge-none");
+    folder.write("lot.txt", b"x");
+    folder.write("bytes.toml", b"\xFF");
+    folder.write("wrong.toml", b"part = 3");
+    folder.write("empty.toml", b"");
+    folder.write("heads.csv", b"a, b\n1, 2\n");
+    fs::create_dir(folder.path("nothing")).unwrap();
+    for (lot, message) in [
+        ("none", "none: No such file or directory; it must be a folder, or a manifest whose name ends in .toml or .csv"),
+        ("lot.txt", "lot.txt: a lot is a folder, or a manifest whose name ends in .toml or .csv"),
+        ("bytes.toml", "bytes.toml (1 bytes): is no text; it must be a manifest, TOML or CSV"),
+        ("wrong.toml", "wrong.toml (8 bytes): is no manifest: invalid type: integer `3`, expected a sequence for key `part` at line 1 column 8"),
+        ("empty.toml", "empty.toml: has no part"),
+        ("nothing", "nothing: has no part"),
+        ("heads.csv", "heads.csv (10 bytes): its first line must name the columns: name, and of state, vram, drawing, frame, left, right, capture and threshold those that are used"),
+    ] {
+        folder.refused(&format!("judge {lot} --html report.html"), &format!("vbmodel: {message}"));
+    }
+    folder.refused(
+        "judge lot --html lot.txt/x.html",
+        "vbmodel: lot.txt/x.html: lot.txt is a file, not a folder; nothing was written",
+    );
+    let ran = folder.vbmodel("judge lot --html lot/good.left.png");
+    assert_eq!(ran.status, 2);
+    assert!(ran.error.contains("is read by this command"), "{}", ran.error);
+    assert!(ran.text.contains("2 parts: 1 equal, 1 different\n"), "{}", ran.text);
+}
+
+#[test]
+fn two_parts_of_one_name_are_told() {
+    let folder = Folder::with_demo("judge-names");
+    let part = "[[part]]\nname = 'a'\nvram = 'out/vram.bin'\ndrawing = 'out/drawing.bin'\nleft = 'out/frame1-left.png'\n";
+    folder.write("lot.toml", part.repeat(2).as_bytes());
+    let ran = folder.vbmodel("judge lot.toml");
+    assert_eq!(ran.status, 2);
+    assert!(
+        ran.text.contains("bad        a: the name a is given to an earlier part\n"),
+        "{}",
+        ran.text
+    );
+}
+
+/// The aim is 1,000 in 5 s on two idle cores; a hundred have the same time here, for a busy machine.
+#[test]
+fn speed_a_lot_of_a_hundred_states() {
+    let folder = Folder::with_demo("judge-speed");
+    lot_of(&folder, 100);
+    let begun = std::time::Instant::now();
+    let ran = folder.vbmodel("judge many --html many.html");
+    let took = begun.elapsed();
+    assert_eq!(ran.status, 1, "{}", ran.text);
+    assert!(ran.text.contains("100 parts: 90 equal, 10 different\n"), "{}", ran.text);
+    assert!(took.as_secs_f64() < 5.0, "{took:?}");
+}
+
+/// The whole aim: `cargo test --release --offline -- --ignored speed_` prints the time.
+#[test]
+#[ignore = "260 MB of files"]
+fn speed_a_lot_of_a_thousand_states() {
+    let folder = Folder::with_demo("judge-speed-1000");
+    lot_of(&folder, 1_000);
+    let begun = std::time::Instant::now();
+    let ran = folder.vbmodel("judge many");
+    let took = begun.elapsed();
+    assert!(ran.text.contains("1,000 parts: 900 equal, 100 different\n"), "{}", ran.text);
+    println!("1,000 captures of one eye from 1,000 states: {took:?}");
+    assert!(took.as_secs_f64() < 5.0, "{took:?}");
+}
+
+/// States of the demo's memory, each with a capture; every tenth is of the other frame.
+fn lot_of(folder: &Folder, count: usize) {
+    fs::create_dir(folder.path("many")).unwrap();
+    for i in 0..count {
+        let name = folder.path(&format!("many/{i:04}"));
+        let copy = |from: &str, end: &str| {
+            let to = format!("{}{end}", name.display());
+            fs::copy(folder.path(&format!("out/{from}")), to).unwrap();
+        };
+        copy("vram.bin", ".vram");
+        copy("drawing.bin", ".drawing");
+        copy(if i % 10 == 9 { "frame0-left.png" } else { "frame1-left.png" }, ".left.png");
+    }
+}
