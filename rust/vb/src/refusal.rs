@@ -91,7 +91,7 @@ pub fn grouped(number: u64) -> String {
     let digits = number.to_string();
     let mut out = String::new();
     for (i, digit) in digits.chars().enumerate() {
-        if i > 0 && (digits.len() - i) % 3 == 0 {
+        if i > 0 && (digits.len() - i).is_multiple_of(3) {
             out.push(',');
         }
         out.push(digit);
@@ -106,7 +106,7 @@ pub(crate) fn fault(processor: Option<&Processor>, drawing: &Drawing) -> Option<
 }
 
 fn processor_fault(p: &Processor) -> Option<Refusal> {
-    let odd = |value: u32| value % 2 != 0;
+    let odd = |value: u32| !value.is_multiple_of(2);
     let outside = |value: u32| value & !0x000F_F3FF != 0;
     let rows: [(&'static str, u32, bool, &'static str); 9] = [
         ("general register 0", p.regs[0], p.regs[0] != 0, "it must be 0"),
