@@ -264,6 +264,34 @@ fn two_parts_of_one_name_are_told() {
     );
 }
 
+#[test]
+fn a_lot_is_stopped_by_ctrl_c_with_what_was_judged() {
+    let folder = Folder::with_demo("judge-interrupt");
+    lot_of(&folder, 1);
+    for i in 1..9 {
+        for end in ["vram", "drawing", "left.png"] {
+            let copy = folder.path(&format!("many/000{i}.{end}"));
+            fs::copy(folder.path(&format!("many/0000.{end}")), copy).unwrap();
+        }
+    }
+    // the second part takes long: a FIFO that nobody writes to until the signal has come
+    fs::remove_file(folder.path("many/0001.left.png")).unwrap();
+    assert_eq!(folder.shell("mkfifo many/0001.left.raw").status, 0);
+    let child = std::process::Command::new(env!("CARGO_BIN_EXE_vbmodel"))
+        .args(["judge", "many"])
+        .env("RAYON_NUM_THREADS", "1")
+        .current_dir(folder.path("."))
+        .stdout(std::process::Stdio::piped())
+        .spawn()
+        .unwrap();
+    common::interrupt(child.id());
+    folder.shell("head -c 24576 /dev/zero | timeout 5 dd of=many/0001.left.raw 2>/dev/null");
+    let output = child.wait_with_output().unwrap();
+    assert_eq!(output.status.code(), Some(130));
+    let text = String::from_utf8(output.stdout).unwrap();
+    assert!(text.lines().last().unwrap().ends_with(" not judged"), "{text}");
+}
+
 /// The aim is 1,000 in 5 s on two idle cores; a hundred have the same time here, for a busy machine.
 #[test]
 fn speed_a_lot_of_a_hundred_states() {

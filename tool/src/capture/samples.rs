@@ -10,7 +10,10 @@ pub struct Samples {
     line: usize,
     data: Vec<u8>,
     palette: Vec<u8>,
+    /// The alphas of a palette.
     transparent: Vec<u8>,
+    /// The colour that is transparent where there is no palette.
+    key: Vec<u16>,
 }
 
 /// The parts of a PNG that decide what its samples mean.
@@ -79,6 +82,7 @@ impl Samples {
             data,
             palette: palette.to_vec(),
             transparent: transparent.to_vec(),
+            key: transparent.chunks_exact(2).map(|h| u16::from_be_bytes([h[0], h[1]])).collect(),
         })
     }
 
@@ -113,20 +117,21 @@ impl Samples {
             return self.of_palette(usize::from(self.sample(y, x)));
         }
         let step = self.colour.samples();
-        let raw: Vec<u16> = (0..step).map(|n| self.sample(y, step * x + n)).collect();
-        let colours = if step < 3 { &raw[..1] } else { &raw[..3] };
+        let mut raw = [0; 4];
+        (0..step).for_each(|n| raw[n] = self.sample(y, step * x + n));
+        let colours = if step < 3 { 1 } else { 3 };
         let most = ((1u32 << self.depth) - 1) as u16;
         if matches!(step, 2 | 4) && raw[step - 1] != most {
             return Err(format!("has the alpha {:X} of {most:X}", raw[step - 1]));
         }
-        let key: Vec<u16> =
-            self.transparent.chunks_exact(2).map(|h| u16::from_be_bytes([h[0], h[1]])).collect();
-        if matches!(step, 1 | 3) && key == colours {
+        if matches!(step, 1 | 3) && self.key == raw[..colours] {
             return Err("has the colour that tRNS makes transparent".to_string());
         }
-        let bytes = colours.iter().map(|&sample| self.byte(sample, exact));
-        let bytes: Vec<u8> = bytes.collect::<Result<_, _>>()?;
-        Ok(if step < 3 { [bytes[0]; 3] } else { [bytes[0], bytes[1], bytes[2]] })
+        let first = self.byte(raw[0], exact)?;
+        match colours {
+            1 => Ok([first; 3]),
+            _ => Ok([first, self.byte(raw[1], exact)?, self.byte(raw[2], exact)?]),
+        }
     }
 
     fn of_palette(&self, index: usize) -> Result<[u8; 3], String> {

@@ -165,3 +165,18 @@ pub fn pixel(vram: &[u8], frame: usize, eye: usize, x: usize, y: usize) -> u8 {
     let at = 0x8000 * frame + 0x10000 * eye + 64 * x + 2 * (y / 8);
     (u16::from_le_bytes([vram[at], vram[at + 1]]) >> (2 * (y % 8)) & 3) as u8
 }
+
+/// Sends Ctrl-C's signal to a process as soon as it is ready to take it.
+pub fn interrupt(process: u32) {
+    let catches = || {
+        let status = fs::read_to_string(format!("/proc/{process}/status")).unwrap_or_default();
+        let mask = status.lines().find_map(|line| line.strip_prefix("SigCgt:"));
+        mask.and_then(|mask| u64::from_str_radix(mask.trim(), 16).ok()).unwrap_or(0) & 2 != 0
+    };
+    let begun = std::time::Instant::now();
+    while !catches() && begun.elapsed().as_secs() < 20 {
+        std::thread::sleep(std::time::Duration::from_millis(20));
+    }
+    let sent = Command::new("kill").args(["-INT", &process.to_string()]).status().unwrap();
+    assert!(sent.success());
+}
