@@ -66,13 +66,18 @@ impl Capture {
         let scale = samples.width / COLUMNS;
         let mut levels: Vec<Level> = (0..4).map(Level::of).collect();
         let mut values = Vec::with_capacity(COLUMNS * ROWS);
-        for (x, y) in (0..ROWS).flat_map(|y| (0..COLUMNS).map(move |x| (x, y))) {
-            let square = Square { samples: &samples, scale, x, y };
-            let colour = if threshold == 0 { square.exact()? } else { square.mean()? };
-            let value =
-                value_of(colour, threshold).ok_or_else(|| square.wrong(colour, threshold))?;
-            levels[value as usize].count(colour[0]);
-            values.push(value);
+        for y in 0..ROWS {
+            // rows that are stored alike are looked at once
+            let alike = samples.rows_alike(scale * y, scale);
+            let rows = if alike { 1 } else { scale };
+            for x in 0..COLUMNS {
+                let square = Square { samples: &samples, scale, rows, x, y };
+                let colour = if threshold == 0 { square.exact()? } else { square.mean()? };
+                let value =
+                    value_of(colour, threshold).ok_or_else(|| square.wrong(colour, threshold))?;
+                levels[value as usize].count(colour[0]);
+                values.push(value);
+            }
         }
         let levels = (threshold > 0).then_some(levels);
         Ok(Capture { picture: Picture::of_values(values), levels })
@@ -126,6 +131,8 @@ impl Level {
 struct Square<'a> {
     samples: &'a Samples,
     scale: usize,
+    /// How many of its rows differ in what is stored.
+    rows: usize,
     x: usize,
     y: usize,
 }
@@ -139,7 +146,7 @@ impl Square<'_> {
     /// The one colour of all of them.
     fn exact(&self) -> Result<[u8; 3], String> {
         let first = self.at(0, true)?;
-        for i in 1..self.scale * self.scale {
+        for i in 1..self.scale * self.rows {
             if self.at(i, true)? != first {
                 let (x, y, scale) = (self.x, self.y, self.scale);
                 return Err(format!(
@@ -152,7 +159,7 @@ impl Square<'_> {
 
     /// Their mean, rounded.
     fn mean(&self) -> Result<[u8; 3], String> {
-        let count = self.scale * self.scale;
+        let count = self.scale * self.rows;
         let mut sums = [0; 3];
         for i in 0..count {
             let colour = self.at(i, false)?;

@@ -86,6 +86,12 @@ impl Samples {
         })
     }
 
+    /// Whether `count` rows from `first` on are stored alike: their pixels are then of the same colours.
+    pub fn rows_alike(&self, first: usize, count: usize) -> bool {
+        let row = |y: usize| &self.data[y * self.line..(y + 1) * self.line];
+        (first + 1..first + count).all(|y| row(y) == row(first))
+    }
+
     /// Sample n of a row as it is stored.
     fn sample(&self, y: usize, n: usize) -> u16 {
         let row = &self.data[y * self.line..];
