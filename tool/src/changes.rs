@@ -4,7 +4,7 @@ use std::path::{Path, PathBuf};
 
 use clap::{Args, ValueEnum};
 use model::bus::{place_of, Place};
-use vb::{grouped, Machine, Refusal};
+use vb::{grouped, Drawing, Machine, Refusal};
 
 use crate::failure::Failure;
 use crate::files::Input;
@@ -114,21 +114,20 @@ fn load(bench: &mut Bench, first: u32, path: &Path) -> Result<(), Failure> {
     Ok(())
 }
 
+/// The registers that `set` knows.
+const KNOWN: &str =
+    "r0 to r31, pc, eipc, eipsw, fepc, fepsw, ecr, psw, sr25, sr29, sr31, spt0 to 3, gplt0 to 3, \
+                     jplt0 to 3 and bkcol";
+
 /// Sets a register by its name.
 fn set(machine: &mut Machine, name: &str, value: u32) -> Result<(), Failure> {
-    let numbered = |kind: &str, count: usize| -> Option<usize> {
-        name.strip_prefix(kind)?.parse::<usize>().ok().filter(|n| *n < count)
-    };
+    if let Some(register) = drawing_register(&mut machine.drawing, name) {
+        *register = u16::try_from(value)
+            .map_err(|_| Failure::bad(format!("{name}=0x{value:X}: it must be at most 0xFFFF")))?;
+        return Ok(());
+    }
     let processor = &mut machine.processor;
-    let drawing = &mut machine.drawing;
-    let half = |register: &mut u16| match u16::try_from(value) {
-        Ok(value) => {
-            *register = value;
-            Ok(())
-        }
-        Err(_) => Err(Failure::bad(format!("{name}=0x{value:X}: it must be at most 0xFFFF"))),
-    };
-    let word = match name {
+    let register = match name {
         "pc" => &mut processor.pc,
         "eipc" => &mut processor.eipc,
         "eipsw" => &mut processor.eipsw,
@@ -139,22 +138,25 @@ fn set(machine: &mut Machine, name: &str, value: u32) -> Result<(), Failure> {
         "sr25" => &mut processor.sr25,
         "sr29" => &mut processor.sr29,
         "sr31" => &mut processor.sr31,
-        "bkcol" => return half(&mut drawing.bkcol),
-        _ => {
-            match (numbered("r", 32), numbered("spt", 4), numbered("gplt", 4), numbered("jplt", 4))
-            {
-                (Some(n), ..) => &mut processor.regs[n],
-                (_, Some(n), ..) => return half(&mut drawing.spt[n]),
-                (_, _, Some(n), _) => return half(&mut drawing.gplt[n]),
-                (_, _, _, Some(n)) => return half(&mut drawing.jplt[n]),
-                _ => {
-                    let known = "r0 to r31, pc, eipc, eipsw, fepc, fepsw, ecr, psw, sr25, sr29, sr31, spt0 to 3, gplt0 to 3, \
-                             jplt0 to 3 and bkcol are";
-                    return Err(Failure::bad(format!("`{name}` is no register; {known}")));
-                }
-            }
-        }
+        _ => match numbered(name, "r", 32) {
+            Some(n) => &mut processor.regs[n],
+            None => return Err(Failure::bad(format!("`{name}` is no register; {KNOWN} are"))),
+        },
     };
-    *word = value;
+    *register = value;
     Ok(())
+}
+
+fn drawing_register<'a>(drawing: &'a mut Drawing, name: &str) -> Option<&'a mut u16> {
+    if name == "bkcol" {
+        return Some(&mut drawing.bkcol);
+    }
+    let four =
+        [("spt", &mut drawing.spt), ("gplt", &mut drawing.gplt), ("jplt", &mut drawing.jplt)];
+    four.into_iter().find_map(|(kind, all)| Some(&mut all[numbered(name, kind, 4)?]))
+}
+
+/// The number of a register of a kind.
+fn numbered(name: &str, kind: &str, count: usize) -> Option<usize> {
+    name.strip_prefix(kind)?.parse::<usize>().ok().filter(|n| *n < count)
 }

@@ -33,9 +33,10 @@ const LISTED: usize = 10;
   vbmodel why left 220 40 --vram out/vram.bin --drawing out/drawing.bin
 
 A capture is a raw frame buffer of 24,576 bytes (rows 224 to 255 are not compared), a whole VRAM of 262,144 bytes, or a
-PNG of 384 by 224 pixels, or 2 to 16 times that, in red or grey of 00, 55, AA and FF for the values 0 to 3. With --threshold
-a PNG's sample may lie that far from its level, as analogue captures do; what was taken for each level is printed. Where something differs, a PNG marks it: the
-model's picture in grey, yellow where the capture is brighter and cyan where it is darker.
+PNG of 384 by 224 pixels, or 2 to 16 times that, in opaque red or grey of 00, 55, AA and FF for the values 0 to 3. With
+--threshold a PNG's sample may lie that far from its level, as analogue captures do; what was taken for each level is
+printed. Where something differs, a PNG marks it: the model's picture in grey, yellow where the capture is brighter and
+cyan where it is darker.
 
 Exit status: 0 equal; 1 different; 2 refused or bad input, and then nothing is written; 3 with --why, where the
 independent model and the proved library differ.")]

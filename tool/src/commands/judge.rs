@@ -28,9 +28,10 @@ use crate::progress::Progress;
   cp out/frame0-left.png lot/worn.left.png
   vbmodel judge lot --html report.html
 
-A folder's files say by their names what they are: NAME.vram and NAME.drawing, or NAME.state (a saved state), is the scene
-of the part NAME; all.vram, all.drawing or all.state the scene of those that have none. NAME.left.png, NAME.right.png, or
-.raw, and NAME.dump, a whole VRAM, are captures of frame 0; NAME.frame1.left.png and so on those of frame 1.
+A folder's files say by their names what they are: NAME.vram and NAME.drawing, or NAME.state (a saved state), is the
+scene of the part NAME; all.vram, all.drawing or all.state the scene of those that have none. NAME.left.png and
+NAME.right.png, or .raw, and NAME.dump, a whole VRAM, are captures of frame 0; NAME.frame1.left.png and so on those of
+frame 1.
 
 A manifest in TOML has a table for each part, and may have defaults above them:
   drawing = \"all.drawing\"
@@ -40,11 +41,11 @@ A manifest in TOML has a table for each part, and may have defaults above them:
   frame = 1
   left = \"7-left.png\"
   right = \"7-right.png\"
-The names are name, state, vram, drawing, frame, left, right, capture (a whole VRAM) and threshold. A manifest in CSV has
-them as its first line, and a line for each part. Files are named from the manifest's folder.
+The names are name, state, vram, drawing, frame, left, right, capture (a whole VRAM) and threshold. A manifest in CSV
+has them as its first line, and a line for each part. Files are named from the manifest's folder.
 
-Exit status: 0 all equal; 1 some different; 2 some could not be judged, or nothing could; 3 the independent model and the
-proved library differ; 130 stopped by Ctrl-C. A part that could not be judged does not stop the others.")]
+Exit status: 0 all equal; 1 some different; 2 some could not be judged, or nothing could; 3 the independent model and
+the proved library differ; 130 stopped by Ctrl-C. A part that could not be judged does not stop the others.")]
 pub struct Options {
     /// A folder, or a manifest whose name ends in .toml or .csv
     lot: PathBuf,

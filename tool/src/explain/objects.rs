@@ -74,8 +74,8 @@ impl Objects {
     pub fn fate(&self) -> String {
         let Objects { group, first, length, covering, hidden, elsewhere, .. } = self;
         format!(
-            "objects of group {group}: {length} from object {first} downwards; {covering} cover the pixel, {hidden} are not \
-             shown to this eye, {elsewhere} lie elsewhere"
+            "objects of group {group}: {length} from object {first} downwards; {covering} cover the pixel, {hidden} \
+             are not shown to this eye, {elsewhere} lie elsewhere"
         )
     }
 }

@@ -125,8 +125,8 @@ impl WorldRecord {
         }
         let WorldRecord { gx, gp, gy, mx, mp, my, w, h, columns, rows, .. } = self;
         format!(
-            "{}{flags}, GX {gx} GP {gp} GY {gy}, MX {mx} MP {mp} MY {my}, W {w} ({columns} columns) H {h} ({rows} rows), \
-             base {} SCX {} SCY {}{}{}",
+            "{}{flags}, GX {gx} GP {gp} GY {gy}, MX {mx} MP {mp} MY {my}, W {w} ({columns} columns) H {h} \
+             ({rows} rows), base {} SCX {} SCY {}{}{}",
             self.bgm,
             self.base,
             self.scx,

@@ -87,8 +87,8 @@ impl CoveringTold {
                     format!(" (map {map}, column {column}, row {row})")
                 });
                 format!(
-                    "world {world}, {}: source ({sx}, {sy}), {place} 0x{cell:04X} at 0x{cell_address:05X}{map}, character \
-                     {character}{flips}, GPLT{number} 0x{palette:02X}: {gives}",
+                    "world {world}, {}: source ({sx}, {sy}), {place} 0x{cell:04X} at 0x{cell_address:05X}{map}, \
+                     character {character}{flips}, GPLT{number} 0x{palette:02X}: {gives}",
                     self.kind
                 )
             }

@@ -36,6 +36,9 @@ impl Stops {
     }
 }
 
+/// Instructions between two looks at Ctrl-C.
+const SLICE: u64 = 65_536;
+
 /// Why following ended.
 #[derive(Clone, Debug, PartialEq, Eq)]
 pub enum End {
@@ -72,41 +75,40 @@ pub fn follow(
     let watched = stops.watch.iter().map(|range| place::range(bench, range));
     let watched: Vec<(At, usize)> = watched.collect::<Result<_, _>>().map_err(Failure::bad)?;
     let mut count = 0;
-    let ended = |count: u64, end: End| Ok(Followed { count, end });
     loop {
-        match bench.machine.processor.mode {
-            Mode::Halted => return ended(count, End::Halted),
-            Mode::Fatal => return ended(count, End::Fatal),
-            Mode::Running => {}
-        }
-        let pc = bench.machine.processor.pc;
-        if stops.breaks.contains(&pc) {
-            return ended(count, End::Reached(pc));
-        }
-        if count == budget {
-            return ended(count, End::Budget);
-        }
-        if count % 65_536 == 0 && interrupt::asked() {
-            return ended(count, End::Interrupted);
+        if let Some(end) = before(bench, budget, count, stops) {
+            return Ok(Followed { count, end });
         }
         let told = match step(bench) {
             Ok(told) => told,
             Err(refusal @ Refusal::NotModelled { .. }) => {
-                return ended(count, End::NotModelled(refusal))
+                return Ok(Followed { count, end: End::NotModelled(refusal) })
             }
             Err(refusal) => return Err(bench.failure(&refusal)),
         };
         count += u64::from(!told.turned_fatal);
-        if !tell(&told) {
-            return ended(count, End::Enough);
-        }
-        if let Some(address) = told.written_within(bench, &watched) {
-            return ended(count, End::Watched(address));
-        }
-        let pc = bench.machine.processor.pc;
-        if stops.until.contains(&pc) {
-            return ended(count, End::Reached(pc));
-        }
+        let end = match told.written_within(bench, &watched) {
+            _ if !tell(&told) => End::Enough,
+            Some(address) => End::Watched(address),
+            None if stops.until.contains(&bench.machine.processor.pc) => {
+                End::Reached(bench.machine.processor.pc)
+            }
+            None => continue,
+        };
+        return Ok(Followed { count, end });
+    }
+}
+
+/// Why the next instruction is not done, if it is not.
+fn before(bench: &Bench, budget: u64, count: u64, stops: &Stops) -> Option<End> {
+    let processor = &bench.machine.processor;
+    match processor.mode {
+        Mode::Halted => Some(End::Halted),
+        Mode::Fatal => Some(End::Fatal),
+        Mode::Running if stops.breaks.contains(&processor.pc) => Some(End::Reached(processor.pc)),
+        Mode::Running if count == budget => Some(End::Budget),
+        Mode::Running if count % SLICE == 0 && interrupt::asked() => Some(End::Interrupted),
+        Mode::Running => None,
     }
 }
 

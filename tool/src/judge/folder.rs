@@ -1,8 +1,8 @@
 //! A folder as a lot: the files' names say which part they belong to, and what they are.
 //!
 //! `NAME.vram` and `NAME.drawing`, or `NAME.state`, are a part's scene; `all.vram`, `all.drawing` and `all.state` stand
-//! for parts that have none. `NAME.left.png`, `NAME.right.png` (or `.raw`) and `NAME.dump` (a whole VRAM) are its captures;
-//! those of frame 1 have `.frame1` after NAME.
+//! for parts that have none. `NAME.left.png`, `NAME.right.png` (or `.raw`) and `NAME.dump` (a whole VRAM) are its
+//! captures; those of frame 1 have `.frame1` after NAME.
 
 use std::collections::BTreeMap;
 use std::fs;
