@@ -188,7 +188,8 @@ fn deliver_1_the_page_needs_nothing_else_and_explains_a_failed_part() {
     ] {
         assert!(page.contains(part), "{part}");
     }
-    assert_eq!(page.matches("src=\"data:image/png;base64,").count(), 3);
+    // three of the eye that differs, one of the eye that does not
+    assert_eq!(page.matches("src=\"data:image/png;base64,").count(), 4);
     for outside in ["http://", "https://", "src=\"/", "<link", "url("] {
         assert!(!page.contains(outside), "{outside}");
     }

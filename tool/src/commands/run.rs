@@ -32,9 +32,9 @@ Example: run to an address, then see what the next instructions do (`vbmodel hel
   vbmodel run --rom out/rom.bin --until 0x0700_0000 --save-processor a.processor --save-wram a.wram
 
 Exit status: 0 when the run ended by its budget, a HALT, a fatal exception or where it was told to stop; 2 when it was
-refused or a file is bad, and then nothing is written; 130 when Ctrl-C stopped it, and then what it did so far is printed
-and written. A run that meets an instruction that is not modelled (refusal 6) also ends with 2, but it has an answer: the
-state after the counted instructions, which is printed and written where asked."
+refused or a file is bad, and then nothing is written; 130 when Ctrl-C stopped it, and then what it did so far is
+printed and written. A run that meets an instruction that is not modelled (refusal 6) also ends with 2, but it has an
+answer: the state after the counted instructions, which is printed and written where asked."
 )]
 pub struct Options {
     #[command(flatten)]

@@ -107,7 +107,9 @@ fn before(bench: &Bench, budget: u64, count: u64, stops: &Stops) -> Option<End> 
         Mode::Fatal => Some(End::Fatal),
         Mode::Running if stops.breaks.contains(&processor.pc) => Some(End::Reached(processor.pc)),
         Mode::Running if count == budget => Some(End::Budget),
-        Mode::Running if count % SLICE == 0 && interrupt::asked() => Some(End::Interrupted),
+        Mode::Running if count.is_multiple_of(SLICE) && interrupt::asked() => {
+            Some(End::Interrupted)
+        }
         Mode::Running => None,
     }
 }

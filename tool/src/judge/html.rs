@@ -86,7 +86,8 @@ fn section(number: usize, one: &Judged) -> String {
 fn eye(one: &EyeJudged) -> String {
     let mut out = format!("<h3>{} eye: ", one.eye);
     let Some(bounds) = &one.bounds else {
-        return out + &format!("equal</h3>\n<p>capture {}</p>\n", escaped(&one.capture));
+        out += &format!("equal</h3>\n<p>capture {}</p>\n", escaped(&one.capture));
+        return out + &one.pictures.as_ref().map_or(String::new(), |all| shown(one.eye, all, None));
     };
     let count = grouped(one.different as u64);
     out += &format!("{count} of 86,016 pixels differ, in {}</h3>\n", bounds.text());
@@ -97,7 +98,7 @@ fn eye(one: &EyeJudged) -> String {
     }
     out += "</p>\n";
     if let Some(pictures) = &one.pictures {
-        out += &shown(one.eye, pictures, bounds);
+        out += &shown(one.eye, pictures, Some(bounds));
     }
     out += &shares(&one.shares);
     out.extend(one.first.iter().map(explanation));
@@ -126,14 +127,8 @@ fn shares(all: &[Share]) -> String {
     format!("{}<details><summary>{count} more</summary>\n{}</details>\n", table(first), table(more))
 }
 
-/// The three pictures, a frame around what differs.
-fn shown(eye: &str, pictures: &Pictures, bounds: &Bounds) -> String {
-    let Bounds { left, top, right, bottom } = bounds;
-    let frame = format!(
-        "<svg viewBox=\"0 0 384 224\"><rect x=\"{left}\" y=\"{top}\" width=\"{}\" height=\"{}\"/></svg>",
-        right - left + 1,
-        bottom - top + 1
-    );
+/// The model's picture and, where the capture differs, that one and the differences with a frame around them.
+fn shown(eye: &str, pictures: &Pictures, bounds: Option<&Bounds>) -> String {
     let figure = |png: &[u8], what: &str, over: &str| {
         let data = base64::encode(png);
         format!(
@@ -141,11 +136,25 @@ fn shown(eye: &str, pictures: &Pictures, bounds: &Bounds) -> String {
              src=\"data:image/png;base64,{data}\">{over}</div><figcaption>{what}</figcaption></figure>\n"
         )
     };
+    let figures = match &pictures.differing {
+        None => figure(&pictures.expected, "the model and the capture", ""),
+        Some((seen, marked)) => {
+            let frame = bounds.map_or(String::new(), frame);
+            figure(&pictures.expected, "the model", "")
+                + &figure(seen, "the capture", "")
+                + &figure(marked, "differences: yellow brighter, cyan darker", &frame)
+        }
+    };
+    format!("<div class=\"pictures\">\n{figures}</div>\n")
+}
+
+/// A frame around what differs, to lie over a picture.
+fn frame(bounds: &Bounds) -> String {
+    let Bounds { left, top, right, bottom } = bounds;
     format!(
-        "<div class=\"pictures\">\n{}{}{}</div>\n",
-        figure(&pictures.expected, "the model", ""),
-        figure(&pictures.seen, "the capture", ""),
-        figure(&pictures.marked, "differences: yellow brighter, cyan darker", &frame)
+        "<svg viewBox=\"0 0 384 224\"><rect x=\"{left}\" y=\"{top}\" width=\"{}\" height=\"{}\"/></svg>",
+        right - left + 1,
+        bottom - top + 1
     )
 }
 

@@ -64,6 +64,9 @@ pub struct EyeJudged {
     pub levels: Option<Vec<Level>>,
     #[serde(skip)]
     pub agree: bool,
+    /// The model's picture and the capture, as long as they may be needed.
+    #[serde(skip)]
+    shown: Option<(Picture, Picture)>,
     #[serde(skip)]
     pub pictures: Option<Pictures>,
 }
@@ -78,11 +81,10 @@ pub struct Explained {
     pub text: String,
 }
 
-/// PNGs of the model's picture, of the capture, and of what differs.
+/// PNGs of the model's picture and, where the capture differs, of that and of the differences.
 pub struct Pictures {
     pub expected: Vec<u8>,
-    pub seen: Vec<u8>,
-    pub marked: Vec<u8>,
+    pub differing: Option<(Vec<u8>, Vec<u8>)>,
 }
 
 pub fn judge(entry: &Entry, wish: Wish) -> Judged {
@@ -107,6 +109,8 @@ pub fn judge(entry: &Entry, wish: Wish) -> Judged {
         Judged { eyes, .. } if eyes.iter().all(|eye| eye.equal) => Verdict::Equal,
         _ => Verdict::Different,
     };
+    let wanted = wish.pictures && matches!(judged.verdict, Verdict::Different | Verdict::Fault);
+    judged.eyes.iter_mut().for_each(|eye| eye.show(wanted));
     judged
 }
 
@@ -183,6 +187,7 @@ fn judge_eye(
         first: Vec::new(),
         levels: capture.levels,
         agree: true,
+        shown: wish.pictures.then(|| (expected.clone(), seen.clone())),
         pictures: None,
     };
     if let Some(bounds) = bounds {
@@ -192,11 +197,6 @@ fn judge_eye(
         judged.agree = givers.agree(&found);
         let first = found.iter().take(wish.first).map(|pixel| explained(scene, eye, pixel));
         judged.first = first.collect::<Result<_, _>>()?;
-        judged.pictures = wish.pictures.then(|| Pictures {
-            expected: expected.png(1),
-            seen: seen.png(1),
-            marked: expected.marked(seen, 1),
-        });
     }
     Ok(judged)
 }
@@ -215,6 +215,13 @@ fn explained(scene: &Read, eye: Eye, pixel: &Difference) -> Result<Explained, Fa
 }
 
 impl EyeJudged {
+    /// Makes the pictures of a part that differs in this eye or the other, and lets go of what they are made from.
+    fn show(&mut self, wanted: bool) {
+        let Some((expected, seen)) = self.shown.take().filter(|_| wanted) else { return };
+        let differing = (!self.equal).then(|| (seen.png(1), expected.marked(&seen, 1)));
+        self.pictures = Some(Pictures { expected: expected.png(1), differing });
+    }
+
     fn line(&self) -> String {
         let Some(bounds) = &self.bounds else { return format!("{} eye equal", self.eye) };
         let (count, all) = (grouped(self.different as u64), grouped((COLUMNS * ROWS) as u64));
