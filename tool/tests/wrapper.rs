@@ -100,4 +100,12 @@ fn wrong_6_the_wrapper_builds_again_for_a_source_alone() {
     folder.write("crates/word/src/more.rt", b"x");
     call(&folder, "./vbmodel", ".");
     assert_eq!(builds(&folder), 3, "a source is new");
+    fs::create_dir(folder.path("crates/word/proofs")).unwrap();
+    folder.write("crates/word/proofs/Proof.antt", b"x");
+    call(&folder, "./vbmodel", ".");
+    assert_eq!(builds(&folder), 3, "a proof says nothing new");
+    fs::create_dir(folder.path("crates/word/specs")).unwrap();
+    folder.write("crates/word/specs/Lib.antt", b"x");
+    call(&folder, "./vbmodel", ".");
+    assert_eq!(builds(&folder), 4, "a statement is new");
 }
