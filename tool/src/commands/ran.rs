@@ -160,6 +160,10 @@ fn fatal_sentence(code: Option<u32>, pc: u32, was_fatal: bool) -> String {
 /// Document 000's name of an exception, by its code.
 pub fn exception_name(code: u32) -> String {
     match code {
+        0xFF60 => "floating-point reserved operand".to_string(),
+        0xFF64 => "floating-point overflow".to_string(),
+        0xFF68 => "floating-point zero division".to_string(),
+        0xFF70 => "floating-point invalid operation".to_string(),
         0xFF80 => "zero division".to_string(),
         0xFF90 => "illegal instruction".to_string(),
         0xFFA0..=0xFFBF => format!("TRAP {}", code - 0xFFA0),
