@@ -62,6 +62,37 @@ fn deliver_1_a_folder_is_judged_by_its_names() {
     }
 }
 
+/// The demo's machine as a saved state of form 1: a count, kind, offset and length of each body, the bodies.
+fn saved_state(folder: &Folder) -> Vec<u8> {
+    let bodies = ["processor", "drawing", "wram", "vram"]
+        .map(|name| folder.read(&format!("out/{name}.bin")));
+    let mut file = 4u16.to_le_bytes().to_vec();
+    let mut offset = 2 + 10 * 4;
+    for (kind, body) in bodies.iter().enumerate() {
+        file.extend((kind as u16 + 1).to_le_bytes());
+        file.extend((offset as u32).to_le_bytes());
+        file.extend((body.len() as u32).to_le_bytes());
+        offset += body.len();
+    }
+    [file, bodies.concat()].concat()
+}
+
+#[test]
+fn deliver_1_a_saved_state_is_a_scene() {
+    let folder = with_lot("judge-state");
+    folder.write("lot/saved.state", &saved_state(&folder));
+    fs::copy(folder.path("out/frame1-left.png"), folder.path("lot/saved.left.png")).unwrap();
+    let ran = folder.vbmodel("judge lot");
+    assert!(ran.text.contains("equal      saved: frame 0, left eye equal\n"), "{}", ran.text);
+    let by_state = folder.vbmodel("why left 192 120 --state lot/saved.state");
+    let by_files = folder.vbmodel("why left 192 120 --vram out/vram.bin --drawing out/drawing.bin");
+    assert_eq!((by_state.status, by_state.text), (0, by_files.text));
+    let drawn = folder.vbmodel("draw --state lot/saved.state --frame 1 --out drawn");
+    assert_eq!(drawn.status, 0, "{}", drawn.error);
+    let both = folder.vbmodel("why left 0 0 --state lot/saved.state --vram out/vram.bin");
+    assert!(both.status == 2 && both.error.contains("cannot be used with"), "{}", both.error);
+}
+
 const TOML: &str = "
 drawing = '../out/drawing.bin'
 frame = 1
