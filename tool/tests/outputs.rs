@@ -82,6 +82,10 @@ fn wrong_3_a_fifo_and_a_device_are_written_through() {
     let text = folder.vbmodel("run --rom a.rom --save-processor /dev/null").text;
     let longer = text.len() + "/dev/stdout".len() - "/dev/null".len() + 172;
     assert_eq!(ran.text.trim(), longer.to_string());
+    // standard output may be a file: what is printed goes on after what was written
+    let ran =
+        folder.shell("\"$VB\" run --rom a.rom --save-processor /dev/stdout >both; wc -c <both");
+    assert_eq!(ran.text.trim(), longer.to_string());
 }
 
 #[test]

@@ -44,9 +44,7 @@ impl Outputs {
         let mut staged = self.staged()?;
         // what cannot be taken back comes first: where it fails, no file has got its name
         for (through, bytes, path) in &staged.through {
-            let written = File::options().write(true).open(through);
-            let written = written.and_then(|mut file| file.write_all(bytes));
-            written.map_err(|error| failed(path, &error))?;
+            written_through(through, bytes).map_err(|error| failed(path, &error))?;
         }
         for (passing, target, path) in std::mem::take(&mut staged.files) {
             passing.persist(target).map_err(|error| {
@@ -78,6 +76,19 @@ impl Outputs {
         }
         Ok(staged)
     }
+}
+
+/// Writes to what is no regular file. Standard output and standard error go on where they are.
+fn written_through(target: &Path, bytes: &[u8]) -> io::Result<()> {
+    let is = |names: [&str; 3]| names.iter().any(|name| target == Path::new(name));
+    if is(["/dev/stdout", "/dev/fd/1", "/proc/self/fd/1"]) {
+        let mut out = io::stdout().lock();
+        return out.write_all(bytes).and_then(|()| out.flush());
+    }
+    if is(["/dev/stderr", "/dev/fd/2", "/proc/self/fd/2"]) {
+        return io::stderr().lock().write_all(bytes);
+    }
+    File::options().write(true).open(target)?.write_all(bytes)
 }
 
 fn failed(path: &Path, error: &io::Error) -> Failure {

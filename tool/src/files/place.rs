@@ -68,7 +68,7 @@ impl Place {
 
 /// A file that the process has open already, such as /dev/stdout: replacing it would lose what is printed.
 fn is_open_file(path: &Path) -> bool {
-    path.starts_with("/dev") || path.starts_with("/proc")
+    ["/dev/stdout", "/dev/stderr", "/dev/fd", "/proc"].iter().any(|start| path.starts_with(start))
 }
 
 fn may_be_written(target: &Path, now: &Metadata) -> io::Result<()> {
