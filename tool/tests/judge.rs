@@ -160,6 +160,16 @@ fn deliver_1_manifests_in_toml_and_csv_are_judged() {
 }
 
 #[test]
+fn a_manifest_may_come_from_a_spreadsheet() {
+    let folder = Folder::with_demo("judge-spreadsheet");
+    let text = "\u{FEFF}name;vram;drawing;frame;left\r\ngood;out/vram.bin;out/drawing.bin;1;out/frame1-left.png\r\n";
+    folder.write("lot.csv", text.as_bytes());
+    let ran = folder.vbmodel("judge lot.csv");
+    let expected = "equal      good: frame 1, left eye equal\n1 part: 1 equal, 0 different\n";
+    assert_eq!((ran.status, ran.text.as_str()), (0, expected), "{}", ran.error);
+}
+
+#[test]
 fn deliver_1_json_has_a_line_for_each_part_and_one_for_all() {
     let folder = with_lot("judge-json");
     let ran = folder.vbmodel("judge lot --json --first 2");

@@ -27,7 +27,8 @@ struct Toml {
 fn text(path: &Path) -> Result<(Input, String), Failure> {
     let input = Input::read(path, MANIFEST)?;
     match String::from_utf8(input.bytes.clone()) {
-        Ok(text) => Ok((input, text)),
+        // a spreadsheet may put a mark before the text
+        Ok(text) => Ok((input, text.trim_start_matches('\u{FEFF}').to_string())),
         Err(_) => Err(Failure::bad(input.wrong(format!("is no text; it must be {MANIFEST}")))),
     }
 }
@@ -63,7 +64,11 @@ pub fn toml(path: &Path) -> Result<Lot, Failure> {
 pub fn csv(path: &Path) -> Result<Lot, Failure> {
     let (input, text) = text(path)?;
     let folder = path.parent().unwrap_or(Path::new(""));
-    let mut reader = csv::ReaderBuilder::new().trim(csv::Trim::All).from_reader(text.as_bytes());
+    // and semicolons between the columns, where its language has commas in numbers
+    let first = text.lines().next().unwrap_or_default();
+    let between = if first.contains(';') && !first.contains(',') { b';' } else { b',' };
+    let mut reader = csv::ReaderBuilder::new();
+    let mut reader = reader.trim(csv::Trim::All).delimiter(between).from_reader(text.as_bytes());
     let broken = |error: csv::Error| Failure::bad(input.wrong(format!("is no manifest: {error}")));
     let heads = reader.headers().map_err(broken)?.clone();
     if !heads.iter().any(|head| head == "name") {
