@@ -19,5 +19,5 @@ mod ObjectsSame
 pub mod PixelSame
 mod PixelValue
 mod Registers
-mod StripBytes
+pub mod StripBytes
 mod StripPixel
