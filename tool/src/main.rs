@@ -2,6 +2,7 @@
 #![forbid(unsafe_code)]
 
 mod assembler;
+mod brightness;
 mod called;
 mod capture;
 mod changes;

@@ -16,6 +16,7 @@ pub mod arithmetic;
 pub mod background;
 pub mod bus;
 pub mod character;
+pub mod display;
 pub mod drawing;
 pub mod exception;
 pub mod instruction;

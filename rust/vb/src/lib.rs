@@ -16,10 +16,12 @@
 //! ```
 #![forbid(unsafe_code)]
 
+mod brightness;
 mod calls;
 mod records;
 mod refusal;
 
+pub use brightness::{display, load_column_table, View};
 pub use calls::{character, Answer, Cause, Ran, Stop};
 pub use records::{Drawing, Machine, Mode, Processor, RecordError};
 pub use refusal::{grouped, Refusal};
@@ -39,6 +41,11 @@ pub const COLUMNS: usize = 384;
 pub const ROWS: usize = 224;
 /// Bytes of an image: 384 columns of 64 bytes.
 pub const IMAGE_LENGTH: usize = 24_576;
+
+/// Bytes of a room for the brightness of an eye's pixels, one a pixel.
+pub const ROOM_LENGTH: usize = COLUMNS * ROWS;
+/// The brightness that no pixel exceeds.
+pub const FULL_BRIGHTNESS: u8 = 128;
 
 /// Where the image of a frame (0 or 1) and an eye (0 left, 1 right) lies in VRAM.
 pub fn image_offset(frame: u32, eye: u32) -> usize {

@@ -1,10 +1,10 @@
-//! Paper 01's refusals, each with what was given.
+//! The papers' refusals, each with what was given.
 
 use std::fmt;
 
 use crate::records::{Drawing, Processor};
 
-/// Why a call did nothing: paper 01's numbers 1 to 8, 8 told apart by its subject.
+/// Why a call did nothing: the papers' numbers, 8 and 15 told apart by their subject.
 #[derive(Clone, Debug, PartialEq, Eq)]
 pub enum Refusal {
     /// 1
@@ -25,6 +25,12 @@ pub enum Refusal {
     Strip { given: u32 },
     /// 8
     Character { given: u32 },
+    /// 15
+    Eye { given: u32 },
+    /// 15
+    Start { given: u32 },
+    /// 15
+    Room { given: usize },
 }
 
 impl Refusal {
@@ -39,6 +45,7 @@ impl Refusal {
             Refusal::NotModelled { .. } => 6,
             Refusal::Frame { .. } => 7,
             Refusal::Strip { .. } | Refusal::Character { .. } => 8,
+            Refusal::Eye { .. } | Refusal::Start { .. } | Refusal::Room { .. } => 15,
         }
     }
 }
@@ -80,6 +87,19 @@ impl fmt::Display for Refusal {
             Refusal::Character { given } => {
                 write!(f, "character {given} was asked for; characters are 0 to 2,047")
             }
+            Refusal::Eye { given } => {
+                write!(f, "eye {given} was asked for; eyes are 0 (left) and 1 (right)")
+            }
+            Refusal::Start { given } => write!(
+                f,
+                "the column table is to start at entry {given}; a start is from 95 to 255, since 384 columns use 96 \
+                 entries downwards"
+            ),
+            Refusal::Room { given } => write!(
+                f,
+                "the room has {} bytes; it must have 86,016, a byte for each pixel",
+                grouped(*given as u64)
+            ),
         }
     }
 }

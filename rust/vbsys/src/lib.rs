@@ -275,3 +275,61 @@ mod drawing {
 
 #[cfg(feature = "drawing")]
 pub use drawing::{character, draw_frame, draw_strip};
+
+#[cfg(feature = "drawing")]
+mod display {
+    extern "C" {
+        fn vb_display(
+            vram: *const u8,
+            vram_len: usize,
+            frame: u32,
+            eye: u32,
+            start: u32,
+            brta: u8,
+            brtb: u8,
+            brtc: u8,
+            room: *mut u8,
+            room_len: usize,
+        ) -> u32;
+        fn vb_load_column_table(vram: *mut u8, vram_len: usize) -> u32;
+    }
+
+    /// `vb_display`; `durations` are BRTA, BRTB and BRTC.
+    #[inline]
+    pub fn display(
+        vram: &[u8],
+        frame: u32,
+        eye: u32,
+        start: u32,
+        durations: [u8; 3],
+        room: &mut [u8],
+    ) -> u32 {
+        let [brta, brtb, brtc] = durations;
+        // SAFETY: each pointer is lent with its slice's own length; VRAM is only read, and the
+        // room is borrowed mutably and apart.
+        unsafe {
+            vb_display(
+                vram.as_ptr(),
+                vram.len(),
+                frame,
+                eye,
+                start,
+                brta,
+                brtb,
+                brtc,
+                room.as_mut_ptr(),
+                room.len(),
+            )
+        }
+    }
+
+    /// `vb_load_column_table`
+    #[inline]
+    pub fn load_column_table(vram: &mut [u8]) -> u32 {
+        // SAFETY: the pointer is lent with its slice's own length.
+        unsafe { vb_load_column_table(vram.as_mut_ptr(), vram.len()) }
+    }
+}
+
+#[cfg(feature = "drawing")]
+pub use display::{display, load_column_table};

@@ -112,3 +112,33 @@ fn null_vram_of_length_0_is_refused() {
     assert_eq!(frame, 3);
     assert_eq!((part.refusal, part.length), (3, 0));
 }
+
+#[cfg(feature = "drawing")]
+#[test]
+fn null_buffers_of_the_display_unit_are_refused() {
+    extern "C" {
+        fn vb_display(
+            vram: *const u8,
+            vram_len: usize,
+            frame: u32,
+            eye: u32,
+            start: u32,
+            brta: u8,
+            brtb: u8,
+            brtc: u8,
+            room: *mut u8,
+            room_len: usize,
+        ) -> u32;
+        fn vb_load_column_table(vram: *mut u8, vram_len: usize) -> u32;
+    }
+    let vram = vec![9u8; 262_144];
+    // SAFETY: null is passed with length 0; VRAM is lent with its length.
+    let (both, room, loaded) = unsafe {
+        (
+            vb_display(null(), 0, 2, 2, 0, 1, 2, 3, null_mut(), 0),
+            vb_display(vram.as_ptr(), vram.len(), 0, 0, 95, 1, 2, 3, null_mut(), 0),
+            vb_load_column_table(null_mut(), 0),
+        )
+    };
+    assert_eq!((both, room, loaded), (3, 15, 3));
+}

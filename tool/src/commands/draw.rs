@@ -7,6 +7,7 @@ use serde::Serialize;
 use vb::{image_offset, Refusal, IMAGE_LENGTH, VRAM_LENGTH};
 
 use super::Report;
+use crate::brightness;
 use crate::failure::Failure;
 use crate::files::{Input, Outputs};
 use crate::number;
@@ -21,6 +22,8 @@ use crate::scene::{Scene, VRAM};
 
 With --as-is the frame buffer is shown as it is in VRAM, and no drawing record is needed.
 A PNG has red 00, 55, AA and FF for the pixel values 0 to 3; `vbmodel compare` reads it back.
+With --brightness it shows what a person sees instead: the time that a pixel's shade is lit, times the repeats of its
+columns in the column table, from 0 (black) to 128 and above (full red).
 Exit status: 0 drawn; 2 refused or bad input, and then nothing is written."
 )]
 pub struct Options {
@@ -51,6 +54,8 @@ pub struct Options {
     /// Where to write VRAM afterwards
     #[arg(long, value_name = "FILE")]
     save_vram: Option<PathBuf>,
+    #[command(flatten)]
+    seen: brightness::Options,
     /// Print JSON
     #[arg(long)]
     pub json: bool,
@@ -73,7 +78,7 @@ pub enum Eyes {
 }
 
 impl Eyes {
-    fn shows(self, one: Eyes) -> bool {
+    pub fn shows(self, one: Eyes) -> bool {
         self == one
             || self == Eyes::All
             || (self == Eyes::Both && matches!(one, Eyes::Left | Eyes::Right))
@@ -112,21 +117,25 @@ impl Views {
 }
 
 pub fn run(options: &Options) -> Result<Report, Failure> {
-    let vram = shown(options)?;
-    let views = Views::of(&vram, options.frame);
+    let mut vram = shown(options)?;
+    let Options { frame, eye, scale, as_is, .. } = *options;
+    let files = if options.seen.asked() {
+        options.seen.files(&mut vram, frame, eye, scale)?
+    } else {
+        Views::of(&vram, frame).files(frame, eye, scale)
+    };
     let mut outputs = Outputs::default();
-    for (name, png) in views.files(options.frame, options.eye, options.scale) {
+    for (name, png) in files {
         outputs.add(options.out.join(name), png);
     }
     if let Some(path) = &options.save_vram {
         outputs.add(path, vram);
     }
     outputs.write()?;
-    let Options { frame, scale, as_is, .. } = *options;
     let told = Told { frame, scale, as_is, written: outputs.paths() };
     let lines: String = told.written.iter().map(|path| format!("written: {path}\n")).collect();
-    let done = if options.as_is { "as it is in VRAM" } else { "drawn, both eyes" };
-    Ok(Report::new(format!("frame {} {done}\n{lines}", options.frame), &told, 0))
+    let done = if as_is { "as it is in VRAM" } else { "drawn, both eyes" };
+    Ok(Report::new(format!("frame {frame} {done}\n{lines}"), &told, 0))
 }
 
 /// VRAM after drawing, or as it is.
