@@ -18,6 +18,7 @@ mod interrupt;
 mod json;
 mod judge;
 mod number;
+mod overlay;
 mod picture;
 mod progress;
 mod scene;

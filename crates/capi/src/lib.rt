@@ -3,3 +3,4 @@ pub mod accesses;
 pub mod brightness;
 pub mod execution;
 pub mod pictures;
+pub mod probes;

@@ -22,6 +22,7 @@ pub mod exception;
 pub mod instruction;
 pub mod number;
 pub mod object;
+pub mod probe;
 pub mod processor;
 pub mod refusal;
 pub mod world;

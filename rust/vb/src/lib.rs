@@ -18,14 +18,16 @@
 
 mod brightness;
 mod calls;
+mod probe;
 mod records;
 mod refusal;
 
 pub use brightness::{display, load_column_table, View};
 pub use calls::{character, Answer, Cause, Ran, Stop};
+pub use probe::{Probe, Width};
 pub use records::{Drawing, Machine, Mode, Processor, RecordError};
 pub use refusal::{grouped, Refusal};
-pub use vbsys::{Memories, ReadMemories};
+pub use vbsys::{Memories, ProbeMemories, ReadMemories};
 
 /// Bytes of WRAM.
 pub const WRAM_LENGTH: usize = 65_536;

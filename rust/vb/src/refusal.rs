@@ -31,6 +31,8 @@ pub enum Refusal {
     Start { given: u32 },
     /// 15
     Room { given: usize },
+    /// 13: the address that a probe's write was given.
+    ProbeTarget { address: u32 },
 }
 
 impl Refusal {
@@ -46,6 +48,7 @@ impl Refusal {
             Refusal::Frame { .. } => 7,
             Refusal::Strip { .. } | Refusal::Character { .. } => 8,
             Refusal::Eye { .. } | Refusal::Start { .. } | Refusal::Room { .. } => 15,
+            Refusal::ProbeTarget { .. } => 13,
         }
     }
 }
@@ -99,6 +102,11 @@ impl fmt::Display for Refusal {
                 f,
                 "the room has {} bytes; it must have 86,016, a byte for each pixel",
                 grouped(*given as u64)
+            ),
+            Refusal::ProbeTarget { address } => write!(
+                f,
+                "the probe was to write at 0x{address:08X}; it may write characters 1,536 to 2,047 and background maps \
+                 12 and 13, at 0x0001E000 to 0x0001FFFF, 0x00038000 to 0x0003BFFF and their mirrors"
             ),
         }
     }

@@ -213,6 +213,61 @@ on_memories!(store_byte, vb_store_byte(drawing: Drawing, address: u32, value: u3
 on_memories!(store_half, vb_store_half(drawing: Drawing, address: u32, value: u32) -> Stored);
 on_memories!(store_word, vb_store_word(drawing: Drawing, address: u32, value: u32) -> Stored);
 
+/// The lent memories of a probe's write: VRAM alone can change.
+#[derive(Debug)]
+pub struct ProbeMemories<'a> {
+    pub rom: &'a [u8],
+    pub wram: &'a [u8],
+    pub vram: &'a mut [u8],
+    pub pak: &'a [u8],
+}
+
+/// Declares a probe's write of vb.h and its wrapper.
+macro_rules! probe {
+    ($wrapper:ident, $function:ident) => {
+        extern "C" {
+            fn $function(
+                rom: *const u8,
+                rom_len: usize,
+                wram: *const u8,
+                wram_len: usize,
+                vram: *mut u8,
+                vram_len: usize,
+                pak: *const u8,
+                pak_len: usize,
+                address: u32,
+                value: u32,
+            ) -> u32;
+        }
+
+        #[doc = concat!("`", stringify!($function), "`")]
+        #[inline]
+        pub fn $wrapper(memories: &mut ProbeMemories, address: u32, value: u32) -> u32 {
+            let ProbeMemories { rom, wram, vram, pak } = memories;
+            // SAFETY: each pointer is lent with its slice's own length; VRAM is
+            // borrowed mutably, and the others are only read.
+            unsafe {
+                $function(
+                    rom.as_ptr(),
+                    rom.len(),
+                    wram.as_ptr(),
+                    wram.len(),
+                    vram.as_mut_ptr(),
+                    vram.len(),
+                    pak.as_ptr(),
+                    pak.len(),
+                    address,
+                    value,
+                )
+            }
+        }
+    };
+}
+
+probe!(probe_byte, vb_probe_byte);
+probe!(probe_half, vb_probe_half);
+probe!(probe_word, vb_probe_word);
+
 #[cfg(feature = "processor")]
 mod processor {
     use super::{Drawing, Machine, Memories, Processor, Ran, Stepped};
