@@ -2,6 +2,7 @@
 #![forbid(unsafe_code)]
 
 mod assembler;
+mod brightness;
 mod called;
 mod capture;
 mod changes;
@@ -17,6 +18,7 @@ mod interrupt;
 mod json;
 mod judge;
 mod number;
+mod overlay;
 mod picture;
 mod progress;
 mod scene;

@@ -45,6 +45,11 @@ pub fn addresses(text: &str) -> Result<RangeInclusive<u32>, String> {
     }
 }
 
+/// A whole number below 256.
+pub fn byte(text: &str) -> Result<u8, String> {
+    within(text, 0, 255).map(|n| n as u8)
+}
+
 /// PNG pixels to a pixel's side.
 pub fn scale(text: &str) -> Result<usize, String> {
     within(text, 1, crate::picture::LARGEST_SCALE as u64).map(|n| n as usize)

@@ -71,20 +71,20 @@ fn reds() -> Vec<u8> {
 }
 
 /// Pixels that name a colour of a palette.
-struct Sheet {
+pub struct Sheet {
     width: usize,
     palette: Vec<u8>,
     indices: Vec<u8>,
 }
 
 impl Sheet {
-    fn new(width: usize, palette: Vec<u8>, at: impl Fn(usize, usize) -> u8) -> Sheet {
+    pub fn new(width: usize, palette: Vec<u8>, at: impl Fn(usize, usize) -> u8) -> Sheet {
         let indices = (0..width * ROWS).map(|i| at(i % width, i / width)).collect();
         Sheet { width, palette, indices }
     }
 
     /// A PNG with `scale` by `scale` pixels for each.
-    fn png(&self, scale: usize) -> Vec<u8> {
+    pub fn png(&self, scale: usize) -> Vec<u8> {
         let mut pixels = Vec::with_capacity(self.indices.len() * scale * scale);
         for row in self.indices.chunks(self.width) {
             let wide: Vec<u8> = row.iter().flat_map(|&i| std::iter::repeat_n(i, scale)).collect();

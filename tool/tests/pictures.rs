@@ -237,3 +237,40 @@ fn whys_bytes_are_those_the_pixel_answers_to() {
     let other = folder.vbmodel("why left 192 120 --vram out/other.bin --drawing out/drawing.bin");
     assert_eq!(other.text.lines().next(), ran.text.lines().next());
 }
+
+#[test]
+fn draw_lays_an_overlay_and_tells_refused_writes() {
+    let folder = Folder::with_demo("draw-overlay");
+    let lines = "# map 12, a character by its mirror, and a world record\nhalf 0x38000 0x0600\n\
+                 word 0x0007_E000 0x12345678\nbyte 0x3D800 1\n";
+    folder.write("paint.txt", lines.as_bytes());
+    let ran = folder.vbmodel(&format!("draw {SCENE} --overlay paint.txt --save-vram after.bin"));
+    let told = "overlay: 2 written, 1 refused\n  line 4: refusal 13: the probe was to write at 0x0003D800; it may write \
+                characters 1,536 to 2,047 and background maps 12 and 13, at 0x0001E000 to 0x0001FFFF, 0x00038000 to \
+                0x0003BFFF and their mirrors\nframe 0 drawn, both eyes\n";
+    assert_eq!(ran.status, 0);
+    assert!(ran.text.starts_with(told), "{}", ran.text);
+    let (before, after) = (folder.read("out/vram.bin"), folder.read("after.bin"));
+    assert_eq!(after[0x3_8000..0x3_8002], [0x00, 0x06]);
+    assert_eq!(after[0x1_E000..0x1_E004], [0x78, 0x56, 0x34, 0x12]);
+    assert_eq!(after[0x3_D800], before[0x3_D800]);
+    let json = folder.vbmodel(&format!("draw {SCENE} --overlay paint.txt --json"));
+    let told = "\"overlay\": {\"written\": 2, \"refused\": [{\"line\": 4, \"refusal\": 13, \"error\": \"refusal 13: ";
+    assert!(json.text.contains(told), "{}", json.text);
+}
+
+#[test]
+fn draw_refuses_a_bad_overlay() {
+    let folder = Folder::with_demo("draw-overlay-refused");
+    folder.write("bad.txt", b"byte 0\n");
+    folder.refused(
+        &format!("draw {SCENE} --overlay bad.txt --out pictures"),
+        "vbmodel: bad.txt (7 bytes): line 1: a write is byte, half or word, an address and a value",
+    );
+    folder.write("short.vram", &[0; 262_143]);
+    folder.write("paint.txt", b"byte 0x38000 1\n");
+    folder.refused(
+        "draw --vram short.vram --drawing out/drawing.bin --overlay paint.txt --out pictures",
+        "vbmodel: short.vram (262,143 bytes): refusal 3: VRAM has 262,143 bytes; it must have 262,144",
+    );
+}

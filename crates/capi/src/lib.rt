@@ -1,4 +1,6 @@
 // The C boundary (include/vb.h): numbers, slices and #[repr(C)] records over the public calls.
 pub mod accesses;
+pub mod brightness;
 pub mod execution;
 pub mod pictures;
+pub mod probes;

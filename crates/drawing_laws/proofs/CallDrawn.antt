@@ -24,21 +24,21 @@ use Rattle.drawing_laws.proofs.StripBytes.{length-strip, strip-kept}
 use Rattle.drawing_laws.proofs.StripPixel.{pixel-of-strip, pixel-of-others}
 
 -- a strip's bytes are those of the images whose halfword in the column is the strip's
-in-strip-is : (frame s a : ℕ) → inStripOf frame s a ≡ (inImagesOf frame a && eqb (a % 64 / 2) s)
+pub in-strip-is : (frame s a : ℕ) → inStripOf frame s a ≡ (inImagesOf frame a && eqb (a % 64 / 2) s)
 unfolding inStripOf inImagesOf
 in-strip-is frame s a =
     sym (and-assoc (ltb a 0x20000 && eqb (a / 0x8000 % 2) frame) (ltb (a % 0x8000) 0x6000) (eqb (a % 64 / 2) s))
 
-outside-strip : (frame s a : ℕ) → inImagesOf frame a ≡ false → inStripOf frame s a ≡ false
+pub outside-strip : (frame s a : ℕ) → inImagesOf frame a ≡ false → inStripOf frame s a ≡ false
 outside-strip frame s a e = in-strip-is frame s a ∙ rw e
 
 module _ (vram regs : List ℕ) (frame : ℕ) where
-  strips-length : (n : ℕ) → length (stripsOf vram regs frame n) ≡ length vram
+  pub strips-length : (n : ℕ) → length (stripsOf vram regs frame n) ≡ length vram
   unfolding stripsOf
   strips-length zero = refl
   strips-length (suc n) = length-strip (stripsOf vram regs frame n) regs frame n ∙ strips-length n
 
-  strips-kept : (n a : ℕ) → ((s : ℕ) → s < n → inStripOf frame s a ≡ false)
+  pub strips-kept : (n a : ℕ) → ((s : ℕ) → s < n → inStripOf frame s a ≡ false)
       → getD (stripsOf vram regs frame n) a 0 ≡ getD vram a 0
   unfolding stripsOf
   strips-kept zero a h = refl
@@ -75,12 +75,12 @@ module _ (vram regs : List ℕ) (frame : ℕ) where
           ]
 
 -- an accepted call leaves the frame or the strip drawn
-frame-accepted : (vram regs : List ℕ) (frame : ℕ) → length vram ≡ 262144 → registersOk regs ≡ true → frame < 2
+pub frame-accepted : (vram regs : List ℕ) (frame : ℕ) → length vram ≡ 262144 → registersOk regs ≡ true → frame < 2
     → drawFrameOf vram regs frame ≡ frameOf vram regs frame
 unfolding drawFrameOf frameVerdictOf vramOk
 frame-accepted vram regs frame l ok f = simp (l, ok, lt-ltb frame 2 f)
 
-strip-accepted : (vram regs : List ℕ) (frame s : ℕ) → length vram ≡ 262144 → registersOk regs ≡ true → frame < 2
+pub strip-accepted : (vram regs : List ℕ) (frame s : ℕ) → length vram ≡ 262144 → registersOk regs ≡ true → frame < 2
     → ltb s 28 ≡ true
     → drawStripOf vram regs frame s ≡ stripOf vram regs frame s
 unfolding drawStripOf stripVerdictOf vramOk

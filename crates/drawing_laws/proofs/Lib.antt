@@ -1,10 +1,12 @@
--- `Answerable`, `Few`, `NoFewer`, `CallDrawn`, `Images` and `ListedAddresses` prove the statements of specs/Demand3 and specs/Drawn.
+-- `Answerable`, `Few`, `NoFewer`, `CallDrawn`, `Images` and `ListedAddresses` prove the statements of specs/Demand3 and specs/Drawn;
+-- `ShortWorlds` those of specs/ShortWorlds.
 pub mod Answerable
 pub mod Few
 pub mod NoFewer
 pub mod CallDrawn
 pub mod Images
 pub mod ListedAddresses
+pub mod ShortWorlds
 mod BackgroundSame
 mod Choices
 mod CoversDrawn
@@ -17,5 +19,5 @@ mod ObjectsSame
 pub mod PixelSame
 mod PixelValue
 mod Registers
-mod StripBytes
+pub mod StripBytes
 mod StripPixel

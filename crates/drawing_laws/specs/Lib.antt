@@ -2,3 +2,4 @@ pub mod Covers
 pub mod SourceBytes
 pub mod Drawn
 pub mod Demand3
+pub mod ShortWorlds

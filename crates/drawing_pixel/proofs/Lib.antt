@@ -1,6 +1,7 @@
 -- `Pairs` has the laws of pairs of bits in a halfword, `Masks` and `Mirrors` those of a pixel painted without a branch and of a
 -- row turned round, `Spans` and `Blocks` those of rows and columns of a strip, `Small` that pixels stay below 4, `Windows` what a
--- world or an object makes of a pixel in its window or square and outside of it, `Lists` what stands in a list that is given by
+-- world or an object makes of a pixel in its window or square and outside of it, `Heights` the rows of
+-- a world by its cases, `Lists` what stands in a list that is given by
 -- its numbers, and `Strips` which addresses a strip has.
 pub mod Pairs
 pub mod Masks
@@ -9,5 +10,6 @@ pub mod Spans
 pub mod Blocks
 pub mod Small
 pub mod Windows
+mod Heights
 pub mod Lists
 pub mod Strips

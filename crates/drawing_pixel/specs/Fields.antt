@@ -5,7 +5,7 @@ use Prim.Native.Nat.{ℕ, _+_, _-_, _*_, _%_, _<_, _≤_}
 use native.Mathlib.Nat as NatL
 use native.Mathlib.Decide.{decLt}
 use native.Mathlib.Omega.{arith}
-use mathlib.Core.Path.{_≡_, sym, _∙_}
+use mathlib.Core.Path.{_≡_, sym, ap, _∙_}
 use mathlib.Core.List.{List}
 use borrow.Author.Tests.{lt-ltb, le-ltb}
 use lib.Dec.{eqb}
@@ -15,7 +15,7 @@ use Rattle.word.specs.Choose.{pick}
 use Rattle.word.specs.Extend.{signedOf}
 use Rattle.drawing_pixel.specs.Signed.{biasedOf}
 use Rattle.drawing_pixel.specs.World.{bgmOf}
-use Rattle.drawing_pixel.specs.Integers.{Is, is-pos, is-difference, is-moved, is-tied}
+use Rattle.drawing_pixel.specs.Integers.{Is, is-pos, is-sum, is-difference, is-moved, is-tied, aboveZero, is-above}
 
 -- the low bits of a halfword, read signed; `half` is half the range of the width
 abbrev pub fieldOf : ℕ → ℕ → ℤ
@@ -86,3 +86,8 @@ is-field half h p =
 -- a biased field is the field's signed value plus half its range, at every width
 pub biased-field : (half h : ℕ) → 0 < half → pos (biasedOf half h) ≡ signedOf half (h % (2 * half)) +ℤ pos half
 biased-field half h p = is-tied (is-field half h p)
+
+-- a size that is a field plus 1, none where that is not above 0
+pub field-plus-one : (half h : ℕ) → 0 < half → aboveZero (fieldOf half h +ℤ pos 1) ≡ biasedOf half h + 1 - half
+field-plus-one half h p =
+    is-above (is-sum (is-field half h p) (is-pos 1)) ∙ ap (λ v. biasedOf half h + 1 - v) (NatL.add-zero half)

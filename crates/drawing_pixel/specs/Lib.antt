@@ -9,6 +9,7 @@ pub mod Buffer
 pub mod Integers
 pub mod Floors
 pub mod Fields
+pub mod HeightFormulas
 pub mod WindowFormulas
 pub mod SourceFormulas
 pub mod CellFormulas

@@ -19,7 +19,8 @@ use Rattle.drawing_pixel.specs.Pixel.{counterOf, worldPixelOf, worldsPix
 use Rattle.drawing_pixel.specs.Integers.{aboveZero}
 use Rattle.drawing_pixel.specs.Floors.{modZ}
 use Rattle.drawing_pixel.specs.Fields.{GY, W}
-use Rattle.drawing_pixel.specs.WindowFormulas.{windowLeft, rows, column-covered, row-covered, column-offset, row-offset, offset-small, and-second}
+use Rattle.drawing_pixel.specs.HeightFormulas.{rows}
+use Rattle.drawing_pixel.specs.WindowFormulas.{windowLeft, column-covered, row-covered, column-offset, row-offset, offset-small, and-second}
 use Rattle.drawing_pixel.specs.SourceFormulas.{sourceX, sourceY, source-x, source-y}
 use Rattle.drawing_pixel.specs.CellFormulas.{source-wraps, source-wraps-down, source-in-cell, source-inside, map-cell}
 use Rattle.drawing_pixel.specs.ObjectFormulas.{objectLeft, JY, object-covers, object-offset, object-row}

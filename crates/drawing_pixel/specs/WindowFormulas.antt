@@ -1,6 +1,6 @@
 -- Paper 01, "Window", over the integers: where a window begins and ends, which columns and rows it covers, and the
--- offsets i and j in it. Readings R3 to R5: the columns and rows of a world.
-use Prim.Native.Nat.{ℕ, _+_, _-_, _%_, _<_, _≤_, max}
+-- offsets i and j in it. Reading R3: the columns of a world; its rows are in HeightFormulas.
+use Prim.Native.Nat.{ℕ, _+_, _-_, _%_, _<_, _≤_}
 use native.Mathlib.Nat as NatL
 use native.Mathlib.Omega.{arith}
 use mathlib.Core.Path.{_≡_, refl, sym, ap, _∙_}
@@ -15,7 +15,8 @@ use Rattle.word.specs.Choose.{pick}
 use Rattle.drawing_pixel.specs.Signed.{biasedOf, edgeOf}
 use Rattle.drawing_pixel.specs.World.{bgmOf, gyOf, columnsOf, heightOf, rowsOf, windowLeftOf, columnCoveredOf, rowCoveredOf, columnInOf, rowInOf}
 use Rattle.drawing_pixel.specs.Integers.{Is, is-pos, is-sum, is-difference, is-moved, is-tied, is-natural, is-le-test, is-lt-test, le-is, aboveZero, is-above, bool-same}
-use Rattle.drawing_pixel.specs.Fields.{fieldOf, GX, GP, GY, W, H, withParallax, is-field}
+use Rattle.drawing_pixel.specs.Fields.{fieldOf, GX, GP, GY, W, H, withParallax, is-field, field-plus-one}
+use Rattle.drawing_pixel.specs.HeightFormulas.{world-height, rows, world-rows}
 
 -- GX - GP left, GX + GP right
 abbrev pub windowLeft : List ℕ → ℕ → ℤ
@@ -57,13 +58,10 @@ span {z} {a} {b} n x i =
     let upper : ltZ (pos x) (z +ℤ pos n) ≡ ltb (x + (b + 0)) (a + n + 0) = is-lt-test (is-pos x) (is-sum i (is-pos n)) in
     rw (lower, upper) (simp NatL.add-zero)
 
-plus-one : (half h : ℕ) → 0 < half → aboveZero (fieldOf half h +ℤ pos 1) ≡ biasedOf half h + 1 - half
-plus-one half h p = is-above (is-sum (is-field half h p) (is-pos 1)) ∙ ap (λ v. biasedOf half h + 1 - v) (NatL.add-zero half)
-
 wide : (affine : Bool) (h : ℕ) → pick affine (h % 1024 + 1) (biasedOf 4096 h + 1 - 4096)
     ≡ aboveZero (pick affine (pos (h % 1024)) (fieldOf 4096 h) +ℤ pos 1)
 wide true h = refl
-wide false h = sym (plus-one 4096 h (omega arith))
+wide false h = sym (field-plus-one 4096 h (omega arith))
 
 -- R3: W + 1 columns, none where that is not above 0
 abbrev pub columns : List ℕ → ℕ
@@ -72,18 +70,6 @@ columns w = aboveZero (W w +ℤ pos 1)
 pub world-columns : (w : List ℕ) → columnsOf w ≡ columns w
 unfolding columnsOf
 world-columns w = wide (eqb (bgmOf w) 2) (getD w 7 0)
-
--- R4: H + 1, none where that is not above 0
-pub world-height : (w : List ℕ) → heightOf w ≡ aboveZero (H w +ℤ pos 1)
-world-height w = sym (plus-one 32768 (getD w 8 0) (omega arith))
-
--- R5: max(H + 1, 8) rows for normal and H-bias, H + 1 for affine
-abbrev pub rows : List ℕ → ℕ
-rows w = pick (eqb (bgmOf w) 2) (aboveZero (H w +ℤ pos 1)) (max (aboveZero (H w +ℤ pos 1)) 8)
-
-pub world-rows : (w : List ℕ) → rowsOf w ≡ rows w
-unfolding rowsOf
-world-rows w = ap (λ n. pick (eqb (bgmOf w) 2) n (max n 8)) (world-height w)
 
 and-same : (p q r : Bool) → (T p → T q → T r) → (T p → T r → T q) → p && q ≡ p && r
 and-same true q r f g = bool-same q r (f tt) (g tt)
@@ -122,6 +108,16 @@ unfolding rowCoveredOf
 row-covered w y =
     span (rowsOf w) y (is-field 32768 (getD w 3 0) (omega arith))
     ∙ ap (λ n. leZ (GY w) (pos y) && ltZ (pos y) (GY w +ℤ pos n)) (world-rows w)
+
+-- the rows of 01's plain rule, H + 1: GY ≤ y < GY + (H + 1)
+abbrev pub plainRow : List ℕ → ℕ → Bool
+plainRow w y = leZ (GY w) (pos y) && ltZ (pos y) (GY w +ℤ (H w +ℤ pos 1))
+
+pub plain-row : (w : List ℕ) (y : ℕ)
+    → leb (gyOf w) (y + 32768) && ltb (y + 32768) (gyOf w + heightOf w) ≡ plainRow w y
+plain-row w y =
+    rw (world-height w)
+    (sized y (is-field 32768 (getD w 3 0) (omega arith)) (is-sum (is-field 32768 (getD w 8 0) (omega arith)) (is-pos 1)))
 
 -- i and j, "the offsets in it": x - (GX -/+ GP) and y - GY
 pub column-in : (w : List ℕ) (eye x : ℕ) → windowLeft w eye ≤ℤ pos x → pos (columnInOf w eye x) ≡ pos x -ℤ windowLeft w eye

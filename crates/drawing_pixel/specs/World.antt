@@ -79,13 +79,25 @@ columnsOf w = pick (eqb (bgmOf w) 2) (getD w 7 0 % 1024 + 1) (biasedOf 4096 (get
 abbrev pub heightOf : List ℕ → ℕ
 heightOf w = biasedOf 32768 (getD w 8 0) + 1 - 32768
 
--- 000's "minimum height .. is 8 pixels": of any height, so that it holds where H is negative too, which 000 leaves open
-abbrev pub atLeastEight : ℕ → ℕ
-atLeastEight height = max height 8
+-- whether GY is from 0 to 223, so that a strip of the image holds it
+abbrev pub topInImageOf : List ℕ → Bool
+topInImageOf w = leb 32768 (gyOf w) && leb (gyOf w) (223 + 32768)
 
--- the rows of a world: normal and H-bias worlds have at least 8
+-- W3: "from GY to the end of the strip holding it" are 8 - GY mod 8 rows; GY's bias is a multiple of 8
+abbrev pub stripRestOf : List ℕ → ℕ
+stripRestOf w = 8 - gyOf w % 8
+
+-- 000's "minimum height .. is 8 pixels, even if H is in the range of 0 to 6"; no rows where H is negative, which 000
+-- leaves open
+abbrev pub atLeastEight : ℕ → ℕ
+atLeastEight height = pick (eqb height 0) 0 (max height 8)
+
+-- the rows of a world: an affine world has H + 1; a normal or H-bias world at least those to the end of GY's strip,
+-- and where no strip of the image holds GY at least 8
 unfoldable pub rowsOf : List ℕ → ℕ
-rowsOf w = pick (eqb (bgmOf w) 2) (heightOf w) (atLeastEight (heightOf w))
+rowsOf w =
+    pick (eqb (bgmOf w) 2) (heightOf w)
+    (pick (topInImageOf w) (max (heightOf w) (stripRestOf w)) (atLeastEight (heightOf w)))
 
 -- the window's left edge for an eye, plus 1,024: GX - GP left, GX + GP right
 unfoldable pub windowLeftOf : List ℕ → ℕ → ℕ

@@ -1,14 +1,14 @@
 // The picture: what a pixel is (specs/), and the reads of VRAM and of the records that it is made of.
 // These functions are `pub` for the crates that paint; none is a call of the library's users.
 ghost use mathlib.Core.Path.{_≡_};
-ghost use Prim.Native.Nat.{ℕ, _+_, _-_, _*_, _/_, _%_, _^_, _<_, _≤_, min};
+ghost use Prim.Native.Nat.{ℕ, _+_, _-_, _*_, _/_, _%_, _^_, _<_, _≤_, min, max};
 ghost use lib.ListN.{length};
 ghost use lib.Dec.{eqb};
 ghost use Rattle.word.specs.Choose.{pick};
 ghost use Rattle.word.specs.LittleEndian.{halfAt};
 ghost use Rattle.drawing_pixel.specs.Signed.{edgeOf, flagOf};
 ghost use Rattle.drawing_pixel.specs.Character.{pairOf, characterAddressOf, flippedOf, rowAddressOf, valueOf, shadeOf};
-ghost use Rattle.drawing_pixel.specs.World.{worldOf, columnsOf, rowsOf, windowLeftOf};
+ghost use Rattle.drawing_pixel.specs.World.{worldOf, columnsOf, heightOf, rowsOf, windowLeftOf};
 ghost use Rattle.drawing_pixel.specs.Object.{objectOf, objectLeftOf};
 ghost use Rattle.drawing_pixel.specs.Buffer.{repaintedOf, Span};
 
@@ -186,25 +186,44 @@ pub fn columns(w: &[u16; 11]) -> usize
     biased + 1 - 4096
 }
 
-// The rows of a world.
-pub fn rows(w: &[u16; 11]) -> usize
-    ensures { λ r. ⌜ (r ≡ rowsOf (now (w .entry))) × (r ≤ 32768) ⌝ }
+// The greater of two numbers.
+pub fn greatest(a: usize, b: usize) -> usize
+    ensures { λ r. ⌜ r ≡ max a b ⌝ }
+{
+    if a < b {
+        return b;
+    }
+    a
+}
+
+// H + 1, and 0 where that is not above 0.
+pub fn height(w: &[u16; 11]) -> usize
+    ensures { λ r. ⌜ (r ≡ heightOf (now (w .entry))) × (r ≤ 32768) ⌝ }
 {
     let biased = (wide(w[8]) + 32768) % 65536;
     if biased < 32768 {
-        if w[0] / 4096 % 4 == 2 {
-            return 0;
-        }
-        return 8;
+        return 0;
     }
-    let height = biased + 1 - 32768;
-    if w[0] / 4096 % 4 == 2 {
-        return height;
+    biased + 1 - 32768
+}
+
+// The rows of a world. GY is signed: as a halfword it is below 224 exactly where it is from 0 to 223.
+pub fn rows(w: &[u16; 11]) -> usize
+    ensures { λ r. ⌜ (r ≡ rowsOf (now (w .entry))) × (r ≤ 32768) ⌝ }
+{
+    let stored = height(w);
+    let bgm = w[0] / 4096 % 4;
+    if bgm == 2 {
+        return stored;
     }
-    if height < 8 {
-        return 8;
+    let top = wide(w[3]);
+    if top < 224 {
+        return greatest(stored, 8 - top % 8);
     }
-    height
+    if stored == 0 {
+        return 0;
+    }
+    greatest(stored, 8)
 }
 
 // The left edge of a world's window for an eye, plus 1,024.

@@ -5,7 +5,7 @@ use crate::{least, Row};
 
 /// The halfwords of a world that the pictures change.
 #[derive(Clone, Copy, Default)]
-struct World {
+pub struct World {
     mode: u16,
     map: u16,
     mx: u16,
@@ -13,9 +13,9 @@ struct World {
 
 const PARAMETERS: u16 = 0x3000;
 
-struct Scene {
-    vram: Vec<u8>,
-    drawing: vbsys::Drawing,
+pub struct Scene {
+    pub vram: Vec<u8>,
+    pub drawing: vbsys::Drawing,
 }
 
 /// A number that looks random, the next after `state`.
@@ -26,7 +26,7 @@ fn random(state: &mut u64) -> u8 {
 
 impl Scene {
     /// Full-screen worlds from 31 down, then END.
-    fn of(worlds: &[World]) -> Scene {
+    pub fn of(worlds: &[World]) -> Scene {
         let mut state = 1;
         let mut vram = vec![0; 262_144];
         vram[..0x3D800].iter_mut().for_each(|byte| *byte = random(&mut state));
@@ -63,18 +63,18 @@ impl Scene {
         self
     }
 
-    fn parameters(mut self, halves: impl Iterator<Item = u16>) -> Scene {
+    pub fn parameters(mut self, halves: impl Iterator<Item = u16>) -> Scene {
         let at = 0x20000 + 2 * usize::from(PARAMETERS);
         self.halves(at, &halves.collect::<Vec<_>>());
         self
     }
 
-    fn affine(self, row: impl Fn(u16) -> [u16; 5]) -> Scene {
+    pub fn affine(self, row: impl Fn(u16) -> [u16; 5]) -> Scene {
         let padded = |j: u16| row(j).into_iter().chain([0; 3]);
         self.parameters((0..224).flat_map(padded))
     }
 
-    fn objects(mut self) -> Scene {
+    pub fn objects(mut self) -> Scene {
         for i in 0..1024u16 {
             let halves = [(i * 37) % 376, 0xC000, (i * 53) % 216, (i & 3) << 14 | i];
             self.halves(0x3E000 + 8 * usize::from(i), &halves);
@@ -83,20 +83,33 @@ impl Scene {
     }
 }
 
+/// Normal worlds, each with its own map and scroll.
+pub fn many(count: u16) -> Vec<World> {
+    (0..count).map(|i| World { map: i % 14, mx: 3 * i, ..World::default() }).collect()
+}
+
+pub fn one(mode: u16) -> [World; 1] {
+    [World { mode, ..World::default() }]
+}
+
+/// A parameter for each eye and row of an H-bias world.
+pub fn bias() -> impl Iterator<Item = u16> {
+    (0..448u16).map(|k| ((k * 37) % 200).wrapping_sub(100))
+}
+
+/// Row j of a rotated affine world.
+pub fn rotated(j: u16) -> [u16; 5] {
+    [(3 * j).wrapping_neg(), 0, 7 * j, 444, 0u16.wrapping_sub(222)]
+}
+
 fn scenes() -> Vec<(&'static str, Scene)> {
-    let many = |count: u16| -> Vec<World> {
-        (0..count).map(|i| World { map: i % 14, mx: 3 * i, ..World::default() }).collect()
-    };
-    let one = |mode: u16| [World { mode, ..World::default() }];
-    let bias = (0..448u16).map(|k| ((k * 37) % 200).wrapping_sub(100));
-    let rotated = |j: u16| [(3 * j).wrapping_neg(), 0, 7 * j, 444, 0u16.wrapping_sub(222)];
     vec![
         ("empty", Scene::of(&[])),
         ("1 normal world, random characters", Scene::of(&many(1))),
         ("1 normal world, opaque characters", Scene::of(&many(1)).opaque()),
         ("8 normal worlds", Scene::of(&many(8))),
         ("31 normal worlds", Scene::of(&many(31))),
-        ("1 H-bias world", Scene::of(&one(1)).parameters(bias)),
+        ("1 H-bias world", Scene::of(&one(1)).parameters(bias())),
         ("1 affine world, rotated", Scene::of(&one(2)).affine(rotated)),
         ("1 affine world, flat", Scene::of(&one(2)).affine(|j| [0, 0, 8 * j, 512, 0])),
         ("1,024 objects", Scene::of(&one(3)).objects()),

@@ -2,13 +2,14 @@
 //! the same input, the same buffers, which are not cleared between calls. A
 //! figure is the least of many rounds.
 //!
-//! `cargo run --release --offline --manifest-path rust/Cargo.toml -p bench [-- bus|cpu|draw]`
+//! `cargo run --release --offline --manifest-path rust/Cargo.toml -p bench [-- bus|cpu|draw|rows]`
 
 #![forbid(unsafe_code)]
 
 mod bus;
 mod cpu;
 mod draw;
+mod rows;
 
 use std::time::{Duration, Instant};
 
@@ -59,8 +60,8 @@ fn processor() -> String {
 fn main() {
     let asked = std::env::args().nth(1).unwrap_or_else(|| "all".to_string());
     let wants = |part: &str| asked == part || asked == "all";
-    if !["all", "bus", "cpu", "draw"].contains(&asked.as_str()) {
-        eprintln!("usage: bench [bus|cpu|draw]");
+    if !["all", "bus", "cpu", "draw", "rows"].contains(&asked.as_str()) {
+        eprintln!("usage: bench [bus|cpu|draw|rows]");
         std::process::exit(2);
     }
     println!("Processor: {}. Release build.", processor());
@@ -75,5 +76,8 @@ fn main() {
     }
     if wants("draw") {
         print("Drawing: one frame, both eyes", "µs", &draw::rows());
+    }
+    if wants("rows") {
+        rows::print();
     }
 }

@@ -36,6 +36,12 @@ pub enum Covered {
         kind: WorldKind,
         /// i and j, from the window's unclipped corner.
         offset: (i32, i32),
+        /// H + 1, the height that the world's record asks for; negative for
+        /// some H.
+        stored_rows: i32,
+        /// The height that is drawn. A pixel with j of `stored_rows` or more
+        /// lies in a row that the least height has added.
+        rows: i32,
         /// The source position in the background, before it wraps.
         source: (i32, i32),
         /// Whether OVER put the overplane's cell here.
@@ -211,6 +217,8 @@ fn look_at_background(
         what: Covered::Background {
             kind: world.kind,
             offset: (i, j),
+            stored_rows: world.stored_rows(),
+            rows: world.rows(),
             source,
             overplane,
             cell_address,

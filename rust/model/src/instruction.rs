@@ -32,6 +32,17 @@ pub enum Width {
     Word,
 }
 
+impl Width {
+    /// How many bytes an access of this width has.
+    pub fn bytes(self) -> u32 {
+        match self {
+            Width::Byte => 1,
+            Width::Half => 2,
+            Width::Word => 4,
+        }
+    }
+}
+
 /// The right-hand operand.
 #[derive(Clone, Copy, Debug, PartialEq, Eq)]
 pub enum Operand {

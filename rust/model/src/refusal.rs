@@ -1,9 +1,9 @@
-//! 01 "Refusal numbers".
+//! 01 "Refusal numbers", and those that 02's requests add.
 
 use crate::bus::DrawingRegisters;
 
-/// Why a call did nothing. The order is the order of 01's numbers: the lowest
-/// whose condition holds is given.
+/// Why a call did nothing. The order is the order of the papers' numbers: the
+/// lowest whose condition holds is given, but for W10's 14, which comes before 6.
 #[derive(Clone, Copy, Debug, PartialEq, Eq, PartialOrd, Ord, Hash)]
 pub enum Refusal {
     /// ROM length isn't a power of two from 1,024 to 16,777,216.
@@ -22,15 +22,33 @@ pub enum Refusal {
     Frame = 7,
     /// Strip above 27, or character above 2,047.
     StripOrCharacter = 8,
+    /// W1: the room or the file isn't of the length due.
+    FileLength = 9,
+    /// W1: the file's bytes aren't what the writer makes.
+    FileBytes = 10,
+    /// W7: more than 256 accesses, or a size that isn't 1, 2 or 4.
+    AccessList = 11,
+    /// W8: no instruction that can be encoded.
+    Encoding = 12,
+    /// W9: a target that isn't the probe's.
+    ProbeTarget = 13,
+    /// W10: the trace's length isn't a multiple of 16.
+    TraceLength = 14,
+    /// W11: an eye, a start or a room that the display can't have.
+    Display = 15,
+    /// W12: lines and timer aren't at reset.
+    NotAtReset = 16,
+    /// W13: no form 2 layout has this length.
+    NoLayout = 17,
 }
 
 impl Refusal {
-    /// 01's number.
+    /// The papers' number.
     pub fn number(self) -> u32 {
         self as u32
     }
 
-    /// 01's row, for a person.
+    /// The papers' row, for a person.
     pub fn sentence(self) -> &'static str {
         match self {
             Refusal::RomLength => "ROM length isn't a power of two from 1,024 to 16,777,216",
@@ -41,6 +59,15 @@ impl Refusal {
             Refusal::NotModelled => "the next instruction isn't modelled",
             Refusal::Frame => "frame number above 1",
             Refusal::StripOrCharacter => "strip above 27, or character above 2,047",
+            Refusal::FileLength => "room or file isn't of the length that is due",
+            Refusal::FileBytes => "the file's bytes aren't what the writer makes",
+            Refusal::AccessList => "more than 256 accesses, or a size that isn't 1, 2 or 4",
+            Refusal::Encoding => "no instruction that can be encoded",
+            Refusal::ProbeTarget => "the target isn't one of the probe's",
+            Refusal::TraceLength => "the trace's length isn't a multiple of 16",
+            Refusal::Display => "eye above 1, start not 95 to 255, or room not 86,016 bytes",
+            Refusal::NotAtReset => "request lines or timer aren't at reset",
+            Refusal::NoLayout => "no form 2 layout has this length",
         }
     }
 }
@@ -116,6 +143,8 @@ mod tests {
     fn numbers() {
         assert_eq!(Refusal::RomLength.number(), 1);
         assert_eq!(Refusal::StripOrCharacter.number(), 8);
+        assert_eq!(Refusal::FileLength.number(), 9);
+        assert_eq!(Refusal::NoLayout.number(), 17);
         assert!(Refusal::RomLength < Refusal::WramLength);
     }
 }

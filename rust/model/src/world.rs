@@ -138,11 +138,33 @@ impl World {
         self.w + 1
     }
 
-    /// H + 1, and for normal and H-bias worlds at least 8 (R4, R5).
+    /// 01's height, H + 1; 0 or less is an empty window (R4).
+    pub fn stored_rows(&self) -> i32 {
+        self.h + 1
+    }
+
+    /// The height that is drawn: H + 1 for affine worlds, and for normal and
+    /// H-bias worlds at least [`World::least_rows`].
     pub fn rows(&self) -> i32 {
+        let stored = self.stored_rows().max(0);
         match self.kind {
-            WorldKind::Normal | WorldKind::HBias => (self.h + 1).max(LEAST_ROWS),
-            WorldKind::Affine | WorldKind::Object => self.h + 1,
+            WorldKind::Normal | WorldKind::HBias => stored.max(self.least_rows()),
+            WorldKind::Affine | WorldKind::Object => stored,
+        }
+    }
+
+    /// The least height of a normal or H-bias world. With GY on the image it is
+    /// W3's, by 001: "the entire portion of that strip below GY". Elsewhere it
+    /// is 000's "minimum height of normal and H-bias worlds is 8 pixels", which
+    /// says nothing of a negative H: 01 decides there, and H + 1 is no row (R5).
+    fn least_rows(&self) -> i32 {
+        let on_the_image = 0 <= self.gy && self.gy < HEIGHT;
+        if on_the_image {
+            STRIP_ROWS - self.gy % STRIP_ROWS
+        } else if self.h < 0 {
+            0
+        } else {
+            LEAST_ROWS
         }
     }
 
@@ -199,6 +221,8 @@ impl World {
 
 /// 000: "The minimum height of normal and H-bias worlds is 8 pixels".
 const LEAST_ROWS: i32 = 8;
+/// Rows of a strip.
+const STRIP_ROWS: i32 = 8;
 
 /// R3. 000: "For normal and H-bias worlds, W is a 13-bit signed value. For
 /// affine worlds, it is a 10-bit unsigned value." Object worlds have no window.

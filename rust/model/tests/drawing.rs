@@ -62,22 +62,83 @@ fn a_negative_start_stays_negative() {
     assert_eq!(lit_columns(&vram, Eye::Left, 0), [0, 1, 2]);
 }
 
+/// W3's worked rows: GY, H, the rows of a normal or H-bias world, and of an
+/// affine one.
+const WORKED_ROWS: [(i32, i32, i32, i32); 15] = [
+    (3, 1, 5, 2),
+    (3, 2, 5, 3),
+    (3, 4, 5, 5),
+    (3, 5, 6, 6),
+    (0, 0, 8, 1),
+    (7, 0, 1, 1),
+    (7, -5, 1, 0),
+    (8, 6, 8, 7),
+    (216, -32_768, 8, 0),
+    (223, 0, 1, 1),
+    (223, 32_767, 32_768, 32_768),
+    (-1, 0, 8, 1),
+    (-1, -1, 0, 0),
+    (224, 0, 8, 1),
+    (224, -1, 0, 0),
+];
+
 #[test]
-fn least_heights() {
-    for (flags, h, rows) in [
-        (0xC000, 2u16, 8),
-        (0xD000, 6, 8),
-        (0xC000, 8, 9),
-        (0xC000, 0xFFF0, 8),
-        (0xE000, 2, 3),
-        (0xE000, 0, 1),
-        (0xE000, 0xFFFF, 0),
-    ] {
-        let mut vram = one_world(&[flags, 0, 0, 10, 0, 0, 0, 383, h, 0x9000, 0]);
-        draw_frame(&mut vram, &PLAIN, 0).unwrap();
-        let expected: Vec<u32> = (10..10 + rows).collect();
-        assert_eq!(lit_rows(&vram, Eye::Right, 0), expected, "flags {flags:X}, H {h:X}");
+fn heights_of_worlds() {
+    for (gy, h, rows, affine_rows) in WORKED_ROWS {
+        for (flags, rows) in [(0xC000, rows), (0xD000, rows), (0xE000, affine_rows)] {
+            let halves = [flags, 0, 0, gy as u16, 0, 0, 0, 383, h as u16, 0x9000, 0];
+            let mut vram = one_world(&halves);
+            let world = World::read(&vram, 31);
+            assert_eq!((world.stored_rows(), world.rows()), (h + 1, rows), "{halves:X?}");
+            draw_frame(&mut vram, &PLAIN, 0).unwrap();
+            let expected: Vec<u32> =
+                (gy..gy + rows).filter(|y| (0..224).contains(y)).map(|y| y as u32).collect();
+            assert_eq!(lit_rows(&vram, Eye::Right, 0), expected, "{halves:X?}");
+        }
     }
+}
+
+/// W3 in its own words: "at least everything from GY to the end of the strip
+/// holding it", and of the rows that H + 1 does not give, no other.
+#[test]
+fn added_rows_end_with_their_strip() {
+    for gy in 0..224 {
+        for h in [-32_768, -1, 0, 1, 2, 6, 7, 8, 40] {
+            let halves = [0xC000, 0, 0, gy as u16, 0, 0, 0, 0, h as u16, 0, 0];
+            let rows = World::read(&one_world(&halves), 31).visible_rows();
+            for y in 0..224 {
+                let in_strip = y >= gy && y / 8 == gy / 8;
+                let stored = y >= gy && y < gy + h + 1;
+                assert_eq!(rows.contains(&y), in_strip || stored, "GY {gy}, H {h}, row {y}");
+            }
+        }
+    }
+}
+
+/// The account of a pixel of an added row shows both heights.
+#[test]
+fn accounts_show_both_heights() {
+    let vram = one_world(&[0xD000, 0, 0, 3, 0, 0, 0, 383, 1, 0x9000, 0]);
+    for (y, covered) in [(2, false), (3, true), (4, true), (5, true), (7, true), (8, false)] {
+        let account = answers(&vram, &PLAIN, Eye::Left, 0, y).unwrap();
+        assert_eq!(account.covering.len(), usize::from(covered), "row {y}");
+        for covering in &account.covering {
+            let Covered::Background { stored_rows, rows, .. } = covering.what else {
+                panic!("{account:?}");
+            };
+            assert_eq!((stored_rows, rows), (2, 5));
+        }
+    }
+}
+
+/// An H-bias world's added rows have parameters of their own, row j's.
+#[test]
+fn added_rows_have_their_own_parameters() {
+    let mut vram = one_world(&[0xD000, 0, 0, 3, 0, 0, 0, 383, 1, 0xFFF9, 0]);
+    put_half(&mut vram, 0x20002, 5);
+    let world = World::read(&vram, 31);
+    assert_eq!(world.parameters(Eye::Left, 4), [0x20002]);
+    assert_eq!(world.source_row(&vram, Eye::Left, 4).at(0), (5, 4));
 }
 
 /// 000's arrangement of 4 by 4 maps, and 4 by 2.

@@ -16,14 +16,18 @@
 //! ```
 #![forbid(unsafe_code)]
 
+mod brightness;
 mod calls;
+mod probe;
 mod records;
 mod refusal;
 
+pub use brightness::{display, load_column_table, View};
 pub use calls::{character, Answer, Cause, Ran, Stop};
+pub use probe::{Probe, Width};
 pub use records::{Drawing, Machine, Mode, Processor, RecordError};
 pub use refusal::{grouped, Refusal};
-pub use vbsys::{Memories, ReadMemories};
+pub use vbsys::{Memories, ProbeMemories, ReadMemories};
 
 /// Bytes of WRAM.
 pub const WRAM_LENGTH: usize = 65_536;
@@ -39,6 +43,11 @@ pub const COLUMNS: usize = 384;
 pub const ROWS: usize = 224;
 /// Bytes of an image: 384 columns of 64 bytes.
 pub const IMAGE_LENGTH: usize = 24_576;
+
+/// Bytes of a room for the brightness of an eye's pixels, one a pixel.
+pub const ROOM_LENGTH: usize = COLUMNS * ROWS;
+/// The brightness that no pixel exceeds.
+pub const FULL_BRIGHTNESS: u8 = 128;
 
 /// Where the image of a frame (0 or 1) and an eye (0 left, 1 right) lies in VRAM.
 pub fn image_offset(frame: u32, eye: u32) -> usize {

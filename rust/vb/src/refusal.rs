@@ -1,10 +1,10 @@
-//! Paper 01's refusals, each with what was given.
+//! The papers' refusals, each with what was given.
 
 use std::fmt;
 
 use crate::records::{Drawing, Processor};
 
-/// Why a call did nothing: paper 01's numbers 1 to 8, 8 told apart by its subject.
+/// Why a call did nothing: the papers' numbers, 8 and 15 told apart by their subject.
 #[derive(Clone, Debug, PartialEq, Eq)]
 pub enum Refusal {
     /// 1
@@ -25,6 +25,14 @@ pub enum Refusal {
     Strip { given: u32 },
     /// 8
     Character { given: u32 },
+    /// 15
+    Eye { given: u32 },
+    /// 15
+    Start { given: u32 },
+    /// 15
+    Room { given: usize },
+    /// 13: the address that a probe's write was given.
+    ProbeTarget { address: u32 },
 }
 
 impl Refusal {
@@ -39,6 +47,8 @@ impl Refusal {
             Refusal::NotModelled { .. } => 6,
             Refusal::Frame { .. } => 7,
             Refusal::Strip { .. } | Refusal::Character { .. } => 8,
+            Refusal::Eye { .. } | Refusal::Start { .. } | Refusal::Room { .. } => 15,
+            Refusal::ProbeTarget { .. } => 13,
         }
     }
 }
@@ -80,6 +90,24 @@ impl fmt::Display for Refusal {
             Refusal::Character { given } => {
                 write!(f, "character {given} was asked for; characters are 0 to 2,047")
             }
+            Refusal::Eye { given } => {
+                write!(f, "eye {given} was asked for; eyes are 0 (left) and 1 (right)")
+            }
+            Refusal::Start { given } => write!(
+                f,
+                "the column table is to start at entry {given}; a start is from 95 to 255, since 384 columns use 96 \
+                 entries downwards"
+            ),
+            Refusal::Room { given } => write!(
+                f,
+                "the room has {} bytes; it must have 86,016, a byte for each pixel",
+                grouped(*given as u64)
+            ),
+            Refusal::ProbeTarget { address } => write!(
+                f,
+                "the probe was to write at 0x{address:08X}; it may write characters 1,536 to 2,047 and background maps \
+                 12 and 13, at 0x0001E000 to 0x0001FFFF, 0x00038000 to 0x0003BFFF and their mirrors"
+            ),
         }
     }
 }

@@ -1,6 +1,6 @@
 //! Every refusal through the library: its number, and what its text names.
 
-use vb::{Drawing, Machine, Memories, Processor, Refusal};
+use vb::{Drawing, Machine, Memories, Probe, Processor, Refusal, Width};
 
 /// The refusal of a step with these lengths and this machine, nothing changed by it.
 fn refused(lengths: [usize; 4], mut machine: Machine) -> Refusal {
@@ -84,6 +84,69 @@ fn drawing_calls() {
     let told = vb::character(&vram, 2048).unwrap_err().to_string();
     assert_eq!(told, "refusal 8: character 2048 was asked for; characters are 0 to 2,047");
     assert_eq!(vb::character(&short, 2048).unwrap_err().number(), 3);
+}
+
+/// A probe's write, nothing changed where it is refused.
+fn probed(lengths: [usize; 4], width: Width, address: u32) -> Result<Vec<u8>, Refusal> {
+    let [rom, wram, vram, pak] = lengths;
+    let rom = vec![1; rom];
+    let (mut wram, mut vram, mut pak) = (vec![2; wram], vec![3; vram], vec![4; pak]);
+    let mut memories = Memories { rom: &rom, wram: &mut wram, vram: &mut vram, pak: &mut pak };
+    let done = memories.probe(width, address, 0x0A0B_0C0D);
+    assert!(wram.iter().all(|&b| b == 2) && pak.iter().all(|&b| b == 4));
+    assert!(done.is_ok() || vram.iter().all(|&b| b == 3));
+    done.map(|()| vram)
+}
+
+#[test]
+fn the_probe_refuses_1_to_4_and_then_13() {
+    for (lengths, number) in [
+        ([512, 0, 0, 3], 1),
+        ([1024, 0, 0, 3], 2),
+        ([1024, 65536, 0, 3], 3),
+        ([1024, 65536, 262144, 3], 4),
+        (GOOD, 13),
+    ] {
+        let refusal = probed(lengths, Width::Word, 0x0005_F848).unwrap_err();
+        assert_eq!(refusal.number(), number);
+    }
+    let told = probed(GOOD, Width::Half, 0x0703_8001).unwrap_err().to_string();
+    assert_eq!(
+        told,
+        "refusal 13: the probe was to write at 0x07038001; it may write characters 1,536 to 2,047 and background maps \
+         12 and 13, at 0x0001E000 to 0x0001FFFF, 0x00038000 to 0x0003BFFF and their mirrors"
+    );
+}
+
+#[test]
+fn the_probe_writes_by_true_address_and_mirror() {
+    let written = [0x0D, 0x0C, 0x0B, 0x0A];
+    for (width, bytes, address, at) in [
+        (Width::Byte, 1, 0x0001_E000, Some(0x1_E000)),
+        (Width::Byte, 1, 0x0001_DFFF, None),
+        (Width::Word, 4, 0x0001_FFFF, Some(0x1_FFFC)),
+        (Width::Byte, 1, 0x0002_0000, None),
+        (Width::Byte, 1, 0x0003_7FFF, None),
+        (Width::Half, 2, 0x0003_8001, Some(0x3_8000)),
+        (Width::Word, 4, 0x0003_BFFF, Some(0x3_BFFC)),
+        (Width::Byte, 1, 0x0003_C000, None),
+        (Width::Byte, 1, 0x0007_DFFF, None),
+        (Width::Byte, 1, 0x0007_E000, Some(0x1_E000)),
+        (Width::Byte, 1, 0x0007_FFFF, Some(0x1_FFFF)),
+        (Width::Byte, 1, 0x0009_E000, Some(0x1_E000)),
+        (Width::Byte, 1, 0x00FF_E000, Some(0x1_E000)),
+        (Width::Byte, 1, 0xF803_8000, Some(0x3_8000)),
+        (Width::Byte, 1, 0x0103_8000, None),
+    ] {
+        let done = probed(GOOD, width, address);
+        let Some(at) = at else {
+            assert_eq!(done, Err(Refusal::ProbeTarget { address }));
+            continue;
+        };
+        let mut expected = vec![3; 262144];
+        expected[at..at + bytes].copy_from_slice(&written[..bytes]);
+        assert!(done == Ok(expected), "0x{address:08X}");
+    }
 }
 
 #[test]

@@ -213,6 +213,61 @@ on_memories!(store_byte, vb_store_byte(drawing: Drawing, address: u32, value: u3
 on_memories!(store_half, vb_store_half(drawing: Drawing, address: u32, value: u32) -> Stored);
 on_memories!(store_word, vb_store_word(drawing: Drawing, address: u32, value: u32) -> Stored);
 
+/// The lent memories of a probe's write: VRAM alone can change.
+#[derive(Debug)]
+pub struct ProbeMemories<'a> {
+    pub rom: &'a [u8],
+    pub wram: &'a [u8],
+    pub vram: &'a mut [u8],
+    pub pak: &'a [u8],
+}
+
+/// Declares a probe's write of vb.h and its wrapper.
+macro_rules! probe {
+    ($wrapper:ident, $function:ident) => {
+        extern "C" {
+            fn $function(
+                rom: *const u8,
+                rom_len: usize,
+                wram: *const u8,
+                wram_len: usize,
+                vram: *mut u8,
+                vram_len: usize,
+                pak: *const u8,
+                pak_len: usize,
+                address: u32,
+                value: u32,
+            ) -> u32;
+        }
+
+        #[doc = concat!("`", stringify!($function), "`")]
+        #[inline]
+        pub fn $wrapper(memories: &mut ProbeMemories, address: u32, value: u32) -> u32 {
+            let ProbeMemories { rom, wram, vram, pak } = memories;
+            // SAFETY: each pointer is lent with its slice's own length; VRAM is
+            // borrowed mutably, and the others are only read.
+            unsafe {
+                $function(
+                    rom.as_ptr(),
+                    rom.len(),
+                    wram.as_ptr(),
+                    wram.len(),
+                    vram.as_mut_ptr(),
+                    vram.len(),
+                    pak.as_ptr(),
+                    pak.len(),
+                    address,
+                    value,
+                )
+            }
+        }
+    };
+}
+
+probe!(probe_byte, vb_probe_byte);
+probe!(probe_half, vb_probe_half);
+probe!(probe_word, vb_probe_word);
+
 #[cfg(feature = "processor")]
 mod processor {
     use super::{Drawing, Machine, Memories, Processor, Ran, Stepped};
@@ -275,3 +330,61 @@ mod drawing {
 
 #[cfg(feature = "drawing")]
 pub use drawing::{character, draw_frame, draw_strip};
+
+#[cfg(feature = "drawing")]
+mod display {
+    extern "C" {
+        fn vb_display(
+            vram: *const u8,
+            vram_len: usize,
+            frame: u32,
+            eye: u32,
+            start: u32,
+            brta: u8,
+            brtb: u8,
+            brtc: u8,
+            room: *mut u8,
+            room_len: usize,
+        ) -> u32;
+        fn vb_load_column_table(vram: *mut u8, vram_len: usize) -> u32;
+    }
+
+    /// `vb_display`; `durations` are BRTA, BRTB and BRTC.
+    #[inline]
+    pub fn display(
+        vram: &[u8],
+        frame: u32,
+        eye: u32,
+        start: u32,
+        durations: [u8; 3],
+        room: &mut [u8],
+    ) -> u32 {
+        let [brta, brtb, brtc] = durations;
+        // SAFETY: each pointer is lent with its slice's own length; VRAM is only read, and the
+        // room is borrowed mutably and apart.
+        unsafe {
+            vb_display(
+                vram.as_ptr(),
+                vram.len(),
+                frame,
+                eye,
+                start,
+                brta,
+                brtb,
+                brtc,
+                room.as_mut_ptr(),
+                room.len(),
+            )
+        }
+    }
+
+    /// `vb_load_column_table`
+    #[inline]
+    pub fn load_column_table(vram: &mut [u8]) -> u32 {
+        // SAFETY: the pointer is lent with its slice's own length.
+        unsafe { vb_load_column_table(vram.as_mut_ptr(), vram.len()) }
+    }
+}
+
+#[cfg(feature = "drawing")]
+pub use display::{display, load_column_table};

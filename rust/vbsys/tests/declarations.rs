@@ -33,6 +33,7 @@ fn c_type(rust: &str) -> String {
         "*const u8" => "const uint8_t *".into(),
         "*mut u8" => "uint8_t *".into(),
         "usize" => "size_t".into(),
+        "u8" => "uint8_t".into(),
         "u32" => "uint32_t".into(),
         "u64" => "uint64_t".into(),
         name if name.starts_with(char::is_uppercase) => format!("vb_{}", name.to_lowercase()),
@@ -55,11 +56,11 @@ fn rust_signatures(declarations: &str, into: &mut Signatures) {
     }
 }
 
-/// What this crate declares: in its two macros, once for each use, and directly.
+/// What this crate declares: in its macros, once for each use, and directly.
 fn declared() -> Signatures {
     let mut signatures = Signatures::new();
     let mut direct = SOURCE.to_string();
-    for name in ["load", "on_memories"] {
+    for name in ["load", "on_memories", "probe"] {
         let at = SOURCE.find(&format!("macro_rules! {name} ")).expect("the macro");
         let body = block(SOURCE, at, '{', '}');
         direct = direct.replace(body, "");
@@ -82,14 +83,14 @@ fn declared() -> Signatures {
     signatures
 }
 
-/// The header without its comments, its two lists of memories written out.
+/// The header without its comments, its lists of memories written out.
 fn plain_header() -> String {
     let mut text = HEADER.replace("\\\n", " ");
     while let Some(start) = text.find("/*") {
         let end = start + text[start..].find("*/").expect("the comment's end") + 2;
         text.replace_range(start..end, " ");
     }
-    for name in ["VB_READ_MEMORIES", "VB_MEMORIES"] {
+    for name in ["VB_READ_MEMORIES", "VB_PROBE_MEMORIES", "VB_MEMORIES"] {
         let define = format!("#define {name} ");
         let start = text.find(&define).expect("the list of memories");
         let end = start + text[start..].find('\n').expect("a line's end");

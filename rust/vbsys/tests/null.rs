@@ -112,3 +112,71 @@ fn null_vram_of_length_0_is_refused() {
     assert_eq!(frame, 3);
     assert_eq!((part.refusal, part.length), (3, 0));
 }
+
+#[cfg(feature = "drawing")]
+#[test]
+fn null_buffers_of_the_display_unit_are_refused() {
+    extern "C" {
+        fn vb_display(
+            vram: *const u8,
+            vram_len: usize,
+            frame: u32,
+            eye: u32,
+            start: u32,
+            brta: u8,
+            brtb: u8,
+            brtc: u8,
+            room: *mut u8,
+            room_len: usize,
+        ) -> u32;
+        fn vb_load_column_table(vram: *mut u8, vram_len: usize) -> u32;
+    }
+    let vram = vec![9u8; 262_144];
+    // SAFETY: null is passed with length 0; VRAM is lent with its length.
+    let (both, room, loaded) = unsafe {
+        (
+            vb_display(null(), 0, 2, 2, 0, 1, 2, 3, null_mut(), 0),
+            vb_display(vram.as_ptr(), vram.len(), 0, 0, 95, 1, 2, 3, null_mut(), 0),
+            vb_load_column_table(null_mut(), 0),
+        )
+    };
+    assert_eq!((both, room, loaded), (3, 15, 3));
+}
+
+#[test]
+fn a_probe_may_be_lent_null_memories_of_length_0() {
+    extern "C" {
+        fn vb_probe_word(
+            rom: *const u8,
+            rom_len: usize,
+            wram: *const u8,
+            wram_len: usize,
+            vram: *mut u8,
+            vram_len: usize,
+            pak: *const u8,
+            pak_len: usize,
+            address: u32,
+            value: u32,
+        ) -> u32;
+    }
+    let (rom, wram, mut vram) = (vec![7u8; 1_024], vec![8u8; 65_536], vec![9u8; 262_144]);
+    // SAFETY: each pointer is null with length 0 or lent with its length.
+    let probe = |wram: (*const u8, usize), vram: (*mut u8, usize)| unsafe {
+        vb_probe_word(
+            rom.as_ptr(),
+            rom.len(),
+            wram.0,
+            wram.1,
+            vram.0,
+            vram.1,
+            null(),
+            0,
+            0x0003_8000,
+            0x1234_5678,
+        )
+    };
+    assert_eq!(probe((null(), 0), (null_mut(), 0)), 2);
+    assert_eq!(probe((wram.as_ptr(), wram.len()), (null_mut(), 0)), 3);
+    assert_eq!(probe((wram.as_ptr(), wram.len()), (vram.as_mut_ptr(), vram.len())), 0);
+    assert_eq!(vram[0x3_8000..0x3_8005], [0x78, 0x56, 0x34, 0x12, 9]);
+}

@@ -7,9 +7,11 @@ use serde::Serialize;
 use vb::{image_offset, Refusal, IMAGE_LENGTH, VRAM_LENGTH};
 
 use super::Report;
+use crate::brightness;
 use crate::failure::Failure;
 use crate::files::{Input, Outputs};
 use crate::number;
+use crate::overlay::{laid, Overlay};
 use crate::picture::Picture;
 use crate::scene::{Scene, VRAM};
 
@@ -19,8 +21,12 @@ use crate::scene::{Scene, VRAM};
   vbmodel demo
   vbmodel draw --vram out/vram.bin --drawing out/drawing.bin --frame 1 --eye anaglyph --scale 3
 
+An overlay is a text file of probe writes, `#` beginning a comment; a write outside the probe's ranges is told:
+  word 0x00038000 0x05FF05FF
 With --as-is the frame buffer is shown as it is in VRAM, and no drawing record is needed.
 A PNG has red 00, 55, AA and FF for the pixel values 0 to 3; `vbmodel compare` reads it back.
+With --brightness it shows what a person sees instead: the time that a pixel's shade is lit, times the repeats of its
+columns in the column table, from 0 (black) to 128 and above (full red).
 Exit status: 0 drawn; 2 refused or bad input, and then nothing is written."
 )]
 pub struct Options {
@@ -36,6 +42,9 @@ pub struct Options {
     /// Show the frame buffer as it is in VRAM, without drawing
     #[arg(long, conflicts_with = "drawing")]
     as_is: bool,
+    /// Writes of the probe that are made in VRAM before drawing: lines of byte, half or word, an address and a value
+    #[arg(long, value_name = "FILE", conflicts_with = "as_is")]
+    overlay: Option<PathBuf>,
     /// The frame buffer that is drawn and shown, 0 or 1
     #[arg(long, value_name = "N", default_value = "0", value_parser = number::word)]
     frame: u32,
@@ -51,6 +60,8 @@ pub struct Options {
     /// Where to write VRAM afterwards
     #[arg(long, value_name = "FILE")]
     save_vram: Option<PathBuf>,
+    #[command(flatten)]
+    seen: brightness::Options,
     /// Print JSON
     #[arg(long)]
     pub json: bool,
@@ -73,7 +84,7 @@ pub enum Eyes {
 }
 
 impl Eyes {
-    fn shows(self, one: Eyes) -> bool {
+    pub fn shows(self, one: Eyes) -> bool {
         self == one
             || self == Eyes::All
             || (self == Eyes::Both && matches!(one, Eyes::Left | Eyes::Right))
@@ -112,29 +123,37 @@ impl Views {
 }
 
 pub fn run(options: &Options) -> Result<Report, Failure> {
-    let vram = shown(options)?;
-    let views = Views::of(&vram, options.frame);
+    let (mut vram, overlay) = shown(options)?;
+    let Options { frame, eye, scale, as_is, .. } = *options;
+    let files = if options.seen.asked() {
+        options.seen.files(&mut vram, frame, eye, scale)?
+    } else {
+        Views::of(&vram, frame).files(frame, eye, scale)
+    };
     let mut outputs = Outputs::default();
-    for (name, png) in views.files(options.frame, options.eye, options.scale) {
+    for (name, png) in files {
         outputs.add(options.out.join(name), png);
     }
     if let Some(path) = &options.save_vram {
         outputs.add(path, vram);
     }
     outputs.write()?;
-    let Options { frame, scale, as_is, .. } = *options;
-    let told = Told { frame, scale, as_is, written: outputs.paths() };
+    let laid = overlay.as_ref().map(Overlay::text).unwrap_or_default();
+    let told = Told { frame, scale, as_is, overlay, written: outputs.paths() };
     let lines: String = told.written.iter().map(|path| format!("written: {path}\n")).collect();
-    let done = if options.as_is { "as it is in VRAM" } else { "drawn, both eyes" };
-    Ok(Report::new(format!("frame {} {done}\n{lines}", options.frame), &told, 0))
+    let done = if as_is { "as it is in VRAM" } else { "drawn, both eyes" };
+    Ok(Report::new(format!("{laid}frame {frame} {done}\n{lines}"), &told, 0))
 }
 
-/// VRAM after drawing, or as it is.
-fn shown(options: &Options) -> Result<Vec<u8>, Failure> {
+/// VRAM after drawing, or as it is, and what became of an overlay's writes.
+fn shown(options: &Options) -> Result<(Vec<u8>, Option<Overlay>), Failure> {
     let Options { vram, drawing, state, frame, .. } = options;
     let scene = Scene { vram: vram.clone(), drawing: drawing.clone(), state: state.clone() };
     if !options.as_is {
-        return scene.read()?.drawn(*frame);
+        let mut read = scene.read()?;
+        let overlay = options.overlay.as_deref().map(|path| laid(path, &mut read.vram));
+        let overlay = overlay.transpose()?;
+        return Ok((read.drawn(*frame)?, overlay));
     }
     let vram = match (vram, state) {
         (Some(path), _) => Input::read(path, VRAM)?,
@@ -149,7 +168,7 @@ fn shown(options: &Options) -> Result<Vec<u8>, Failure> {
         let refusal = Refusal::Frame { given: *frame };
         return refused(refusal.clone(), refusal.to_string());
     }
-    Ok(vram.bytes)
+    Ok((vram.bytes, None))
 }
 
 #[derive(Serialize)]
@@ -157,5 +176,7 @@ struct Told {
     frame: u32,
     scale: usize,
     as_is: bool,
+    #[serde(skip_serializing_if = "Option::is_none")]
+    overlay: Option<Overlay>,
     written: Vec<String>,
 }

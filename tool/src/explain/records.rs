@@ -30,6 +30,8 @@ pub struct WorldRecord {
     pub w: i32,
     pub h: i32,
     pub columns: i32,
+    /// H + 1, and the rows that the chip shows: a short world is taller (W3)
+    pub stored_rows: i32,
     pub rows: i32,
     pub parameter_base: u16,
     pub overplane: u16,
@@ -109,6 +111,7 @@ impl WorldRecord {
             w: world.w,
             h: world.h,
             columns: world.columns().max(0),
+            stored_rows: world.stored_rows().max(0),
             rows: world.rows().max(0),
             parameter_base: world.parameter_base,
             overplane: world.overplane,
@@ -123,10 +126,10 @@ impl WorldRecord {
         if self.window.is_none() {
             return format!("{}{flags}", self.bgm);
         }
-        let WorldRecord { gx, gp, gy, mx, mp, my, w, h, columns, rows, .. } = self;
+        let WorldRecord { gx, gp, gy, mx, mp, my, w, h, columns, stored_rows, rows, .. } = self;
         format!(
             "{}{flags}, GX {gx} GP {gp} GY {gy}, MX {mx} MP {mp} MY {my}, W {w} ({columns} columns) H {h} \
-             ({rows} rows), base {} SCX {} SCY {}{}{}",
+             ({stored_rows} rows stored, {rows} shown), base {} SCX {} SCY {}{}{}",
             self.bgm,
             self.base,
             self.scx,

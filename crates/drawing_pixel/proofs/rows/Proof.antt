@@ -1,10 +1,18 @@
--- `drawing_pixel::rows` meets its contract: a height that is not above 0 is none, and 8 is the least outside affine worlds. Assumes nothing.
+-- `drawing_pixel::rows` meets its contract: each branch is a case of the rows of a world. Assumes nothing.
 use borrow.Author.Needs.{needs}
 use Rattle.drawing_pixel.proofs.rows.Statement.{statement}
 use Rattle.drawing_pixel.proofs.rows.Tie as tie
-use borrow.Author.Tests.{eq-eqb, ne-eqb}
 use native.Mathlib.Omega.{arith}
-use Rattle.drawing_pixel.specs.World.{rowsOf}
+use Rattle.drawing_pixel.proofs.Heights.{rows-affine, rows-in-image, rows-none, rows-eight}
+
+height-requires : tie.Need-height-requires
+height-requires c κs = search needs
+
+element-copy-out-bgm : tie.Need-element-copy-out-bgm
+element-copy-out-bgm c = search needs
+
+returns : tie.Need-returns
+returns c = omega (arith, rows-affine (c .before .before .before .args .w .now) (c .if1 .taken))
 
 element-copy-out-wide : tie.Need-element-copy-out-wide
 element-copy-out-wide c = search needs
@@ -12,54 +20,37 @@ element-copy-out-wide c = search needs
 wide-requires : tie.Need-wide-requires
 wide-requires c κs = search needs
 
-add-biased : tie.Need-add-biased
-add-biased c = search needs
+sub-greatest : tie.Need-sub-greatest
+sub-greatest c = search needs
 
-element-copy-out-if2 : tie.Need-element-copy-out-if2
-element-copy-out-if2 c = search needs
-
-returns : tie.Need-returns
-unfolding rowsOf
-returns c = (simp (eq-eqb _ _ (c .if2 .taken)) (omega arith), omega arith)
+greatest-requires : tie.Need-greatest-requires
+greatest-requires c κs = search needs
 
 returns-2 : tie.Need-returns-2
-unfolding rowsOf
-returns-2 c = (simp (ne-eqb _ _ (c .if2 .left)) (omega arith), omega arith)
-
-add-height : tie.Need-add-height
-add-height c = search needs
-
-sub-height : tie.Need-sub-height
-sub-height c = search needs
-
-element-copy-out-if3 : tie.Need-element-copy-out-if3
-element-copy-out-if3 c = search needs
+returns-2 c = omega (arith, rows-in-image (c .before .before .before .before .before .before .before .args .w .now) (c .before .before .before .before .if1 .left) (omega arith))
 
 returns-3 : tie.Need-returns-3
-unfolding rowsOf
-returns-3 c = (simp (eq-eqb _ _ (c .if3 .taken)) (omega arith), omega arith)
+returns-3 c = omega (arith, rows-none (c .before .before .before .before .before .before .before .args .w .now) (c .before .before .before .before .if1 .left) (omega arith) (omega arith) (omega arith))
+
+greatest-requires-2 : tie.Need-greatest-requires-2
+greatest-requires-2 c κs = search needs
 
 returns-4 : tie.Need-returns-4
-unfolding rowsOf
-returns-4 c = (simp (ne-eqb _ _ (c .before .if3 .left)) (omega arith), omega arith)
-
-returns-5 : tie.Need-returns-5
-unfolding rowsOf
-returns-5 c = (simp (ne-eqb _ _ (c .before .if3 .left)) (omega arith), omega arith)
+returns-4 c =
+    omega (arith, rows-eight (c .before .before .before .before .before .before .before .before .args .w .now) (c .before .before .before .before .before .if1 .left) (omega arith) (omega arith) (λ e. omega arith))
 
 pub rows-spec : {M : Type 1} → statement M
 rows-spec =
     tie.close
     (tie.spec
+    height-requires
+    element-copy-out-bgm
+    returns
     element-copy-out-wide
     wide-requires
-    add-biased
-    element-copy-out-if2
-    returns
+    sub-greatest
+    greatest-requires
     returns-2
-    add-height
-    sub-height
-    element-copy-out-if3
     returns-3
-    returns-4
-    returns-5)
+    greatest-requires-2
+    returns-4)

@@ -1,0 +1,61 @@
+-- W3 of paper 02, "Short worlds are taller on the chip", in the request's own words and of "covers" (specs/Covers).
+-- The proofs are `strip-covered`, `added-in-strip`, `plain-covered`, `affine-plain` and `five-rows` in proofs/. GY and H
+-- are signed; strip s is rows 8s to 8s + 7, so that the strip holding row g ends above row 8 (g / 8 + 1).
+use Prim.Native.Nat.{ℕ, _+_, _*_, _/_, _≤_, _<_}
+use mathlib.Core.Bool.{true, false}
+use mathlib.Core.List.{List}
+use mathlib.Core.Path.{_≡_}
+use lib.IntN.{pos}
+use Rattle.drawing_pixel.specs.World.{worldOf, bgmOf, rowsOf, worldShownOf, columnCoveredOf}
+use Rattle.drawing_pixel.specs.Fields.{GY, H}
+use Rattle.drawing_pixel.specs.WindowFormulas.{plainRow}
+use Rattle.drawing_laws.specs.Covers.{reachedOf, backgroundCoversOf}
+
+-- world n is reached, shown to the eye, and its columns hold column x
+pub record Showing (vram : List ℕ) (eye x n : ℕ) : Type 0 where
+  pub reached : reachedOf vram n ≡ true
+  pub shown : worldShownOf (worldOf vram n) eye ≡ true
+  pub column : columnCoveredOf (worldOf vram n) eye x ≡ true
+
+-- world n is normal or H-bias, and its GY is g, from 0 to 223
+pub record TopInImage (vram : List ℕ) (n g : ℕ) : Type 0 where
+  pub mode : bgmOf (worldOf vram n) < 2
+  pub top : GY (worldOf vram n) ≡ pos g
+  pub inImage : g ≤ 223
+
+-- "normal and H-bias worlds cover at least everything from GY to the end of the strip holding it";
+-- "this is for GY from 0 to 223"
+abbrev pub StripCovered : Type 0
+StripCovered =
+    (vram : List ℕ) (eye x y n g : ℕ) → Showing vram eye x n
+    → TopInImage vram n g
+    → g ≤ y
+    → y < 8 * (g / 8 + 1)
+    → backgroundCoversOf vram eye x y n ≡ true
+
+-- a row that H + 1 does not cover is covered only in the strip that holds GY
+abbrev pub AddedInStrip : Type 0
+AddedInStrip =
+    (vram : List ℕ) (eye x y n g : ℕ) → TopInImage vram n g
+    → plainRow (worldOf vram n) y ≡ false
+    → backgroundCoversOf vram eye x y n ≡ true
+    → y / 8 ≡ g / 8
+
+-- no background world is shorter than H + 1
+abbrev pub PlainCovered : Type 0
+PlainCovered =
+    (vram : List ℕ) (eye x y n : ℕ) → Showing vram eye x n
+    → bgmOf (worldOf vram n) < 3
+    → plainRow (worldOf vram n) y ≡ true
+    → backgroundCoversOf vram eye x y n ≡ true
+
+-- "affine worlds keep the plain rule"
+abbrev pub AffinePlain : Type 0
+AffinePlain =
+    (vram : List ℕ) (eye x y n : ℕ) → bgmOf (worldOf vram n) ≡ 2
+    → backgroundCoversOf vram eye x y n ≡ true
+    → plainRow (worldOf vram n) y ≡ true
+
+-- "with GY 3 and a stored H of 1, 5 rows"
+abbrev pub FiveRows : Type 0
+FiveRows = (w : List ℕ) → bgmOf w < 2 → GY w ≡ pos 3 → H w ≡ pos 1 → rowsOf w ≡ 5

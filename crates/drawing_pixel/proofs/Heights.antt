@@ -1,0 +1,41 @@
+-- The rows of a world in the cases that the code tells apart: by BGM, by GY as the halfword it is stored in, by H + 1.
+-- Assumes nothing.
+use Prim.Native.Nat.{ℕ, _-_, _/_, _%_, _<_, _≤_, max}
+use native.Mathlib.Decide.{decLt}
+use native.Mathlib.Omega.{arith}
+use mathlib.Core.Path.{_≡_, _∙_}
+use mathlib.Core.Bool.{and-false}
+use mathlib.Core.List.{List}
+use borrow.Author.Tests.{eq-eqb, ne-eqb, lt-leb, le-leb}
+use lib.ListN.{getD}
+use Rattle.drawing_pixel.specs.World.{bgmOf, gyOf, heightOf, atLeastEight, rowsOf}
+
+module _ (w : List ℕ) where
+  pub rows-affine : bgmOf w ≡ 2 → rowsOf w ≡ heightOf w
+  unfolding rowsOf
+  rows-affine b = simp (eq-eqb _ _ b)
+
+  -- GY from 0 to 223 is the halfword itself
+  pub rows-in-image : (bgmOf w ≡ 2 → ⊥) → getD w 3 0 < 224 → rowsOf w ≡ max (heightOf w) (8 - getD w 3 0 % 8)
+  unfolding rowsOf
+  rows-in-image b g =
+      let low : 32768 ≤ gyOf w = omega arith in
+      let high : gyOf w ≤ 32991 = omega arith in
+      let rest : gyOf w % 8 ≡ getD w 3 0 % 8 = omega arith in
+      rw rest (simp (ne-eqb _ _ b, le-leb _ _ low, le-leb _ _ high))
+
+  -- any other halfword is a GY below 0 or above 223
+  pub rows-outside : (bgmOf w ≡ 2 → ⊥) → 224 ≤ getD w 3 0 → getD w 3 0 < 65536 → rowsOf w ≡ atLeastEight (heightOf w)
+  unfolding rowsOf
+  rows-outside b g s =
+      elim (decLt (getD w 3 0) 32768) [
+        | yes l ↦ let high : 32991 < gyOf w = omega arith in simp (ne-eqb _ _ b, lt-leb _ _ high, and-false)
+        | no n ↦ let low : gyOf w < 32768 = omega arith in simp (ne-eqb _ _ b, lt-leb _ _ low)
+      ]
+
+  pub rows-none : (bgmOf w ≡ 2 → ⊥) → 224 ≤ getD w 3 0 → getD w 3 0 < 65536 → heightOf w ≡ 0 → rowsOf w ≡ 0
+  rows-none b g s h = rows-outside b g s ∙ simp (eq-eqb _ _ h)
+
+  pub rows-eight : (bgmOf w ≡ 2 → ⊥) → 224 ≤ getD w 3 0 → getD w 3 0 < 65536 → (heightOf w ≡ 0 → ⊥)
+      → rowsOf w ≡ max (heightOf w) 8
+  rows-eight b g s h = rows-outside b g s ∙ simp (ne-eqb _ _ h)

@@ -1,0 +1,36 @@
+-- The probe leaves the program's pixels alone (paper 02, W9): the statement. Its proof is `undisturbed` in proofs/.
+-- The first memory is VRAM before the first drawing, and the byte list is worked out there (paper 01, "The bytes a
+-- pixel answers to"); the second is VRAM before the second drawing, after the first one and the probe's writes.
+use Prim.Native.Nat.{ℕ, _/_, _<_}
+use mathlib.Core.Bool.{true, false}
+use mathlib.Core.List.{List}
+use mathlib.Core.Path.{_≡_}
+use lib.ListN.{length}
+use Rattle.bus.specs.Registers.{registersOk}
+use Rattle.drawing_pixel.specs.Strip.{storedPixelOf}
+use Rattle.drawing_laws.specs.Demand3.{Each}
+use Rattle.drawing_laws.specs.Drawn.{Call, acceptedOf, drawsStripOf, afterOf}
+use Rattle.drawing_laws.specs.SourceBytes.{sourceBytesOf}
+use Rattle.probe.specs.Probe.{inRangesOf}
+use Rattle.probe.specs.Kept.{Write, allWrittenOf}
+
+-- an address that the probe never writes
+abbrev pub Outside : ℕ → Type 0
+Outside a = inRangesOf a ≡ false
+
+-- a pixel that two drawings of one frame draw, and whose listed bytes are outside the probe's ranges, is the same after
+-- the second, whatever the probe wrote between them
+abbrev pub Undisturbed : Type 0
+Undisturbed =
+    (vram regs : List ℕ) (frame : ℕ) (one other : Call) (writes : List Write) (eye x y : ℕ) → length vram ≡ 262144
+    → registersOk regs ≡ true
+    → frame < 2
+    → eye < 2
+    → x < 384
+    → acceptedOf one ≡ true
+    → acceptedOf other ≡ true
+    → drawsStripOf one (y / 8) ≡ true
+    → drawsStripOf other (y / 8) ≡ true
+    → Each Outside (sourceBytesOf vram regs eye x y)
+    → storedPixelOf (afterOf (allWrittenOf (afterOf vram regs frame one) writes) regs frame other) frame eye x y
+    ≡ storedPixelOf (afterOf vram regs frame one) frame eye x y

@@ -1,0 +1,62 @@
+-- What a write of the probe means, and what writes leave alone (paper 02, W9): the statements. Their proofs are
+-- `probe-is-store`, `probe-kept` and `probe-length` in proofs/.
+use Prim.Native.Nat.{ℕ}
+use mathlib.Core.Bool.{false}
+use mathlib.Core.List.{List, [], _∷_}
+use mathlib.Core.Path.{_≡_}
+use lib.ListN.{length, getD}
+use Rattle.bus.specs.Memory.{Memory, withVram, storeByteOf, storeHalfOf, storeWordOf}
+use Rattle.refusal.specs.declared.Verdict.the-variants.{Accepted}
+use Rattle.probe.specs.Probe.{inRangesOf, probeVerdictOf, probedOf}
+
+-- the three calls, by what they write
+pub data Width : Type 0 where
+  byte : Width
+  half : Width
+  word : Width
+
+abbrev pub sizeOf : Width → ℕ
+sizeOf byte = 1
+sizeOf half = 2
+sizeOf word = 4
+
+-- the bus's store of that size
+abbrev pub storeAs : Width → Memory → ℕ → ℕ → Memory
+storeAs byte m a v = storeByteOf m a v
+storeAs half m a v = storeHalfOf m a v
+storeAs word m a v = storeWordOf m a v
+
+-- an accepted write leaves in VRAM what the bus's store leaves there, and the store changes nothing else
+abbrev pub ProbeIsStore : Type 0
+ProbeIsStore =
+    (m : Memory) (width : Width) (a v : ℕ)
+    → probeVerdictOf (sizeOf width) (m .rom) (m .wram) (m .vram) (m .pak) a ≡ Accepted
+    → storeAs width m a v ≡ withVram m (probedOf (sizeOf width) (m .rom) (m .wram) (m .vram) (m .pak) a v)
+
+-- a call of the probe: what it is lent beside VRAM, and what it is to write where
+pub record Write : Type 0 where
+  pub rom : List ℕ
+  pub wram : List ℕ
+  pub pak : List ℕ
+  pub width : Width
+  pub address : ℕ
+  pub value : ℕ
+
+-- VRAM after a call, refused or not
+abbrev pub writtenOf : List ℕ → Write → List ℕ
+writtenOf vram w = probedOf (sizeOf (w .width)) (w .rom) (w .wram) vram (w .pak) (w .address) (w .value)
+
+-- VRAM after a list of calls
+unfoldable pub allWrittenOf : List ℕ → List Write → List ℕ
+allWrittenOf vram [] = vram
+allWrittenOf vram (w ∷ rest) = allWrittenOf (writtenOf vram w) rest
+
+-- every byte of VRAM outside the ranges keeps its value over any list of calls
+abbrev pub ProbeKept : Type 0
+ProbeKept =
+    (vram : List ℕ) (writes : List Write) (a : ℕ) → inRangesOf a ≡ false
+    → getD (allWrittenOf vram writes) a 0 ≡ getD vram a 0
+
+-- and VRAM its length
+abbrev pub ProbeLength : Type 0
+ProbeLength = (vram : List ℕ) (writes : List Write) → length (allWrittenOf vram writes) ≡ length vram

@@ -1,0 +1,19 @@
+-- The probe's definitions over the memories as a call is lent them, for its contract.
+use Prim.Native.Nat.{ℕ}
+use mathlib.Core.List.{List}
+use denote.Ref.{RefT, now}
+use denote.Triple.Both.{Both}
+use Rattle.refusal.specs.declared.Verdict.{Verdict}
+use Rattle.probe.specs.Probe.{probeVerdictOf, probedOf}
+
+-- a lent memory, at the call's entry and at its exit
+abbrev pub Lent : Type 0
+Lent = Both (RefT (List ℕ)) (RefT (List ℕ))
+
+abbrev pub verdictOf : ℕ → Lent → Lent → Lent → Lent → ℕ → Verdict
+verdictOf size rom wram vram pak a =
+    probeVerdictOf size (now (rom .entry)) (now (wram .entry)) (now (vram .entry)) (now (pak .entry)) a
+
+abbrev pub vramOf : ℕ → Lent → Lent → Lent → Lent → ℕ → ℕ → List ℕ
+vramOf size rom wram vram pak a v =
+    probedOf size (now (rom .entry)) (now (wram .entry)) (now (vram .entry)) (now (pak .entry)) a v

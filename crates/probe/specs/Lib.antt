@@ -1,0 +1,3 @@
+pub mod Probe
+pub mod Lent
+pub mod Kept
