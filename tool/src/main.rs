@@ -24,6 +24,7 @@ mod progress;
 mod scene;
 mod setup;
 mod state;
+mod watch;
 
 use std::ffi::OsString;
 use std::io::{stderr, stdout, ErrorKind, Write};

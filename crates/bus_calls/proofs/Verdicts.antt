@@ -2,12 +2,13 @@
 use Prim.Native.Nat.{ℕ}
 use mathlib.Core.Path.{_≡_, refl, sym, ap, _∙_}
 use lib.ListN.{length}
-use Rattle.bus.specs.declared.Loaded.{Loaded}
 use Rattle.refusal.specs.declared.Refusal.{Refusal}
 use Rattle.refusal.specs.declared.Verdict.{Verdict}
 use Rattle.refusal.specs.declared.Verdict.the-variants.{Accepted, Refused}
 use Rattle.bus.specs.Memory.{Memory, Lengths, verdictOf, loadOf, Reads}
 use Rattle.bus.proofs.Accepted.{accepted-lengths}
+use Rattle.bus_defined.specs.Defined.{undefinedOf}
+use Rattle.bus_calls.specs.declared.Reading.{Reading}
 use Rattle.bus_calls.specs.declared.Load.{Load}
 use Rattle.bus_calls.specs.declared.Load.the-variants as load
 use Rattle.bus_calls.specs.Access.{answerWhen, checkedLoadOf, checkedStoreOf}
@@ -17,9 +18,9 @@ module _ (m : Memory) (found : Verdict) (e : found ≡ verdictOf m) where
   found-lengths h =
       accepted-lengths (length (m .rom)) (length (m .wram)) (length (m .vram)) (length (m .pak)) (m .regs) (sym e ∙ h)
 
-  pub load-accepted : (size a : ℕ) (r : Loaded) → found ≡ Accepted → Reads m size a (r .value) → load.Value r ≡ checkedLoadOf m size a
+  pub load-accepted : (size a : ℕ) (r : Reading) → found ≡ Accepted → Reads m size a (r .value) → r .undefined ≡ undefinedOf m size a → load.Value r ≡ checkedLoadOf m size a
   unfolding checkedLoadOf
-  load-accepted size a r h p = sym (rw (sym e ∙ h) (ap (λ (v : ℕ). load.Value (record { value = v })) (sym (p .means))))
+  load-accepted size a r h p u = sym (rw (sym e ∙ h) (rw (← p .means, ← u)))
 
   pub load-refused : (size a : ℕ) (n : Refusal) → found ≡ Refused n → load.Refused n ≡ checkedLoadOf m size a
   unfolding checkedLoadOf

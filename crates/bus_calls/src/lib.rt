@@ -1,7 +1,6 @@
 // The bus's public calls: each tests refusals 1 to 5 and then loads or stores. They take the drawing registers by
 // value, and a store gives them back. Only accesses to region 0, the VIP, are lent a copy of them.
 use bus::Drawing;
-use bus::Loaded;
 use bus::load;
 use bus::outside;
 use bus::refusals;
@@ -12,9 +11,15 @@ ghost use mathlib.Core.Path.{_≡_};
 ghost use Rattle.bus.specs.Memory.{memoryOf, verdictOf, storeByteOf, storeHalfOf, storeWordOf};
 ghost use Rattle.bus_calls.specs.Access.{checkedLoadOf, checkedStoreOf};
 
+// What a load read: its value, and bit k of `undefined` set where byte k, counted from the aligned address, is undefined.
+pub struct Reading {
+    pub value: u32,
+    pub undefined: u32,
+}
+
 // The answer of a load.
 pub enum Load {
-    Value(Loaded),
+    Value(Reading),
     Refused(Refusal),
 }
 
@@ -38,12 +43,15 @@ pub fn load_byte(
     let verdict = refusals::verdict(rom.len(), wram.len(), vram.len(), pak.len(), &drawing.regs);
     match verdict {
         Verdict::Accepted => {
+            let undefined = bus_defined::byte(address);
             if address / 16777216 % 8 == 0 {
                 let regs = drawing.regs;
-                return Load::Value(load::byte(rom, wram, vram, pak, &regs, address));
+                let loaded = load::byte(rom, wram, vram, pak, &regs, address);
+                let value = loaded.value;
+                return Load::Value(Reading { value, undefined });
             }
             let value = outside::byte(rom, wram, pak, address);
-            Load::Value(Loaded { value })
+            Load::Value(Reading { value, undefined })
         }
         Verdict::Refused(refusal) => Load::Refused(refusal),
     }
@@ -63,12 +71,15 @@ pub fn load_half(
     let verdict = refusals::verdict(rom.len(), wram.len(), vram.len(), pak.len(), &drawing.regs);
     match verdict {
         Verdict::Accepted => {
+            let undefined = bus_defined::half(address);
             if address / 16777216 % 8 == 0 {
                 let regs = drawing.regs;
-                return Load::Value(load::half(rom, wram, vram, pak, &regs, address));
+                let loaded = load::half(rom, wram, vram, pak, &regs, address);
+                let value = loaded.value;
+                return Load::Value(Reading { value, undefined });
             }
             let value = outside::half(rom, wram, pak, address);
-            Load::Value(Loaded { value })
+            Load::Value(Reading { value, undefined })
         }
         Verdict::Refused(refusal) => Load::Refused(refusal),
     }
@@ -88,12 +99,15 @@ pub fn load_word(
     let verdict = refusals::verdict(rom.len(), wram.len(), vram.len(), pak.len(), &drawing.regs);
     match verdict {
         Verdict::Accepted => {
+            let undefined = bus_defined::word(address);
             if address / 16777216 % 8 == 0 {
                 let regs = drawing.regs;
-                return Load::Value(load::word(rom, wram, vram, pak, &regs, address));
+                let loaded = load::word(rom, wram, vram, pak, &regs, address);
+                let value = loaded.value;
+                return Load::Value(Reading { value, undefined });
             }
             let value = outside::word(rom, wram, pak, address);
-            Load::Value(Loaded { value })
+            Load::Value(Reading { value, undefined })
         }
         Verdict::Refused(refusal) => Load::Refused(refusal),
     }

@@ -5,17 +5,13 @@ use Rattle.bus_calls.specs.declared.Load.{Load}
 use Rattle.bus_calls.specs.declared.Load.the-variants.{Value, Refused as LoadRefused}
 use Rattle.refusal.specs.declared.Verdict.{Verdict}
 use Rattle.refusal.specs.declared.Verdict.the-variants.{Accepted, Refused}
+use Rattle.capi.specs.declared.accesses.VbLoaded.{VbLoaded}
 use Rattle.drawing_pixel.specs.Character.{characterAddressOf}
 
--- the refusal of a load's answer
-abbrev pub loadRefusal : Load → ℕ
-loadRefusal (Value l) = 0
-loadRefusal (LoadRefused n) = numberOf n
-
--- the value of a load's answer
-abbrev pub loadValue : Load → ℕ
-loadValue (Value l) = l .value
-loadValue (LoadRefused n) = 0
+-- a load's answer: its refusal, its value and the mask of its undefined bytes
+abbrev pub loadedOf : Load → VbLoaded
+loadedOf (Value l) = record { refusal = 0; value = l .value; undefined = l .undefined }
+loadedOf (LoadRefused n) = record { refusal = numberOf n; value = 0; undefined = 0 }
 
 -- where a character's part begins, 0 where it was refused
 abbrev pub partOffset : Verdict → ℕ → ℕ

@@ -12,11 +12,14 @@ use Rattle.processor_machine.specs.declared.Mode.{Mode}
 use Rattle.processor_machine.specs.declared.Mode.the-variants.{Running, Halted, Fatal}
 use Rattle.processor_machine.specs.declared.Answer.{Answer}
 use Rattle.processor_machine.specs.declared.Answer.the-variants.{Ended, Trapped, TurnedFatal, WasHalted, WasFatal, Refused}
+use Rattle.processor_reads.specs.Reads.{noneOf}
+use Rattle.processor_reads.specs.declared.Undefined.{Undefined}
 use Rattle.processor.specs.Record.{stateIn}
 use Rattle.processor.specs.Acceptance.{acceptanceOf}
 use Rattle.processor.specs.Calls.{Done, Ran, checkedStepOf, checkedRunOf}
 use Rattle.processor.specs.declared.Processor.{Processor}
 use Rattle.capi.specs.declared.execution.VbProcessor.{VbProcessor}
+use Rattle.capi.specs.declared.execution.VbUndefined.{VbUndefined}
 
 -- the refusal of a step's answer
 abbrev pub answerRefusal : Answer → ℕ
@@ -89,30 +92,35 @@ processorOut p =
       mode = modeNumber (p .mode);
     }
 
+-- the masks of a step, field by field
+abbrev pub undefinedOut : Undefined → VbUndefined
+undefinedOut u = record { first = u .first; second = u .second; load = u .load }
+
 -- VB_MISUSE, unless one of 1 to 5 comes first
 abbrev pub misuseNumber : Verdict → ℕ
 misuseNumber verdict.Accepted = 255
 misuseNumber (verdict.Refused n) = numberOf n
 
--- what vb_step gives: refusal, answer and code, the record and the memory afterwards
+-- what vb_step gives: refusal, answer, code and masks, the record and the memory afterwards
 pub record StepAtBoundary : Type 0 where
   pub refusal : ℕ
   pub answer : ℕ
   pub code : ℕ
+  pub undefined : VbUndefined
   pub processor : VbProcessor
   pub memory : Memory
 
-abbrev pub stepGives : ℕ → ℕ → ℕ → VbProcessor → Memory → StepAtBoundary
-stepGives refusal answer code p m =
-    record { refusal = refusal; answer = answer; code = code; processor = p; memory = m }
+abbrev pub stepGives : ℕ → ℕ → ℕ → VbUndefined → VbProcessor → Memory → StepAtBoundary
+stepGives refusal answer code u p m =
+    record { refusal = refusal; answer = answer; code = code; undefined = u; processor = p; memory = m }
 
 abbrev pub stepDone : Done → StepAtBoundary
 stepDone d =
-    stepGives (answerRefusal (d .answer)) (answerNumber (d .answer)) (answerCode (d .answer)) (processorOut (d .processor)) (d .memory)
+    stepGives (answerRefusal (d .answer)) (answerNumber (d .answer)) (answerCode (d .answer)) (undefinedOut (d .undefined)) (processorOut (d .processor)) (d .memory)
 
 unfoldable pub stepAt : VbProcessor → Memory → StepAtBoundary
 stepAt p m =
-    pick (ltb 2 (p .mode)) (stepGives (misuseNumber (acceptanceOf (stateIn (processorIn p)) m)) 0 0 p m)
+    pick (ltb 2 (p .mode)) (stepGives (misuseNumber (acceptanceOf (stateIn (processorIn p)) m)) 0 0 (undefinedOut noneOf) p m)
     (stepDone (checkedStepOf (processorIn p) m))
 
 -- what vb_run gives

@@ -7,7 +7,7 @@ ghost use mathlib.Core.Path.{_≡_};
 ghost use Rattle.refusal.specs.Number.{verdictNumber};
 ghost use Rattle.bus.specs.Memory.{memoryOf, verdictOf, storeByteOf, storeHalfOf, storeWordOf};
 ghost use Rattle.bus_calls.specs.Access.{checkedLoadOf, checkedStoreOf};
-ghost use Rattle.capi.specs.Answers.{loadRefusal, loadValue};
+ghost use Rattle.capi.specs.Answers.{loadedOf};
 
 // The drawing registers: SPT0 to SPT3, GPLT0 to GPLT3, JPLT0 to JPLT3, BKCOL.
 #[repr(C)]
@@ -15,10 +15,12 @@ pub struct VbDrawing {
     pub regs: bus::DrawingRegisters,
 }
 
+// Bit k of `undefined` is set where byte k, counted from the aligned address, was read and is undefined.
 #[repr(C)]
 pub struct VbLoaded {
     pub refusal: u32,
     pub value: u32,
+    pub undefined: u32,
 }
 
 #[repr(C)]
@@ -29,16 +31,18 @@ pub struct VbStored {
 
 // A load's answer at the boundary.
 fn loaded(answer: Load) -> VbLoaded
-    ensures { λ r. ⌜ (r .refusal ≡ loadRefusal answer) × (r .value ≡ loadValue answer) ⌝ }
+    ensures { λ r. ⌜ r ≡ loadedOf answer ⌝ }
 {
     match answer {
         Load::Value(l) => VbLoaded {
             refusal: 0,
             value: l.value,
+            undefined: l.undefined,
         },
         Load::Refused(refusal) => VbLoaded {
             refusal: number(refusal),
             value: 0,
+            undefined: 0,
         },
     }
 }
@@ -52,7 +56,7 @@ pub extern "C" fn vb_load_byte(
     drawing: VbDrawing,
     address: u32,
 ) -> VbLoaded
-    ensures { λ r. ⌜ (let answer = checkedLoadOf (memoryOf (now (rom .entry)) (now (wram .entry)) (now (vram .entry)) (now (pak .entry)) (drawing .regs)) 1 address in (r .refusal ≡ loadRefusal answer) × (r .value ≡ loadValue answer)) ⌝ }
+    ensures { λ r. ⌜ r ≡ loadedOf (checkedLoadOf (memoryOf (now (rom .entry)) (now (wram .entry)) (now (vram .entry)) (now (pak .entry)) (drawing .regs)) 1 address) ⌝ }
 {
     let regs = drawing.regs;
     loaded(bus_calls::load_byte(rom, wram, vram, pak, Drawing { regs }, address))
@@ -67,7 +71,7 @@ pub extern "C" fn vb_load_half(
     drawing: VbDrawing,
     address: u32,
 ) -> VbLoaded
-    ensures { λ r. ⌜ (let answer = checkedLoadOf (memoryOf (now (rom .entry)) (now (wram .entry)) (now (vram .entry)) (now (pak .entry)) (drawing .regs)) 2 address in (r .refusal ≡ loadRefusal answer) × (r .value ≡ loadValue answer)) ⌝ }
+    ensures { λ r. ⌜ r ≡ loadedOf (checkedLoadOf (memoryOf (now (rom .entry)) (now (wram .entry)) (now (vram .entry)) (now (pak .entry)) (drawing .regs)) 2 address) ⌝ }
 {
     let regs = drawing.regs;
     loaded(bus_calls::load_half(rom, wram, vram, pak, Drawing { regs }, address))
@@ -82,7 +86,7 @@ pub extern "C" fn vb_load_word(
     drawing: VbDrawing,
     address: u32,
 ) -> VbLoaded
-    ensures { λ r. ⌜ (let answer = checkedLoadOf (memoryOf (now (rom .entry)) (now (wram .entry)) (now (vram .entry)) (now (pak .entry)) (drawing .regs)) 4 address in (r .refusal ≡ loadRefusal answer) × (r .value ≡ loadValue answer)) ⌝ }
+    ensures { λ r. ⌜ r ≡ loadedOf (checkedLoadOf (memoryOf (now (rom .entry)) (now (wram .entry)) (now (vram .entry)) (now (pak .entry)) (drawing .regs)) 4 address) ⌝ }
 {
     let regs = drawing.regs;
     loaded(bus_calls::load_word(rom, wram, vram, pak, Drawing { regs }, address))

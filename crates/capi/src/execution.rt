@@ -4,13 +4,14 @@ use bus::Drawing;
 use processor::Processor;
 use processor_machine::Answer;
 use processor_machine::Mode;
+use processor_reads::Undefined;
 use refusal::Verdict;
 use refusal::number;
 use refusal::verdict_number;
 ghost use mathlib.Core.Path.{_≡_};
 ghost use Rattle.bus.specs.Memory.{memoryOf};
 ghost use Rattle.processor.specs.Calls.{resetOf};
-ghost use Rattle.capi.specs.Execution.{answerRefusal, answerNumber, answerCode, modeNumber, modeIn, processorIn, processorOut, misuseNumber, stepGives, stepAt, runGives, runAt};
+ghost use Rattle.capi.specs.Execution.{answerRefusal, answerNumber, answerCode, modeNumber, modeIn, processorIn, processorOut, undefinedOut, misuseNumber, stepGives, stepAt, runGives, runAt};
 
 // The processor's record; mode is 0 running, 1 halted, 2 fatal.
 #[repr(C)]
@@ -29,11 +30,20 @@ pub struct VbProcessor {
     pub mode: u32,
 }
 
+// Which bytes that a step read are undefined: of its first halfword, of its second, and of its load.
+#[repr(C)]
+pub struct VbUndefined {
+    pub first: u32,
+    pub second: u32,
+    pub load: u32,
+}
+
 #[repr(C)]
 pub struct VbStepped {
     pub refusal: u32,
     pub answer: u32,
     pub code: u32,
+    pub undefined: VbUndefined,
     pub processor: VbProcessor,
     pub drawing: VbDrawing,
 }
@@ -118,6 +128,16 @@ fn processor_out(p: Processor) -> VbProcessor
     }
 }
 
+fn undefined_out(u: Undefined) -> VbUndefined
+    ensures { λ r. ⌜ r ≡ undefinedOut u ⌝ }
+{
+    VbUndefined {
+        first: u.first,
+        second: u.second,
+        load: u.load,
+    }
+}
+
 // VB_MISUSE, unless one of 1 to 5 comes first.
 fn misuse_number(v: Verdict) -> u32
     ensures { λ r. ⌜ r ≡ misuseNumber v ⌝ }
@@ -176,7 +196,7 @@ pub extern "C" fn vb_step(
     processor: VbProcessor,
     drawing: VbDrawing,
 ) -> VbStepped
-    ensures { λ r. ⌜ stepGives (r .refusal) (r .answer) (r .code) (r .processor) (memoryOf (now (rom .entry)) (now (wram .exit)) (now (vram .exit)) (now (pak .exit)) (r .drawing .regs)) ≡ stepAt processor (memoryOf (now (rom .entry)) (now (wram .entry)) (now (vram .entry)) (now (pak .entry)) (drawing .regs)) ⌝ }
+    ensures { λ r. ⌜ stepGives (r .refusal) (r .answer) (r .code) (r .undefined) (r .processor) (memoryOf (now (rom .entry)) (now (wram .exit)) (now (vram .exit)) (now (pak .exit)) (r .drawing .regs)) ≡ stepAt processor (memoryOf (now (rom .entry)) (now (wram .entry)) (now (vram .entry)) (now (pak .entry)) (drawing .regs)) ⌝ }
 {
     let regs = drawing.regs;
     let p = processor_in(processor);
@@ -187,18 +207,25 @@ pub extern "C" fn vb_step(
             refusal: misuse_number(v),
             answer: 0,
             code: 0,
+            undefined: VbUndefined {
+                first: 0,
+                second: 0,
+                load: 0,
+            },
             processor,
             drawing,
         };
     }
     let s = processor::calls::step(rom, wram, vram, pak, p, Drawing { regs });
     let answer = s.answer;
+    let undefined = s.undefined;
     let after = s.processor;
     let device = s.drawing.regs;
     VbStepped {
         refusal: answer_refusal(answer),
         answer: answer_number(answer),
         code: answer_code(answer),
+        undefined: undefined_out(undefined),
         processor: processor_out(after),
         drawing: VbDrawing { regs: device },
     }

@@ -7,7 +7,10 @@ use Rattle.bus.specs.Memory.{Memory}
 use Rattle.refusal.specs.declared.Verdict.{Verdict}
 use Rattle.refusal.specs.declared.Verdict.the-variants.{Accepted}
 use Rattle.processor_machine.specs.State.{stateOf, Stepped}
-use Rattle.processor_step.specs.Step.{stepOf}
+use Rattle.processor_step.specs.Step.{stepOf, fetchedOf}
+use Rattle.processor_step.specs.declared.step.Fetched.{Fetched}
+use Rattle.processor_reads.specs.Reads.{readOf, undefinedWhen, undefinedStepOf}
+use Rattle.processor_reads.specs.declared.Undefined.{Undefined}
 use Rattle.processor.specs.Record.{systemIn, processorOf}
 use Rattle.processor.specs.Acceptance.{acceptanceAt}
 use Rattle.processor.specs.Run.{Run, runOf}
@@ -15,11 +18,14 @@ use Rattle.processor.specs.Calls.{doneOf, ranOf, checkedStepOf, checkedR
 use Rattle.processor.specs.declared.Processor.{Processor}
 
 module _ (p : Processor) (m : Memory) (sys : List ℕ) (v : Verdict) (held : sys ≡ systemIn p) (tested : v ≡ acceptanceAt (length (m .rom)) (length (m .wram)) (length (m .vram)) (length (m .pak)) (m .regs) (p .regs) sys (p .pc) (p .psw)) (accepted : v ≡ Accepted) where
-  pub step-accepted : (t : Stepped) → t ≡ stepOf (stateOf (p .regs) sys (p .pc) (p .psw) (p .mode)) m → doneOf (t .answer) (processorOf (t .state)) (t .memory) ≡ checkedStepOf p m
-  unfolding checkedStepOf
-  step-accepted t e =
+  pub step-accepted : (t : Stepped) → t ≡ stepOf (stateOf (p .regs) sys (p .pc) (p .psw) (p .mode)) m
+      → (f : Fetched) → f ≡ fetchedOf (stateOf (p .regs) sys (p .pc) (p .psw) (p .mode)) m
+      → (u : Undefined) → u ≡ undefinedWhen (t .answer) (readOf f (stateOf (p .regs) sys (p .pc) (p .psw) (p .mode)) m)
+      → doneOf (t .answer) u (processorOf (t .state)) (t .memory) ≡ checkedStepOf p m
+  unfolding checkedStepOf undefinedStepOf
+  step-accepted t e f g u h =
       rw (← held, ← tested, accepted)
-      (ap (λ (u : Stepped). doneOf (u .answer) (processorOf (u .state)) (u .memory)) (rw held at e))
+      (rw (h, g, e, held))
 
   pub run-accepted : (budget : ℕ) (t : Run) → t ≡ runOf budget (stateOf (p .regs) sys (p .pc) (p .psw) (p .mode)) m → ranOf (t .verdict) (t .count) (processorOf (t .state)) (t .memory) ≡ checkedRunOf budget p m
   unfolding checkedRunOf

@@ -8,7 +8,8 @@ use Rattle.bus.specs.Memory.{Memory}
 use Rattle.refusal.specs.declared.Verdict.{Verdict}
 use Rattle.refusal.specs.declared.Verdict.the-variants.{Accepted}
 use Rattle.processor_machine.specs.State.{State, Stepped, steppedOf}
-use Rattle.processor_step.specs.Step.{stepOf}
+use Rattle.processor_step.specs.Step.{stepOf, fetchedOf}
+use Rattle.processor_step.specs.declared.step.Fetched.{Fetched}
 use Rattle.processor_machine.specs.declared.Answer.{Answer}
 use Rattle.processor.specs.Run.{Run, runWith, afterOf, afterStep, oneMore, runOf}
 use Rattle.processor.specs.declared.After.{After}
@@ -63,24 +64,41 @@ module _ (budget : ℕ) (s₀ : State) (m₀ : Memory) (n : ℕ) (s : State) (m 
       let z : n + 0 ≡ n = omega arith in
       sym (rw z at (before .rest 0 g))
 
--- a stretch in the middle of its first step, or after it
-pub record First (s₀ : State) (m₀ : Memory) (n : ℕ) (a : Answer) (s : State) (m : Memory) : Type 0 where
+-- a stretch before its first step, or after it with what that step answered and fetched
+pub record First (s₀ : State) (m₀ : Memory) (n : ℕ) (a : Answer) (h : Fetched) (s : State) (m : Memory) : Type 0 where
   pub start : n ≡ 0 → steppedOf a s m ≡ steppedOf a s₀ m₀
   pub first : n ≡ 1 → steppedOf a s m ≡ stepOf s₀ m₀
+  pub fetched : n ≡ 1 → h ≡ fetchedOf s₀ m₀
 
-pub first-start : (a : Answer) (s : State) (m : Memory) → First s m 0 a s m
-first-start a s m = record { start = λ _. refl; first = λ e. absurd (omega arith) }
+pub first-start : (a : Answer) (h : Fetched) (s : State) (m : Memory) → First s m 0 a h s m
+first-start a h s m =
+    record { start = λ _. refl; first = λ e. absurd (omega arith); fetched = λ e. absurd (omega arith) }
 
-module _ (s₀ : State) (m₀ : Memory) (n : ℕ) (a : Answer) (s : State) (m : Memory) (before : First s₀ m₀ n a s m) where
+module _ (s₀ : State) (m₀ : Memory) (n : ℕ) (a : Answer) (h : Fetched) (s : State) (m : Memory) (before : First s₀ m₀ n a h s m) where
   -- the step of a stretch that has counted nothing
   pub first-step : n ≡ 0 → (t : Stepped) → t ≡ stepOf s m → t ≡ stepOf s₀ m₀
   first-step z t e = e ∙ ap (λ (u : Stepped). stepOf (u .state) (u .memory)) (before .start z)
 
-  pub first-counted : (t : Stepped) → t ≡ stepOf s m → First s₀ m₀ (n + 1) (t .answer) (t .state) (t .memory)
-  first-counted t e = record { start = λ z. absurd (omega arith); first = λ o. first-step (omega arith) t e }
+  -- what it fetched
+  pub first-fetch : n ≡ 0 → (f : Fetched) → f ≡ fetchedOf s m → f ≡ fetchedOf s₀ m₀
+  first-fetch z f e = e ∙ ap (λ (u : Stepped). fetchedOf (u .state) (u .memory)) (before .start z)
+
+  pub first-counted : (t : Stepped) → t ≡ stepOf s m → (f : Fetched) → f ≡ fetchedOf s m → First s₀ m₀ (n + 1) (t .answer) f (t .state) (t .memory)
+  first-counted t e f g =
+      record {
+        start = λ z. absurd (omega arith);
+        first = λ o. first-step (omega arith) t e;
+        fetched = λ o. first-fetch (omega arith) f g;
+      }
 
   pub first-stopped : (budget : ℕ) → n < budget → (t : Stepped) → t ≡ stepOf s m → budget ≡ 1 → t ≡ stepOf s₀ m₀
-  first-stopped budget h t e o = first-step (omega arith) t e
+  first-stopped budget l t e o = first-step (omega arith) t e
+
+  pub fetch-stopped : (budget : ℕ) → n < budget → (f : Fetched) → f ≡ fetchedOf s m → budget ≡ 1 → f ≡ fetchedOf s₀ m₀
+  fetch-stopped budget l f e o = first-fetch (omega arith) f e
 
   pub first-finished : (budget : ℕ) → n ≤ budget → budget ≤ n → budget ≡ 1 → steppedOf a s m ≡ stepOf s₀ m₀
-  first-finished budget h l o = before .first (omega arith)
+  first-finished budget w l o = before .first (omega arith)
+
+  pub fetch-finished : (budget : ℕ) → n ≤ budget → budget ≤ n → budget ≡ 1 → h ≡ fetchedOf s₀ m₀
+  fetch-finished budget w l o = before .fetched (omega arith)

@@ -5,6 +5,8 @@ use Rattle.bus.specs.Memory.{Memory}
 use Rattle.refusal.specs.declared.Verdict.{Verdict}
 use Rattle.refusal.specs.declared.Verdict.the-variants as verdict
 use Rattle.processor_step.specs.Step.{stepOf}
+use Rattle.processor_reads.specs.Reads.{noneOf, undefinedStepOf}
+use Rattle.processor_reads.specs.declared.Undefined.{Undefined}
 use Rattle.processor_machine.specs.declared.Mode.the-variants.{Running}
 use Rattle.processor_machine.specs.declared.Answer.{Answer}
 use Rattle.processor_machine.specs.declared.Answer.the-variants.{Refused}
@@ -14,21 +16,22 @@ use Rattle.processor.specs.Run.{runOf}
 use Rattle.processor.specs.declared.Processor.{Processor}
 use Rattle.processor.specs.declared.Machine.{Machine}
 
--- what a step's call gives: its answer, the record and the memory afterwards
+-- what a step's call gives: its answer, which bytes that it read are undefined, the record and the memory afterwards
 pub record Done : Type 0 where
   pub answer : Answer
+  pub undefined : Undefined
   pub processor : Processor
   pub memory : Memory
 
-abbrev pub doneOf : Answer → Processor → Memory → Done
-doneOf answer p m = record { answer = answer; processor = p; memory = m }
+abbrev pub doneOf : Answer → Undefined → Processor → Memory → Done
+doneOf answer u p m = record { answer = answer; undefined = u; processor = p; memory = m }
 
 -- a step, unless refused
 abbrev pub stepWhen : Verdict → Processor → Memory → Done
 stepWhen verdict.Accepted p m =
     let t = stepOf (stateIn p) m in
-    doneOf (t .answer) (processorOf (t .state)) (t .memory)
-stepWhen (verdict.Refused n) p m = doneOf (Refused n) p m
+    doneOf (t .answer) (undefinedStepOf (stateIn p) m) (processorOf (t .state)) (t .memory)
+stepWhen (verdict.Refused n) p m = doneOf (Refused n) noneOf p m
 
 unfoldable pub checkedStepOf : Processor → Memory → Done
 checkedStepOf p m = stepWhen (acceptanceOf (stateIn p) m) p m

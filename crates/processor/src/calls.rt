@@ -47,7 +47,8 @@ pub fn verdict(
     )
 }
 
-// One step, as a stretch of one: its code then stands in one place, the loop of the stretch.
+// One step, as a stretch of one: its code then stands in one place, the loop of the stretch. Which bytes it read are
+// undefined is worked out from what that step fetched and the registers before it.
 pub fn step(
     rom: &[u8],
     wram: &mut [u8],
@@ -56,7 +57,7 @@ pub fn step(
     processor: Processor,
     drawing: Drawing,
 ) -> Stepped
-    ensures { λ r. ⌜ doneOf (r .answer) (r .processor) (memoryOf (now (rom .entry)) (now (wram .exit)) (now (vram .exit)) (now (pak .exit)) (r .drawing .regs)) ≡ checkedStepOf processor (memoryOf (now (rom .entry)) (now (wram .entry)) (now (vram .entry)) (now (pak .entry)) (drawing .regs)) ⌝ }
+    ensures { λ r. ⌜ doneOf (r .answer) (r .undefined) (r .processor) (memoryOf (now (rom .entry)) (now (wram .exit)) (now (vram .exit)) (now (pak .exit)) (r .drawing .regs)) ≡ checkedStepOf processor (memoryOf (now (rom .entry)) (now (wram .entry)) (now (vram .entry)) (now (pak .entry)) (drawing .regs)) ⌝ }
 {
     let mut regs = processor.regs;
     let mut sys = system(processor);
@@ -77,6 +78,7 @@ pub fn step(
     ) {
         Verdict::Refused(n) => Stepped {
             answer: Answer::Refused(n),
+            undefined: processor_reads::none(),
             processor,
             drawing,
         },
@@ -95,10 +97,14 @@ pub fn step(
                 1,
             );
             let answer = c.answer;
+            let fetched = c.fetched;
+            let before = processor.regs;
+            let undefined = processor_reads::masks(answer, pc, fetched, &before);
             let mode = c.mode;
             let processor = joined(regs, sys, c.pc, c.psw, mode);
             Stepped {
                 answer,
+                undefined,
                 processor,
                 drawing: Drawing { regs: device },
             }

@@ -8,6 +8,8 @@ mod stretch;
 use bus::Drawing;
 use processor_machine::Answer;
 use processor_machine::Mode;
+use processor_reads::Undefined;
+use processor_step::step::Fetched;
 use refusal::Verdict;
 
 // The processor's record.
@@ -26,9 +28,10 @@ pub struct Processor {
     pub mode: Mode,
 }
 
-// What a step did, and both records afterwards.
+// What a step did, which bytes that it read are undefined, and both records afterwards.
 pub struct Stepped {
     pub answer: Answer,
+    pub undefined: Undefined,
     pub processor: Processor,
     pub drawing: Drawing,
 }
@@ -53,7 +56,7 @@ pub enum After {
     Stopped(Verdict),
 }
 
-// What a run leaves beside the lent registers and memories; answer is the last step's.
+// What a run leaves beside the lent registers and memories; answer and fetched are the last step's.
 pub struct Finished {
     pub pc: u32,
     pub psw: u32,
@@ -61,4 +64,5 @@ pub struct Finished {
     pub verdict: Verdict,
     pub count: u64,
     pub answer: Answer,
+    pub fetched: Fetched,
 }

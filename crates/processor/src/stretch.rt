@@ -5,12 +5,13 @@ use bus::Device;
 use processor_machine::Answer;
 use processor_machine::Mode;
 use processor_step::step;
+use processor_step::step::Fetched;
 use refusal::Verdict;
 ghost use mathlib.Core.Path.{_≡_};
 ghost use lib.ListN.{length};
 ghost use Rattle.bus.specs.Memory.{memoryOf, Lengths};
 ghost use Rattle.processor_machine.specs.State.{stateOf, steppedOf};
-ghost use Rattle.processor_step.specs.Step.{stepOf};
+ghost use Rattle.processor_step.specs.Step.{stepOf, fetchedOf};
 ghost use Rattle.processor.specs.Run.{afterOf, runOf, ranBy};
 
 // An ended or trapped instruction counts; anything else stops the run.
@@ -27,7 +28,7 @@ fn after(answer: Answer) -> After
     }
 }
 
-// At most `budget` instructions; of a budget of one, what that step answered.
+// At most `budget` instructions; of a budget of one, what that step answered and fetched.
 pub fn run(
     rom: &[u8],
     wram: &mut [u8],
@@ -44,14 +45,22 @@ pub fn run(
     requires { ⌜ Lengths (length (now rom)) (length (now wram)) (length (now vram)) (length (now pak)) ⌝ }
     ensures whole { λ r. ⌜ ranBy (now (regs .exit)) (now (sys .exit)) r (memoryOf (now (rom .entry)) (now (wram .exit)) (now (vram .exit)) (now (pak .exit)) (now (device .exit))) ≡ runOf budget (stateOf (now (regs .entry)) (now (sys .entry)) pc psw mode) (memoryOf (now (rom .entry)) (now (wram .entry)) (now (vram .entry)) (now (pak .entry)) (now (device .entry))) ⌝ }
     ensures single { λ r. ⌜ (budget ≡ 1 → steppedOf (r .answer) (stateOf (now (regs .exit)) (now (sys .exit)) (r .pc) (r .psw) (r .mode)) (memoryOf (now (rom .entry)) (now (wram .exit)) (now (vram .exit)) (now (pak .exit)) (now (device .exit))) ≡ stepOf (stateOf (now (regs .entry)) (now (sys .entry)) pc psw mode) (memoryOf (now (rom .entry)) (now (wram .entry)) (now (vram .entry)) (now (pak .entry)) (now (device .entry)))) ⌝ }
+    ensures fetched { λ r. ⌜ (budget ≡ 1 → r .fetched ≡ fetchedOf (stateOf (now (regs .entry)) (now (sys .entry)) pc psw mode) (memoryOf (now (rom .entry)) (now (wram .entry)) (now (vram .entry)) (now (pak .entry)) (now (device .entry)))) ⌝ }
 {
     let mut pc = pc;
     let mut psw = psw;
     let mut mode = mode;
     let mut answer = Answer::Ended;
+    let mut fetched = Fetched {
+        first: 0,
+        second: 0,
+    };
     let mut n: u64 = 0;
     while n < budget {
-        let c = step::step(rom, wram, vram, pak, device, regs, sys, pc, psw, mode);
+        let t = step::step(rom, wram, vram, pak, device, regs, sys, pc, psw, mode);
+        let c = t.control;
+        let f = t.fetched;
+        fetched = f;
         pc = c.pc;
         psw = c.psw;
         mode = c.mode;
@@ -68,6 +77,7 @@ pub fn run(
                     verdict,
                     count: n,
                     answer,
+                    fetched,
                 };
             }
         }
@@ -79,5 +89,6 @@ pub fn run(
         verdict: Verdict::Accepted,
         count: n,
         answer,
+        fetched,
     }
 }

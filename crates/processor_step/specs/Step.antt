@@ -14,6 +14,7 @@ use Rattle.processor_execute.specs.Execute.{executeOf}
 use Rattle.processor_machine.specs.declared.Mode.{Mode}
 use Rattle.processor_machine.specs.declared.Mode.the-variants.{Running, Halted, Fatal}
 use Rattle.processor_machine.specs.declared.Answer.the-variants.{WasHalted, WasFatal, Refused}
+use Rattle.processor_step.specs.declared.step.Fetched.{Fetched}
 
 -- the first halfword, at PC
 abbrev pub firstOf : ℕ → Memory → ℕ
@@ -22,6 +23,12 @@ firstOf pc m = loadOf m 2 pc
 -- the second halfword, read where the first asks for it; PC arithmetic wraps
 unfoldable pub secondOf : Bool → ℕ → Memory → ℕ
 secondOf two pc m = pick two (loadOf m 2 ((pc + 2) % 2 ^ 32)) 0
+
+-- both: "An instruction's halfwords are fetched once; decoding and execution use those"
+abbrev pub fetchedAt : ℕ → Memory → Fetched
+fetchedAt pc m =
+    let first = firstOf pc m in
+    record { first = first; second = secondOf (twoOf first) pc m }
 
 -- the address of the following instruction
 unfoldable pub nextOf : Bool → ℕ → ℕ
@@ -47,3 +54,12 @@ stepInOf Fatal s m = steppedOf WasFatal s m
 
 unfoldable pub stepOf : State → Memory → Stepped
 stepOf s m = stepInOf (s .mode) s m
+
+-- the halfwords that a step fetches: none in halted or fatal mode
+abbrev pub fetchedInOf : Mode → ℕ → Memory → Fetched
+fetchedInOf Running pc m = fetchedAt pc m
+fetchedInOf Halted pc m = record { first = 0; second = 0 }
+fetchedInOf Fatal pc m = record { first = 0; second = 0 }
+
+abbrev pub fetchedOf : State → Memory → Fetched
+fetchedOf s m = fetchedInOf (s .mode) (s .pc) m

@@ -10,7 +10,20 @@ ghost use lib.ListN.{length};
 ghost use mathlib.Core.Path.{_≡_};
 ghost use Rattle.bus.specs.Memory.{memoryOf, Lengths};
 ghost use Rattle.processor_machine.specs.State.{stateOf, leaves};
-ghost use Rattle.processor_step.specs.Step.{firstOf, secondOf, nextOf, stepOf, runningStepOf};
+ghost use Rattle.processor_step.specs.Step.{firstOf, secondOf, nextOf, stepOf, runningStepOf, fetchedAt, fetchedOf};
+
+// The halfwords that a step fetched; 0 for one that it did not.
+pub struct Fetched {
+    pub first: u16,
+    pub second: u16,
+}
+
+// What a step leaves beside the lent registers and memories, and what it fetched. Which bytes of that are undefined is
+// left to the one who asks (the crate processor_reads): a run does not.
+pub struct Performed {
+    pub control: Control,
+    pub fetched: Fetched,
+}
 
 // The halfword at an address. The memories are lent as a step has them, so that no slice is copied on the short ways.
 fn half(
@@ -84,21 +97,31 @@ fn running(
     sys: &mut [u32; 8],
     pc: u32,
     psw: u32,
-) -> Control
+) -> Performed
     requires { ⌜ Lengths (length (now rom)) (length (now wram)) (length (now vram)) (length (now pak)) ⌝ }
-    ensures { λ r. ⌜ leaves (now (regs .exit)) (now (sys .exit)) r (memoryOf (now (rom .entry)) (now (wram .exit)) (now (vram .exit)) (now (pak .exit)) (now (device .exit))) ≡ runningStepOf (stateOf (now (regs .entry)) (now (sys .entry)) pc psw Mode.Running) (memoryOf (now (rom .entry)) (now (wram .entry)) (now (vram .entry)) (now (pak .entry)) (now (device .entry))) ⌝ }
+    ensures done { λ r. ⌜ leaves (now (regs .exit)) (now (sys .exit)) (r .control) (memoryOf (now (rom .entry)) (now (wram .exit)) (now (vram .exit)) (now (pak .exit)) (now (device .exit))) ≡ runningStepOf (stateOf (now (regs .entry)) (now (sys .entry)) pc psw Mode.Running) (memoryOf (now (rom .entry)) (now (wram .entry)) (now (vram .entry)) (now (pak .entry)) (now (device .entry))) ⌝ }
+    ensures fetched { λ r. ⌜ r .fetched ≡ fetchedAt pc (memoryOf (now (rom .entry)) (now (wram .entry)) (now (vram .entry)) (now (pak .entry)) (now (device .entry))) ⌝ }
 {
     let first = half(rom, wram, vram, pak, device, pc);
     let two = processor_decode::two(first);
     let second = second(rom, wram, vram, pak, device, pc, two);
     let next = following(pc, two);
     match processor_decode::decode(first, second) {
-        Decoded::Modelled(i) => execute(rom, wram, vram, pak, device, regs, sys, i, pc, next, psw),
-        Decoded::NotModelled => Control {
-            pc,
-            psw,
-            mode: Mode::Running,
-            answer: Answer::Refused(Refusal::NotModelled),
+        Decoded::Modelled(i) => {
+            let control = execute(rom, wram, vram, pak, device, regs, sys, i, pc, next, psw);
+            Performed {
+                control,
+                fetched: Fetched { first, second },
+            }
+        }
+        Decoded::NotModelled => Performed {
+            control: Control {
+                pc,
+                psw,
+                mode: Mode::Running,
+                answer: Answer::Refused(Refusal::NotModelled),
+            },
+            fetched: Fetched { first, second },
         },
     }
 }
@@ -115,23 +138,36 @@ pub fn step(
     pc: u32,
     psw: u32,
     mode: Mode,
-) -> Control
+) -> Performed
     requires { ⌜ Lengths (length (now rom)) (length (now wram)) (length (now vram)) (length (now pak)) ⌝ }
-    ensures { λ r. ⌜ leaves (now (regs .exit)) (now (sys .exit)) r (memoryOf (now (rom .entry)) (now (wram .exit)) (now (vram .exit)) (now (pak .exit)) (now (device .exit))) ≡ stepOf (stateOf (now (regs .entry)) (now (sys .entry)) pc psw mode) (memoryOf (now (rom .entry)) (now (wram .entry)) (now (vram .entry)) (now (pak .entry)) (now (device .entry))) ⌝ }
+    ensures done { λ r. ⌜ leaves (now (regs .exit)) (now (sys .exit)) (r .control) (memoryOf (now (rom .entry)) (now (wram .exit)) (now (vram .exit)) (now (pak .exit)) (now (device .exit))) ≡ stepOf (stateOf (now (regs .entry)) (now (sys .entry)) pc psw mode) (memoryOf (now (rom .entry)) (now (wram .entry)) (now (vram .entry)) (now (pak .entry)) (now (device .entry))) ⌝ }
+    ensures fetched { λ r. ⌜ r .fetched ≡ fetchedOf (stateOf (now (regs .entry)) (now (sys .entry)) pc psw mode) (memoryOf (now (rom .entry)) (now (wram .entry)) (now (vram .entry)) (now (pak .entry)) (now (device .entry))) ⌝ }
 {
     match mode {
         Mode::Running => running(rom, wram, vram, pak, device, regs, sys, pc, psw),
-        Mode::Halted => Control {
-            pc,
-            psw,
-            mode: Mode::Halted,
-            answer: Answer::WasHalted,
+        Mode::Halted => Performed {
+            control: Control {
+                pc,
+                psw,
+                mode: Mode::Halted,
+                answer: Answer::WasHalted,
+            },
+            fetched: Fetched {
+                first: 0,
+                second: 0,
+            },
         },
-        Mode::Fatal => Control {
-            pc,
-            psw,
-            mode: Mode::Fatal,
-            answer: Answer::WasFatal,
+        Mode::Fatal => Performed {
+            control: Control {
+                pc,
+                psw,
+                mode: Mode::Fatal,
+                answer: Answer::WasFatal,
+            },
+            fetched: Fetched {
+                first: 0,
+                second: 0,
+            },
         },
     }
 }

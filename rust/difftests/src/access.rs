@@ -4,7 +4,7 @@
 use crate::machine::{number_of, to_library, to_model, Buffers};
 use crate::random::Random;
 use model::bus;
-use model::DrawingRegisters;
+use model::{DrawingRegisters, Loaded};
 
 /// The six bus calls of vb.h.
 #[derive(Clone, Copy, Debug, PartialEq, Eq)]
@@ -28,11 +28,13 @@ pub const CALLS: [Call; 6] = [
     Call::StoreWord,
 ];
 
-/// What a bus call answers. A load gives the drawing registers it was given.
+/// What a bus call answers. A load gives the drawing registers it was given; a
+/// store reads nothing, so that nothing of it is undefined.
 #[derive(Clone, Copy, Debug, PartialEq, Eq)]
 pub struct Answer {
     pub refusal: u32,
     pub value: u32,
+    pub undefined: u32,
     pub drawing: DrawingRegisters,
 }
 
@@ -48,11 +50,13 @@ pub fn by_library(
     let load = |loaded: vbsys::Loaded| Answer {
         refusal: loaded.refusal,
         value: loaded.value,
+        undefined: loaded.undefined,
         drawing: *drawing,
     };
     let store = |stored: vbsys::Stored| Answer {
         refusal: stored.refusal,
         value: 0,
+        undefined: 0,
         drawing: to_model(&stored.drawing),
     };
     let read = buffers.lend_library_to_read();
@@ -81,22 +85,25 @@ pub fn by_model(
     value: u32,
 ) -> Answer {
     let mut after = *drawing;
+    let none = |()| Loaded::default();
     let read = buffers.lend_model_to_read();
     let answer = match call {
         Call::LoadByte => bus::load_byte(&read, drawing, address),
         Call::LoadHalf => bus::load_half(&read, drawing, address),
         Call::LoadWord => bus::load_word(&read, drawing, address),
         Call::StoreByte => {
-            bus::store_byte(&mut buffers.lend_model(), &mut after, address, value).map(|()| 0)
+            bus::store_byte(&mut buffers.lend_model(), &mut after, address, value).map(none)
         }
         Call::StoreHalf => {
-            bus::store_half(&mut buffers.lend_model(), &mut after, address, value).map(|()| 0)
+            bus::store_half(&mut buffers.lend_model(), &mut after, address, value).map(none)
         }
         Call::StoreWord => {
-            bus::store_word(&mut buffers.lend_model(), &mut after, address, value).map(|()| 0)
+            bus::store_word(&mut buffers.lend_model(), &mut after, address, value).map(none)
         }
     };
-    Answer { refusal: number_of(&answer), value: answer.unwrap_or(0), drawing: after }
+    let refusal = number_of(&answer);
+    let Loaded { value, undefined } = answer.unwrap_or_default();
+    Answer { refusal, value, undefined, drawing: after }
 }
 
 /// Edges of the VIP's ranges and of its registers, within 19 bits.

@@ -2,7 +2,7 @@
 
 use crate::machine::{to_library, Buffers};
 use model::bus::{place_of, Place};
-use model::{DrawingRegisters, Mode, Processor, Refusal, StepAnswer};
+use model::{DrawingRegisters, Mode, Processor, Refusal, StepAnswer, Stepped, Undefined};
 
 /// Two sets of lent memories, and the records that both sides are given.
 #[derive(Clone, Debug)]
@@ -35,15 +35,22 @@ pub fn processor_to_library(processor: &Processor) -> vbsys::Processor {
     }
 }
 
-/// A step's answer and exception code, as vb.h numbers them.
-fn answer_to_library(answer: &Result<StepAnswer, Refusal>) -> (u32, u32) {
-    match answer {
+/// A step's answer and exception code, as vb.h numbers them; 0 where refused.
+fn answer_to_library(stepped: &Result<Stepped, Refusal>) -> (u32, u32) {
+    match stepped.map(|stepped| stepped.answer) {
         Err(_) | Ok(StepAnswer::Ended) => (vbsys::ENDED, 0),
         Ok(StepAnswer::Trapped(cause)) => (vbsys::TRAPPED, cause.code()),
         Ok(StepAnswer::TurnedFatal(cause)) => (vbsys::TURNED_FATAL, cause.code()),
         Ok(StepAnswer::WasHalted) => (vbsys::WAS_HALTED, 0),
         Ok(StepAnswer::WasFatal) => (vbsys::WAS_FATAL, 0),
     }
+}
+
+/// What a step read that is undefined; nothing where refused.
+fn undefined_to_library(stepped: &Result<Stepped, Refusal>) -> vbsys::Undefined {
+    let Undefined { first, second, load } =
+        stepped.map_or(Undefined::default(), |stepped| stepped.undefined);
+    vbsys::Undefined { first, second, load }
 }
 
 impl Twin {
@@ -53,22 +60,28 @@ impl Twin {
 
     /// Steps both and compares answer and records.
     pub fn step(&mut self, what: &dyn Fn() -> String) -> Result<StepAnswer, Refusal> {
+        self.step_and_tell(what).map(|stepped| stepped.answer)
+    }
+
+    /// The same; tells also what the step read that is undefined.
+    pub fn step_and_tell(&mut self, what: &dyn Fn() -> String) -> Result<Stepped, Refusal> {
         let (before, registers) = (self.processor, self.drawing);
         let library = vbsys::step(
             &mut self.library.lend_library(),
             processor_to_library(&before),
             to_library(&registers),
         );
-        let answer = model::processor::step(
+        let stepped = model::processor::step(
             &mut self.model.lend_model(),
             &mut self.processor,
             &mut self.drawing,
         );
-        let (number, code) = answer_to_library(&answer);
+        let (answer, code) = answer_to_library(&stepped);
         let expected = vbsys::Stepped {
-            refusal: answer.err().map_or(0, Refusal::number),
-            answer: number,
+            refusal: stepped.err().map_or(0, Refusal::number),
+            answer,
             code,
+            undefined: undefined_to_library(&stepped),
             processor: processor_to_library(&self.processor),
             drawing: to_library(&self.drawing),
         };
@@ -79,7 +92,7 @@ impl Twin {
                 what()
             );
         }
-        answer
+        stepped
     }
 
     /// Runs both and compares count, refusal and records.

@@ -42,7 +42,8 @@ fn expect_number(call: Call, given: &Given, expected: u32) {
     if expected != 0 {
         buffers.expect_equal(&before, &what);
         assert_eq!(library.drawing, given.drawing, "a refusal gives the registers back: {given:?}");
-        assert_eq!(library.value, 0, "a refused load answers 0: {given:?}");
+        let answer = (library.value, library.undefined);
+        assert_eq!(answer, (0, 0), "a refused load answers 0: {given:?}");
     }
 }
 

@@ -7,7 +7,7 @@ use difftests::access::{biased_address, biased_value};
 use difftests::fence::{Fenced, Side};
 use difftests::machine::{random_drawing, to_library, to_model, Buffers};
 use difftests::random::Random;
-use model::{bus, DrawingRegisters, Memories, ReadMemories, Refusal};
+use model::{bus, DrawingRegisters, Loaded, Memories, ReadMemories, Refusal};
 
 /// Four fenced memories; ROM may not be written.
 struct Lent {
@@ -59,7 +59,7 @@ const LENGTHS: [(usize, usize); 5] =
     [(1_024, 0), (1_024, 1), (2_048, 2), (1_024, 4), (4_096, 8_192)];
 
 type Load = fn(vbsys::ReadMemories, vbsys::Drawing, u32) -> vbsys::Loaded;
-type ModelLoad = fn(&ReadMemories, &DrawingRegisters, u32) -> Result<u32, Refusal>;
+type ModelLoad = fn(&ReadMemories, &DrawingRegisters, u32) -> Result<Loaded, Refusal>;
 type Store = fn(&mut vbsys::Memories, vbsys::Drawing, u32, u32) -> vbsys::Stored;
 type ModelStore = fn(&mut Memories, &mut DrawingRegisters, u32, u32) -> Result<(), Refusal>;
 
@@ -86,7 +86,8 @@ fn loads_and_stores() {
                 if random.one_in(2) {
                     let loaded = load(lent.read(), registers, address);
                     let expected = model_load(&model.lend_model_to_read(), &drawing, address);
-                    assert_eq!(Ok(loaded.value), expected);
+                    let vbsys::Loaded { value, undefined, .. } = loaded;
+                    assert_eq!(Ok(Loaded { value, undefined }), expected);
                 } else {
                     let stored = store(&mut lent.write(), registers, address, value);
                     model_store(&mut model.lend_model(), &mut drawing, address, value).unwrap();

@@ -49,6 +49,7 @@ fn expect_refused(given: &Given, number: u32, what: &str) {
         refusal: number,
         answer: 0,
         code: 0,
+        undefined: vbsys::Undefined::default(),
         processor: given.processor,
         drawing: given.drawing,
     };
@@ -215,6 +216,7 @@ fn expect_not_modelled(given: &Given) {
     let mut after = given.clone();
     let stepped = vbsys::step(&mut after.buffers.lend_library(), given.processor, given.drawing);
     assert_eq!((stepped.refusal, stepped.answer, stepped.code), (6, 0, 0));
+    assert_eq!(stepped.undefined, vbsys::Undefined::default());
     assert_eq!((stepped.processor, stepped.drawing), (given.processor, given.drawing));
     for budget in BUDGETS {
         let memories = &mut after.buffers.lend_library();

@@ -165,6 +165,66 @@ pub fn character_mirror(k: u32) -> u32 {
     0x6000 + (k / 0x2000) * 0x8000 + k % 0x2000
 }
 
+/// 000's list of the VIP's I/O registers: 27 halfwords, each by its address.
+const LISTED_REGISTERS: [u32; 27] = [
+    0x5F800, // INTPND
+    0x5F802, // INTENB
+    0x5F804, // INTCLR
+    0x5F820, // DPSTTS
+    0x5F822, // DPCTRL
+    0x5F824, // BRTA
+    0x5F826, // BRTB
+    0x5F828, // BRTC
+    0x5F82A, // REST
+    0x5F82E, // FRMCYC
+    0x5F830, // CTA
+    0x5F840, // XPSTTS
+    0x5F842, // XPCTRL
+    0x5F844, // VER
+    0x5F848, // SPT0
+    0x5F84A, // SPT1
+    0x5F84C, // SPT2
+    0x5F84E, // SPT3
+    0x5F860, // GPLT0
+    0x5F862, // GPLT1
+    0x5F864, // GPLT2
+    0x5F866, // GPLT3
+    0x5F868, // JPLT0
+    0x5F86A, // JPLT1
+    0x5F86C, // JPLT2
+    0x5F86E, // JPLT3
+    0x5F870, // BKCOL
+];
+
+/// Whether a read of the byte is meaningless. W2: "Undefined are the VIP's
+/// unmapped ranges and its register addresses where 000 lists no register;
+/// nothing else." A register's two bytes are both its own.
+pub fn is_undefined(address: u32) -> bool {
+    let region = field(address, 24, 3);
+    let vip_address = field(address, 0, 19);
+    region == 0
+        && match vip_address {
+            0x40000..=0x5DFFF | 0x60000..=0x77FFF => true,
+            0x5E000..=0x5FFFF => !LISTED_REGISTERS.contains(&(vip_address & !1)),
+            _ => false,
+        }
+}
+
+/// The undefined bytes of an access of 1, 2 or 4 bytes: bit k is set where
+/// byte k, counted from the aligned address, is undefined.
+pub fn undefined_bytes(address: u32, size: u32) -> u32 {
+    let first = address & !(size - 1);
+    (0..size).filter(|&k| is_undefined(first + k)).map(|k| 1 << k).sum()
+}
+
+/// What a load answers.
+#[derive(Clone, Copy, Debug, Default, PartialEq, Eq)]
+pub struct Loaded {
+    pub value: u32,
+    /// [`undefined_bytes`] of the access.
+    pub undefined: u32,
+}
+
 /// One byte as a read sees it. The lengths have been accepted.
 pub(crate) fn byte_at(memories: &ReadMemories, drawing: &DrawingRegisters, address: u32) -> u8 {
     match place_of(address, memories.rom.len(), memories.pak.len()) {
@@ -259,9 +319,10 @@ pub fn load_byte(
     memories: &ReadMemories,
     drawing: &DrawingRegisters,
     address: u32,
-) -> Result<u32, Refusal> {
+) -> Result<Loaded, Refusal> {
     check(memories, drawing)?;
-    Ok(u32::from(byte_at(memories, drawing, address)))
+    let value = u32::from(byte_at(memories, drawing, address));
+    Ok(Loaded { value, undefined: undefined_bytes(address, 1) })
 }
 
 /// Reads a halfword, zero extended.
@@ -269,9 +330,10 @@ pub fn load_half(
     memories: &ReadMemories,
     drawing: &DrawingRegisters,
     address: u32,
-) -> Result<u32, Refusal> {
+) -> Result<Loaded, Refusal> {
     check(memories, drawing)?;
-    Ok(u32::from(half_at(memories, drawing, address)))
+    let value = u32::from(half_at(memories, drawing, address));
+    Ok(Loaded { value, undefined: undefined_bytes(address, 2) })
 }
 
 /// Reads a word.
@@ -279,9 +341,10 @@ pub fn load_word(
     memories: &ReadMemories,
     drawing: &DrawingRegisters,
     address: u32,
-) -> Result<u32, Refusal> {
+) -> Result<Loaded, Refusal> {
     check(memories, drawing)?;
-    Ok(word_at(memories, drawing, address))
+    let value = word_at(memories, drawing, address);
+    Ok(Loaded { value, undefined: undefined_bytes(address, 4) })
 }
 
 /// Writes a byte; `source` is the whole source register.

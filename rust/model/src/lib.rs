@@ -27,7 +27,7 @@ pub mod processor;
 pub mod refusal;
 pub mod world;
 
-pub use bus::{DrawingRegisters, Memories, ReadMemories};
+pub use bus::{DrawingRegisters, Loaded, Memories, ReadMemories};
 pub use exception::Cause;
-pub use processor::{Mode, Processor, Ran, StepAnswer};
+pub use processor::{Mode, Processor, Ran, StepAnswer, Stepped, Undefined};
 pub use refusal::Refusal;

@@ -128,6 +128,23 @@ pub enum StepAnswer {
     WasFatal,
 }
 
+/// The undefined bytes that a step read (W2): of its first and its second
+/// halfword, and of its load, each a mask as [`bus::undefined_bytes`] gives
+/// it. A byte that was not read counts as defined.
+#[derive(Clone, Copy, Debug, Default, PartialEq, Eq)]
+pub struct Undefined {
+    pub first: u32,
+    pub second: u32,
+    pub load: u32,
+}
+
+/// What a step did, and what it read.
+#[derive(Clone, Copy, Debug, PartialEq, Eq)]
+pub struct Stepped {
+    pub answer: StepAnswer,
+    pub undefined: Undefined,
+}
+
 /// What a run did.
 #[derive(Clone, Copy, Debug, PartialEq, Eq)]
 pub struct Ran {
@@ -148,6 +165,25 @@ fn fetch(memories: &Memories, drawing: &DrawingRegisters, pc: u32) -> Decoded {
         0
     };
     decode(first, second)
+}
+
+/// The undefined bytes of the halfwords that [`fetch`] reads.
+fn undefined_halfwords(memories: &Memories, drawing: &DrawingRegisters, pc: u32) -> Undefined {
+    let first = bus::half_at(&memories.read(), drawing, pc);
+    let second =
+        if has_second_half(first) { bus::undefined_bytes(pc.wrapping_add(2), 2) } else { 0 };
+    Undefined { first: bus::undefined_bytes(pc, 2), second, load: 0 }
+}
+
+/// The undefined bytes that an instruction loads; LD and IN alone load.
+fn undefined_load(processor: &Processor, instruction: Instruction) -> u32 {
+    match instruction {
+        Instruction::Load { width, reg1, displacement, .. } => {
+            let address = processor.general(reg1).wrapping_add(displacement);
+            bus::undefined_bytes(address, width.bytes())
+        }
+        _ => 0,
+    }
 }
 
 /// A load's value, extended to 32 bits.
@@ -304,19 +340,23 @@ fn step_accepted(
     memories: &mut Memories,
     processor: &mut Processor,
     drawing: &mut DrawingRegisters,
-) -> Result<StepAnswer, Refusal> {
+) -> Result<Stepped, Refusal> {
+    let nothing_read = |answer| Stepped { answer, undefined: Undefined::default() };
     match processor.mode {
-        Mode::Halted => return Ok(StepAnswer::WasHalted),
-        Mode::Fatal => return Ok(StepAnswer::WasFatal),
+        Mode::Halted => return Ok(nothing_read(StepAnswer::WasHalted)),
+        Mode::Fatal => return Ok(nothing_read(StepAnswer::WasFatal)),
         Mode::Running => {}
     }
+    let mut undefined = undefined_halfwords(memories, drawing, processor.pc);
     match fetch(memories, drawing, processor.pc) {
         Decoded::NotModelled => Err(Refusal::NotModelled),
         Decoded::Instruction { instruction, length } => {
-            match execute(memories, processor, drawing, instruction, length) {
-                Ok(()) => Ok(StepAnswer::Ended),
-                Err(cause) => Ok(raise(processor, cause)),
-            }
+            undefined.load = undefined_load(processor, instruction);
+            let answer = match execute(memories, processor, drawing, instruction, length) {
+                Ok(()) => StepAnswer::Ended,
+                Err(cause) => raise(processor, cause),
+            };
+            Ok(Stepped { answer, undefined })
         }
     }
 }
@@ -337,7 +377,7 @@ pub fn step(
     memories: &mut Memories,
     processor: &mut Processor,
     drawing: &mut DrawingRegisters,
-) -> Result<StepAnswer, Refusal> {
+) -> Result<Stepped, Refusal> {
     check(memories, processor, drawing)?;
     step_accepted(memories, processor, drawing)
 }
@@ -355,7 +395,7 @@ pub fn run(
     }
     let mut count = 0;
     while count < budget {
-        match step_accepted(memories, processor, drawing) {
+        match step_accepted(memories, processor, drawing).map(|stepped| stepped.answer) {
             Ok(StepAnswer::Ended | StepAnswer::Trapped(_)) => count += 1,
             Ok(_) => break,
             Err(refusal) => return Ran { count, refusal: Some(refusal) },

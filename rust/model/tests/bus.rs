@@ -1,9 +1,10 @@
 //! 01's worked rows about the bus, and facts of 000's memory map.
 
 use model::bus::{
-    load_byte, load_half, load_word, place_of, store_byte, store_half, store_word, Place,
+    is_undefined, load_byte, load_half, load_word, place_of, store_byte, store_half, store_word,
+    Place,
 };
-use model::{DrawingRegisters, Memories, ReadMemories};
+use model::{DrawingRegisters, Loaded, Memories, ReadMemories, Refusal};
 
 struct Machine {
     rom: Vec<u8>,
@@ -29,15 +30,15 @@ impl Machine {
     }
 
     fn byte(&self, address: u32) -> u32 {
-        load_byte(&self.read(), &self.drawing, address).unwrap()
+        load_byte(&self.read(), &self.drawing, address).unwrap().value
     }
 
     fn half(&self, address: u32) -> u32 {
-        load_half(&self.read(), &self.drawing, address).unwrap()
+        load_half(&self.read(), &self.drawing, address).unwrap().value
     }
 
     fn word(&self, address: u32) -> u32 {
-        load_word(&self.read(), &self.drawing, address).unwrap()
+        load_word(&self.read(), &self.drawing, address).unwrap().value
     }
 
     fn store(&mut self, bytes: u32, address: u32, value: u32) {
@@ -146,4 +147,90 @@ fn rom_is_read_only() {
     let mut machine = Machine::new(1_024, 0);
     machine.store(4, 0x0700_0000, 0xFFFF_FFFF);
     assert_eq!(machine.word(0x0700_0000), 0);
+}
+
+/// The request's table of which bytes of the VIP are defined, row by row: the
+/// last byte of each range, and whether the range is defined.
+const VIP_RANGES: [(u32, bool); 15] = [
+    (0x3FFFF, true),
+    (0x5F7FF, false),
+    (0x5F805, true),
+    (0x5F81F, false),
+    (0x5F82B, true),
+    (0x5F82D, false),
+    (0x5F831, true),
+    (0x5F83F, false),
+    (0x5F845, true),
+    (0x5F847, false),
+    (0x5F84F, true),
+    (0x5F85F, false),
+    (0x5F871, true),
+    (0x77FFF, false),
+    (0x7FFFF, true),
+];
+
+#[test]
+fn which_bytes_are_undefined() {
+    let mut count = 0;
+    for v in 0..0x80000 {
+        let (_, defined) = VIP_RANGES.into_iter().find(|&(last, _)| v <= last).unwrap();
+        assert_eq!(is_undefined(v), !defined, "{v:X}");
+        for mirror in [0x80000, 0x00F8_0000, 0x0800_0000, 0xF800_0000] {
+            assert_eq!(is_undefined(mirror | v), !defined, "{v:X} at {mirror:X}");
+        }
+        count += u32::from(!defined);
+        for region in 1..8 {
+            assert!(!is_undefined(region << 24 | v), "{v:X} of region {region}");
+        }
+    }
+    assert_eq!(count, 229_322);
+    let registers = (0x5E000..0x60000).filter(|&v| !is_undefined(v)).count();
+    assert_eq!(registers, 54);
+}
+
+/// The aligned words with both kinds of bytes; aligned halfwords have one.
+#[test]
+fn masks_of_words_and_halfwords() {
+    let mixed: Vec<(u32, u32)> = (0..0x80000)
+        .step_by(4)
+        .map(|v| (v, model::bus::undefined_bytes(v, 4)))
+        .filter(|&(_, mask)| mask != 0 && mask != 15)
+        .collect();
+    let expected = [(0x5F804, 0xC), (0x5F82C, 3), (0x5F830, 0xC), (0x5F844, 0xC), (0x5F870, 0xC)];
+    assert_eq!(mixed, expected);
+    for v in (0..0x80000).step_by(2) {
+        assert!([0, 3].contains(&model::bus::undefined_bytes(v, 2)), "{v:X}");
+    }
+}
+
+/// The request's worked loads: size, address, value, undefined bytes.
+#[test]
+fn worked_loads() {
+    let mut machine = Machine::new(1_024, 0);
+    machine.vram[0x3FFFF] = 0x77;
+    for (size, address, value, undefined) in [
+        (1, 0x0003_FFFF, 0x77, 0),
+        (1, 0x0004_0000, 0, 1),
+        (2, 0x0005_F801, 0, 0),
+        (2, 0x0005_F847, 0, 3),
+        (4, 0x0005_F847, 2, 0xC),
+        (4, 0x0005_F82D, 0, 3),
+        (4, 0x000D_F82C, 0, 3),
+        (4, 0xF805_F82C, 0, 3),
+        (4, 0x0300_0000, 0, 0),
+        (4, 0x0100_0000, 0, 0),
+        (4, 0x0400_0000, 0, 0),
+        (4, 0x0600_0000, 0, 0),
+    ] {
+        let load = match size {
+            1 => load_byte,
+            2 => load_half,
+            _ => load_word,
+        };
+        let loaded = load(&machine.read(), &machine.drawing, address);
+        assert_eq!(loaded, Ok(Loaded { value, undefined }), "{size} bytes at {address:08X}");
+    }
+    let short = ReadMemories { wram: &[], ..machine.read() };
+    let refused = load_byte(&short, &machine.drawing, 0x0004_0000);
+    assert_eq!(refused, Err(Refusal::WramLength));
 }

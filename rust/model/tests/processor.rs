@@ -5,7 +5,9 @@ use model::instruction::{
     decode, has_second_half, Decoded, Instruction, Operand, Operation, Width,
 };
 use model::processor::{reset, run, step};
-use model::{Cause, DrawingRegisters, Memories, Mode, Processor, Refusal, StepAnswer};
+use model::{
+    Cause, DrawingRegisters, Memories, Mode, Processor, Refusal, StepAnswer, Stepped, Undefined,
+};
 
 /// A machine whose program starts in WRAM.
 struct Machine {
@@ -31,10 +33,14 @@ impl Machine {
         }
     }
 
-    fn step(&mut self) -> Result<StepAnswer, Refusal> {
+    fn stepped(&mut self) -> Result<Stepped, Refusal> {
         let (rom, wram, vram) = (&self.rom, &mut self.wram, &mut self.vram);
         let mut memories = Memories { rom, wram, vram, pak: &mut [] };
         step(&mut memories, &mut self.processor, &mut self.drawing)
+    }
+
+    fn step(&mut self) -> Result<StepAnswer, Refusal> {
+        self.stepped().map(|stepped| stepped.answer)
     }
 
     fn run(&mut self, budget: u64) -> (u64, Option<Refusal>) {
@@ -345,4 +351,50 @@ fn the_end_of_the_address_space() {
     machine.processor.pc = 0xFFFF_FFFE;
     machine.step().unwrap();
     assert_eq!((machine.processor.pc, machine.processor.registers[1]), (2, 0x1234));
+}
+
+/// W2's worked steps: what the halfwords and the load read that is undefined.
+#[test]
+fn undefined_bytes_of_steps() {
+    let undefined = |first, second, load| Undefined { first, second, load };
+    let mut machine = Machine::new(&[]);
+    machine.processor.pc = 0x0004_0000;
+    let stepped = machine.stepped();
+    assert_eq!(stepped.unwrap().undefined, undefined(3, 0, 0));
+    assert_eq!(machine.processor.pc, 0x0004_0002);
+
+    let movea = format_i(0b101000, 1, 0);
+    machine.vram[0x3FFFE..].copy_from_slice(&movea.to_le_bytes());
+    machine.processor.pc = 0x0003_FFFE;
+    assert_eq!(machine.stepped().unwrap().undefined, undefined(0, 3, 0));
+
+    for (opcode, reg2, address, load) in [
+        (0b110011, 1, 0x0005_F870, 0xC),
+        (0b111000, 0, 0x0005_F872, 1),
+        (0b110000, 1, 0x0005_F805, 0),
+        (0b110001, 1, 0x0005_F807, 3),
+        (0b111011, 1, 0x0004_0003, 15),
+        (0b110100, 1, 0x0004_0000, 0),
+        (0b111111, 1, 0x0004_0000, 0),
+    ] {
+        let mut machine = Machine::new(&[format_i(opcode, reg2, 2), 0]);
+        machine.processor.registers[2] = address;
+        let expected = undefined(0, 0, load);
+        assert_eq!(machine.stepped().unwrap().undefined, expected, "{opcode:06b} {address:X}");
+    }
+}
+
+/// A step that is refused or does nothing tells of no undefined byte.
+#[test]
+fn steps_that_read_nothing() {
+    let mut machine = Machine::new(&[]);
+    let caxi = format_i(0b111010, 1, 2);
+    machine.vram[0x3FFFE..].copy_from_slice(&caxi.to_le_bytes());
+    machine.processor.pc = 0x0003_FFFE;
+    assert_eq!(machine.stepped(), Err(Refusal::NotModelled));
+    machine.processor.pc = 0x0004_0000;
+    for mode in [Mode::Halted, Mode::Fatal] {
+        machine.processor.mode = mode;
+        assert_eq!(machine.stepped().unwrap().undefined, Undefined::default());
+    }
 }

@@ -4,6 +4,7 @@ use vbsys::{Memories, ReadMemories};
 
 use crate::records::{Drawing, Machine, Mode, Processor};
 use crate::refusal::{fault, Refusal};
+use crate::undefined::{Mask, Read, Undefined};
 
 /// What a step did.
 #[derive(Clone, Copy, Debug, PartialEq, Eq)]
@@ -105,25 +106,45 @@ impl Machine {
 
     /// The byte at an address.
     pub fn load_byte(&self, memories: &ReadMemories, address: u32) -> Result<u8, Refusal> {
-        let loaded = vbsys::load_byte(*memories, (&self.drawing).into(), address);
-        self.loaded(memories, loaded).map(|value| value as u8)
+        self.read_byte(memories, address).map(|read| read.value)
     }
 
     /// The halfword at an address, whose bit 0 is dropped.
     pub fn load_half(&self, memories: &ReadMemories, address: u32) -> Result<u16, Refusal> {
-        let loaded = vbsys::load_half(*memories, (&self.drawing).into(), address);
-        self.loaded(memories, loaded).map(|value| value as u16)
+        self.read_half(memories, address).map(|read| read.value)
     }
 
     /// The word at an address, whose bits 0 and 1 are dropped.
     pub fn load_word(&self, memories: &ReadMemories, address: u32) -> Result<u32, Refusal> {
-        let loaded = vbsys::load_word(*memories, (&self.drawing).into(), address);
-        self.loaded(memories, loaded)
+        self.read_word(memories, address).map(|read| read.value)
     }
 
-    fn loaded(&self, memories: &ReadMemories, loaded: vbsys::Loaded) -> Result<u32, Refusal> {
+    /// The byte at an address, and whether it is undefined.
+    pub fn read_byte(&self, memories: &ReadMemories, address: u32) -> Result<Read<u8>, Refusal> {
+        let loaded = vbsys::load_byte(*memories, (&self.drawing).into(), address);
+        self.loaded(memories, loaded, |value| value as u8)
+    }
+
+    /// The halfword at an address, and which of its bytes are undefined.
+    pub fn read_half(&self, memories: &ReadMemories, address: u32) -> Result<Read<u16>, Refusal> {
+        let loaded = vbsys::load_half(*memories, (&self.drawing).into(), address);
+        self.loaded(memories, loaded, |value| value as u16)
+    }
+
+    /// The word at an address, and which of its bytes are undefined.
+    pub fn read_word(&self, memories: &ReadMemories, address: u32) -> Result<Read<u32>, Refusal> {
+        let loaded = vbsys::load_word(*memories, (&self.drawing).into(), address);
+        self.loaded(memories, loaded, |value| value)
+    }
+
+    fn loaded<T>(
+        &self,
+        memories: &ReadMemories,
+        loaded: vbsys::Loaded,
+        narrow: fn(u32) -> T,
+    ) -> Result<Read<T>, Refusal> {
         if loaded.refusal == 0 {
-            return Ok(loaded.value);
+            return Ok(Read { value: narrow(loaded.value), undefined: Mask::of(loaded.undefined) });
         }
         let ReadMemories { rom, wram, vram, pak } = memories;
         let lengths = [rom.len(), wram.len(), vram.len(), pak.len()];
@@ -177,20 +198,29 @@ impl Machine {
 
     /// Does one instruction.
     pub fn step(&mut self, memories: &mut Memories) -> Result<Answer, Refusal> {
+        self.step_watched(memories).map(|(answer, _)| answer)
+    }
+
+    /// Does one instruction, and tells which bytes that it read are undefined.
+    pub fn step_watched(
+        &mut self,
+        memories: &mut Memories,
+    ) -> Result<(Answer, Undefined), Refusal> {
         let done = vbsys::step(memories, (&self.processor).into(), (&self.drawing).into());
         if done.refusal != 0 {
             return Err(self.refusal(memories, done.refusal));
         }
         self.processor = (&done.processor).into();
         self.drawing = (&done.drawing).into();
-        Ok(match done.answer {
+        let answer = match done.answer {
             vbsys::ENDED => Answer::Ended,
             vbsys::TRAPPED => Answer::Trapped(Cause::of(done.code)),
             vbsys::TURNED_FATAL => Answer::TurnedFatal(Cause::of(done.code)),
             vbsys::WAS_HALTED => Answer::WasHalted,
             vbsys::WAS_FATAL => Answer::WasFatal,
             answer => unreachable!("vb.h names no answer {answer}"),
-        })
+        };
+        Ok((answer, Undefined::of(done.undefined)))
     }
 
     /// Does at most `budget` instructions.

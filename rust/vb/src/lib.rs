@@ -21,12 +21,14 @@ mod calls;
 mod probe;
 mod records;
 mod refusal;
+mod undefined;
 
 pub use brightness::{display, load_column_table, View};
 pub use calls::{character, Answer, Cause, Ran, Stop};
 pub use probe::{Probe, Width};
 pub use records::{Drawing, Machine, Mode, Processor, RecordError};
 pub use refusal::{grouped, Refusal};
+pub use undefined::{Mask, Read, Undefined};
 pub use vbsys::{Memories, ProbeMemories, ReadMemories};
 
 /// Bytes of WRAM.

@@ -5,7 +5,7 @@
 //! then length; the borrow checker keeps the lent buffers apart.
 
 /// `VB_VERSION`: the layouts below are this version's.
-pub const VERSION: u32 = 1;
+pub const VERSION: u32 = 2;
 /// `VB_MISUSE`: a mode above 2.
 pub const MISUSE: u32 = 255;
 
@@ -58,6 +58,8 @@ pub struct Drawing {
 pub struct Loaded {
     pub refusal: u32,
     pub value: u32,
+    /// Bit k is set where byte k of the access was read and is undefined.
+    pub undefined: u32,
 }
 
 /// `vb_stored`
@@ -68,6 +70,15 @@ pub struct Stored {
     pub drawing: Drawing,
 }
 
+/// `vb_undefined`
+#[repr(C)]
+#[derive(Clone, Copy, Debug, Default, PartialEq, Eq)]
+pub struct Undefined {
+    pub first: u32,
+    pub second: u32,
+    pub load: u32,
+}
+
 /// `vb_stepped`
 #[repr(C)]
 #[derive(Clone, Copy, Debug, Default, PartialEq, Eq)]
@@ -75,6 +86,7 @@ pub struct Stepped {
     pub refusal: u32,
     pub answer: u32,
     pub code: u32,
+    pub undefined: Undefined,
     pub processor: Processor,
     pub drawing: Drawing,
 }

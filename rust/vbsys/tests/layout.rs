@@ -7,7 +7,7 @@ use std::mem::{align_of, offset_of, size_of};
 use std::path::{Path, PathBuf};
 use std::process::Command;
 
-use vbsys::{Drawing, Loaded, Machine, Part, Processor, Ran, Stepped, Stored};
+use vbsys::{Drawing, Loaded, Machine, Part, Processor, Ran, Stepped, Stored, Undefined};
 
 /// One line of the C program: a name, and the expression whose value it has.
 struct Fact {
@@ -53,9 +53,10 @@ fn facts() -> Vec<Fact> {
         mode
     );
     fields!(facts, Drawing, "vb_drawing", spt, gplt, jplt, bkcol);
-    fields!(facts, Loaded, "vb_loaded", refusal, value);
+    fields!(facts, Loaded, "vb_loaded", refusal, value, undefined);
     fields!(facts, Stored, "vb_stored", refusal, drawing);
-    fields!(facts, Stepped, "vb_stepped", refusal, answer, code, processor, drawing);
+    fields!(facts, Undefined, "vb_undefined", first, second, load);
+    fields!(facts, Stepped, "vb_stepped", refusal, answer, code, undefined, processor, drawing);
     fields!(facts, Ran, "vb_ran", refusal, count, processor, drawing);
     fields!(facts, Machine, "vb_machine", processor, drawing);
     fields!(facts, Part, "vb_part", refusal, offset, length);
@@ -119,5 +120,6 @@ fn layouts_are_those_of_the_header() {
 fn layouts_have_no_surprises() {
     assert_eq!(size_of::<Processor>(), 43 * 4);
     assert_eq!(size_of::<Drawing>(), 13 * 2);
+    assert_eq!(size_of::<Loaded>(), 12);
     assert_eq!(align_of::<Ran>(), 8);
 }

@@ -63,8 +63,11 @@ fn empty_pak_ram_may_be_null() {
         (vram.as_ptr(), vram.len()),
         (null(), 0),
     ];
-    assert_eq!(load(memories, 0x0600_0000), Loaded { refusal: 0, value: 0 });
-    assert_eq!(load(memories, 0x0500_0000), Loaded { refusal: 0, value: 0x0808_0808 });
+    assert_eq!(load(memories, 0x0600_0000), Loaded { refusal: 0, value: 0, undefined: 0 });
+    assert_eq!(
+        load(memories, 0x0500_0000),
+        Loaded { refusal: 0, value: 0x0808_0808, undefined: 0 }
+    );
 }
 
 #[test]
@@ -93,9 +96,9 @@ fn a_store_to_null_pak_ram_writes_nothing() {
 #[test]
 fn null_memories_of_length_0_are_refused() {
     let rom = vec![7u8; 1_024];
-    assert_eq!(load([(null(), 0); 4], 0), Loaded { refusal: 1, value: 0 });
+    assert_eq!(load([(null(), 0); 4], 0), Loaded { refusal: 1, value: 0, undefined: 0 });
     let memories = [(rom.as_ptr(), rom.len()), (null(), 0), (null(), 0), (null(), 0)];
-    assert_eq!(load(memories, 0), Loaded { refusal: 2, value: 0 });
+    assert_eq!(load(memories, 0), Loaded { refusal: 2, value: 0, undefined: 0 });
 }
 
 #[cfg(feature = "drawing")]

@@ -26,6 +26,7 @@ pub fn finish(
         _ if failure.is_some() => 2,
         End::Interrupted => interrupt::STATUS,
         End::NotModelled(_) => 2,
+        End::Undefined(_) => 1,
         _ => 0,
     };
     Report { failure, ..Report::new(told.text(), &told, status) }
@@ -129,6 +130,7 @@ fn sentence(
             ("reached", format!("the next instruction is at 0x{address:08X}, as asked"))
         }
         End::Watched(address) => ("watched", format!("0x{address:08X} was written, as asked")),
+        End::Undefined(read) => ("undefined", read.clone()),
     }
 }
 

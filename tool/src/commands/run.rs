@@ -14,6 +14,7 @@ use crate::interrupt;
 use crate::number;
 use crate::progress::Progress;
 use crate::setup::{Bench, Saves, Setup};
+use crate::watch;
 
 /// Instructions between two looks at the clock and at Ctrl-C.
 const SLICE: u64 = 2_000_000;
@@ -31,10 +32,14 @@ Example: go on from a saved state, and save where it stops:
 Example: run to an address, then see what the next instructions do (`vbmodel help step`):
   vbmodel run --rom out/rom.bin --until 0x0700_0000 --save-processor a.processor --save-wram a.wram
 
-Exit status: 0 when the run ended by its budget, a HALT, a fatal exception or where it was told to stop; 2 when it was
-refused or a file is bad, and then nothing is written; 130 when Ctrl-C stopped it, and then what it did so far is
-printed and written. A run that meets an instruction that is not modelled (refusal 6) also ends with 2, but it has an
-answer: the state after the counted instructions, which is printed and written where asked."
+Example: which instruction first reads a byte that has no meaning?
+  vbmodel run --rom out/rom.bin --watch-undefined
+
+Exit status: 0 when the run ended by its budget, a HALT, a fatal exception or where it was told to stop; 1 when
+--watch-undefined stopped it; 2 when it was refused or a file is bad,
+and then nothing is written; 130 when Ctrl-C stopped it, and then what it did so far is printed and written. A run that
+meets an instruction that is not modelled (refusal 6) also ends with 2, but it has an answer: the state after the
+counted instructions, which is printed and written where asked."
 )]
 pub struct Options {
     #[command(flatten)]
@@ -44,6 +49,8 @@ pub struct Options {
     budget: u64,
     #[command(flatten)]
     stops: Stops,
+    #[command(flatten)]
+    watch: watch::Options,
     #[command(flatten)]
     saves: Saves,
     /// Print JSON
@@ -56,10 +63,16 @@ pub fn run(options: &Options) -> Result<Report, Failure> {
     options.saves.test()?;
     interrupt::watch();
     let was_fatal = bench.machine.processor.mode == Mode::Fatal;
-    let ended = match options.stops.is_empty() {
+    let mut watch = options.watch.watch();
+    let mut ended = match options.stops.is_empty() && !options.watch.is_on() {
         true => watched(&mut bench, options.budget)?,
-        false => follow(&mut bench, options.budget, &options.stops, &mut |_| true)?,
+        false => {
+            follow(&mut bench, options.budget, &options.stops, &mut |told| watch.goes_on(told))?
+        }
     };
+    if let Some(read) = watch.stopped {
+        ended.end = End::Undefined(read);
+    }
     Ok(finish(&bench, &ended, options.budget, &options.saves, was_fatal))
 }
 

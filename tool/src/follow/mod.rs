@@ -53,6 +53,8 @@ pub enum End {
     Watched(u32),
     /// The one who is told wants no more.
     Enough,
+    /// At an instruction that read an undefined byte, told in words (--watch-undefined).
+    Undefined(String),
 }
 
 /// How many instructions ended, and why no more.
@@ -118,10 +120,11 @@ fn before(bench: &Bench, budget: u64, count: u64, stops: &Stops) -> Option<End> 
 fn step(bench: &mut Bench) -> Result<Told, Refusal> {
     let before = Told::before(bench)?;
     let (machine, mut memories) = bench.lent();
-    let answer = machine.step(&mut memories)?;
+    let (answer, undefined) = machine.step_watched(&mut memories)?;
     let code = match answer {
         Answer::Trapped(cause) | Answer::TurnedFatal(cause) => Some(cause.code()),
         _ => None,
     };
-    Ok(before.after(bench, code, matches!(answer, Answer::TurnedFatal(_))))
+    let told = before.after(bench, code, matches!(answer, Answer::TurnedFatal(_)));
+    Ok(told.with_undefined(undefined))
 }

@@ -1,4 +1,4 @@
-//! Where an address leads, in words; and which bytes of a read are undefined.
+//! Where an address leads, in words.
 
 use std::ops::RangeInclusive;
 
@@ -48,38 +48,4 @@ pub fn range(bench: &Bench, addresses: &RangeInclusive<u32>) -> Result<(At, usiz
         ));
     }
     Ok((first, last.offset))
-}
-
-/// Whether a byte read at an address is undefined: the VIP's unmapped ranges, and its register addresses where document
-/// 000 lists no register.
-pub fn undefined(address: u32) -> bool {
-    let defined = matches!(
-        address & 0x7_FFFE,
-        0..=0x3_FFFF
-            | 0x5_F800..=0x5_F805
-            | 0x5_F820..=0x5_F82B
-            | 0x5_F82E..=0x5_F831
-            | 0x5_F840..=0x5_F845
-            | 0x5_F848..=0x5_F84F
-            | 0x5_F860..=0x5_F871
-            | 0x7_8000..=0x7_FFFF
-    );
-    address >> 24 & 7 == 0 && !defined
-}
-
-#[cfg(test)]
-mod tests {
-    use super::undefined;
-
-    #[test]
-    fn undefined_bytes_are_those_of_document_000() {
-        let count = (0..0x8_0000).filter(|&v| undefined(v)).count();
-        assert_eq!(count, 229_322);
-        for defined in [0x3_FFFF, 0x5_F871, 0x7_8000, 0x0100_0000, 0x0500_0000, 0xFFFF_FFFF] {
-            assert!(!undefined(defined), "{defined:X}");
-        }
-        for other in [0x4_0000, 0x5_F82C, 0x5_F872, 0x7_7FFF, 0x0800_0000 + 0x4_0000] {
-            assert!(undefined(other), "{other:X}");
-        }
-    }
 }

@@ -1,10 +1,10 @@
 //! What one instruction did.
 
 use serde::Serialize;
-use vb::{Machine, ReadMemories, Refusal};
+use vb::{Machine, Mask, ReadMemories, Refusal, Undefined};
 
 use super::disassembly::{disassemble, Access};
-use super::place::{at, undefined, At};
+use super::place::{at, At};
 use crate::commands::ran::exception_name;
 use crate::setup::Bench;
 
@@ -23,6 +23,9 @@ pub struct Told {
     pub undefined: Vec<u32>,
     pub exception: Option<u32>,
     pub turned_fatal: bool,
+    /// Where it loads from.
+    #[serde(skip)]
+    loads: Option<u32>,
     #[serde(skip)]
     before: Machine,
 }
@@ -59,7 +62,6 @@ impl Told {
             [pc, pc.wrapping_add(2)].map(|address| machine.load_half(&read(bench), address));
         let (first, second) = (halves[0].clone()?, halves[1].clone()?);
         let line = disassemble(pc, first, second);
-        let fetched = (0..2 * line.halves).map(|n| pc.wrapping_add(n));
         let mut told = Told {
             pc,
             halfwords: [first, second][..line.halves as usize].to_vec(),
@@ -67,9 +69,10 @@ impl Told {
             jumped: None,
             changed: Vec::new(),
             written: None,
-            undefined: fetched.filter(|&address| undefined(address)).collect(),
+            undefined: Vec::new(),
             exception: None,
             turned_fatal: false,
+            loads: None,
             before: machine,
         };
         if let Some(access) = line.access {
@@ -87,10 +90,19 @@ impl Told {
             let place = at(bench, address).text();
             self.written = Some(Written { address, width, place, from, to: from });
         } else {
-            let bytes = (0..width).map(|n| address.wrapping_add(n));
-            self.undefined.extend(bytes.filter(|&address| undefined(address)));
+            self.loads = Some(address);
         }
         Ok(())
+    }
+
+    /// Takes in what the library says of the bytes that were read.
+    pub fn with_undefined(mut self, undefined: Undefined) -> Told {
+        let bytes = |from: u32, mask: Mask| mask.bytes().map(move |k| from.wrapping_add(k));
+        let Undefined { first, second, load } = undefined;
+        self.undefined.extend(bytes(self.pc, first));
+        self.undefined.extend(bytes(self.pc.wrapping_add(2), second));
+        self.undefined.extend(self.loads.into_iter().flat_map(|from| bytes(from, load)));
+        self
     }
 
     /// The same instruction after it was done.

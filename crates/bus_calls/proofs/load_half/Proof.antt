@@ -1,5 +1,5 @@
--- `bus_calls::load_half` meets its contract: the verdict, and after it the inner load, of the VIP or outside it.
--- Assumes nothing.
+-- `bus_calls::load_half` meets its contract: the verdict, and after it the mask of the address and the inner load, of the
+-- VIP or outside it. Assumes nothing.
 use borrow.Author.Needs.{needs}
 use Rattle.bus_calls.proofs.load_half.Statement.{statement}
 use Rattle.bus_calls.proofs.load_half.Tie as tie
@@ -15,20 +15,26 @@ enum-told : tie.Need-enum-told
 enum-told c = search needs
 
 half-requires : tie.Need-half-requires
-half-requires c κs =
-    let a = c .before .before .before .before .before .before .before .before .before .before .before .before .args in
-    found-lengths (memoryOf (now (a .rom)) (now (a .wram)) (now (a .vram)) (now (a .pak)) (a .t5 .regs)) (c .before .before .before .before .before .verdict .result) (c .before .before .before .before .before .verdict .ensures) (c .before .before .before .enum-told .given .1)
-
-returns : tie.Need-returns
-returns c =
-    let a = c .before .before .before .before .before .before .before .before .before .before .before .before .before .args in
-    let found = c .before .before .before .before .before .before .verdict in
-    load-accepted (memoryOf (now (a .rom)) (now (a .wram)) (now (a .vram)) (now (a .pak)) (a .t5 .regs)) (found .result) (found .ensures) 2 (a .address) (c .half .result) (c .before .before .before .before .enum-told .given .1) (c .half .ensures)
+half-requires c κs = search needs
 
 half-requires-2 : tie.Need-half-requires-2
 half-requires-2 c κs =
-    let a = c .before .before .before .before .before .before .before .before .before .before .args in
-    let h = found-lengths (memoryOf (now (a .rom)) (now (a .wram)) (now (a .vram)) (now (a .pak)) (a .t5 .regs)) (c .before .before .before .verdict .result) (c .before .before .before .verdict .ensures) (c .before .enum-told .given .1) in
+    let a = c .before .before .before .before .before .before .before .before .before .before .before .before .before .args in
+    let found = c .before .before .before .before .before .before .verdict in
+    found-lengths (memoryOf (now (a .rom)) (now (a .wram)) (now (a .vram)) (now (a .pak)) (a .t5 .regs)) (found .result) (found .ensures) (c .before .before .before .before .enum-told .given .1)
+
+returns : tie.Need-returns
+returns c =
+    let a = c .before .before .before .before .before .before .before .before .before .before .before .before .before .before .args in
+    let found = c .before .before .before .before .before .before .before .verdict in
+    let m = memoryOf (now (a .rom)) (now (a .wram)) (now (a .vram)) (now (a .pak)) (a .t5 .regs) in
+    load-accepted m (found .result) (found .ensures) 2 (a .address) _ (c .before .before .before .before .before .enum-told .given .1) (c .half2 .ensures) (c .before .before .before .before .half .ensures .0 m)
+
+half-requires-3 : tie.Need-half-requires-3
+half-requires-3 c κs =
+    let a = c .before .before .before .before .before .before .before .before .before .before .before .args in
+    let found = c .before .before .before .before .verdict in
+    let h = found-lengths (memoryOf (now (a .rom)) (now (a .wram)) (now (a .vram)) (now (a .pak)) (a .t5 .regs)) (found .result) (found .ensures) (c .before .before .enum-told .given .1) in
     (h .rom-ok, h .wram-ok, h .pak-ok, c .if1 .left)
 
 enum-known-verdict : tie.Need-enum-known-verdict
@@ -36,9 +42,10 @@ enum-known-verdict c = search needs
 
 returns-2 : tie.Need-returns-2
 returns-2 c =
-    let a = c .before .before .before .before .before .before .before .before .before .before .before .args in
-    let found = c .before .before .before .before .verdict in
-    load-accepted (memoryOf (now (a .rom)) (now (a .wram)) (now (a .vram)) (now (a .pak)) (a .t5 .regs)) (found .result) (found .ensures) 2 (a .address) _ (c .before .before .enum-told .given .1) (c .half2 .ensures (now (a .vram)) (a .t5 .regs))
+    let a = c .before .before .before .before .before .before .before .before .before .before .before .before .args in
+    let found = c .before .before .before .before .before .verdict in
+    let m = memoryOf (now (a .rom)) (now (a .wram)) (now (a .vram)) (now (a .pak)) (a .t5 .regs) in
+    load-accepted m (found .result) (found .ensures) 2 (a .address) _ (c .before .before .before .enum-told .given .1) (c .half3 .ensures (now (a .vram)) (a .t5 .regs)) (c .before .before .half .ensures .0 m)
 
 returns-3 : tie.Need-returns-3
 returns-3 c =
@@ -53,8 +60,9 @@ load-half-spec =
     verdict-requires
     enum-told
     half-requires
-    returns
     half-requires-2
+    returns
+    half-requires-3
     enum-known-verdict
     returns-2
     returns-3)

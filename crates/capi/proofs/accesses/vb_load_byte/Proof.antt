@@ -4,7 +4,7 @@ use borrow.Author.Needs.{needs}
 use Rattle.capi.proofs.accesses.vb_load_byte.Statement.{statement}
 use Rattle.capi.proofs.accesses.vb_load_byte.Tie as tie
 use mathlib.Core.Path.{_≡_, ap, _∙_}
-use Rattle.capi.specs.Answers.{loadRefusal, loadValue}
+use Rattle.capi.specs.Answers.{loadedOf}
 
 load-byte-requires : tie.Need-load-byte-requires
 load-byte-requires c κs = search needs
@@ -14,8 +14,7 @@ loaded-requires c κs = search needs
 
 returns : tie.Need-returns
 returns c =
-    let answer = c .before .load-byte .ensures in
-    (c .loaded .ensures .0 ∙ ap loadRefusal answer, c .loaded .ensures .1 ∙ ap loadValue answer)
+    c .loaded .ensures ∙ ap loadedOf (c .before .load-byte .ensures)
 
 pub vb-load-byte-spec : {M : Type 1} → statement M
 vb-load-byte-spec = tie.close (tie.spec load-byte-requires loaded-requires returns)

@@ -37,6 +37,9 @@ answer-number-requires c κs = search needs
 answer-code-requires : tie.Need-answer-code-requires
 answer-code-requires c κs = search needs
 
+undefined-out-requires : tie.Need-undefined-out-requires
+undefined-out-requires c κs = search needs
+
 processor-out-requires : tie.Need-processor-out-requires
 processor-out-requires c κs = search needs
 
@@ -51,8 +54,8 @@ same-length-6 c = search needs
 
 returns-2 : tie.Need-returns-2
 returns-2 c =
-    rw (c .processor-out .ensures, c .before .answer-code .ensures, c .before .before .answer-number .ensures, c .before .before .before .answer-refusal .ensures)
-    (step-done _ _ _ (c .before .before .before .before .before .before .before .before .before .before .before .before .before .before .before .before .before .processor-in .ensures) (c .before .before .before .before .before .before .before .before .before .before .before .before .before .before .before .before .if1 .left) _ (c .before .before .before .before .before .before .before .before .before .before .before .before .step .ensures))
+    rw (c .processor-out .ensures, c .before .undefined-out .ensures, c .before .before .answer-code .ensures, c .before .before .before .answer-number .ensures, c .before .before .before .before .answer-refusal .ensures)
+    (step-done _ _ _ (c .before .before .before .before .before .before .before .before .before .before .before .before .before .before .before .before .before .before .before .processor-in .ensures) (c .before .before .before .before .before .before .before .before .before .before .before .before .before .before .before .before .before .before .if1 .left) _ (c .before .before .before .before .before .before .before .before .before .before .before .before .before .before .step .ensures))
 
 pub vb-step-spec : {M : Type 1} → statement M
 vb-step-spec =
@@ -69,6 +72,7 @@ vb-step-spec =
     answer-refusal-requires
     answer-number-requires
     answer-code-requires
+    undefined-out-requires
     processor-out-requires
     same-length-4
     same-length-5

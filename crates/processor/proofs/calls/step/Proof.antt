@@ -1,11 +1,10 @@
--- `processor::calls::step`: refused as the definition says, else what a stretch of one promises.
-use mathlib.Core.Path.{refl, sym, _∙_, ap}
+-- `processor::calls::step`: refused as the definition says, else what a stretch of one promises, and the masks of what
+-- it fetched.
+use mathlib.Core.Path.{refl, sym, _∙_}
 use borrow.Author.Needs.{needs}
 use Rattle.processor.proofs.Checked.{step-accepted}
-use Rattle.processor_machine.specs.State.{Stepped}
 use Rattle.processor.proofs.Lengths.{lengths-of-accepted}
-use Rattle.processor.specs.Record.{processorOf}
-use Rattle.processor.specs.Calls.{checkedStepOf, doneOf}
+use Rattle.processor.specs.Calls.{checkedStepOf}
 use Rattle.processor.proofs.calls.step.Statement.{statement}
 use Rattle.processor.proofs.calls.step.Tie as tie
 
@@ -18,18 +17,24 @@ acceptance-requires c κs = search needs
 enum-known-n : tie.Need-enum-known-n
 enum-known-n c = search needs
 
+none-requires : tie.Need-none-requires
+none-requires c κs = search needs
+
 enum-told : tie.Need-enum-told
 enum-told c = search needs
 
 run-requires : tie.Need-run-requires
 run-requires c κs = lengths-of-accepted _ _ _ _ _ _ _ _ _ (sym (c .before .before .before .before .before .before .before .before .acceptance .ensures) ∙ c .before .before .before .before .before .before .enum-told .given .1)
 
+masks-requires : tie.Need-masks-requires
+masks-requires c κs = search needs
+
 joined-requires : tie.Need-joined-requires
 joined-requires c κs = search needs
 
 returns : tie.Need-returns
 unfolding checkedStepOf
-returns c = rw (← c .before .before .before .before .before .before .before .before .system .ensures, ← c .before .before .before .acceptance .ensures, c .before .n .given .1)
+returns c = rw (c .none .ensures, ← c .before .before .before .before .before .before .before .before .before .system .ensures, ← c .before .before .before .before .acceptance .ensures, c .before .before .n .given .1)
 
 same-length : tie.Need-same-length
 same-length c = search needs
@@ -42,9 +47,11 @@ same-length-3 c = search needs
 
 returns-2 : tie.Need-returns-2
 returns-2 c =
-    let a = c .before .before .before .before .before .before .before .before .before .before .before .before .before .before .before .before .before .before .before .before .before .before .before .before .before .before .before .args in
+    let a = c .before .before .before .before .before .before .before .before .before .before .before .before .before .before .before .before .before .before .before .before .before .before .before .before .before .before .before .before .before .before .before .args in
+    let system = c .before .before .before .before .before .before .before .before .before .before .before .before .before .before .before .before .before .before .before .before .before .before .before .before .before .system in
+    let run = c .before .before .before .before .before .before .before .before .before .before .before .run .ensures .1 in
     rw (c .joined .ensures)
-    (step-accepted (a .processor) _ _ _ (c .before .before .before .before .before .before .before .before .before .before .before .before .before .before .before .before .before .before .before .before .before .system .ensures) (c .before .before .before .before .before .before .before .before .before .before .before .before .before .before .before .before .acceptance .ensures) (c .before .before .before .before .before .before .before .before .before .before .before .before .before .before .enum-told .given .1) _ (c .before .before .before .before .before .before .before .run .ensures .1 refl))
+    (step-accepted (a .processor) _ _ _ (system .ensures) (c .before .before .before .before .before .before .before .before .before .before .before .before .before .before .before .before .before .before .before .before .acceptance .ensures) (c .before .before .before .before .before .before .before .before .before .before .before .before .before .before .before .before .before .before .enum-told .given .1) _ (run .0 refl) _ (run .1 refl) _ (c .before .masks .ensures (system .result) (a .processor .psw) (a .processor .mode) _))
 
 pub step-spec : {M : Type 1} → statement M
 step-spec =
@@ -53,8 +60,10 @@ step-spec =
     system-requires
     acceptance-requires
     enum-known-n
+    none-requires
     enum-told
     run-requires
+    masks-requires
     joined-requires
     returns
     same-length

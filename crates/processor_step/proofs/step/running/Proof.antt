@@ -49,8 +49,10 @@ returns : tie.Need-returns
 unfolding runningStepOf
 returns c =
     let first = c .before .before .before .before .before .before .before .before .before .before .before .before .before .before .before .before .before .before .before .before .before .before .before .before .before .before .before .before .before .before .before .before .before .before .before .before .half .ensures in
-    let second = c .before .before .before .before .before .before .before .before .before .before .before .before .before .before .before .before .before .before .before .before .before .before .before .before .second .ensures in
-    rw (← first .0, ← c .before .before .before .before .before .before .before .before .before .before .before .before .before .before .before .before .before .before .before .before .before .before .before .before .before .before .before .before .before .two .ensures, ← first .1, ← second .0, ← second .1, ← c .before .before .before .before .before .before .before .before .before .before .before .before .before .before .before .before .before .following .ensures, ← c .before .before .before .before .before .before .before .before .before .before .before .before .before .before .before .before .decode .ensures, c .before .before .before .before .before .before .before .before .before .before .before .before .before .before .i .given .1) (c .before .before .before .before .before .before .execute .ensures)
+    let second = c .before .before .before .before .before .before .before .before .before .before .before .before .before .before .before .before .before .before .before .before .before .before .before .before .second .ensures in (
+      rw (← first .0, ← c .before .before .before .before .before .before .before .before .before .before .before .before .before .before .before .before .before .before .before .before .before .before .before .before .before .before .before .before .before .two .ensures, ← first .1, ← second .0, ← second .1, ← c .before .before .before .before .before .before .before .before .before .before .before .before .before .before .before .before .before .following .ensures, ← c .before .before .before .before .before .before .before .before .before .before .before .before .before .before .before .before .decode .ensures, c .before .before .before .before .before .before .before .before .before .before .before .before .before .before .i .given .1) (c .before .before .before .before .before .before .execute .ensures),
+      rw (← first .0, ← c .before .before .before .before .before .before .before .before .before .before .before .before .before .before .before .before .before .before .before .before .before .before .before .before .before .before .before .before .before .two .ensures, ← first .1, ← second .0),
+    )
 
 same-length-4 : tie.Need-same-length-4
 same-length-4 c = search needs
@@ -65,8 +67,10 @@ returns-2 : tie.Need-returns-2
 unfolding runningStepOf
 returns-2 c =
     let first = c .before .before .before .before .before .before .before .before .before .before .before .before .before .before .before .before .before .before .before .before .before .before .half .ensures in
-    let second = c .before .before .before .before .before .before .before .before .before .before .second .ensures in
-    rw (← first .0, ← c .before .before .before .before .before .before .before .before .before .before .before .before .before .before .before .two .ensures, ← first .1, ← second .0, ← second .1, ← c .before .before .before .following .ensures, ← c .before .before .decode .ensures, c .enum-told .given .1)
+    let second = c .before .before .before .before .before .before .before .before .before .before .second .ensures in (
+      rw (← first .0, ← c .before .before .before .before .before .before .before .before .before .before .before .before .before .before .before .two .ensures, ← first .1, ← second .0, ← second .1, ← c .before .before .before .following .ensures, ← c .before .before .decode .ensures, c .enum-told .given .1),
+      rw (← first .0, ← c .before .before .before .before .before .before .before .before .before .before .before .before .before .before .before .two .ensures, ← first .1, ← second .0),
+    )
 
 pub running-spec : {M : Type 1} → statement M
 running-spec =

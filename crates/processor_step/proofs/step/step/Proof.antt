@@ -27,15 +27,16 @@ same-length-3 c = search needs
 
 returns : tie.Need-returns
 unfolding stepOf
-returns c = rw (c .before .before .before .before .before .before .before .before .before .before .before .before .before .enum-told .given .1) (c .before .before .before .before .before .before .running .ensures)
+returns c =
+    (rw (c .before .before .before .before .before .before .before .before .before .before .before .before .before .enum-told .given .1) (c .before .before .before .before .before .before .running .ensures .0), rw (c .before .before .before .before .before .before .before .before .before .before .before .before .before .enum-told .given .1) (c .before .before .before .before .before .before .running .ensures .1))
 
 returns-2 : tie.Need-returns-2
 unfolding stepOf
-returns-2 c = rw (c .enum-told2 .given .1)
+returns-2 c = (rw (c .enum-told2 .given .1), rw (c .enum-told2 .given .1))
 
 returns-3 : tie.Need-returns-3
 unfolding stepOf
-returns-3 c = rw (c .enum-told3 .given .1)
+returns-3 c = (rw (c .enum-told3 .given .1), rw (c .enum-told3 .given .1))
 
 pub step-spec : {M : Type 1} → statement M
 step-spec =

@@ -1,0 +1,3 @@
+mod Lists
+pub mod Addresses
+pub mod Masks

@@ -1,0 +1,3 @@
+pub mod Defined
+pub mod Addresses
+pub mod Worked
