@@ -3,7 +3,7 @@
 use Prim.Native.Nat.{ℕ, zero, suc, _+_, _-_, _*_, _/_, _%_, _^_, _<_, _≤_}
 use native.Mathlib.Omega.{arith}
 use mathlib.Core.Path.{_≡_}
-use Rattle.drawing_pixel.specs.Character.{pairOf}
+use Rattle.drawing_pixel.specs.Character.{pairOf, valueOf}
 use Rattle.drawing_pixel.specs.Buffer.{withPairOf, repaintedOf}
 
 -- what holds at 0 to 7 holds below 8
@@ -21,6 +21,10 @@ below-eight P a b c d e f g h (suc (suc (suc (suc (suc (suc (suc (suc k)))))))) 
 pub pair-lt : (h k : ℕ) → pairOf h k < 4
 unfolding pairOf
 pair-lt h k = omega arith
+
+pub value-small : (cell row column : ℕ) → valueOf cell row column < 4
+unfolding valueOf
+value-small cell row column = pair-lt row _
 
 -- a pair that was put is read back
 pub pair-with-same : (h v : ℕ) → v < 4 → (k : ℕ) → k < 8 → pairOf (withPairOf h k v) k ≡ v

@@ -1,5 +1,6 @@
 pub mod Signed
 pub mod Character
+pub mod RowBits
 pub mod World
 pub mod Background
 pub mod Object

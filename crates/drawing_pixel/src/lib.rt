@@ -6,8 +6,10 @@ ghost use lib.ListN.{length};
 ghost use lib.Dec.{eqb};
 ghost use Rattle.word.specs.Choose.{pick};
 ghost use Rattle.word.specs.LittleEndian.{halfAt};
-ghost use Rattle.drawing_pixel.specs.Signed.{edgeOf, flagOf};
+ghost use mathlib.Core.Bool.{Bool};
+ghost use Rattle.drawing_pixel.specs.Signed.{edgeOf, bitOf, flagOf};
 ghost use Rattle.drawing_pixel.specs.Character.{pairOf, characterAddressOf, flippedOf, rowAddressOf, valueOf, shadeOf};
+ghost use Rattle.drawing_pixel.specs.RowBits.{Picked, PlaceUnit};
 ghost use Rattle.drawing_pixel.specs.World.{worldOf, columnsOf, heightOf, rowsOf, windowLeftOf};
 ghost use Rattle.drawing_pixel.specs.Object.{objectOf, objectLeftOf};
 ghost use Rattle.drawing_pixel.specs.Buffer.{repaintedOf, Span};
@@ -128,12 +130,21 @@ pub fn row_address(cell: usize, r: usize) -> usize
     character_address(cell % 2048) + 2 * flipped(cell / 4096 % 2 == 1, r)
 }
 
+// The value of a column of a character row: its two bits, shifted down from the column's position or, where flipped,
+// from the mirrored one.
+pub fn picked(row: usize, column: usize, flip: bool) -> usize
+    requires { ⌜ column < 8 ⌝ }
+    ensures { λ v. ⌜ Picked row column flip v ⌝ }
+{
+    pair(row, flipped(flip, column))
+}
+
 // The value of a column of a character row, by the cell's horizontal flip.
 pub fn value(cell: usize, row: usize, column: usize) -> usize
     requires { ⌜ column < 8 ⌝ }
     ensures { λ r. ⌜ (r ≡ valueOf cell row column) × (r < 4) ⌝ }
 {
-    pair(row, flipped(cell / 8192 % 2 == 1, column))
+    picked(row, column, cell / 8192 % 2 == 1)
 }
 
 // The first of two halfwords where b holds, else the second.
@@ -147,11 +158,11 @@ pub fn choice(b: bool, x: u16, y: u16) -> u16
 }
 
 // Two bits at their place in row r of a column.
-pub fn placed(v: usize, r: usize) -> u16
+pub fn placed(v: u16, r: usize) -> u16
     requires { ⌜ (v < 4) × (r < 8) ⌝ }
     ensures { λ h. ⌜ h ≡ v * 2 ^ (2 * r) ⌝ }
 {
-    (v << (2 * r)) as u16
+    v << (2 * r)
 }
 
 // What is left of a column where row r is painted over; all of it where the paint is blank.
@@ -159,7 +170,15 @@ pub fn kept(h: u16, r: usize, blank: bool) -> u16
     requires { ⌜ r < 8 ⌝ }
     ensures { λ n. ⌜ n ≡ pick blank h (h - pairOf h r * 2 ^ (2 * r)) ⌝ }
 {
-    h - (h & choice(blank, 0, placed(3, r)))
+    h - (h & placed(choice(blank, 0, 3), r))
+}
+
+// What a palette makes of a value.
+pub fn shade(palette: usize, v: usize) -> u16
+    requires { ⌜ v < 4 ⌝ }
+    ensures { λ h. ⌜ (h ≡ pairOf palette v) × (h < 4) ⌝ }
+{
+    pair(palette, v) as u16
 }
 
 // A column of the strip, its row r painted over by a value: 0 leaves it as it was, any other is looked up in the palette.
@@ -167,8 +186,7 @@ pub fn shaded(h: u16, r: usize, palette: usize, v: usize) -> u16
     requires { ⌜ (r < 8) × (v < 4) ⌝ }
     ensures { λ n. ⌜ n ≡ repaintedOf r (shadeOf palette v) h ⌝ }
 {
-    let looked_up = pair(palette, v);
-    kept(h, r, v == 0) + choice(v == 0, 0, placed(looked_up, r))
+    kept(h, r, v == 0) + placed(choice(v == 0, 0, shade(palette, v)), r)
 }
 
 // The columns of a world.
@@ -240,70 +258,52 @@ pub fn object_left(o: &[u16; 4], eye: usize) -> usize
     edge(eye, (wide(o[0]) + 512) % 1024, (wide(o[1]) + 512) % 1024)
 }
 
-// The bytes of a halfword exchanged.
-pub fn bytes_exchanged(h: u16) -> u16
-    ensures { λ r. ⌜ r ≡ h / 256 + h % 256 * 256 ⌝ }
+// The eight columns of a row are painted at once: without a branch, and by comparing each column's two bits where they
+// stand in the row, so that all columns go through the same operations. A place is told by its unit, 1 shifted to the
+// lower of its bits; a mask of all bits or none chooses between a column's own place and the mirrored one.
+
+// The mask of a cell: all bits where it is flipped horizontally.
+pub fn mirror(cell: usize) -> u16
+    ensures { λ m. ⌜ m ≡ pick (bitOf 13 cell) 65535 0 ⌝ }
 {
-    h / 256 + h % 256 * 256
+    choice(cell / 8192 % 2 == 1, 65535, 0)
 }
 
-// The halves of both bytes of a halfword exchanged.
-pub fn nibbles_exchanged(h: u16) -> u16
-    ensures { λ r. ⌜ r ≡ (h / 16 % 16 + h / 4096 * 256) + (h % 16 * 16 + h / 256 % 16 * 4096) ⌝ }
+// The unit of a column's place in its row: of the mirrored place where the mask has all bits.
+pub fn place(column: usize, mirror: u16) -> u16
+    requires { ⌜ column < 8 ⌝ }
+    ensures { λ u. ⌜ ((flip : Bool) → mirror ≡ pick flip 65535 0 → u ≡ 2 ^ (2 * flippedOf flip column)) ⌝ }
 {
-    (h / 16 % 16 + h / 4096 * 256) + (h % 16 * 16 + h / 256 % 16 * 4096)
+    let plain: u16 = 1 << (2 * column);
+    let other: u16 = 1 << (2 * (7 - column));
+    plain ^ ((plain ^ other) & mirror)
 }
 
-// The pairs of each half byte of a halfword exchanged.
-pub fn pairs_exchanged(h: u16) -> u16
-    ensures { λ r. ⌜ r ≡ (h / 4 % 4 + h / 64 % 4 * 16 + h / 1024 % 4 * 256 + h / 16384 * 4096) + (h % 4 * 4 + h / 16 % 4 * 64 + h / 256 % 4 * 1024 + h / 4096 % 4 * 16384) ⌝ }
+// Whether the value at a place of a row is n.
+pub fn holds(row: u16, unit: u16, n: u16) -> bool
+    requires { ⌜ (PlaceUnit unit) × (n < 4) ⌝ }
+    ensures { λ b. ⌜ ((p : ℕ) → p < 8 → unit ≡ 2 ^ (2 * p) → b ≡ eqb (pairOf row p) n) ⌝ }
 {
-    (h / 4 % 4 + h / 64 % 4 * 16 + h / 1024 % 4 * 256 + h / 16384 * 4096)
-        + (h % 4 * 4 + h / 16 % 4 * 64 + h / 256 % 4 * 1024 + h / 4096 % 4 * 16384)
+    row & (3 * unit) == n * unit
 }
 
-// The eight pairs of a halfword in the opposite order.
-pub fn mirrored(row: u16) -> u16
-    ensures { λ m. ⌜ ((k : ℕ) → k < 8 → pairOf m k ≡ pairOf row (7 - k)) ⌝ }
+// What the value at a place of a row is painted as: its shade, nothing for 0.
+pub fn tint(palette: usize, row: u16, unit: u16) -> u16
+    requires { ⌜ PlaceUnit unit ⌝ }
+    ensures { λ h. ⌜ (h < 4) × ((p : ℕ) → p < 8 → unit ≡ 2 ^ (2 * p) → h ≡ pick (eqb (pairOf row p) 0) 0 (pairOf palette (pairOf row p))) ⌝ }
 {
-    pairs_exchanged(nibbles_exchanged(bytes_exchanged(row)))
-}
-
-// A character row as its cell shows it, its values from left to right.
-pub fn facing(cell: usize, row: usize) -> u16
-    ensures { λ f. ⌜ ((k : ℕ) → k < 8 → pairOf f k ≡ valueOf cell row k) ⌝ }
-{
-    let seen = (row % 65536) as u16;
-    choice(cell / 8192 % 2 == 1, mirrored(seen), seen)
-}
-
-// Whether pair k of a halfword is n; read from a byte of it, so that no place is at the end of the number.
-pub fn holds(f: u16, k: usize, n: u16) -> bool
-    requires { ⌜ (k < 8) × (n < 4) ⌝ }
-    ensures { λ b. ⌜ b ≡ eqb (pairOf f k) n ⌝ }
-{
-    let byte = (f >> (8 * (k / 4))) % 256;
-    let unit: u16 = 1 << (2 * (k % 4));
-    byte & (3 * unit) == n * unit
-}
-
-// What value k of a row paints at row r of a column: its shade in its place, nothing for 0.
-pub fn tint(palette: usize, r: usize, f: u16, k: usize) -> u16
-    requires { ⌜ (r < 8) × (k < 8) ⌝ }
-    ensures { λ h. ⌜ h ≡ pick (eqb (pairOf f k) 0) 0 (pairOf palette (pairOf f k) * 2 ^ (2 * r)) ⌝ }
-{
-    let one = choice(holds(f, k, 1), placed(pair(palette, 1), r), 0);
-    let two = choice(holds(f, k, 2), placed(pair(palette, 2), r), 0);
-    let three = choice(holds(f, k, 3), placed(pair(palette, 3), r), 0);
+    let one = choice(holds(row, unit, 1), shade(palette, 1), 0);
+    let two = choice(holds(row, unit, 2), shade(palette, 2), 0);
+    let three = choice(holds(row, unit, 3), shade(palette, 3), 0);
     one | two | three
 }
 
-// A column of the strip, its row r painted over by value k of a row; no branch, so that eight are painted at once.
-pub fn painted(h: u16, r: usize, palette: usize, f: u16, k: usize) -> u16
-    requires { ⌜ (r < 8) × (k < 8) ⌝ }
-    ensures { λ n. ⌜ n ≡ repaintedOf r (shadeOf palette (pairOf f k)) h ⌝ }
+// A column of the strip, its row r painted over by the value at a place of a character row.
+pub fn painted(h: u16, r: usize, palette: usize, row: u16, unit: u16) -> u16
+    requires { ⌜ (r < 8) × (PlaceUnit unit) ⌝ }
+    ensures { λ n. ⌜ ((p : ℕ) → p < 8 → unit ≡ 2 ^ (2 * p) → n ≡ repaintedOf r (shadeOf palette (pairOf row p)) h) ⌝ }
 {
-    kept(h, r, holds(f, k, 0)) + tint(palette, r, f, k)
+    kept(h, r, holds(row, unit, 0)) + placed(tint(palette, row, unit), r)
 }
 
 // The eight columns of a character row painted over row r of the strip.
@@ -319,10 +319,34 @@ pub fn whole(
     requires { ⌜ (from + 8 ≤ 384) × (r < 8) ⌝ }
     ensures { λ _. ⌜ Span r from (from + 8) (λ x. shadeOf palette (valueOf cell row (x - from))) (now (buffer .entry)) (now (buffer .exit)) ⌝ }
 {
-    let f = facing(cell, row);
+    let seen = (row % 65536) as u16;
+    let flips = mirror(cell);
     let mut k = 0;
     while k < 8 {
-        buffer[from + k] = painted(buffer[from + k], r, palette, f, k);
+        buffer[from + k] = painted(buffer[from + k], r, palette, seen, place(k, flips));
+        k += 1;
+    }
+}
+
+// The same for a span; `whole` is for the rows of a block. Each has one caller, so that the compiler makes it part of its
+// caller's loop and works out palette and places once a cell (docs/changes/W5.md).
+pub fn eight(
+    buffer: &mut [u16; 384],
+    from: usize,
+    r: usize,
+    cell: usize,
+    row: usize,
+    palette: usize,
+)
+    requires { ⌜ length (now buffer) ≡ 384 ⌝ }
+    requires { ⌜ (from + 8 ≤ 384) × (r < 8) ⌝ }
+    ensures { λ _. ⌜ Span r from (from + 8) (λ x. shadeOf palette (valueOf cell row (x - from))) (now (buffer .entry)) (now (buffer .exit)) ⌝ }
+{
+    let seen = (row % 65536) as u16;
+    let flips = mirror(cell);
+    let mut k = 0;
+    while k < 8 {
+        buffer[from + k] = painted(buffer[from + k], r, palette, seen, place(k, flips));
         k += 1;
     }
 }
@@ -343,7 +367,7 @@ pub fn span(
     ensures { λ _. ⌜ Span r from to (λ x. shadeOf palette (valueOf cell row (column + (x - from)))) (now (buffer .entry)) (now (buffer .exit)) ⌝ }
 {
     if from + 8 == to {
-        whole(buffer, from, r, cell, row, palette);
+        eight(buffer, from, r, cell, row, palette);
         return;
     }
     let mut x = from;

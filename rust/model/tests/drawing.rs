@@ -266,6 +266,23 @@ fn refusals() {
     assert_eq!(character(&vram[1..], 2_048), Err(Refusal::VramLength));
 }
 
+/// W5's statement: of every row halfword, column and flip the value's two bits
+/// are bits 2p and 2p + 1, p the column or, flipped, 7 - column.
+#[test]
+fn values_of_every_character_row() {
+    let mut vram = vec![0; 262_144];
+    for row in 0..=0xFFFF {
+        put_half(&mut vram, 0x6000, row);
+        for column in 0..8 {
+            for (attributes, p) in [(0, column), (0x2000, 7 - column)] {
+                let value = model::character::dot(&vram, attributes, column, 0).value;
+                let bits = [row >> (2 * p) & 1, row >> (2 * p + 1) & 1];
+                assert_eq!(u16::from(value), bits[0] + 2 * bits[1], "{row:04X}, {column}");
+            }
+        }
+    }
+}
+
 /// The account of one pixel under an affine world, and after END.
 #[test]
 fn answers_of_a_pixel() {

@@ -15,16 +15,22 @@ kept-requires c κs = search needs
 tint-requires : tie.Need-tint-requires
 tint-requires c κs = search needs
 
+placed-requires : tie.Need-placed-requires
+placed-requires c κs = search needs
+
 returns : tie.Need-returns
-returns c =
-    let a = c .before .before .before .args in
-    rw (c .before .kept .ensures, c .before .before .holds .ensures, c .tint .ensures)
-    (repainted-sum (a .h) (a .r) (a .palette) (pairOf (a .f) (a .k)) (c .before .before .before .pre .0))
+returns c p l e =
+    let a = c .before .before .before .before .args in
+    rw (c .before .before .kept .ensures, c .before .before .before .holds .ensures p l e, c .placed .ensures, c .before .tint .ensures .1 p l e)
+    (repainted-sum (a .h) (a .r) (a .palette) (pairOf (a .row) p) (c .before .before .before .before .pre .0))
 
 add-result : tie.Need-add-result
 add-result c =
-    let a = c .before .before .before .args in
-    omega (arith, returns c, repainted-fits (a .h) (a .r) (a .palette) (pairOf (a .f) (a .k)) (search needs) (c .before .before .before .pre .0))
+    let a = c .before .before .before .before .args in
+    let u = c .before .before .before .before .pre .1 in
+    omega (arith, returns c (u .place) (u .inRow) (u .is), repainted-fits (a .h) (a .r) (a .palette) (pairOf (a .row) (u .place)) (search needs) (c .before .before .before .before .pre .0))
 
 pub painted-spec : {M : Type 1} → statement M
-painted-spec = tie.close (tie.spec holds-requires kept-requires tint-requires add-result returns)
+painted-spec =
+    tie.close
+    (tie.spec holds-requires kept-requires tint-requires placed-requires add-result returns)

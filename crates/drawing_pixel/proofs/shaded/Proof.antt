@@ -3,24 +3,29 @@ use borrow.Author.Needs.{needs}
 use Rattle.drawing_pixel.proofs.shaded.Statement.{statement}
 use Rattle.drawing_pixel.proofs.shaded.Tie as tie
 use native.Mathlib.Omega.{arith}
-use Rattle.drawing_pixel.proofs.Masks.{repainted-sum, repainted-fits}
-
-pair-requires : tie.Need-pair-requires
-pair-requires c κs = search needs
+use lib.Dec.{eqb}
+use Rattle.drawing_pixel.proofs.Masks.{choice-small, repainted-sum, repainted-fits}
 
 kept-requires : tie.Need-kept-requires
 kept-requires c κs = search needs
 
-placed-requires : tie.Need-placed-requires
-placed-requires c κs = search needs
+shade-requires : tie.Need-shade-requires
+shade-requires c κs = search needs
 
 choice-requires : tie.Need-choice-requires
 choice-requires c κs = search needs
 
+placed-requires : tie.Need-placed-requires
+placed-requires c κs =
+    let a = c .before .before .before .args in (
+      rw (c .choice .ensures) (choice-small (eqb (a .v) 0) 0 (c .before .shade .result) (omega arith) (c .before .shade .ensures .1)),
+      c .before .before .before .pre .0,
+    )
+
 returns : tie.Need-returns
 returns c =
     let a = c .before .before .before .before .args in
-    rw (c .before .before .kept .ensures, c .choice .ensures, c .before .placed .ensures, c .before .before .before .pair .ensures .0)
+    rw (c .before .before .before .kept .ensures, c .placed .ensures, c .before .choice .ensures, c .before .before .shade .ensures .0)
     (repainted-sum (a .h) (a .r) (a .palette) (a .v) (c .before .before .before .before .pre .0))
 
 add-result : tie.Need-add-result
@@ -31,4 +36,4 @@ add-result c =
 pub shaded-spec : {M : Type 1} → statement M
 shaded-spec =
     tie.close
-    (tie.spec pair-requires kept-requires placed-requires choice-requires add-result returns)
+    (tie.spec kept-requires shade-requires choice-requires placed-requires add-result returns)

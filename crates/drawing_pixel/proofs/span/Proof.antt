@@ -20,15 +20,15 @@ abbrev μ-loop : tie.MeasureT-loop
 add-if1 : tie.Need-add-if1 Inv-loop μ-loop
 add-if1 c = omega arith
 
-whole-requires : tie.Need-whole-requires Inv-loop μ-loop
-whole-requires c κs = omega arith
+eight-requires : tie.Need-eight-requires Inv-loop μ-loop
+eight-requires c κs = omega arith
 
 returns : tie.Need-returns Inv-loop μ-loop
 returns c =
     let a = c .before .before .before .args in
     span-change _ _ _ _ _ _ _
     (λ x v l h. let e : x - a .from ≡ a .column + (x - a .from) = omega arith in ap (λ n. shadeOf (a .palette) (valueOf (a .cell) (a .row) n) v) e)
-    (rw (c .before .before .if1 .taken) at (c .whole .ensures))
+    (rw (c .before .before .if1 .taken) at (c .eight .ensures))
 
 loop-holds : tie.Need-loop-holds Inv-loop μ-loop
 loop-holds c = (omega arith, (omega arith, span-none _ _ _ _))
@@ -86,7 +86,7 @@ span-spec =
     Inv-loop
     μ-loop
     add-if1
-    whole-requires
+    eight-requires
     returns
     loop-holds
     mul-shaded

@@ -1,18 +1,18 @@
--- `drawing_pixel::value` meets its contract. Assumes nothing.
+-- `drawing_pixel::value` meets its contract: what is picked is the definition's value. Assumes nothing.
 use borrow.Author.Needs.{needs}
 use Rattle.drawing_pixel.proofs.value.Statement.{statement}
 use Rattle.drawing_pixel.proofs.value.Tie as tie
-use Rattle.drawing_pixel.specs.Character.{valueOf}
+use Rattle.drawing_pixel.specs.RowBits.{picked-value}
+use Rattle.drawing_pixel.proofs.Pairs.{value-small}
 
-flipped-requires : tie.Need-flipped-requires
-flipped-requires c κs = search needs
-
-pair-requires : tie.Need-pair-requires
-pair-requires c κs = search needs
+picked-requires : tie.Need-picked-requires
+picked-requires c κs = search needs
 
 returns : tie.Need-returns
-unfolding valueOf
-returns c = (rw (c .pair .ensures .0, c .before .flipped .ensures .0), c .pair .ensures .1)
+returns c =
+    let a = c .before .args in
+    let e = picked-value (a .cell) (c .picked .ensures) in
+    (e, rw e (value-small (a .cell) (a .row) (a .column)))
 
 pub value-spec : {M : Type 1} → statement M
-value-spec = tie.close (tie.spec flipped-requires pair-requires returns)
+value-spec = tie.close (tie.spec picked-requires returns)

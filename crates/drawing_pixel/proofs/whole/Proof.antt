@@ -1,22 +1,27 @@
--- `drawing_pixel::whole` meets its contract: column after column of the eight. Assumes nothing.
+-- `drawing_pixel::whole` meets its contract: column after column of the eight, each at its place of the row. Assumes nothing.
 use Rattle.drawing_pixel.proofs.whole.Statement.{statement}
 use Rattle.drawing_pixel.proofs.whole.Tie as tie
-use Prim.Native.Nat.{_+_, _-_, _≤_}
+use Prim.Native.Nat.{_+_, _-_, _%_, _≤_}
 use native.Mathlib.Omega.{arith}
 use mathlib.Core.Path.{_≡_, sym, ap, _∙_}
-use Rattle.drawing_pixel.specs.Character.{pairOf, shadeOf, valueOf}
+use Rattle.drawing_pixel.specs.Signed.{bitOf}
+use Rattle.drawing_pixel.specs.Character.{pairOf, flippedOf, shadeOf, valueOf}
 use Rattle.drawing_pixel.specs.Buffer.{Span}
+use Rattle.drawing_pixel.proofs.Places.{flipped-small, value-placed, unit-placed}
 use Rattle.drawing_pixel.proofs.Spans.{span-none, span-next}
 
 abbrev Inv-loop : tie.InvT-loop
-Inv-loop buffer₀ from r cell row palette f k₀ buffer k =
+Inv-loop buffer₀ from r cell row palette seen flips k₀ buffer k =
     (k ≤ 8) × Span r from (from + k) (λ x. shadeOf palette (valueOf cell row (x - from))) buffer₀ buffer
 
 abbrev μ-loop : tie.MeasureT-loop
-μ-loop buffer₀ from r cell row palette f k₀ buffer k = 8 - k
+μ-loop buffer₀ from r cell row palette seen flips k₀ buffer k = 8 - k
 
-facing-requires : tie.Need-facing-requires Inv-loop μ-loop
-facing-requires c κs = tt
+cast-seen : tie.Need-cast-seen Inv-loop μ-loop
+cast-seen c = omega arith
+
+mirror-requires : tie.Need-mirror-requires Inv-loop μ-loop
+mirror-requires c κs = tt
 
 loop-holds : tie.Need-loop-holds Inv-loop μ-loop
 loop-holds c =
@@ -31,8 +36,14 @@ mul-painted c = omega arith
 element-copy-out-painted : tie.Need-element-copy-out-painted Inv-loop μ-loop
 element-copy-out-painted c = omega arith
 
+place-requires : tie.Need-place-requires Inv-loop μ-loop
+place-requires c κs = omega arith
+
 painted-requires : tie.Need-painted-requires Inv-loop μ-loop
-painted-requires c κs = omega arith
+painted-requires c κs = (
+  omega arith,
+  unit-placed (c .before .before .before .before .before .args .cell) (c .before .before .before .loop .k) (omega arith) (c .before .before .before .before .mirror .ensures) (c .place .ensures),
+)
 
 add-buffer : tie.Need-add-buffer Inv-loop μ-loop
 add-buffer c = omega arith
@@ -51,15 +62,17 @@ loop-less c = omega arith
 
 loop-again : tie.Need-loop-again Inv-loop μ-loop
 loop-again c =
-    let a = c .before .before .before .before .before .args in
-    let k = c .before .before .before .loop .k in
-    let inv = c .before .before .before .loop .inv in
+    let a = c .before .before .before .before .before .before .args in
+    let k = c .before .before .before .before .loop .k in
+    let inv = c .before .before .before .before .loop .inv in
+    let flip = bitOf 13 (a .cell) in
     let e : a .from + k - a .from ≡ k = omega arith in
-    let v : valueOf (a .cell) (a .row) (a .from + k - a .from) ≡ pairOf (c .before .before .before .before .facing .result) k =
-    ap (valueOf (a .cell) (a .row)) e ∙ sym (c .before .before .before .before .facing .ensures k (omega arith))
+    let v : valueOf (a .cell) (a .row) (a .from + k - a .from) ≡ pairOf (a .row % 65536) (flippedOf flip k) =
+    ap (valueOf (a .cell) (a .row)) e ∙ value-placed (a .cell) (a .row) k (omega arith)
     in (
       omega arith,
-      rw (c .painted .ensures) (span-next _ _ _ _ _ _ _ (inv .1) (omega (arith, inv .1 .size)) (ap (shadeOf (a .palette)) v)),
+      rw (c .painted .ensures (flippedOf flip k) (flipped-small flip k (omega arith)) (c .before .place .ensures flip (c .before .before .before .before .before .mirror .ensures)))
+          (span-next _ _ _ _ _ _ _ (inv .1) (omega (arith, inv .1 .size)) (ap (shadeOf (a .palette)) v)),
     )
 
 returns : tie.Need-returns Inv-loop μ-loop
@@ -73,11 +86,13 @@ whole-spec =
     (tie.spec
     Inv-loop
     μ-loop
-    facing-requires
+    cast-seen
+    mirror-requires
     loop-holds
     add-painted
     mul-painted
     element-copy-out-painted
+    place-requires
     painted-requires
     add-buffer
     mul-buffer
