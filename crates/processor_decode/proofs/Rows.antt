@@ -3,12 +3,14 @@ use Prim.Native.Nat.{ℕ, _+_, _-_, _≤_, _<_, _/_}
 use mathlib.Core.Path.{_≡_, refl, sym, _∙_, ap}
 use mathlib.Core.List.{List, _++_}
 use native.Mathlib.Omega.{arith}
-use lib.ListN.{getD, length, List·getD-append, getD-replicate}
+use lib.ListN.{getD, length, List·getD-append, List·getD-eq-default, getD-replicate}
 use lib.Seq.{getD-append-add}
 use Rattle.processor_decode.specs.Format.{branch}
 use Rattle.processor_decode.specs.Opcode.{decodeOf, shortRows, branchRows, longRows}
 use Rattle.processor_decode.specs.declared.Decoded.{Decoded}
-use Rattle.processor_decode.specs.declared.Decoded.the-variants.{NotModelled}
+use Rattle.processor_decode.specs.declared.Decoded.the-variants.{Modelled, NotModelled}
+use Rattle.processor_decode.specs.declared.Instruction.the-variants.{Illegal}
+use Rattle.processor_decode.specs.SubOpcode.{subRows, extendedOf}
 
 pub short-row : (f s : ℕ) → f / 1024 < 32 → decodeOf f s ≡ getD (shortRows f) (f / 1024) NotModelled
 unfolding decodeOf shortRows
@@ -37,3 +39,8 @@ unfolding branchRows
 long-row f s h =
     rest-row f s (8 + (f / 1024 - 40)) (omega arith)
     ∙ getD-append-add (branchRows f) (longRows f s) (f / 1024 - 40) NotModelled
+
+-- a sub-opcode past the listed ones
+pub unlisted : (f s : ℕ) → 13 ≤ s / 1024 → extendedOf f s ≡ Modelled Illegal
+unfolding subRows extendedOf
+unlisted f s h = List·getD-eq-default (subRows f) (Modelled Illegal) h

@@ -10,8 +10,10 @@ use Rattle.processor_decode.specs.declared.RegisterOperation.{RegisterOp
 use Rattle.processor_decode.specs.declared.ImmediateOperation.{ImmediateOperation}
 use Rattle.processor_decode.specs.declared.LongOperation.{LongOperation}
 use Rattle.processor_decode.specs.declared.LongOperation.the-variants.{Movhi}
+use Rattle.processor_decode.specs.declared.FloatingOperation.{FloatingOperation}
+use Rattle.processor_decode.specs.declared.NintendoOperation.{NintendoOperation}
 use Rattle.processor_decode.specs.declared.Width.{Width}
-use Rattle.processor_decode.specs.declared.Instruction.the-variants.{Register, Immediate, Setf, Ldsr, Stsr, Bcond, Jr, Jal, Long, Load, In, Store, Out}
+use Rattle.processor_decode.specs.declared.Instruction.the-variants.{Register, Immediate, Setf, Ldsr, Stsr, Bcond, Jr, Jal, Long, Load, In, Store, Out, Cmpf, Floating, Nintendo}
 use Rattle.processor_decode.specs.declared.Decoded.{Decoded}
 use Rattle.processor_decode.specs.declared.Decoded.the-variants.{Modelled, NotModelled}
 
@@ -88,6 +90,16 @@ store w f s = Modelled (Store w (extendOf 32768 s) (lowOf f) (reg2Of f))
 
 abbrev pub output : Width → ℕ → ℕ → Decoded
 output w f s = Modelled (Out w (extendOf 32768 s) (lowOf f) (reg2Of f))
+
+-- Format VII, but for the sub-opcode: its other bits are "RFU"
+abbrev pub cmpf : ℕ → Decoded
+cmpf f = Modelled (Cmpf (lowOf f) (reg2Of f))
+
+abbrev pub floating : FloatingOperation → ℕ → Decoded
+floating op f = Modelled (Floating op (lowOf f) (reg2Of f))
+
+abbrev pub nintendo : NintendoOperation → ℕ → Decoded
+nintendo op f = Modelled (Nintendo op (lowOf f) (reg2Of f))
 
 -- Formats IV to VII have two halfwords: opcodes from 101000 up, but for the two illegal ones there
 abbrev pub twoOf : ℕ → Bool

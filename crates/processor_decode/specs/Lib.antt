@@ -1,2 +1,3 @@
 pub mod Format
+pub mod SubOpcode
 pub mod Opcode

@@ -5,6 +5,7 @@ use Prim.Native.Nat.{ℕ, _/_}
 use mathlib.Core.List.{List, [], _∷_, _++_}
 use lib.ListN.{getD, replicate}
 use Rattle.processor_decode.specs.Format.{lowOf, reg2Of, register, signed, unsigned, setf, ldsr, stsr, branch, jr, jal, longSigned, longUnsigned, movhi, load, input, store, output}
+use Rattle.processor_decode.specs.SubOpcode.{extendedOf}
 use Rattle.processor_decode.specs.declared.RegisterOperation.{RegisterOperation}
 use Rattle.processor_decode.specs.declared.ImmediateOperation.{ImmediateOperation}
 use Rattle.processor_decode.specs.declared.LongOperation.{LongOperation}
@@ -133,8 +134,8 @@ longRows f s =
     output Width.Byte f s ∷
     -- 111101 VI OUT.H
     output Width.Half f s ∷
-    -- 111110 VII floating-point and Nintendo
-    NotModelled ∷
+    -- 111110 VII floating-point and Nintendo, by sub-opcode
+    extendedOf f s ∷
     -- 111111 VI OUT.W
     output Width.Word f s ∷
     []

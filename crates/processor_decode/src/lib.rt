@@ -3,6 +3,7 @@
 // and unused bits are absent. Immediates and displacements are words: sign- or zero-extended as 000 says for each.
 // These functions are `pub` for the crates above; none is a call of the library's users.
 mod format;
+mod sub_opcode;
 
 ghost use mathlib.Core.Path.{_≡_};
 ghost use Prim.Native.Nat.{_<_, _≤_, _/_, _-_};
@@ -44,6 +45,25 @@ pub enum LongOperation {
     Andi,
     Xori,
     Movhi,
+}
+
+// What Format VII's floating instructions do but for CMPF.S, in the order of the sub-opcodes.
+pub enum FloatingOperation {
+    CvtWs,
+    CvtSw,
+    Addf,
+    Subf,
+    Mulf,
+    Divf,
+    TrncSw,
+}
+
+// What Format VII's Nintendo instructions do, in the order of the sub-opcodes.
+pub enum NintendoOperation {
+    Xb,
+    Xh,
+    Rev,
+    Mpyhw,
 }
 
 // How much a load or store moves.
@@ -144,6 +164,20 @@ pub enum Instruction {
         reg2: u32,
     },
     Illegal,
+    Cmpf {
+        reg1: u32,
+        reg2: u32,
+    },
+    Floating {
+        op: FloatingOperation,
+        reg1: u32,
+        reg2: u32,
+    },
+    Nintendo {
+        op: NintendoOperation,
+        reg1: u32,
+        reg2: u32,
+    },
 }
 
 // What the halfwords mean: an instruction, or one that the model leaves out (refusal 6).
@@ -266,7 +300,7 @@ fn long_form(f: u32, s: u32) -> Decoded
         59 => format::input(Width::Word, f, s),
         60 => format::output(Width::Byte, f, s),
         61 => format::output(Width::Half, f, s),
-        62 => Decoded::NotModelled,
+        62 => sub_opcode::extended(f, s),
         63 => format::output(Width::Word, f, s),
         _ => Decoded::NotModelled,
     }

@@ -3,6 +3,7 @@
 use Prim.Native.Nat.{ℕ, _+_, _%_, _^_}
 use mathlib.Core.List.{List}
 use lib.Dec.{eqb}
+use lib.Ieee.{binary32, toBits}
 use lib.ListN.{getD}
 use Rattle.word.specs.Choose.{pick}
 use Rattle.processor_arithmetic.specs.declared.Outcome.{Outcome}
@@ -13,10 +14,16 @@ use Rattle.processor_arithmetic.specs.Quotient.{divideOf, divideUnsignedOf}
 use Rattle.processor_arithmetic.specs.Condition.{conditionOf}
 use Rattle.bus.specs.Memory.{Memory}
 use Rattle.processor_decode.specs.declared.Instruction.{Instruction}
-use Rattle.processor_decode.specs.declared.Instruction.the-variants.{Register, Mul, Div, Mulu, Divu, Jmp, Immediate, Setf, Cli, Sei, Trap, Reti, Halt, Ldsr, Stsr, Bcond, Jr, Jal, Long, Load, In, Store, Out, Illegal}
+use Rattle.processor_decode.specs.declared.Instruction.the-variants.{Register, Mul, Div, Mulu, Divu, Jmp, Immediate, Setf, Cli, Sei, Trap, Reti, Halt, Ldsr, Stsr, Bcond, Jr, Jal, Long, Load, In, Store, Out, Illegal, Cmpf, Floating, Nintendo}
+use Rattle.processor_float.specs.Comparison.{comparisonOf}
+use Rattle.processor_float.specs.Flag.{numberFlagsOf, comparisonFlagsOf, conversionFlagsOf}
+use Rattle.processor_float.specs.declared.Compared.{Compared}
+use Rattle.processor_float.specs.declared.FloatOutcome.{FloatOutcome}
+use Rattle.processor_float.specs.declared.FloatOutcome.the-variants.{Number, Word, Reserved, Invalid, ZeroDivide, Overflow}
 use Rattle.processor_machine.specs.State.{State, Stepped, stateOf, steppedOf, regOf, putOf, evenOf}
 use Rattle.processor_machine.specs.System.{systemOf, writtenOf}
 use Rattle.processor_machine.specs.Exception.{raiseOf}
+use Rattle.processor_execute.specs.Floating.{floatingOf, nintendoOf}
 use Rattle.processor_execute.specs.Operation.{registerOf, immediateOf, longOf}
 use Rattle.processor_execute.specs.Transfer.{loadedOf, inputOf, storedOf}
 use Rattle.processor_machine.specs.declared.Cause as cause
@@ -42,6 +49,25 @@ pairOf n p next s m = goesOn (putOf (putOf (s .regs) 30 (p .r30)) n (p .reg2)) n
 -- a division, unless the divisor is zero
 abbrev pub dividesOf : ℕ → ℕ → Pair → ℕ → State → Memory → Stepped
 dividesOf divisor n p next s m = pick (eqb divisor 0) (raiseOf cause.the-variants.ZeroDivision next s m) (pairOf n p next s m)
+
+-- it came to a floating outcome: a number goes to register n as its word, a whole number as it is, and a trap leaves
+-- the general registers as found
+abbrev pub settlesOf : ℕ → FloatOutcome → ℕ → State → Memory → Stepped
+settlesOf n (Number v underflowed) next s m =
+    let w = toBits binary32 v in
+    goesOn (putOf (s .regs) n w) next (numberFlagsOf (s .psw) w underflowed) s m
+settlesOf n (Word w) next s m = goesOn (putOf (s .regs) n w) next (conversionFlagsOf (s .psw) w) s m
+settlesOf n Reserved next s m = raiseOf cause.the-variants.FloatReserved next s m
+settlesOf n Invalid next s m = raiseOf cause.the-variants.FloatInvalid next s m
+settlesOf n ZeroDivide next s m = raiseOf cause.the-variants.FloatZeroDivide next s m
+settlesOf n Overflow next s m = raiseOf cause.the-variants.FloatOverflow next s m
+
+-- it compared two floats
+abbrev pub comparesOf : Compared → ℕ → State → Memory → Stepped
+comparesOf Compared.Lower next s m = goesOn (s .regs) next (comparisonFlagsOf (s .psw) Compared.Lower) s m
+comparesOf Compared.Equal next s m = goesOn (s .regs) next (comparisonFlagsOf (s .psw) Compared.Equal) s m
+comparesOf Compared.Higher next s m = goesOn (s .regs) next (comparisonFlagsOf (s .psw) Compared.Higher) s m
+comparesOf Compared.Reserved next s m = raiseOf cause.the-variants.FloatReserved next s m
 
 -- it goes on at another address, whose bit 0 is dropped
 abbrev pub jumpsOf : ℕ → State → Memory → Stepped
@@ -93,3 +119,7 @@ executeOf (Stsr id reg2) next s m = givesOf reg2 (systemOf (s .sys) (s .psw) id)
 executeOf Cli next s m = goesOn (s .regs) next (clearIdOf (s .psw)) s m
 executeOf Sei next s m = goesOn (s .regs) next (setIdOf (s .psw)) s m
 executeOf Illegal next s m = raiseOf cause.the-variants.Illegal next s m
+-- Floating-Point, Nintendo
+executeOf (Cmpf reg1 reg2) next s m = comparesOf (comparisonOf (regOf s reg2) (regOf s reg1)) next s m
+executeOf (Floating op reg1 reg2) next s m = settlesOf reg2 (floatingOf op (regOf s reg2) (regOf s reg1)) next s m
+executeOf (Nintendo op reg1 reg2) next s m = givesOf reg2 (nintendoOf op (regOf s reg2) (regOf s reg1)) next s m

@@ -1,3 +1,4 @@
 pub mod Operation
 pub mod Transfer
+pub mod Floating
 pub mod Execute

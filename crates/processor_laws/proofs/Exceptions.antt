@@ -1,18 +1,18 @@
 -- An exception leaves an accepted machine, by its three entries: fatal, duplexed and regular.
-use Prim.Native.Nat.{ℕ, _+_, _*_, _/_, _%_, _^_, _<_}
+use Prim.Native.Nat.{ℕ, _+_, _-_, _*_, _/_, _%_, _^_, _<_}
 use mathlib.Core.Path.{refl}
 use native.Mathlib.Omega.{arith}
 use lib.Dec.{ltb, eqb}
 use lib.ListN.{getD, set}
-use Rattle.processor_arithmetic.specs.Flag.{flagOf}
+use Rattle.processor_arithmetic.specs.Flag.{flagOf, setFlagOf}
 use Rattle.bus.specs.Memory.{Memory}
 use Rattle.processor_machine.specs.State.{State, Stepped}
-use Rattle.processor_machine.specs.Exception.{codeOf, handlerOf, restoreOf, fatalOf, duplexedEntryOf, regularEntryOf, enterOf, raiseOf}
+use Rattle.processor_machine.specs.Exception.{codeOf, handlerOf, restoreOf, savedOf, fatalOf, duplexedEntryOf, regularEntryOf, enterOf, raiseOf}
 use Rattle.processor_machine.specs.declared.Cause.{Cause}
-use Rattle.processor_machine.specs.declared.Cause.the-variants.{ZeroDivision, Illegal, Trap}
+use Rattle.processor_machine.specs.declared.Cause.the-variants.{ZeroDivision, Illegal, Trap, FloatReserved, FloatInvalid, FloatZeroDivide, FloatOverflow}
 use Rattle.processor_laws.proofs.Lists.{pick-each}
 use Rattle.processor_laws.proofs.Invariant.{Format, Systems, Address, Good}
-use Rattle.processor_laws.proofs.Psw.{regular-format, duplexed-format}
+use Rattle.processor_laws.proofs.Psw.{low-format, regular-format, duplexed-format}
 use Rattle.processor_laws.proofs.Registers.{set-systems, eipc-system, eipsw-system, fepc-system, fepsw-system, ecr-system}
 
 -- the machine after a step
@@ -23,6 +23,10 @@ code-small : (c : Cause) → codeOf c < 65536
 code-small ZeroDivision = omega arith
 code-small Illegal = omega arith
 code-small (Trap vector) = omega arith
+code-small FloatReserved = omega arith
+code-small FloatInvalid = omega arith
+code-small FloatZeroDivide = omega arith
+code-small FloatOverflow = omega arith
 
 handler-address : (c : Cause) → Address (handlerOf c)
 handler-address ZeroDivision = record { word = omega arith; even = refl }
@@ -30,11 +34,29 @@ handler-address Illegal = record { word = omega arith; even = refl }
 handler-address (Trap vector) =
     pick-each Address (ltb (vector % 32) 16) 0xFFFFFFA0 0xFFFFFFB0
     record { word = omega arith; even = refl } record { word = omega arith; even = refl }
+handler-address FloatReserved = record { word = omega arith; even = refl }
+handler-address FloatInvalid = record { word = omega arith; even = refl }
+handler-address FloatZeroDivide = record { word = omega arith; even = refl }
+handler-address FloatOverflow = record { word = omega arith; even = refl }
 
 restore-address : (c : Cause) (pc next : ℕ) → Address pc → Address next → Address (restoreOf c pc next)
 restore-address ZeroDivision pc next p q = p
 restore-address Illegal pc next p q = p
 restore-address (Trap vector) pc next p q = q
+restore-address FloatReserved pc next p q = p
+restore-address FloatInvalid pc next p q = p
+restore-address FloatZeroDivide pc next p q = p
+restore-address FloatOverflow pc next p q = p
+
+-- the PSW that is saved is a PSW format
+saved-format : (c : Cause) (psw : ℕ) → Format psw → Format (savedOf c psw)
+saved-format ZeroDivision psw h = h
+saved-format Illegal psw h = h
+saved-format (Trap vector) psw h = h
+saved-format FloatReserved psw h = low-format psw (setFlagOf 512 psw) (psw % 1024 - psw / 512 % 2 * 512 + 512) h (omega arith) (omega arith)
+saved-format FloatInvalid psw h = low-format psw (setFlagOf 256 psw) (psw % 1024 - psw / 256 % 2 * 256 + 256) h (omega arith) (omega arith)
+saved-format FloatZeroDivide psw h = low-format psw (setFlagOf 128 psw) (psw % 1024 - psw / 128 % 2 * 128 + 128) h (omega arith) (omega arith)
+saved-format FloatOverflow psw h = low-format psw (setFlagOf 64 psw) (psw % 1024 - psw / 64 % 2 * 64 + 64) h (omega arith) (omega arith)
 
 module _ (c : Cause) (s : State) (m : Memory) (g : Good s m) where
   fatal-left : Left (fatalOf c s m)
@@ -85,5 +107,5 @@ module _ (c : Cause) (s : State) (m : Memory) (g : Good s m) where
 pub raise-left : (c : Cause) (next : ℕ) (s : State) (m : Memory) → Address next → Good s m → Left (raiseOf c next s m)
 unfolding raiseOf
 raise-left c next s m hn g =
-    enter-left c s m g (codeOf c) (handlerOf c) (restoreOf c (s .pc) next) (s .psw) (code-small c) (handler-address c)
-    (restore-address c (s .pc) next (g .address) hn) (g .format)
+    enter-left c s m g (codeOf c) (handlerOf c) (restoreOf c (s .pc) next) (savedOf c (s .psw)) (code-small c) (handler-address c)
+    (restore-address c (s .pc) next (g .address) hn) (saved-format c (s .psw) (g .format))

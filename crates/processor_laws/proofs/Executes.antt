@@ -2,9 +2,11 @@
 use Prim.Native.Nat.{ℕ, _%_, _^_, _<_}
 use mathlib.Core.List.{List}
 use mathlib.Core.Path.{refl}
+use mathlib.Core.Bool.{true, false}
 use native.Mathlib.Omega.{arith}
 use lib.Dec.{eqb}
 use lib.ListN.{getD}
+use lib.Ieee.{binary32, toBits}
 use Rattle.processor_arithmetic.specs.declared.Outcome.{Outcome}
 use Rattle.processor_arithmetic.specs.declared.Pair.{Pair}
 use Rattle.processor_arithmetic.specs.Flag.{bitOf, flagOf, setIdOf, clearIdOf}
@@ -14,17 +16,24 @@ use Rattle.processor_arithmetic.specs.Quotient.{divideOf, divideUnsignedOf}
 use Rattle.processor_arithmetic.specs.Condition.{conditionOf}
 use Rattle.bus.specs.Memory.{Memory}
 use Rattle.processor_decode.specs.declared.Instruction.{Instruction}
-use Rattle.processor_decode.specs.declared.Instruction.the-variants.{Register, Mul, Div, Mulu, Divu, Jmp, Immediate, Setf, Cli, Sei, Trap, Reti, Halt, Ldsr, Stsr, Bcond, Jr, Jal, Long, Load, In, Store, Out, Illegal}
+use Rattle.processor_decode.specs.declared.Instruction.the-variants.{Register, Mul, Div, Mulu, Divu, Jmp, Immediate, Setf, Cli, Sei, Trap, Reti, Halt, Ldsr, Stsr, Bcond, Jr, Jal, Long, Load, In, Store, Out, Illegal, Cmpf, Floating, Nintendo}
+use Rattle.processor_float.specs.Comparison.{comparisonOf}
+use Rattle.processor_float.specs.Flag.{orderFlagsOf, numberFlagsOf, conversionFlagsOf}
+use Rattle.processor_float.specs.declared.Compared.{Compared}
+use Rattle.processor_float.specs.declared.FloatOutcome.{FloatOutcome}
+use Rattle.processor_float.specs.declared.FloatOutcome.the-variants.{Number, Word, Reserved, Invalid, ZeroDivide, Overflow}
 use Rattle.processor_machine.specs.State.{State, regOf, putOf, evenOf}
 use Rattle.processor_machine.specs.System.{systemOf}
 use Rattle.processor_machine.specs.Exception.{raiseOf}
+use Rattle.processor_execute.specs.Floating.{floatingOf, nintendoOf}
 use Rattle.processor_execute.specs.Operation.{registerOf, immediateOf, longOf}
 use Rattle.processor_execute.specs.Transfer.{loadedOf, inputOf, storedOf}
-use Rattle.processor_execute.specs.Execute.{goesOn, givesOf, resultOf, pairOf, dividesOf, jumpsOf, plusOf, returnsOf, executeOf}
+use Rattle.processor_execute.specs.Execute.{goesOn, givesOf, resultOf, pairOf, dividesOf, settlesOf, comparesOf, jumpsOf, plusOf, returnsOf, executeOf}
 use Rattle.processor_machine.specs.declared.Cause as cause
 use Rattle.processor_laws.proofs.Lists.{pick-each}
 use Rattle.processor_laws.proofs.Invariant.{Format, Generals, Address, Memories, Good}
-use Rattle.processor_laws.proofs.Psw.{set-id-format, clear-id-format}
+use Rattle.processor_laws.proofs.Psw.{order-format, number-format, conversion-format, set-id-format, clear-id-format}
+use Rattle.processor_laws.proofs.Floats.{Kept, number-word, floating-kept, nintendo-word}
 use Rattle.processor_laws.proofs.Results.{Result, Results, register-result, immediate-result, long-result, multiply-results, multiply-unsigned-results, divide-results, divide-unsigned-results}
 use Rattle.processor_laws.proofs.Stores.{stored-memories, loaded-word, input-word}
 use Rattle.processor_laws.proofs.Immediates.{Fine}
@@ -62,6 +71,28 @@ module _ (s : State) (m : Memory) (g : Good s m) where
   divides divisor n p next r hn =
       pick-each Left (eqb divisor 0) (raiseOf cause.the-variants.ZeroDivision next s m) (pairOf n p next s m)
       (raise-left cause.the-variants.ZeroDivision next s m hn g) (pair n p next r hn)
+
+  settles : (n : ℕ) (o : FloatOutcome) (next : ℕ) → Kept o → Address next → Left (settlesOf n o next s m)
+  settles n (Number v underflowed) next k hn =
+      let w = toBits binary32 v in
+      goes-on (putOf (s .regs) n w) next (numberFlagsOf (s .psw) w underflowed) m
+      (put-generals (s .regs) n w (number-word v k) (g .generals)) hn (number-format (s .psw) w underflowed (g .format)) (g .memories)
+  settles n (Word w) next k hn =
+      goes-on (putOf (s .regs) n w) next (conversionFlagsOf (s .psw) w) m (put-generals (s .regs) n w k (g .generals)) hn
+      (conversion-format (s .psw) w (g .format) k) (g .memories)
+  settles n Reserved next k hn = raise-left cause.the-variants.FloatReserved next s m hn g
+  settles n Invalid next k hn = raise-left cause.the-variants.FloatInvalid next s m hn g
+  settles n ZeroDivide next k hn = raise-left cause.the-variants.FloatZeroDivide next s m hn g
+  settles n Overflow next k hn = raise-left cause.the-variants.FloatOverflow next s m hn g
+
+  compares : (c : Compared) (next : ℕ) → Address next → Left (comparesOf c next s m)
+  compares Compared.Lower next hn =
+      goes-on (s .regs) next (orderFlagsOf (s .psw) false true) m (g .generals) hn (order-format (s .psw) false true (g .format)) (g .memories)
+  compares Compared.Equal next hn =
+      goes-on (s .regs) next (orderFlagsOf (s .psw) true false) m (g .generals) hn (order-format (s .psw) true false (g .format)) (g .memories)
+  compares Compared.Higher next hn =
+      goes-on (s .regs) next (orderFlagsOf (s .psw) false false) m (g .generals) hn (order-format (s .psw) false false (g .format)) (g .memories)
+  compares Compared.Reserved next hn = raise-left cause.the-variants.FloatReserved next s m hn g
 
   jumps : (pc : ℕ) → pc < 2 ^ 32 → Left (jumpsOf pc s m)
   jumps pc h = goes-on (s .regs) (evenOf pc) (s .psw) m (g .generals) (even-address pc h) (g .format) (g .memories)
@@ -151,3 +182,8 @@ module _ (s : State) (m : Memory) (g : Good s m) where
     execute-left Cli f = stays next (clearIdOf (s .psw)) hn (clear-id-format (s .psw) (g .format))
     execute-left Sei f = stays next (setIdOf (s .psw)) hn (set-id-format (s .psw) (g .format))
     execute-left Illegal f = raise-left cause.the-variants.Illegal next s m hn g
+    execute-left (Cmpf reg1 reg2) f = compares (comparisonOf (regOf s reg2) (regOf s reg1)) next hn
+    execute-left (Floating op reg1 reg2) f =
+        settles reg2 (floatingOf op (regOf s reg2) (regOf s reg1)) next (floating-kept op (regOf s reg2) (regOf s reg1)) hn
+    execute-left (Nintendo op reg1 reg2) f =
+        gives reg2 (nintendoOf op (regOf s reg2) (regOf s reg1)) next (nintendo-word op (regOf s reg2) (regOf s reg1) (reg-word reg2)) hn

@@ -5,9 +5,10 @@ use native.Mathlib.Omega.{arith}
 use lib.Dec.{eqb}
 use Rattle.word.specs.Extend.{extendOf, extended-word}
 use Rattle.processor_decode.specs.Format.{lowOf, reg2Of, ldsr, stsr}
+use Rattle.processor_decode.specs.SubOpcode.{subRows, extendedOf}
 use Rattle.processor_decode.specs.Opcode.{shortRows, branchRows, longRows, decodeOf}
 use Rattle.processor_decode.specs.declared.Instruction.{Instruction}
-use Rattle.processor_decode.specs.declared.Instruction.the-variants.{Register, Mul, Div, Mulu, Divu, Jmp, Immediate, Setf, Cli, Sei, Trap, Reti, Halt, Ldsr, Stsr, Bcond, Jr, Jal, Long, Load, In, Store, Out, Illegal}
+use Rattle.processor_decode.specs.declared.Instruction.the-variants.{Register, Mul, Div, Mulu, Divu, Jmp, Immediate, Setf, Cli, Sei, Trap, Reti, Halt, Ldsr, Stsr, Bcond, Jr, Jal, Long, Load, In, Store, Out, Illegal, Cmpf, Floating, Nintendo}
 use Rattle.processor_decode.specs.declared.Decoded.{Decoded}
 use Rattle.processor_decode.specs.declared.Decoded.the-variants.{Modelled, NotModelled}
 use Rattle.processor_laws.proofs.Lists.{Each, each-append, each-at, pick-each}
@@ -38,6 +39,9 @@ Fine (Stsr id reg2) = Unit {0}
 Fine Cli = Unit {0}
 Fine Sei = Unit {0}
 Fine Illegal = Unit {0}
+Fine (Cmpf reg1 reg2) = Unit {0}
+Fine (Floating op reg1 reg2) = Unit {0}
+Fine (Nintendo op reg1 reg2) = Unit {0}
 
 abbrev pub Found : Decoded → Type 0
 Found (Modelled i) = Fine i
@@ -65,6 +69,13 @@ module _ (f : ℕ) where
   unfolding branchRows
   branch-found = (tt, (tt, (tt, (tt, (tt, (tt, (tt, (tt, tt))))))))
 
+-- no instruction of opcode 111110 has an immediate
+extended-found : (f s : ℕ) → Found (extendedOf f s)
+unfolding subRows extendedOf
+extended-found f s =
+    each-at Found (subRows f) (s / 1024) (Modelled Illegal)
+    (tt, (tt, (tt, (tt, (tt, (tt, (tt, (tt, (tt, (tt, (tt, (tt, (tt, tt))))))))))))) tt
+
 module _ (f s : ℕ) (h : s < 65536) where
   long-found : Each Found (longRows f s)
   unfolding longRows
@@ -72,7 +83,7 @@ module _ (f s : ℕ) (h : s < 65536) where
       let e : extendOf 32768 s < 2 ^ 32 = extended-word 32768 s (omega arith) (omega arith) in
       let p : s < 2 ^ 32 = omega arith in
       let q : s * 65536 < 2 ^ 32 = omega arith in
-      (e, (e, (tt, (tt, (p, (p, (p, (q, (tt, (tt, (tt, (tt, (tt, (tt, (tt, (tt, (tt, (tt, (tt, (tt, (tt, (tt, (tt, (tt, tt))))))))))))))))))))))))
+      (e, (e, (tt, (tt, (p, (p, (p, (q, (tt, (tt, (tt, (tt, (tt, (tt, (tt, (tt, (tt, (tt, (tt, (tt, (tt, (tt, (extended-found f s, (tt, tt))))))))))))))))))))))))
 
   pub decoded-found : Found (decodeOf f s)
   unfolding decodeOf

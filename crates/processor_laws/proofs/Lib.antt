@@ -1,8 +1,9 @@
--- `Accepting`, `Calling` and `Runs` prove the statements of specs/.
+-- `Accepting`, `Calling`, `Runs` and `Extending` prove the statements of specs/.
 mod Lists
 mod Invariant
 mod Psw
 mod Results
+mod Floats
 mod Stores
 mod Immediates
 mod Registers
@@ -11,3 +12,4 @@ mod Executes
 pub mod Accepting
 pub mod Calling
 pub mod Runs
+pub mod Extending

@@ -1,10 +1,14 @@
--- A PSW stays within the bits of 0x000FF3FF: after results' flags, and with ID, EP, NP and AE set or cleared.
+-- A PSW stays within the bits of 0x000FF3FF: after results' flags, and with a floating flag, ID, EP, NP and AE set or
+-- cleared.
 use Prim.Native.Nat.{ℕ, _+_, _-_, _*_, _/_, _%_, _^_, _≤_, _<_}
 use mathlib.Core.Path.{_≡_, subst}
+use mathlib.Core.Bool.{Bool, true, false}
 use native.Mathlib.Omega.{arith}
-use lib.Dec.{eqb}
-use Rattle.processor_arithmetic.specs.Flag.{signOf, zeroOf, flagsOf, keepCarryOf, setIdOf, clearIdOf, setEpOf, setNpOf, clearAeOf, regularOf, duplexedOf}
+use lib.Dec.{ltb, eqb}
+use Rattle.processor_arithmetic.specs.Flag.{bitOf, setFlagOf, signOf, zeroOf, flagsOf, keepCarryOf, setIdOf, clearIdOf, setEpOf, setNpOf, clearAeOf, regularOf, duplexedOf}
 use Rattle.processor_arithmetic.specs.Bit.{bit-small}
+use Rattle.processor_float.specs.Operand.{isZero}
+use Rattle.processor_float.specs.Flag.{orderFlagsOf, underflowOf, numberFlagsOf, conversionFlagsOf}
 use Rattle.processor_machine.specs.System.{pswBitsOf}
 use Rattle.processor_laws.proofs.Invariant.{Format}
 
@@ -47,6 +51,29 @@ low-three psw r h hr =
     let e : psw / 8 ≡ psw / 4096 * 512 + psw % 1024 / 8 = omega arith in
     joined (psw / 8 * 8 + r) (psw / 4096) (psw % 1024 / 8 * 8 + r) (omega arith) q (omega arith)
 
+-- only the ten low bits change
+pub low-format : (psw v low : ℕ) → Format psw → v ≡ psw - psw % 1024 + low → low < 1024 → Format v
+low-format psw v low h e l =
+    let p = parted psw h in
+    joined v (psw / 4096) low (omega arith) (high-small psw h) l
+
+pub order-format : (psw : ℕ) (zero negative : Bool) → Format psw → Format (orderFlagsOf psw zero negative)
+unfolding orderFlagsOf
+order-format psw zero negative h =
+    let hz : bitOf zero < 2 = bit-small zero in
+    let hn : bitOf negative < 2 = bit-small negative in
+    let e : psw / 16 * 16 + (bitOf negative * 10 + bitOf zero) ≡ psw / 16 * 16 + bitOf negative * 10 + bitOf zero = omega arith in
+    subst Format e (low-four psw (bitOf negative * 10 + bitOf zero) h (omega arith))
+
+underflow-format : (psw : ℕ) (underflowed : Bool) → Format psw → Format (underflowOf psw underflowed)
+unfolding underflowOf
+underflow-format psw true h = low-format psw (setFlagOf 32 psw) (psw % 1024 - psw / 32 % 2 * 32 + 32) h (omega arith) (omega arith)
+underflow-format psw false h = h
+
+pub number-format : (psw w : ℕ) (underflowed : Bool) → Format psw → Format (numberFlagsOf psw w underflowed)
+unfolding numberFlagsOf
+number-format psw w underflowed h = order-format (underflowOf psw underflowed) (isZero w) (ltb (2 ^ 31) w) (underflow-format psw underflowed h)
+
 pub flags-format : (psw cy ov v : ℕ) → Format psw → cy < 2 → ov < 2 → v < 2 ^ 32 → Format (flagsOf psw cy ov v)
 unfolding flagsOf
 flags-format psw cy ov v h hc ho hv =
@@ -60,6 +87,10 @@ keep-carry-format psw ov v h ho hv =
     let hz : zeroOf v < 2 = bit-small (eqb v 0) in
     let e : psw / 8 * 8 + (ov * 4 + signOf v * 2 + zeroOf v) ≡ psw / 8 * 8 + ov * 4 + signOf v * 2 + zeroOf v = omega arith in
     subst Format e (low-three psw (ov * 4 + signOf v * 2 + zeroOf v) h (omega arith))
+
+pub conversion-format : (psw w : ℕ) → Format psw → w < 2 ^ 32 → Format (conversionFlagsOf psw w)
+unfolding conversionFlagsOf
+conversion-format psw w h hw = keep-carry-format psw 0 w h (omega arith) hw
 
 pub set-id-format : (psw : ℕ) → Format psw → Format (setIdOf psw)
 unfolding setIdOf

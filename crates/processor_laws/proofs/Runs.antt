@@ -13,10 +13,15 @@ use Rattle.processor_decode.specs.Opcode.{decodeOf}
 use Rattle.processor_decode.specs.declared.Decoded.{Decoded}
 use Rattle.processor_decode.specs.declared.Decoded.the-variants.{Modelled, NotModelled}
 use Rattle.processor_decode.specs.declared.Instruction.{Instruction}
-use Rattle.processor_decode.specs.declared.Instruction.the-variants.{Register, Mul, Div, Mulu, Divu, Jmp, Immediate, Setf, Cli, Sei, Trap, Reti, Halt, Ldsr, Stsr, Bcond, Jr, Jal, Long, Load, In, Store, Out, Illegal}
+use Rattle.processor_decode.specs.declared.Instruction.the-variants.{Register, Mul, Div, Mulu, Divu, Jmp, Immediate, Setf, Cli, Sei, Trap, Reti, Halt, Ldsr, Stsr, Bcond, Jr, Jal, Long, Load, In, Store, Out, Illegal, Cmpf, Floating, Nintendo}
 use Rattle.processor_machine.specs.State.{State, Stepped, stateOf, regOf}
-use Rattle.processor_machine.specs.Exception.{fatalOf, duplexedEntryOf, regularEntryOf, enterOf, raiseOf, codeOf, handlerOf, restoreOf}
-use Rattle.processor_execute.specs.Execute.{goesOn, pairOf, jumpsOf, plusOf, executeOf}
+use Rattle.processor_machine.specs.Exception.{fatalOf, duplexedEntryOf, regularEntryOf, enterOf, raiseOf, codeOf, handlerOf, restoreOf, savedOf}
+use Rattle.processor_execute.specs.Execute.{goesOn, pairOf, settlesOf, comparesOf, jumpsOf, plusOf, executeOf}
+use Rattle.processor_execute.specs.Floating.{floatingOf}
+use Rattle.processor_float.specs.Comparison.{comparisonOf}
+use Rattle.processor_float.specs.declared.Compared.{Compared}
+use Rattle.processor_float.specs.declared.FloatOutcome.{FloatOutcome}
+use Rattle.processor_float.specs.declared.FloatOutcome.the-variants.{Number, Word, Reserved, Invalid, ZeroDivide, Overflow}
 use Rattle.processor_step.specs.Step.{firstOf, secondOf, nextOf, performOf, runningStepOf, stepInOf, stepOf}
 use Rattle.processor_machine.specs.declared.Cause as cause
 use Rattle.processor_machine.specs.declared.Mode.{Mode}
@@ -46,8 +51,22 @@ module _ (s : State) (m : Memory) where
   unfolding raiseOf enterOf
   raise-idle c next =
       pick-each Idle (eqb (flagOf 32768 (s .psw)) 1) (fatalOf c s m) _ (refl, refl)
-      (pick-each Idle (eqb (flagOf 16384 (s .psw)) 1) (duplexedEntryOf c (codeOf c) (restoreOf c (s .pc) next) (s .psw) s m)
-      (regularEntryOf c (codeOf c) (handlerOf c) (restoreOf c (s .pc) next) (s .psw) s m) tt tt)
+      (pick-each Idle (eqb (flagOf 16384 (s .psw)) 1) (duplexedEntryOf c (codeOf c) (restoreOf c (s .pc) next) (savedOf c (s .psw)) s m)
+      (regularEntryOf c (codeOf c) (handlerOf c) (restoreOf c (s .pc) next) (savedOf c (s .psw)) s m) tt tt)
+
+  settles-idle : (n : ℕ) (o : FloatOutcome) (next : ℕ) → Idle (settlesOf n o next s m)
+  settles-idle n (Number v underflowed) next = tt
+  settles-idle n (Word w) next = tt
+  settles-idle n Reserved next = raise-idle cause.the-variants.FloatReserved next
+  settles-idle n Invalid next = raise-idle cause.the-variants.FloatInvalid next
+  settles-idle n ZeroDivide next = raise-idle cause.the-variants.FloatZeroDivide next
+  settles-idle n Overflow next = raise-idle cause.the-variants.FloatOverflow next
+
+  compares-idle : (c : Compared) (next : ℕ) → Idle (comparesOf c next s m)
+  compares-idle Compared.Lower next = tt
+  compares-idle Compared.Equal next = tt
+  compares-idle Compared.Higher next = tt
+  compares-idle Compared.Reserved next = raise-idle cause.the-variants.FloatReserved next
 
   execute-idle : (i : Instruction) (next : ℕ) → Idle (executeOf i next s m)
   unfolding executeOf
@@ -82,6 +101,9 @@ module _ (s : State) (m : Memory) where
   execute-idle Cli next = tt
   execute-idle Sei next = tt
   execute-idle Illegal next = raise-idle cause.the-variants.Illegal next
+  execute-idle (Cmpf reg1 reg2) next = compares-idle (comparisonOf (regOf s reg2) (regOf s reg1)) next
+  execute-idle (Floating op reg1 reg2) next = settles-idle reg2 (floatingOf op (regOf s reg2) (regOf s reg1)) next
+  execute-idle (Nintendo op reg1 reg2) next = tt
 
   perform-idle : (d : Decoded) (next : ℕ) → Idle (performOf d next s m)
   perform-idle (Modelled i) next = execute-idle i next

@@ -1,3 +1,4 @@
 pub mod Accepted
 pub mod Steps
 pub mod Called
+pub mod Extended

@@ -21,6 +21,10 @@ pub enum Cause {
     ZeroDivision,
     Illegal,
     Trap(u32),
+    FloatReserved,
+    FloatInvalid,
+    FloatZeroDivide,
+    FloatOverflow,
 }
 
 // What a step did.

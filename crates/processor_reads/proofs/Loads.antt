@@ -12,9 +12,10 @@ use Rattle.word.specs.Choose.{pick, member}
 use Rattle.bus.specs.Memory.{Memory}
 use Rattle.processor_decode.specs.Format.{lowOf, reg2Of, load, input, ldsr, stsr}
 use Rattle.processor_decode.specs.Opcode.{decodeOf, shortRows, branchRows, longRows}
+use Rattle.processor_decode.specs.SubOpcode.{subRows, extendedOf}
 use Rattle.processor_decode.specs.declared.Width.{Width}
 use Rattle.processor_decode.specs.declared.Width.the-variants.{Byte, Half, Word}
-use Rattle.processor_decode.specs.declared.Instruction.the-variants.{Ldsr, Stsr}
+use Rattle.processor_decode.specs.declared.Instruction.the-variants.{Ldsr, Stsr, Illegal}
 use Rattle.processor_decode.specs.declared.Decoded.{Decoded}
 use Rattle.processor_decode.specs.declared.Decoded.the-variants.{Modelled, NotModelled}
 use Rattle.processor_machine.specs.State.{State}
@@ -55,6 +56,11 @@ module _ (f s : ℕ) where
   unfolding decodeOf shortRows branchRows longRows
   row-29 e = rw e
 
+  -- 111110, which has rows of its own
+  row-62 : f / 1024 ≡ 62 → decodeOf f s ≡ extendedOf f s
+  unfolding decodeOf shortRows branchRows longRows
+  row-62 e = rw e
+
 -- whether a test holds of every number below n
 abbrev everyBelow : (ℕ → Bool) → ℕ → Bool
 everyBelow f zero = true
@@ -78,7 +84,21 @@ below-test f (suc n) q all h =
 
 -- the rows that load, and those that are no instruction by themselves
 abbrev apart : List ℕ
-apart = 28 ∷ 29 ∷ 48 ∷ 49 ∷ 51 ∷ 56 ∷ 57 ∷ 59 ∷ []
+apart = 28 ∷ 29 ∷ 48 ∷ 49 ∷ 51 ∷ 56 ∷ 57 ∷ 59 ∷ 62 ∷ []
+
+-- whether no row of a list loads
+abbrev noneLoads : List Decoded → State → Memory → Bool
+noneLoads [] t m = true
+noneLoads (x ∷ xs) t m = pick (eqb (decodedLoadOf x t m) 0) (noneLoads xs t m) false
+
+row-quiet : (xs : List Decoded) (k : ℕ) (d : Decoded) (t : State) (m : Memory) → T (noneLoads xs t m) → decodedLoadOf d t m ≡ 0 → decodedLoadOf (getD xs k d) t m ≡ 0
+row-quiet [] k d t m h e = e
+row-quiet (x ∷ xs) zero d t m h e = eqb-true _ 0 (first (eqb (decodedLoadOf x t m) 0) (noneLoads xs t m) h)
+row-quiet (x ∷ xs) (suc k) d t m h e = row-quiet xs k d t m (later (eqb (decodedLoadOf x t m) 0) (noneLoads xs t m) h) e
+
+extended-quiet : (f s : ℕ) (t : State) (m : Memory) → decodedLoadOf (extendedOf f s) t m ≡ 0
+unfolding extendedOf subRows
+extended-quiet f s t m = row-quiet (subRows f) (s / 1024) (Modelled Illegal) t m tt refl
 
 module _ (f s : ℕ) (t : State) (m : Memory) where
   abbrev quiet : ℕ → Bool
@@ -103,8 +123,11 @@ module _ (f s : ℕ) (t : State) (m : Memory) where
         | yes e ↦ rw (row-28 f s e) (either NotModelled (Modelled (Ldsr (reg2Of f) (lowOf f))) (eqb (lowOf f) 24) refl refl)
         | no a ↦ elim (ℕ-discrete (f / 1024) 29) [
           | yes e ↦ rw (row-29 f s e) (either NotModelled (Modelled (Stsr (lowOf f) (reg2Of f))) (eqb (lowOf f) 24) refl refl)
-          | no b ↦
-              other h
-              (simp (ne-eqb (f / 1024) 28 a, ne-eqb (f / 1024) 29 b, ne-eqb (f / 1024) 48 n₁, ne-eqb (f / 1024) 49 n₂, ne-eqb (f / 1024) 51 n₃, ne-eqb (f / 1024) 56 n₄, ne-eqb (f / 1024) 57 n₅, ne-eqb (f / 1024) 59 n₆))
+          | no b ↦ elim (ℕ-discrete (f / 1024) 62) [
+            | yes e ↦ rw (row-62 f s e) (extended-quiet f s t m)
+            | no c ↦
+                other h
+                (simp (ne-eqb (f / 1024) 28 a, ne-eqb (f / 1024) 29 b, ne-eqb (f / 1024) 62 c, ne-eqb (f / 1024) 48 n₁, ne-eqb (f / 1024) 49 n₂, ne-eqb (f / 1024) 51 n₃, ne-eqb (f / 1024) 56 n₄, ne-eqb (f / 1024) 57 n₅, ne-eqb (f / 1024) 59 n₆))
+          ]
         ]
       ]

@@ -10,7 +10,7 @@ use Rattle.processor_decode.specs.Opcode.{decodeOf}
 use Rattle.processor_decode.specs.declared.Width.{Width}
 use Rattle.processor_decode.specs.declared.Width.the-variants.{Byte, Half, Word}
 use Rattle.processor_decode.specs.declared.Instruction.{Instruction}
-use Rattle.processor_decode.specs.declared.Instruction.the-variants.{Register, Mul, Div, Mulu, Divu, Jmp, Immediate, Setf, Cli, Sei, Trap, Reti, Halt, Ldsr, Stsr, Bcond, Jr, Jal, Long, Load, In, Store, Out, Illegal}
+use Rattle.processor_decode.specs.declared.Instruction.the-variants.{Register, Mul, Div, Mulu, Divu, Jmp, Immediate, Setf, Cli, Sei, Trap, Reti, Halt, Ldsr, Stsr, Bcond, Jr, Jal, Long, Load, In, Store, Out, Illegal, Cmpf, Floating, Nintendo}
 use Rattle.processor_decode.specs.declared.Decoded.{Decoded}
 use Rattle.processor_decode.specs.declared.Decoded.the-variants.{Modelled, NotModelled}
 use Rattle.processor_machine.specs.State.{State, regOf}
@@ -53,6 +53,9 @@ loadUndefinedOf (Stsr id reg2) s m = 0
 loadUndefinedOf Cli s m = 0
 loadUndefinedOf Sei s m = 0
 loadUndefinedOf Illegal s m = 0
+loadUndefinedOf (Cmpf reg1 reg2) s m = 0
+loadUndefinedOf (Floating op reg1 reg2) s m = 0
+loadUndefinedOf (Nintendo op reg1 reg2) s m = 0
 
 abbrev pub decodedLoadOf : Decoded → State → Memory → ℕ
 decodedLoadOf (Modelled i) s m = loadUndefinedOf i s m

@@ -2,6 +2,7 @@
 use bus::Device;
 use processor_decode::Instruction;
 use processor_execute::compute;
+use processor_execute::floating;
 use processor_execute::jump;
 use processor_execute::memory;
 use processor_machine::Control;
@@ -152,5 +153,24 @@ pub fn execute(
             )
         }
         Instruction::Illegal => jump::illegal(sys, pc, next, psw),
+        Instruction::Cmpf { reg1, reg2 } => floating::cmpf(regs, sys, reg1, reg2, pc, next, psw),
+        Instruction::Floating { op, reg1, reg2 } => floating::floating(
+            regs,
+            sys,
+            op,
+            reg1,
+            reg2,
+            pc,
+            next,
+            psw,
+        ),
+        Instruction::Nintendo { op, reg1, reg2 } => floating::nintendo(
+            regs,
+            op,
+            reg1,
+            reg2,
+            next,
+            psw,
+        ),
     }
 }

@@ -21,6 +21,7 @@ pub const HALT: u16 = half(0b011010, 0, 0);
 pub const ILLEGAL: u16 = half(0b011011, 0, 0);
 pub const BIT_STRING: u16 = half(0b011111, 0, 0);
 pub const NOP: u16 = 0x9A00;
+pub const FLOATING: u16 = 0b111110;
 const LDSR: u16 = 0b011100;
 const STSR: u16 = 0b011101;
 
@@ -176,13 +177,25 @@ pub fn instruction(random: &mut Random) -> Vec<u16> {
             vec![half(opcode, source, base_register(random)), displacement(random)]
         }
         50..=57 => near_branch(random),
-        58 | 59 => system_access(random, target),
+        58 => system_access(random, target),
+        59 => vec![half(FLOATING, target, biased_register(random)), sub_opcode(random)],
         60 => vec![random.pick(&[half(0x16, 0, 0), half(0x1E, 0, 0)])],
         61 => vec![half(0b000110, random.below(32) as u16, 10)],
         62 => rare(random),
         _ => vec![half(random.pick(&[8, 9, 10, 11]), target, biased_register(random))],
     }
 }
+
+/// The second halfword of a 111110 instruction, mostly a listed one; the bits
+/// after the sub-opcode are random.
+fn sub_opcode(random: &mut Random) -> u16 {
+    let sub_opcode =
+        if random.one_in(16) { random.below(64) } else { random.pick(&SUB_OPCODES).into() };
+    (sub_opcode as u16) << 10 | random.half() & 0x3FF
+}
+
+/// The sub-opcodes that 000 lists.
+pub const SUB_OPCODES: [u16; 12] = [0, 2, 3, 4, 5, 6, 7, 8, 9, 10, 11, 12];
 
 /// LDSR or STSR; register 24 now and then.
 fn system_access(random: &mut Random, target: u16) -> Vec<u16> {
@@ -207,7 +220,7 @@ fn rare(random: &mut Random) -> Vec<u16> {
         5 => vec![HALT],
         6 => vec![half(LDSR, biased_register(random), 5)],
         7 => vec![half(0b001001, 1, 0)],
-        8 => vec![random.pick(&[BIT_STRING, half(0b111010, 1, 2), half(0b111110, 1, 2)])],
+        8 => vec![random.pick(&[BIT_STRING, half(0b111010, 1, 2)])],
         _ => vec![random.half(), random.half()],
     }
 }
@@ -237,7 +250,7 @@ fn handler(random: &mut Random, saved_pc: u16) -> Vec<u16> {
 
 /// Puts handlers at the exceptions' addresses and code at the reset address.
 pub fn put_handlers(random: &mut Random, twin: &mut Twin) {
-    for address in [0xFFFF_FF80, 0xFFFF_FF90, 0xFFFF_FFA0, 0xFFFF_FFB0] {
+    for address in [0xFFFF_FF60, 0xFFFF_FF80, 0xFFFF_FF90, 0xFFFF_FFA0, 0xFFFF_FFB0] {
         let code = handler(random, 0);
         twin.put_code(address, &code);
     }

@@ -242,11 +242,11 @@ fn runs_that_end_early() {
         ending(HALT, 0, 4, None, Mode::Halted),
         ending(BIT_STRING, 0, 3, not_modelled, Mode::Running),
         ending(half(0b111010, 1, 2), 0, 3, not_modelled, Mode::Running),
-        ending(half(0b111110, 1, 2), 0, 3, not_modelled, Mode::Running),
         ending(half(0b011100, 1, 24), 0, 3, not_modelled, Mode::Running),
         ending(half(0b011101, 1, 24), 0, 3, not_modelled, Mode::Running),
         ending(ILLEGAL, 0x8000, 3, None, Mode::Fatal),
         ending(half(0b110010, 1, 2), 0xC000, 3, None, Mode::Fatal),
+        ending(half(0b111110, 1, 2), 0x8000, 3, None, Mode::Fatal),
         ending(half(TRAP, 0, 5), 0x8000, 3, None, Mode::Fatal),
         ending(half(0b001001, 1, 0), 0x8000, 3, None, Mode::Fatal),
     ] {

@@ -2,6 +2,7 @@
 //! "Exceptions".
 
 use crate::arithmetic::{AE, EP, ID, NP};
+use crate::floating::{Trap, FIV, FOV, FRO, FZD};
 use crate::processor::{Mode, Processor, StepAnswer};
 
 /// Why an exception is raised.
@@ -11,6 +12,7 @@ pub enum Cause {
     IllegalOpcode,
     /// TRAP with its vector, 0 to 31.
     Trap(u8),
+    Floating(Trap),
 }
 
 impl Cause {
@@ -20,6 +22,10 @@ impl Cause {
             Cause::ZeroDivision => 0xFF80,
             Cause::IllegalOpcode => 0xFF90,
             Cause::Trap(vector) => 0xFFA0 + u32::from(vector),
+            Cause::Floating(Trap::ReservedOperand) => 0xFF60,
+            Cause::Floating(Trap::Overflow) => 0xFF64,
+            Cause::Floating(Trap::ZeroDivision) => 0xFF68,
+            Cause::Floating(Trap::InvalidOperation) => 0xFF70,
         }
     }
 
@@ -30,25 +36,38 @@ impl Cause {
             Cause::IllegalOpcode => 0xFFFF_FF90,
             Cause::Trap(vector) if vector < 16 => 0xFFFF_FFA0,
             Cause::Trap(_) => 0xFFFF_FFB0,
+            Cause::Floating(_) => 0xFFFF_FF60,
         }
     }
 
     /// "restore PC that of the instruction; TRAP ... the next".
     pub fn restore_pc(self, pc: u32) -> u32 {
         match self {
-            Cause::ZeroDivision | Cause::IllegalOpcode => pc,
+            Cause::ZeroDivision | Cause::IllegalOpcode | Cause::Floating(_) => pc,
             Cause::Trap(_) => pc.wrapping_add(2),
+        }
+    }
+
+    /// W4: a trap "sets its flag alone before PSW is saved"; other causes set
+    /// none.
+    fn flag(self) -> u32 {
+        match self {
+            Cause::Floating(Trap::ReservedOperand) => FRO,
+            Cause::Floating(Trap::InvalidOperation) => FIV,
+            Cause::Floating(Trap::ZeroDivision) => FZD,
+            Cause::Floating(Trap::Overflow) => FOV,
+            Cause::ZeroDivision | Cause::IllegalOpcode | Cause::Trap(_) => 0,
         }
     }
 }
 
 /// Enters an exception by the state of NP and EP (01 "Exceptions").
 pub(crate) fn raise(processor: &mut Processor, cause: Cause) -> StepAnswer {
-    let psw = processor.psw;
-    if psw & NP != 0 {
+    if processor.psw & NP != 0 {
         processor.mode = Mode::Fatal;
         return StepAnswer::TurnedFatal(cause);
     }
+    let psw = processor.psw | cause.flag();
     let restore_pc = cause.restore_pc(processor.pc);
     if psw & EP != 0 {
         processor.ecr = processor.ecr & 0x0000_FFFF | cause.code() << 16;

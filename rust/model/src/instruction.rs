@@ -1,6 +1,7 @@
 //! Instructions and their decoding: 000 "Instruction Formats" and "List of
 //! Instructions by Opcode"; 01 "Instructions".
 
+use crate::floating::Floating;
 use crate::number::{field, sign_extend};
 
 /// A general register, 0 to 31.
@@ -98,7 +99,18 @@ pub enum Instruction {
     ClearInterruptDisable,
     /// SEI.
     SetInterruptDisable,
-    /// 011011, 110010, 110110: one halfword each.
+    /// The floating instructions; reg1 is the right-hand operand.
+    Float { operation: Floating, reg2: RegisterNumber, reg1: RegisterNumber },
+    /// XB: reg2's low bytes exchanged.
+    ExchangeBytes { reg2: RegisterNumber },
+    /// XH: reg2's halfwords exchanged.
+    ExchangeHalfwords { reg2: RegisterNumber },
+    /// REV: reg2 = reg1 with its bits in reverse order.
+    Reverse { reg2: RegisterNumber, reg1: RegisterNumber },
+    /// MPYHW: reg2 times the low 17 bits of reg1.
+    MultiplyHalfword { reg2: RegisterNumber, reg1: RegisterNumber },
+    /// 011011, 110010, 110110: one halfword each; and an unlisted sub-opcode of
+    /// 111110: two.
     Illegal,
 }
 
@@ -285,7 +297,7 @@ fn decode_formats_iv_v(fields: &Fields) -> Instruction {
     }
 }
 
-/// 110000 to 111111; none for CAXI and the 111110 instructions.
+/// 110000 to 111111; none for CAXI.
 fn decode_formats_vi_vii(fields: &Fields) -> Option<Instruction> {
     Some(match fields.opcode {
         0b110000 => fields.load(Width::Byte, true),
@@ -301,6 +313,29 @@ fn decode_formats_vi_vii(fields: &Fields) -> Option<Instruction> {
         0b111101 => fields.store(Width::Half),
         0b111111 => fields.store(Width::Word),
         0b110010 | 0b110110 => Instruction::Illegal,
+        0b111110 => decode_sub_opcode(fields),
         _ => return None,
     })
+}
+
+/// 111110, by the sub-opcode: the second halfword's top six bits; its other
+/// bits are ignored.
+fn decode_sub_opcode(fields: &Fields) -> Instruction {
+    let (reg2, reg1) = (fields.reg2, fields.reg1);
+    let operation = match field(fields.second, 10, 6) {
+        0b000000 => Floating::Compare,
+        0b000010 => Floating::FromWord,
+        0b000011 => Floating::ToWord,
+        0b000100 => Floating::Add,
+        0b000101 => Floating::Subtract,
+        0b000110 => Floating::Multiply,
+        0b000111 => Floating::Divide,
+        0b001011 => Floating::Truncate,
+        0b001000 => return Instruction::ExchangeBytes { reg2 },
+        0b001001 => return Instruction::ExchangeHalfwords { reg2 },
+        0b001010 => return Instruction::Reverse { reg2, reg1 },
+        0b001100 => return Instruction::MultiplyHalfword { reg2, reg1 },
+        _ => return Instruction::Illegal,
+    };
+    Instruction::Float { operation, reg2, reg1 }
 }

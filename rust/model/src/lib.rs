@@ -19,6 +19,7 @@ pub mod character;
 pub mod display;
 pub mod drawing;
 pub mod exception;
+pub mod floating;
 pub mod instruction;
 pub mod number;
 pub mod object;

@@ -4,6 +4,7 @@
 use crate::arithmetic::{self, ID, NP, PSW_BITS};
 use crate::bus::{self, DrawingRegisters, Memories};
 use crate::exception::{raise, Cause};
+use crate::floating;
 use crate::instruction::{
     decode, has_second_half, Decoded, Instruction, Operand, RegisterNumber, Width,
 };
@@ -294,6 +295,15 @@ fn execute(
         Instruction::Operate { .. } | Instruction::Compare { .. } | Instruction::Not { .. } => {
             operate(processor, instruction)?
         }
+        Instruction::Float { operation, reg2, reg1 } => {
+            let (left, right) = (processor.general(reg2), processor.general(reg1));
+            let ended = floating::execute(operation, left, right, processor.psw)
+                .map_err(Cause::Floating)?;
+            processor.psw = ended.psw;
+            if let Some(result) = ended.result {
+                processor.set_general(reg2, result);
+            }
+        }
         Instruction::Load { width, signed, reg2, reg1, displacement } => {
             let address = processor.general(reg1).wrapping_add(displacement);
             let value = load(memories, drawing, width, signed, address);
@@ -327,6 +337,19 @@ fn set_registers(processor: &mut Processor, instruction: Instruction) {
         }
         Instruction::StoreSystemRegister { reg2, system } => {
             processor.set_general(reg2, processor.system(system));
+        }
+        Instruction::ExchangeBytes { reg2 } => {
+            processor.set_general(reg2, floating::exchange_bytes(processor.general(reg2)));
+        }
+        Instruction::ExchangeHalfwords { reg2 } => {
+            processor.set_general(reg2, floating::exchange_halfwords(processor.general(reg2)));
+        }
+        Instruction::Reverse { reg2, reg1 } => {
+            processor.set_general(reg2, floating::reverse(processor.general(reg1)));
+        }
+        Instruction::MultiplyHalfword { reg2, reg1 } => {
+            let (left, right) = (processor.general(reg2), processor.general(reg1));
+            processor.set_general(reg2, floating::multiply_halfword(left, right));
         }
         Instruction::ClearInterruptDisable => processor.psw &= !ID,
         Instruction::SetInterruptDisable => processor.psw |= ID,

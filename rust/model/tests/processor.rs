@@ -180,7 +180,7 @@ fn rows_of_the_opcode_table() {
         assert_eq!(decode(first, 0x9ABC), expected, "{opcode:06b}");
         assert_eq!(has_second_half(first), !one_half, "{opcode:06b}");
     }
-    for opcode in [0b011111, 0b111010, 0b111110] {
+    for opcode in [0b011111, 0b111010] {
         assert_eq!(decode(format_i(opcode, 5, 6), 0), Decoded::NotModelled, "{opcode:06b}");
     }
     for opcode in [0b011100, 0b011101] {

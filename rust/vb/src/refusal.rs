@@ -79,7 +79,7 @@ impl fmt::Display for Refusal {
             Refusal::NotModelled { pc, halfword } => write!(
                 f,
                 "the instruction 0x{halfword:04X} at 0x{pc:08X} is not modelled; left out are opcodes 011111 (bit \
-                 strings), 111010 (CAXI), 111110 (floating and extended) and LDSR or STSR of register 24"
+                 strings), 111010 (CAXI) and LDSR or STSR of register 24"
             ),
             Refusal::Frame { given } => {
                 write!(f, "frame {given} was asked for; frames are 0 and 1")

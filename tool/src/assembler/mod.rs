@@ -9,7 +9,8 @@ mod opcodes;
 use std::collections::HashMap;
 
 use opcodes::{
-    condition, immediate_form, load, packed, plain, register_form, store, three_operands, wrong,
+    condition, immediate_form, load, packed, plain, register_form, store, sub_opcode,
+    three_operands, wrong,
 };
 
 /// Where a program goes, and what it may refer to by name.
@@ -224,6 +225,7 @@ impl Place<'_> {
                 Ok(vec![packed(0b000110, 0, register(inner.ok_or(wrong(name))?)?)])
             }
             "TRAP" => Ok(vec![packed(0b011000, 0, self.immediate(operand, 0, 31)?)]),
+            "XB" | "XH" => extended(name, register(operand)?, 0),
             "JR" | "JAL" => {
                 let opcode = if name == "JR" { 0b101010 } else { 0b101011 };
                 let ahead = self.ahead(operand, -0x200_0000, 0x1FF_FFFE)?;
@@ -252,6 +254,9 @@ impl Place<'_> {
             return Ok(vec![packed(opcode, register(first)?, base), disp]);
         }
         if let Ok(reg1) = register(first) {
+            if sub_opcode(name).is_some() && !matches!(name, "XB" | "XH") {
+                return extended(name, register(second)?, reg1);
+            }
             return Ok(vec![packed(register_form(name)?, register(second)?, reg1)]);
         }
         let (opcode, low, high) = immediate_form(name)?;
@@ -272,6 +277,12 @@ fn within(value: i64, low: i64, high: i64) -> Result<i64, String> {
         return Ok(value);
     }
     Err(format!("{value} is not within {low} to {high}"))
+}
+
+/// Format VII: the sub-opcode stands in the second halfword.
+fn extended(name: &str, reg2: u16, reg1: u16) -> Result<Vec<u16>, String> {
+    let sub = sub_opcode(name).ok_or(wrong(name))?;
+    Ok(vec![packed(0b111110, reg2, reg1), sub << 10])
 }
 
 fn register(text: &str) -> Result<u16, String> {
@@ -311,6 +322,18 @@ mod tests {
             ("a: NOP\n BNZ a", vec![0x9A00, 0x95FE]),
             ("a: NOP\n JR a", vec![0x9A00, 0xABFF, 0xFFFE]),
             ("JAL a\na: NOP", vec![0xAC00, 0x0004, 0x9A00]),
+            ("CMPF.S r1, r2", vec![0xF841, 0x0000]),
+            ("CVT.WS r1, r2", vec![0xF841, 0x0800]),
+            ("CVT.SW r1, r2", vec![0xF841, 0x0C00]),
+            ("ADDF.S r1, r2", vec![0xF841, 0x1000]),
+            ("SUBF.S r1, r2", vec![0xF841, 0x1400]),
+            ("MULF.S r1, r2", vec![0xF841, 0x1800]),
+            ("DIVF.S r1, r2", vec![0xF841, 0x1C00]),
+            ("XB r2", vec![0xF840, 0x2000]),
+            ("XH r2", vec![0xF840, 0x2400]),
+            ("REV r1, r2", vec![0xF841, 0x2800]),
+            ("TRNC.SW r1, r2", vec![0xF841, 0x2C00]),
+            ("MPYHW r1, r2", vec![0xF841, 0x3000]),
             ("MOVEA -1, r1, r2", vec![0xA041, 0xFFFF]),
             ("MOVHI 0x700, r0, r6", vec![0xBCC0, 0x0700]),
             ("ORI 0xFFFF, r1, r2", vec![0xB041, 0xFFFF]),

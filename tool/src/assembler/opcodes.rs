@@ -112,3 +112,22 @@ pub fn store(name: &str) -> Option<u16> {
         _ => return None,
     })
 }
+
+/// The sub-opcode of Format VII, opcode 111110: the top six bits of the second halfword.
+pub fn sub_opcode(name: &str) -> Option<u16> {
+    Some(match name {
+        "CMPF.S" => 0b000000,
+        "CVT.WS" => 0b000010,
+        "CVT.SW" => 0b000011,
+        "ADDF.S" => 0b000100,
+        "SUBF.S" => 0b000101,
+        "MULF.S" => 0b000110,
+        "DIVF.S" => 0b000111,
+        "XB" => 0b001000,
+        "XH" => 0b001001,
+        "REV" => 0b001010,
+        "TRNC.SW" => 0b001011,
+        "MPYHW" => 0b001100,
+        _ => return None,
+    })
+}

@@ -64,6 +64,9 @@ output-requires c κs = search needs
 output-requires-2 : tie.Need-output-requires-2
 output-requires-2 c κs = search needs
 
+extended-requires : tie.Need-extended-requires
+extended-requires c κs = search needs
+
 output-requires-3 : tie.Need-output-requires-3
 output-requires-3 c κs = search needs
 
@@ -157,7 +160,7 @@ returns-22 c = rw (c .before .match .keys22) (c .output2 .ensures)
 
 returns-23 : tie.Need-returns-23
 unfolding longRows
-returns-23 c = rw (c .match .keys23)
+returns-23 c = rw (c .before .match .keys23) (c .extended .ensures)
 
 returns-24 : tie.Need-returns-24
 unfolding longRows
@@ -191,6 +194,7 @@ long-form-spec =
     input-requires-3
     output-requires
     output-requires-2
+    extended-requires
     output-requires-3
     returns
     returns-2

@@ -148,6 +148,24 @@ enum-told-5 c = search needs
 illegal-requires : tie.Need-illegal-requires
 illegal-requires c κs = search needs
 
+enum-known-i-20 : tie.Need-enum-known-i-20
+enum-known-i-20 c = search needs
+
+cmpf-requires : tie.Need-cmpf-requires
+cmpf-requires c κs = search needs
+
+enum-known-i-21 : tie.Need-enum-known-i-21
+enum-known-i-21 c = search needs
+
+floating-requires : tie.Need-floating-requires
+floating-requires c κs = search needs
+
+enum-known-i-22 : tie.Need-enum-known-i-22
+enum-known-i-22 c = search needs
+
+nintendo-requires : tie.Need-nintendo-requires
+nintendo-requires c κs = search needs
+
 returns : tie.Need-returns
 returns c = rw (c .before .before .before .i .given .1) (c .register .ensures _ _ _)
 
@@ -256,6 +274,15 @@ returns-23 c = rw (c .before .before .before .before .before .before .before .be
 returns-24 : tie.Need-returns-24
 returns-24 c = rw (c .before .before .enum-told5 .given .1) (c .illegal .ensures _ _)
 
+returns-25 : tie.Need-returns-25
+returns-25 c = rw (c .before .before .before .before .i20 .given .1) (c .cmpf .ensures _)
+
+returns-26 : tie.Need-returns-26
+returns-26 c = rw (c .before .before .before .before .i21 .given .1) (c .floating .ensures _)
+
+returns-27 : tie.Need-returns-27
+returns-27 c = rw (c .before .before .before .i22 .given .1) (c .nintendo .ensures _ _ _)
+
 pub execute-spec : {M : Type 1} → statement M
 execute-spec =
     tie.close
@@ -308,6 +335,12 @@ execute-spec =
     output-requires
     enum-told-5
     illegal-requires
+    enum-known-i-20
+    cmpf-requires
+    enum-known-i-21
+    floating-requires
+    enum-known-i-22
+    nintendo-requires
     returns
     returns-2
     returns-3
@@ -343,4 +376,7 @@ execute-spec =
     same-length-11
     same-length-12
     returns-23
-    returns-24)
+    returns-24
+    returns-25
+    returns-26
+    returns-27)

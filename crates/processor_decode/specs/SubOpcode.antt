@@ -1,0 +1,46 @@
+-- Opcode 111110 by sub-opcode, the top six bits of the second halfword s (document 000, "Format VII",
+-- "Floating-Point", "Nintendo"): one row for each sub-opcode up to 001100, with its mnemonic as there. One that 000
+-- does not list is illegal, and has two halfwords all the same.
+use Prim.Native.Nat.{ℕ, _/_}
+use mathlib.Core.List.{List, [], _∷_}
+use lib.ListN.{getD}
+use Rattle.processor_decode.specs.Format.{cmpf, floating, nintendo}
+use Rattle.processor_decode.specs.declared.FloatingOperation.{FloatingOperation}
+use Rattle.processor_decode.specs.declared.NintendoOperation.{NintendoOperation}
+use Rattle.processor_decode.specs.declared.Instruction.the-variants.{Illegal}
+use Rattle.processor_decode.specs.declared.Decoded.{Decoded}
+use Rattle.processor_decode.specs.declared.Decoded.the-variants.{Modelled}
+
+unfoldable pub subRows : ℕ → List Decoded
+subRows f =
+    -- 000000 CMPF.S
+    cmpf f ∷
+    -- 000001 not listed
+    Modelled Illegal ∷
+    -- 000010 CVT.WS
+    floating FloatingOperation.CvtWs f ∷
+    -- 000011 CVT.SW
+    floating FloatingOperation.CvtSw f ∷
+    -- 000100 ADDF.S
+    floating FloatingOperation.Addf f ∷
+    -- 000101 SUBF.S
+    floating FloatingOperation.Subf f ∷
+    -- 000110 MULF.S
+    floating FloatingOperation.Mulf f ∷
+    -- 000111 DIVF.S
+    floating FloatingOperation.Divf f ∷
+    -- 001000 XB
+    nintendo NintendoOperation.Xb f ∷
+    -- 001001 XH
+    nintendo NintendoOperation.Xh f ∷
+    -- 001010 REV
+    nintendo NintendoOperation.Rev f ∷
+    -- 001011 TRNC.SW
+    floating FloatingOperation.TrncSw f ∷
+    -- 001100 MPYHW
+    nintendo NintendoOperation.Mpyhw f ∷
+    []
+
+-- the row of the sub-opcode; 001101 to 111111 are not listed
+unfoldable pub extendedOf : ℕ → ℕ → Decoded
+extendedOf f s = getD (subRows f) (s / 1024) (Modelled Illegal)

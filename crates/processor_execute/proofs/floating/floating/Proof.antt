@@ -1,0 +1,25 @@
+-- `processor_execute::floating::floating`: its own case.
+use Rattle.processor_execute.specs.Execute.{executeOf}
+use borrow.Author.Needs.{needs}
+use Rattle.processor_execute.proofs.floating.floating.Statement.{statement}
+use Rattle.processor_execute.proofs.floating.floating.Tie as tie
+
+get-requires : tie.Need-get-requires
+get-requires c κs = search needs
+
+get-requires-2 : tie.Need-get-requires-2
+get-requires-2 c κs = search needs
+
+outcome-requires : tie.Need-outcome-requires
+outcome-requires c κs = search needs
+
+settle-requires : tie.Need-settle-requires
+settle-requires c κs = search needs
+
+returns : tie.Need-returns
+unfolding executeOf
+returns c = λ m. rw (c .settle .ensures m, c .before .before .before .outcome .ensures, c .before .before .before .before .get2 .ensures, c .before .before .before .before .before .before .get .ensures)
+
+pub floating-spec : {M : Type 1} → statement M
+floating-spec =
+    tie.close (tie.spec get-requires get-requires-2 outcome-requires settle-requires returns)

@@ -1,0 +1,19 @@
+-- `processor_float::nintendo::reverse2`: two bits exchanged.
+use native.Mathlib.Omega.{arith}
+use Rattle.processor_float.specs.Nintendo.{reversedOf}
+use borrow.Author.Needs.{needs}
+use Rattle.processor_float.proofs.nintendo.reverse2.Statement.{statement}
+use Rattle.processor_float.proofs.nintendo.reverse2.Tie as tie
+
+mul-result : tie.Need-mul-result
+mul-result c = search needs
+
+add-result : tie.Need-add-result
+add-result c = search needs
+
+returns : tie.Need-returns
+unfolding reversedOf
+returns c = (omega arith, omega arith)
+
+pub reverse2-spec : {M : Type 1} → statement M
+reverse2-spec = tie.close (tie.spec mul-result add-result returns)
