@@ -1,0 +1,29 @@
+// The timer's public call: a tick, which tests refusal 5 of the record it is given.
+use bus_timer::Hardware;
+use refusal::Refusal;
+use refusal::Verdict;
+ghost use mathlib.Core.Path.{_≡_};
+ghost use Rattle.bus_tick.specs.Tick.{checkedTickOf};
+
+// The answer of a tick: the record afterwards beside the verdict.
+pub struct Ticked {
+    pub verdict: Verdict,
+    pub hardware: Hardware,
+}
+
+// One tick of the interval that the timer's control has chosen.
+pub fn tick(hardware: Hardware) -> Ticked
+    ensures { λ r. ⌜ r ≡ checkedTickOf hardware ⌝ }
+{
+    if !bus_timer::ports::ok(hardware) {
+        return Ticked {
+            verdict: Verdict::Refused(Refusal::State),
+            hardware,
+        };
+    }
+    let after = bus_timer::timer::tick(hardware);
+    Ticked {
+        verdict: Verdict::Accepted,
+        hardware: after,
+    }
+}

@@ -1,0 +1,6 @@
+-- `Periods`, `TimerLines` and `Accepting` prove the statements of specs/.
+mod Choices
+mod Digits
+pub mod Periods
+pub mod TimerLines
+pub mod Accepting

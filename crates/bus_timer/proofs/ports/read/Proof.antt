@@ -1,0 +1,55 @@
+-- `bus_timer::ports::read`: by the offset.
+use Prim.Native.Nat.{_/_, _%_, _<_}
+use mathlib.Core.Path.{_≡_}
+use Rattle.bus_timer.specs.Ports.{portByteOf, controlBitsOf}
+use native.Mathlib.Omega.{arith}
+use borrow.Author.Tests.{eq-eqb, ne-eqb}
+use borrow.Author.Needs.{needs}
+use Rattle.bus_timer.proofs.ports.read.Statement.{statement}
+use Rattle.bus_timer.proofs.ports.read.Tie as tie
+
+cast-result : tie.Need-cast-result
+cast-result c = search needs
+
+returns : tie.Need-returns
+unfolding portByteOf
+returns c = (simp (eq-eqb _ _ (c .before .if1 .taken)), omega arith)
+
+cast-result-2 : tie.Need-cast-result-2
+cast-result-2 c = search needs
+
+returns-2 : tie.Need-returns-2
+unfolding portByteOf
+returns-2 c = let h = c .before .before .before .args .h in let small : h .count / 256 < 256 = omega (arith, c .struct-known2 .given) in let same : h .count / 256 ≡ h .count / 256 % 256 = omega arith in (simp (ne-eqb _ _ (c .before .before .if1 .left), eq-eqb _ _ (c .before .if2 .taken)) same, small)
+
+control-bits-requires : tie.Need-control-bits-requires
+control-bits-requires c κs = search needs
+
+add-result : tie.Need-add-result
+unfolding controlBitsOf
+add-result c = omega (arith, c .control-bits .ensures)
+
+cast-result-3 : tie.Need-cast-result-3
+cast-result-3 c = search needs
+
+returns-3 : tie.Need-returns-3
+unfolding portByteOf controlBitsOf
+returns-3 c = (rw (c .control-bits .ensures) (simp (ne-eqb _ _ (c .before .before .before .if1 .left), ne-eqb _ _ (c .before .before .if2 .left), eq-eqb _ _ (c .before .if3 .taken))), omega (arith, c .control-bits .ensures))
+
+returns-4 : tie.Need-returns-4
+unfolding portByteOf
+returns-4 c = (simp (ne-eqb _ _ (c .before .before .if1 .left), ne-eqb _ _ (c .before .if2 .left), ne-eqb _ _ (c .if3 .left)), omega arith)
+
+pub read-spec : {M : Type 1} → statement M
+read-spec =
+    tie.close
+    (tie.spec
+    cast-result
+    returns
+    cast-result-2
+    returns-2
+    control-bits-requires
+    add-result
+    cast-result-3
+    returns-3
+    returns-4)

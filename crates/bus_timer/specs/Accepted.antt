@@ -1,0 +1,40 @@
+-- An accepted record stays accepted (refusal 5, of the lines and the timer), and what that says of it: the statements.
+-- Their proofs are `tick-accepted`, `write-accepted`, `accepted-means`, `means-accepted`, `tick-halfwords` and
+-- `write-halfwords` in proofs/Accepting.
+use Prim.Native.Nat.{ℕ, _<_, _^_}
+use mathlib.Core.Bool.{true}
+use mathlib.Core.Path.{_≡_}
+use lib.Bits.{bitAnd}
+use Rattle.bus_timer.specs.Timer.{tickOf}
+use Rattle.bus_timer.specs.Ports.{portWrittenOf, hardwareOk}
+use Rattle.bus_timer.specs.declared.Hardware.{Hardware}
+
+abbrev pub TickAccepted : Type 0
+TickAccepted = (h : Hardware) → hardwareOk h ≡ true → hardwareOk (tickOf h) ≡ true
+
+abbrev pub WriteAccepted : Type 0
+WriteAccepted = (h : Hardware) (o v : ℕ) → hardwareOk h ≡ true → hardwareOk (portWrittenOf h o v) ≡ true
+
+-- five lines, and no control bit outside 0x1B
+pub record Means (h : Hardware) : Type 0 where
+  pub five-lines : h .lines < 2 ^ 5
+  pub control-bits : bitAnd (h .control) 0x1B ≡ h .control
+
+abbrev pub AcceptedMeans : Type 0
+AcceptedMeans = (h : Hardware) → hardwareOk h ≡ true → Means h
+
+abbrev pub MeansAccepted : Type 0
+MeansAccepted = (h : Hardware) → Means h → hardwareOk h ≡ true
+
+-- the record's fields are halfwords
+pub record Halfwords (h : Hardware) : Type 0 where
+  pub lines : h .lines < 2 ^ 16
+  pub count : h .count < 2 ^ 16
+  pub reload : h .reload < 2 ^ 16
+  pub control : h .control < 2 ^ 16
+
+abbrev pub TickHalfwords : Type 0
+TickHalfwords = (h : Hardware) → Halfwords h → Halfwords (tickOf h)
+
+abbrev pub WriteHalfwords : Type 0
+WriteHalfwords = (h : Hardware) (o v : ℕ) → v < 256 → Halfwords h → Halfwords (portWrittenOf h o v)

@@ -1,0 +1,69 @@
+-- The timer's registers among the addresses of region 2 (paper 02, W6): TLR, THR and TCR are bytes, and every other byte
+-- there reads 0 and ignores writes. What a write leaves is the project's own, as in Timer.
+use Prim.Native.Nat.{ℕ, _+_, _*_, _/_, _%_, _^_}
+use mathlib.Core.Bool.{Bool, false}
+use lib.Dec.{eqb, ltb}
+use Rattle.word.specs.Choose.{pick}
+use Rattle.bus_timer.specs.Timer.{hardwareOf, bitAt, hasBit, clearBitOf, timerLine, tEnb, zStat, zStatClr, timZInt, tClkSel}
+use Rattle.bus_timer.specs.declared.Hardware.{Hardware}
+
+-- T1: where the registers stand in region 2
+abbrev pub tlr : ℕ
+tlr = 0x18
+
+abbrev pub thr : ℕ
+thr = 0x1C
+
+abbrev pub tcr : ℕ
+tcr = 0x20
+
+-- W6.1: where an address stands in region 2; document 000 gives the registers no mirror there
+unfoldable pub hardwareOffsetOf : ℕ → ℕ
+hardwareOffsetOf a = a % 2 ^ 24
+
+-- the control bits that are stored, those of 0x1B
+unfoldable pub controlBitsOf : ℕ → ℕ
+controlBitsOf c = c % 4 + c / 8 % 4 * 8
+
+-- T2, T3: what the byte at an offset reads; bits 7 to 5 and bit 2 of TCR read 1
+unfoldable pub portByteOf : Hardware → ℕ → ℕ
+portByteOf h o =
+    pick (eqb o tlr) (h .count % 256)
+    (pick (eqb o thr) (h .count / 256 % 256) (pick (eqb o tcr) (0xE4 + controlBitsOf (h .control)) 0))
+
+-- T4: reload with a byte written to TLR, and to THR; count becomes the whole new reload at once
+abbrev pub reloadWrittenOf : ℕ → Hardware → Hardware
+reloadWrittenOf reload h = hardwareOf (h .lines) reload reload (h .control)
+
+abbrev pub lowWrittenOf : ℕ → ℕ → ℕ
+lowWrittenOf reload v = reload / 256 * 256 + v
+
+abbrev pub highWrittenOf : ℕ → ℕ → ℕ
+highWrittenOf reload v = reload % 256 + 256 * v
+
+-- T5, T6: the control bits after a byte written to TCR: T-Clk-Sel, Tim-Z-Int and T-Enb are its own, Z-Stat stays unless
+-- Z-Stat-Clr is set, which is never stored
+unfoldable pub controlWrittenOf : ℕ → ℕ → ℕ
+controlWrittenOf control v =
+    bitAt tEnb v + bitAt timZInt v * timZInt + bitAt tClkSel v * tClkSel
+    + pick (hasBit zStatClr v) 0 (bitAt zStat control * zStat)
+
+-- T7, T8: the lines after a byte written to TCR: the timer's is lowered if Z-Stat-Clr is set or Tim-Z-Int is clear
+unfoldable pub lineAfterControl : ℕ → ℕ → ℕ
+lineAfterControl lines v =
+    pick (hasBit zStatClr v) (clearBitOf timerLine lines) (pick (hasBit timZInt v) lines (clearBitOf timerLine lines))
+
+-- TCR with the byte v written to it; count and reload stay
+unfoldable pub tcrWrittenOf : Hardware → ℕ → Hardware
+tcrWrittenOf h v =
+    hardwareOf (lineAfterControl (h .lines) v) (h .count) (h .reload) (controlWrittenOf (h .control) v)
+
+-- the byte v written at an offset
+unfoldable pub portWrittenOf : Hardware → ℕ → ℕ → Hardware
+portWrittenOf h o v =
+    pick (eqb o tlr) (reloadWrittenOf (lowWrittenOf (h .reload) v) h)
+    (pick (eqb o thr) (reloadWrittenOf (highWrittenOf (h .reload) v) h) (pick (eqb o tcr) (tcrWrittenOf h v) h))
+
+-- 5, of the lines and the timer: five lines, and no control bit outside 0x1B
+unfoldable pub hardwareOk : Hardware → Bool
+hardwareOk h = pick (ltb (h .lines) 32) (eqb (controlBitsOf (h .control)) (h .control)) false

@@ -1,0 +1,68 @@
+-- The timer and the request lines (paper 02, W6). This copy of document 000 has no Timer section, so what a tick and a
+-- write do is the project's own (docs/DECISIONS.md, T1 to T13), each choice in one definition here. From the papers: the
+-- timer's line is that of level 1, raised when "the timer counter reached zero" (000, "List of Exceptions"); the timer
+-- advances "only when the bench tells of a tick" (02).
+use Prim.Native.Nat.{ℕ, _+_, _-_, _*_, _/_, _%_}
+use mathlib.Core.Bool.{Bool}
+use lib.Dec.{eqb}
+use Rattle.word.specs.Choose.{pick}
+use Rattle.bus_timer.specs.declared.Hardware.{Hardware}
+
+abbrev pub hardwareOf : ℕ → ℕ → ℕ → ℕ → Hardware
+hardwareOf lines count reload control =
+    record { lines = lines; count = count; reload = reload; control = control }
+
+-- the bit of weight w; whether it is set; the number with it cleared, and set
+abbrev pub bitAt : ℕ → ℕ → ℕ
+bitAt w x = x / w % 2
+
+abbrev pub hasBit : ℕ → ℕ → Bool
+hasBit w x = eqb (bitAt w x) 1
+
+abbrev pub clearBitOf : ℕ → ℕ → ℕ
+clearBitOf w x = x - bitAt w x * w
+
+abbrev pub setBitOf : ℕ → ℕ → ℕ
+setBitOf w x = clearBitOf w x + w
+
+-- the weight of the timer's line, and of TCR's bits
+abbrev pub timerLine : ℕ
+timerLine = 0x02
+
+abbrev pub tEnb : ℕ
+tEnb = 0x01
+
+abbrev pub zStat : ℕ
+zStat = 0x02
+
+abbrev pub zStatClr : ℕ
+zStatClr = 0x04
+
+abbrev pub timZInt : ℕ
+timZInt = 0x08
+
+abbrev pub tClkSel : ℕ
+tClkSel = 0x10
+
+-- T9: what a tick counts down from: "a count of 0 first becomes reload"
+unfoldable pub startOf : Hardware → ℕ
+startOf h = pick (eqb (h .count) 0) (h .reload) (h .count)
+
+-- T9, T10: the count is 0: Z-Stat is set whether or not Tim-Z-Int is, and the line is raised if it is
+unfoldable pub reachedZeroOf : Hardware → Hardware
+reachedZeroOf h =
+    hardwareOf (pick (hasBit timZInt (h .control)) (setBitOf timerLine (h .lines)) (h .lines)) 0 (h .reload)
+    (setBitOf zStat (h .control))
+
+-- T9: the count after a tick: "a count that is not 0 becomes one less", and 0 - 1 is 0
+unfoldable pub tickedCountOf : Hardware → ℕ
+tickedCountOf h = startOf h - 1
+
+-- T9: a tick of an enabled timer
+unfoldable pub countedOf : Hardware → Hardware
+countedOf h =
+    pick (eqb (tickedCountOf h) 0) (reachedZeroOf h) (hardwareOf (h .lines) (tickedCountOf h) (h .reload) (h .control))
+
+-- T9: a tick; with T-Enb clear it does nothing
+unfoldable pub tickOf : Hardware → Hardware
+tickOf h = pick (hasBit tEnb (h .control)) (countedOf h) h

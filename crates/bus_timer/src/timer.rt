@@ -1,0 +1,55 @@
+// The timer: what a tick does to it and to its line.
+use crate::Hardware;
+use crate::bits;
+ghost use mathlib.Core.Path.{_≡_};
+ghost use Rattle.bus_timer.specs.Timer.{startOf, reachedZeroOf, tickOf};
+
+// What a tick counts down from.
+fn start(h: Hardware) -> u16
+    ensures { λ r. ⌜ r ≡ startOf h ⌝ }
+{
+    if h.count == 0 {
+        return h.reload;
+    }
+    h.count
+}
+
+// The count reached zero: Z-Stat is set, and the timer's line is raised where Tim-Z-Int asks for it.
+fn reached_zero(h: Hardware) -> Hardware
+    ensures { λ r. ⌜ r ≡ reachedZeroOf h ⌝ }
+{
+    let control = bits::set_second(h.control);
+    if h.control / 8 % 2 == 1 {
+        return Hardware {
+            lines: bits::set_second(h.lines),
+            count: 0,
+            reload: h.reload,
+            control,
+        };
+    }
+    Hardware {
+        lines: h.lines,
+        count: 0,
+        reload: h.reload,
+        control,
+    }
+}
+
+// One tick.
+pub fn tick(h: Hardware) -> Hardware
+    ensures { λ r. ⌜ r ≡ tickOf h ⌝ }
+{
+    if h.control % 2 == 0 {
+        return h;
+    }
+    let from = start(h);
+    if from < 2 {
+        return reached_zero(h);
+    }
+    Hardware {
+        lines: h.lines,
+        count: from - 1,
+        reload: h.reload,
+        control: h.control,
+    }
+}

@@ -1,0 +1,3 @@
+-- `Exactly` proves the statements of specs/Accepted.
+mod Levels
+pub mod Exactly

@@ -1,0 +1,3 @@
+pub mod Interrupt
+pub mod Accepted
+pub mod Rows
