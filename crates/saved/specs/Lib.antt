@@ -1,0 +1,3 @@
+pub mod Body
+pub mod Calls
+pub mod Exactly

@@ -1,0 +1,4 @@
+pub mod Numbers
+pub mod Layout
+pub mod File
+pub mod Gaps
