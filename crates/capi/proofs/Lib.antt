@@ -1,1 +1,2 @@
 mod Boundary
+mod Saving

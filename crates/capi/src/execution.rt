@@ -85,7 +85,7 @@ fn mode_number(mode: Mode) -> u32
     }
 }
 
-fn processor_in(p: VbProcessor) -> Processor
+pub fn processor_in(p: VbProcessor) -> Processor
     ensures { λ r. ⌜ r ≡ processorIn p ⌝ }
 {
     let regs = p.regs;
@@ -106,7 +106,7 @@ fn processor_in(p: VbProcessor) -> Processor
     }
 }
 
-fn processor_out(p: Processor) -> VbProcessor
+pub fn processor_out(p: Processor) -> VbProcessor
     ensures { λ r. ⌜ r ≡ processorOut p ⌝ }
 {
     let regs = p.regs;
@@ -139,7 +139,7 @@ fn undefined_out(u: Undefined) -> VbUndefined
 }
 
 // VB_MISUSE, unless one of 1 to 5 comes first.
-fn misuse_number(v: Verdict) -> u32
+pub fn misuse_number(v: Verdict) -> u32
     ensures { λ r. ⌜ r ≡ misuseNumber v ⌝ }
 {
     match v {

@@ -4,3 +4,4 @@ pub mod brightness;
 pub mod execution;
 pub mod pictures;
 pub mod probes;
+pub mod states;

@@ -26,6 +26,7 @@ pub mod object;
 pub mod probe;
 pub mod processor;
 pub mod refusal;
+pub mod saved;
 pub mod world;
 
 pub use bus::{DrawingRegisters, Loaded, Memories, ReadMemories};
