@@ -70,16 +70,16 @@ pub enum Stop {
 }
 
 /// What a call was given, to tell a refusal's number by.
-struct Given<'a> {
+pub(crate) struct Given<'a> {
     /// ROM, WRAM, VRAM, pak RAM.
-    lengths: [usize; 4],
-    processor: Option<&'a Processor>,
-    drawing: &'a Drawing,
+    pub(crate) lengths: [usize; 4],
+    pub(crate) processor: Option<&'a Processor>,
+    pub(crate) drawing: &'a Drawing,
 }
 
 impl Given<'_> {
     /// `own` is the refusal of the call's own subject: 6, 7 or 8.
-    fn refusal(&self, number: u32, own: &[Refusal]) -> Refusal {
+    pub(crate) fn refusal(&self, number: u32, own: &[Refusal]) -> Refusal {
         let [rom, wram, vram, pak] = self.lengths;
         let told = match number {
             1 => Some(Refusal::RomLength { given: rom }),

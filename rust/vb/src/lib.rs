@@ -21,6 +21,7 @@ mod calls;
 mod probe;
 mod records;
 mod refusal;
+mod states;
 mod undefined;
 
 pub use brightness::{display, load_column_table, View};
@@ -29,7 +30,7 @@ pub use probe::{Probe, Width};
 pub use records::{Drawing, Machine, Mode, Processor, RecordError};
 pub use refusal::{grouped, Refusal};
 pub use undefined::{Mask, Read, Undefined};
-pub use vbsys::{Memories, ProbeMemories, ReadMemories};
+pub use vbsys::{state_bytes, Memories, ProbeMemories, ReadMemories};
 
 /// Bytes of WRAM.
 pub const WRAM_LENGTH: usize = 65_536;

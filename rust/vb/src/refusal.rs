@@ -25,6 +25,10 @@ pub enum Refusal {
     Strip { given: u32 },
     /// 8
     Character { given: u32 },
+    /// 9
+    FileLength { given: usize, due: usize },
+    /// 10
+    FileBytes,
     /// 15
     Eye { given: u32 },
     /// 15
@@ -47,6 +51,8 @@ impl Refusal {
             Refusal::NotModelled { .. } => 6,
             Refusal::Frame { .. } => 7,
             Refusal::Strip { .. } | Refusal::Character { .. } => 8,
+            Refusal::FileLength { .. } => 9,
+            Refusal::FileBytes => 10,
             Refusal::Eye { .. } | Refusal::Start { .. } | Refusal::Room { .. } => 15,
             Refusal::ProbeTarget { .. } => 13,
         }
@@ -90,6 +96,17 @@ impl fmt::Display for Refusal {
             Refusal::Character { given } => {
                 write!(f, "character {given} was asked for; characters are 0 to 2,047")
             }
+            Refusal::FileLength { given, due } => write!(
+                f,
+                "the file or room has {} bytes; with pak RAM of this length a saved state has {}",
+                grouped(*given as u64),
+                grouped(*due as u64)
+            ),
+            Refusal::FileBytes => write!(
+                f,
+                "the bytes are no saved state; each byte before the first body must be the layout's, and the records \
+                 must be those of an accepted machine"
+            ),
             Refusal::Eye { given } => {
                 write!(f, "eye {given} was asked for; eyes are 0 (left) and 1 (right)")
             }

@@ -101,6 +101,14 @@ pub struct Ran {
     pub drawing: Drawing,
 }
 
+/// `vb_machine`
+#[repr(C)]
+#[derive(Clone, Copy, Debug, Default, PartialEq, Eq)]
+pub struct Machine {
+    pub processor: Processor,
+    pub drawing: Drawing,
+}
+
 /// `vb_restored`
 #[repr(C)]
 #[derive(Clone, Copy, Debug, Default, PartialEq, Eq)]
@@ -110,12 +118,12 @@ pub struct Restored {
     pub drawing: Drawing,
 }
 
-/// `vb_machine`
-#[repr(C)]
-#[derive(Clone, Copy, Debug, Default, PartialEq, Eq)]
-pub struct Machine {
-    pub processor: Processor,
-    pub drawing: Drawing,
+/// `VB_STATE_BYTES`: the length of a saved state with `pak` bytes of pak RAM.
+pub fn state_bytes(pak: usize) -> usize {
+    match pak {
+        0 => 327_920,
+        _ => 327_930 + pak,
+    }
 }
 
 /// `vb_part`
@@ -311,102 +319,6 @@ mod processor {
 #[cfg(feature = "processor")]
 pub use processor::{reset, run, step};
 
-#[cfg(feature = "processor")]
-mod states {
-    use super::{Drawing, Memories, Processor, ReadMemories, Restored};
-
-    extern "C" {
-        fn vb_write_state(
-            rom: *const u8,
-            rom_len: usize,
-            wram: *const u8,
-            wram_len: usize,
-            vram: *const u8,
-            vram_len: usize,
-            pak: *const u8,
-            pak_len: usize,
-            processor: Processor,
-            drawing: Drawing,
-            room: *mut u8,
-            room_len: usize,
-        ) -> u32;
-        fn vb_read_state(
-            rom: *const u8,
-            rom_len: usize,
-            wram: *mut u8,
-            wram_len: usize,
-            vram: *mut u8,
-            vram_len: usize,
-            pak: *mut u8,
-            pak_len: usize,
-            processor: Processor,
-            drawing: Drawing,
-            file: *const u8,
-            file_len: usize,
-        ) -> Restored;
-    }
-
-    /// `vb_write_state`
-    #[inline]
-    pub fn write_state(
-        memories: ReadMemories,
-        processor: Processor,
-        drawing: Drawing,
-        room: &mut [u8],
-    ) -> u32 {
-        let ReadMemories { rom, wram, vram, pak } = memories;
-        // SAFETY: each pointer is lent with its slice's own length; the room alone is written.
-        unsafe {
-            vb_write_state(
-                rom.as_ptr(),
-                rom.len(),
-                wram.as_ptr(),
-                wram.len(),
-                vram.as_ptr(),
-                vram.len(),
-                pak.as_ptr(),
-                pak.len(),
-                processor,
-                drawing,
-                room.as_mut_ptr(),
-                room.len(),
-            )
-        }
-    }
-
-    /// `vb_read_state`
-    #[inline]
-    pub fn read_state(
-        memories: &mut Memories,
-        processor: Processor,
-        drawing: Drawing,
-        file: &[u8],
-    ) -> Restored {
-        let Memories { rom, wram, vram, pak } = memories;
-        // SAFETY: each pointer is lent with its slice's own length; ROM and the file are only
-        // read, and the others are borrowed mutably and apart.
-        unsafe {
-            vb_read_state(
-                rom.as_ptr(),
-                rom.len(),
-                wram.as_mut_ptr(),
-                wram.len(),
-                vram.as_mut_ptr(),
-                vram.len(),
-                pak.as_mut_ptr(),
-                pak.len(),
-                processor,
-                drawing,
-                file.as_ptr(),
-                file.len(),
-            )
-        }
-    }
-}
-
-#[cfg(feature = "processor")]
-pub use states::{read_state, write_state};
-
 #[cfg(feature = "drawing")]
 mod drawing {
     use super::{Drawing, Part};
@@ -505,3 +417,100 @@ mod display {
 
 #[cfg(feature = "drawing")]
 pub use display::{display, load_column_table};
+
+#[cfg(feature = "processor")]
+mod states {
+    use super::{Drawing, Memories, Processor, ReadMemories, Restored};
+
+    extern "C" {
+        fn vb_write_state(
+            rom: *const u8,
+            rom_len: usize,
+            wram: *const u8,
+            wram_len: usize,
+            vram: *const u8,
+            vram_len: usize,
+            pak: *const u8,
+            pak_len: usize,
+            processor: Processor,
+            drawing: Drawing,
+            room: *mut u8,
+            room_len: usize,
+        ) -> u32;
+        fn vb_read_state(
+            rom: *const u8,
+            rom_len: usize,
+            wram: *mut u8,
+            wram_len: usize,
+            vram: *mut u8,
+            vram_len: usize,
+            pak: *mut u8,
+            pak_len: usize,
+            processor: Processor,
+            drawing: Drawing,
+            file: *const u8,
+            file_len: usize,
+        ) -> Restored;
+    }
+
+    /// `vb_write_state`
+    #[inline]
+    pub fn write_state(
+        memories: ReadMemories,
+        processor: Processor,
+        drawing: Drawing,
+        room: &mut [u8],
+    ) -> u32 {
+        let ReadMemories { rom, wram, vram, pak } = memories;
+        // SAFETY: each pointer is lent with its slice's own length; the memories are only read,
+        // and the room is borrowed mutably and apart.
+        unsafe {
+            vb_write_state(
+                rom.as_ptr(),
+                rom.len(),
+                wram.as_ptr(),
+                wram.len(),
+                vram.as_ptr(),
+                vram.len(),
+                pak.as_ptr(),
+                pak.len(),
+                processor,
+                drawing,
+                room.as_mut_ptr(),
+                room.len(),
+            )
+        }
+    }
+
+    /// `vb_read_state`
+    #[inline]
+    pub fn read_state(
+        memories: &mut Memories,
+        processor: Processor,
+        drawing: Drawing,
+        file: &[u8],
+    ) -> Restored {
+        let Memories { rom, wram, vram, pak } = memories;
+        // SAFETY: each pointer is lent with its slice's own length; ROM and the file are only
+        // read, and the others are borrowed mutably and apart.
+        unsafe {
+            vb_read_state(
+                rom.as_ptr(),
+                rom.len(),
+                wram.as_mut_ptr(),
+                wram.len(),
+                vram.as_mut_ptr(),
+                vram.len(),
+                pak.as_mut_ptr(),
+                pak.len(),
+                processor,
+                drawing,
+                file.as_ptr(),
+                file.len(),
+            )
+        }
+    }
+}
+
+#[cfg(feature = "processor")]
+pub use states::{read_state, write_state};

@@ -7,7 +7,7 @@ use std::mem::{align_of, offset_of, size_of};
 use std::path::{Path, PathBuf};
 use std::process::Command;
 
-use vbsys::{Drawing, Loaded, Machine, Part, Processor, Ran, Stepped, Stored, Undefined};
+use vbsys::{Drawing, Loaded, Machine, Part, Processor, Ran, Restored, Stepped, Stored, Undefined};
 
 /// One line of the C program: a name, and the expression whose value it has.
 struct Fact {
@@ -59,7 +59,12 @@ fn facts() -> Vec<Fact> {
     fields!(facts, Stepped, "vb_stepped", refusal, answer, code, undefined, processor, drawing);
     fields!(facts, Ran, "vb_ran", refusal, count, processor, drawing);
     fields!(facts, Machine, "vb_machine", processor, drawing);
+    fields!(facts, Restored, "vb_restored", refusal, processor, drawing);
     fields!(facts, Part, "vb_part", refusal, offset, length);
+    for pak in [0, 1, 8_192, 16_777_216] {
+        let expression = format!("VB_STATE_BYTES({pak})");
+        facts.push(Fact { expression, here: vbsys::state_bytes(pak) });
+    }
     facts.push(constant("VB_VERSION", vbsys::VERSION));
     facts.push(constant("VB_MISUSE", vbsys::MISUSE));
     facts.push(constant("VB_RUNNING", vbsys::RUNNING));
