@@ -1,12 +1,21 @@
-//! `draw --brightness`: what a person sees of a frame, by the display unit.
+//! `draw --brightness` and `compare --brightness`: what a person sees of a frame, by the display unit.
 
 use clap::Args;
 use vb::{Refusal, View, COLUMNS, FULL_BRIGHTNESS, ROOM_LENGTH};
 
+use crate::capture::exact_values;
 use crate::commands::draw::Eyes;
 use crate::failure::Failure;
+use crate::files::Input;
 use crate::number;
-use crate::picture::Sheet;
+use crate::picture::{Picture, Sheet};
+
+/// What a capture of brightness must be.
+pub const CAPTURE: &str = "a capture of brightness: 86,016 bytes of 0 to 128, row by row, or a PNG";
+
+/// What a pixel of its PNG must be.
+const ALLOWED: &str =
+    "it must be opaque red or grey of one of the 129 levels that draw --brightness writes";
 
 #[derive(Args)]
 pub struct Options {
@@ -78,6 +87,14 @@ impl Options {
         Ok(files)
     }
 
+    /// The brightness that the model gives an eye's pixels of a frame in VRAM.
+    pub fn expected(&self, vram: &mut [u8], frame: u32, eye: u32) -> Result<Picture, Failure> {
+        if self.recommended_table {
+            vb::load_column_table(vram).map_err(refused)?;
+        }
+        Ok(Picture::of_values(self.seen(vram, frame, eye)?.0))
+    }
+
     fn seen(&self, vram: &[u8], frame: u32, eye: u32) -> Result<Seen, Failure> {
         let mut room = vec![0; ROOM_LENGTH];
         let durations = [self.brta, self.brtb, self.brtc];
@@ -85,6 +102,43 @@ impl Options {
         vb::display(vram, view, &mut room).map_err(refused)?;
         Ok(Seen(room))
     }
+}
+
+/// A die's capture of brightness.
+pub fn captured(input: &Input) -> Result<Picture, Failure> {
+    let wrong = |rule: String| Failure::bad(input.wrong(rule));
+    if input.bytes.starts_with(b"\x89PNG") {
+        let reds = reds();
+        let level = |[red, green, blue]: [u8; 3]| {
+            let level = reds.chunks(3).position(|colour| colour[0] == red)?;
+            ((green, blue) == (0, 0) || (green, blue) == (red, red)).then_some(level as u8)
+        };
+        return exact_values(&input.bytes, level, ALLOWED).map(Picture::of_values).map_err(wrong);
+    }
+    if input.bytes.len() != ROOM_LENGTH {
+        return Err(wrong(CAPTURE.to_string()));
+    }
+    if let Some(at) = input.bytes.iter().position(|&level| level > FULL_BRIGHTNESS) {
+        let (x, y, level) = (at % COLUMNS, at / COLUMNS, input.bytes[at]);
+        return Err(wrong(format!(
+            "pixel ({x}, {y}) has the brightness {level}; it is at most 128"
+        )));
+    }
+    Ok(Picture::of_values(input.bytes.clone()))
+}
+
+/// The model's brightness in grey; yellow where `seen` is brighter, cyan where it is darker.
+pub fn marked(expected: &Picture, seen: &Picture, scale: usize) -> Vec<u8> {
+    let full = FULL_BRIGHTNESS;
+    let grey = |level: u8| [(0x66 * u32::from(level) / u32::from(full)) as u8; 3];
+    let mut palette: Vec<u8> = (0..=full).flat_map(grey).collect();
+    palette.extend([0xFF, 0xE0, 0x00, 0x00, 0xD0, 0xFF]);
+    let at = |x: usize, y: usize| match (expected.value(x, y), seen.value(x, y)) {
+        (expected, seen) if seen > expected => full + 1,
+        (expected, seen) if seen < expected => full + 2,
+        (expected, _) => expected,
+    };
+    Sheet::new(COLUMNS, palette, at).png(scale)
 }
 
 fn refused(refusal: Refusal) -> Failure {

@@ -86,3 +86,51 @@ fn brightness_is_refused_as_the_library_says() {
     let ran = folder.vbmodel(&format!("draw {SCENE} --brightness --brta 256 --out a"));
     assert!(ran.status == 2 && ran.error.contains("256"), "{}", ran.error);
 }
+
+#[test]
+fn a_capture_of_brightness_is_compared() {
+    let folder = Folder::with_demo("brightness-compare");
+    let shown = format!("{SCENE} --brightness --recommended-table --start 190");
+    folder.vbmodel(&format!("draw {shown} --scale 3 --out a"));
+    let ran =
+        folder.vbmodel(&format!("compare {shown} --left a/frame1-left-brightness.png --out b"));
+    assert_eq!((ran.status, ran.error.as_str()), (0, ""), "{}", ran.text);
+    assert_eq!(ran.text, "left eye, frame 1: equal, 86,016 pixels\n");
+
+    // the same as raw bytes, with one pixel darker and one brighter
+    let picture = Rgb::read(&folder.read("a/frame1-left-brightness.png"));
+    let level = |x: usize, y: usize| (128 * u32::from(picture.at(3 * x, 3 * y)[0]) + 127) / 255;
+    let mut room: Vec<u8> =
+        (0..WIDTH * HEIGHT).map(|i| level(i % WIDTH, i / WIDTH) as u8).collect();
+    let bright = room.iter().position(|&level| level > 0).unwrap();
+    (room[0], room[bright]) = (room[0] + 1, room[bright] - 1);
+    folder.write("seen.bin", &room);
+    let ran = folder.vbmodel(&format!("compare {shown} --left seen.bin --out b"));
+    assert_eq!((ran.status, ran.error.as_str()), (1, ""), "{}", ran.text);
+    assert!(
+        ran.text.starts_with("left eye, frame 1: different, 2 of 86,016 pixels\n"),
+        "{}",
+        ran.text
+    );
+    assert!(ran.text.contains("written: b/compare-frame1-left-brightness.png\n"), "{}", ran.text);
+    let marked = Rgb::read(&folder.read("b/compare-frame1-left-brightness.png"));
+    assert_eq!(marked.at(0, 0), [0xFF, 0xE0, 0x00]);
+    assert_eq!(marked.at(bright % WIDTH, bright / WIDTH), [0x00, 0xD0, 0xFF]);
+
+    room[bright] = 129;
+    folder.write("seen.bin", &room);
+    let at = format!("pixel ({}, {}) has the brightness 129", bright % WIDTH, bright / WIDTH);
+    let ran = folder.vbmodel(&format!("compare {shown} --left seen.bin --out c"));
+    assert!(ran.status == 2 && ran.error.contains(&at), "{}", ran.error);
+    folder.write("seen.bin", &room[1..]);
+    let ran = folder.vbmodel(&format!("compare {shown} --left seen.bin --out c"));
+    assert!(ran.status == 2 && ran.error.contains("86,016"), "{}", ran.error);
+    for other in ["--why", "--threshold 9"] {
+        let ran = folder.vbmodel(&format!("compare {shown} --left seen.bin {other} --out c"));
+        assert!(
+            ran.status == 2 && ran.error.contains("--brightness goes with neither"),
+            "{}",
+            ran.error
+        );
+    }
+}

@@ -71,7 +71,7 @@ impl Capture {
             let alike = samples.rows_alike(scale * y, scale);
             let rows = if alike { 1 } else { scale };
             for x in 0..COLUMNS {
-                let square = Square { samples: &samples, scale, rows, x, y };
+                let square = Square { samples: &samples, scale, rows, x, y, allowed: ALLOWED };
                 let colour = if threshold == 0 { square.exact()? } else { square.mean()? };
                 let value =
                     value_of(colour, threshold).ok_or_else(|| square.wrong(colour, threshold))?;
@@ -82,6 +82,26 @@ impl Capture {
         let levels = (threshold > 0).then_some(levels);
         Ok(Capture { picture: Picture::of_values(values), levels })
     }
+}
+
+/// The values of a PNG of 384 by 224 squares, each of one colour that has a value; `allowed` says which have.
+pub fn exact_values(
+    bytes: &[u8],
+    value: impl Fn([u8; 3]) -> Option<u8>,
+    allowed: &str,
+) -> Result<Vec<u8>, String> {
+    let samples = Samples::read(bytes, size_fits)?;
+    let scale = samples.width / COLUMNS;
+    let mut values = Vec::with_capacity(COLUMNS * ROWS);
+    for y in 0..ROWS {
+        let rows = if samples.rows_alike(scale * y, scale) { 1 } else { scale };
+        for x in 0..COLUMNS {
+            let square = Square { samples: &samples, scale, rows, x, y, allowed };
+            let colour = square.exact()?;
+            values.push(value(colour).ok_or_else(|| square.wrong(colour, 0))?);
+        }
+    }
+    Ok(values)
 }
 
 fn size_fits(width: usize, height: usize) -> Result<(), String> {
@@ -135,6 +155,8 @@ struct Square<'a> {
     rows: usize,
     x: usize,
     y: usize,
+    /// What a pixel of the PNG must be.
+    allowed: &'a str,
 }
 
 impl Square<'_> {
@@ -177,7 +199,7 @@ impl Square<'_> {
     }
 
     fn told(&self, what: &str) -> String {
-        format!("in the PNG, pixel ({}, {}) {what}; {ALLOWED}", self.x, self.y)
+        format!("in the PNG, pixel ({}, {}) {what}; {}", self.x, self.y, self.allowed)
     }
 }
 

@@ -9,6 +9,7 @@ use vb::{grouped, COLUMNS, ROWS, VRAM_LENGTH};
 
 use super::draw::Views;
 use super::{why, Report};
+use crate::brightness;
 use crate::capture::{Capture, Level, Wanted};
 use crate::difference::{differences, Bounds, Difference};
 use crate::explain::{eye_name, registers, FAULT};
@@ -36,7 +37,8 @@ A capture is a raw frame buffer of 24,576 bytes (rows 224 to 255 are not compare
 PNG of 384 by 224 pixels, or 2 to 16 times that, in opaque red or grey of 00, 55, AA and FF for the values 0 to 3. With
 --threshold a PNG's sample may lie that far from its level, as analogue captures do; what was taken for each level is
 printed. Where something differs, a PNG marks it: the model's picture in grey, yellow where the capture is brighter and
-cyan where it is darker.
+cyan where it is darker. With --brightness both are apparent brightness, 0 to 128, by the display unit: the capture is
+86,016 bytes, row by row, or a PNG in the reds that `draw --brightness` writes.
 
 Exit status: 0 equal; 1 different; 2 refused or bad input, and then nothing is written; 3 with --why, where the
 independent model and the proved library differ.")]
@@ -61,6 +63,8 @@ pub struct Options {
     /// How many differing pixels to list for each eye
     #[arg(long, value_name = "N", default_value = "10", value_parser = number::word)]
     first: u32,
+    #[command(flatten)]
+    seen: brightness::Options,
     /// Group the differing pixels by the world or object that gives the model's value there
     #[arg(long)]
     why: bool,
@@ -104,23 +108,35 @@ struct EyeTold {
 }
 
 pub fn run(options: &Options) -> Result<Report, Failure> {
+    if options.seen.asked()
+        && (options.why || options.threshold.is_some() || options.capture.is_some())
+    {
+        return Err(Failure::bad(
+            "--brightness goes with neither --why, --threshold nor --capture",
+        ));
+    }
     let scene = options.scene.read()?;
-    let vram = scene.drawn(options.frame)?;
+    let mut vram = scene.drawn(options.frame)?;
     let views = Views::of(&vram, options.frame);
     let mut outputs = Outputs::default();
     outputs.keep(scene.vram.identity);
     outputs.keep(scene.drawing_file.identity);
     let mut eyes = Vec::new();
     for (number, input) in captures(options)? {
-        let (eye, expected) =
-            [(Eye::Left, &views.left), (Eye::Right, &views.right)][number as usize];
+        let (eye, drawn) = [(Eye::Left, &views.left), (Eye::Right, &views.right)][number as usize];
         let threshold = options.threshold.unwrap_or(0);
-        let capture =
-            Capture::read(&input, Wanted { frame: options.frame, eye: number, threshold })?;
-        let found = differences(expected, &capture.picture);
+        let (expected, capture) = if options.seen.asked() {
+            let picture = brightness::captured(&input)?;
+            let expected = options.seen.expected(&mut vram, options.frame, number)?;
+            (expected, Capture { picture, levels: None })
+        } else {
+            let wanted = Wanted { frame: options.frame, eye: number, threshold };
+            (drawn.clone(), Capture::read(&input, wanted)?)
+        };
+        let found = differences(&expected, &capture.picture);
         outputs.keep(input.identity);
         if !found.is_empty() {
-            mark(options, &mut outputs, eye_name(eye), expected, &capture.picture);
+            mark(options, &mut outputs, eye_name(eye), &expected, &capture.picture);
         }
         let mut told = EyeTold::of(eye, &input, &found, options.first as usize);
         told.levels = capture.levels;
@@ -147,7 +163,8 @@ fn captures(options: &Options) -> Result<Vec<(u32, Input)>, Failure> {
     }
     for (eye, path) in [(0, &options.left), (1, &options.right)] {
         if let Some(path) = path {
-            inputs.push((eye, Input::read(path, CAPTURE)?));
+            let what = if options.seen.asked() { brightness::CAPTURE } else { CAPTURE };
+            inputs.push((eye, Input::read(path, what)?));
         }
     }
     Ok(inputs)
@@ -155,8 +172,14 @@ fn captures(options: &Options) -> Result<Vec<(u32, Input)>, Failure> {
 
 /// Adds the picture that marks what differs.
 fn mark(options: &Options, outputs: &mut Outputs, eye: &str, expected: &Picture, seen: &Picture) {
-    let name = format!("compare-frame{}-{eye}.png", options.frame);
-    outputs.add(options.out.join(name), expected.marked(seen, options.scale));
+    let frame = options.frame;
+    let (name, png) = if options.seen.asked() {
+        let png = brightness::marked(expected, seen, options.scale);
+        (format!("compare-frame{frame}-{eye}-brightness.png"), png)
+    } else {
+        (format!("compare-frame{frame}-{eye}.png"), expected.marked(seen, options.scale))
+    };
+    outputs.add(options.out.join(name), png);
 }
 
 fn report(options: &Options, scene: &Read, eyes: Vec<EyeTold>, outputs: &Outputs) -> Report {
