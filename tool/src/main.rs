@@ -67,6 +67,8 @@ enum Command {
     Judge(commands::judge::Options),
     /// Tells which worlds and objects cover a pixel, and the bytes it answers to
     Why(commands::why::Options),
+    /// Tells what a saved state holds, or which rule it breaks
+    State(commands::state::Options),
     /// Prints completions for a shell
     Completions(commands::pages::Completions),
     /// Prints the manual page
@@ -83,6 +85,7 @@ impl Command {
             Command::Compare(options) => options.json,
             Command::Judge(options) => options.json,
             Command::Why(options) => options.json,
+            Command::State(options) => options.json(),
         }
     }
 
@@ -95,6 +98,7 @@ impl Command {
             Command::Compare(options) => commands::compare::run(options),
             Command::Judge(options) => commands::judge::run(options),
             Command::Why(options) => commands::why::run(options),
+            Command::State(options) => commands::state::run(options),
             Command::Completions(options) => {
                 Ok(commands::pages::completions(options, Cli::command()))
             }

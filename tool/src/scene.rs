@@ -37,7 +37,7 @@ pub struct Read {
 impl Scene {
     pub fn read(&self) -> Result<Read, Failure> {
         let (vram, drawing_file) = match (&self.state, &self.vram, &self.drawing) {
-            (Some(state), _, _) => scene_of(&Input::read(state, STATE)?).map_err(Failure::bad)?,
+            (Some(state), _, _) => scene_of(&Input::read(state, STATE)?)?,
             (None, Some(vram), Some(drawing)) => {
                 (Input::read(vram, VRAM)?, Input::read(drawing, DRAWING)?)
             }

@@ -3,12 +3,13 @@
 use std::path::{Path, PathBuf};
 
 use clap::Args;
-use vb::{Machine, Memories, Processor, Refusal, VRAM_LENGTH, WRAM_LENGTH};
+use vb::{Machine, Memories, Processor, ReadMemories, Refusal, VRAM_LENGTH, WRAM_LENGTH};
 
 use crate::changes::Changes;
 use crate::failure::Failure;
 use crate::files::{Input, Outputs};
 use crate::scene::{drawing_of, DRAWING, VRAM};
+use crate::state::{written, Saved, NOT_STORED, TO_RUN};
 
 const ROM: &str = "a ROM of a power of two from 1,024 to 16,777,216 bytes";
 const WRAM: &str = "WRAM of 65,536 bytes";
@@ -35,6 +36,9 @@ pub struct Setup {
     /// The drawing record, 26 bytes: 13 little-endian halfwords in vb.h's order [default: reset]
     #[arg(long, value_name = "FILE")]
     drawing: Option<PathBuf>,
+    /// A saved state in place of these five; request lines and timer are not stored in it: they are not modelled yet
+    #[arg(long, value_name = "FILE", conflicts_with_all = ["wram", "vram", "pak", "processor", "drawing"])]
+    state: Option<PathBuf>,
     #[command(flatten)]
     changes: Changes,
 }
@@ -57,6 +61,9 @@ pub struct Saves {
     /// Where to write the drawing record afterwards
     #[arg(long, value_name = "FILE")]
     save_drawing: Option<PathBuf>,
+    /// Where to write all five as a saved state, without request lines and timer: they are not modelled yet
+    #[arg(long, value_name = "FILE")]
+    save_state: Option<PathBuf>,
 }
 
 /// The files that were named, by what they hold.
@@ -96,6 +103,9 @@ impl Setup {
             notes: Vec::new(),
             inputs,
         };
+        if let Some(path) = &self.state {
+            bench.go_on_from(&Input::read(path, TO_RUN)?)?;
+        }
         self.changes.make(&mut bench)?;
         Ok(bench)
     }
@@ -130,6 +140,21 @@ impl Inputs {
 }
 
 impl Bench {
+    /// Takes the machine and its memories, ROM aside, from a saved state.
+    fn go_on_from(&mut self, state: &Input) -> Result<(), Failure> {
+        let Saved { machine, wram, vram, pak, .. } = Saved::to_run(state)?;
+        self.notes.push(format!("{} is a saved state; {NOT_STORED}", state.name()));
+        (self.machine, self.wram, self.vram, self.pak) = (machine, wram, vram, pak);
+        Ok(())
+    }
+
+    /// The machine as a saved state.
+    fn saved(&self) -> Result<Vec<u8>, Failure> {
+        let Bench { machine, rom, wram, vram, pak, .. } = self;
+        let memories = ReadMemories { rom, wram, vram, pak };
+        written(machine, &memories).map_err(|refusal| self.failure(&refusal))
+    }
+
     /// The machine, and its memories lent.
     pub fn lent(&mut self) -> (&mut Machine, Memories<'_>) {
         let Bench { machine, rom, wram, vram, pak, .. } = self;
@@ -156,9 +181,17 @@ impl Bench {
 }
 
 impl Saves {
-    fn paths(&self) -> [Option<&Path>; 5] {
-        let Saves { save_wram, save_vram, save_pak, save_processor, save_drawing } = self;
-        [save_wram, save_vram, save_pak, save_processor, save_drawing].map(|path| path.as_deref())
+    /// The saved state is the last of them.
+    fn paths(&self) -> [Option<&Path>; 6] {
+        let Saves { save_wram, save_vram, save_pak, save_processor, save_drawing, save_state } =
+            self;
+        [save_wram, save_vram, save_pak, save_processor, save_drawing, save_state]
+            .map(|path| path.as_deref())
+    }
+
+    /// What the saved state leaves out, where one is asked for.
+    pub fn not_stored(&self) -> Option<&'static str> {
+        self.save_state.as_ref().map(|_| NOT_STORED)
     }
 
     /// Whether all of them could be written.
@@ -166,16 +199,17 @@ impl Saves {
         Outputs::test(self.paths().into_iter().flatten())
     }
 
-    pub fn of(&self, bench: &Bench) -> Outputs {
+    pub fn of(&self, bench: &Bench) -> Result<Outputs, Failure> {
         let Bench { machine, wram, vram, pak, .. } = bench;
         let (processor, drawing) = (machine.processor.to_bytes(), machine.drawing.to_bytes());
-        let all = [wram.clone(), vram.clone(), pak.clone(), processor, drawing];
+        let state = self.save_state.as_ref().map_or(Ok(Vec::new()), |_| bench.saved())?;
+        let all = [wram.clone(), vram.clone(), pak.clone(), processor, drawing, state];
         let mut outputs = Outputs::default();
         for (path, bytes) in self.paths().into_iter().zip(all) {
             if let Some(path) = path {
                 outputs.add(path, bytes);
             }
         }
-        outputs
+        Ok(outputs)
     }
 }

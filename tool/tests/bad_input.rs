@@ -19,7 +19,7 @@ struct Read {
 
 const SCENE: &str = "--vram out/vram.bin --drawing out/drawing.bin";
 
-const FILES: [Read; 13] = [
+const FILES: [Read; 15] = [
     Read {
         command: "run",
         option: "--rom",
@@ -61,6 +61,13 @@ const FILES: [Read; 13] = [
         allowed: "26",
     },
     Read { command: "draw", option: "--state", length: 1, allowed: "a saved state, form 1 or 2" },
+    Read { command: "state", option: "show", length: 1, allowed: "a saved state, form 1 or 2" },
+    Read {
+        command: "run --rom out/rom.bin",
+        option: "--state",
+        length: 327_920,
+        allowed: "a saved state of form 1: 327,920 bytes",
+    },
     Read { command: "compare SCENE", option: "--left", length: 24_576, allowed: "24,576" },
     Read { command: "compare SCENE", option: "--capture", length: 262_144, allowed: "262,144" },
 ];

@@ -252,7 +252,7 @@ fn deliver_1_one_bad_part_does_not_stop_the_others() {
         "bad        empty: lot/empty.left.raw (0 bytes): a capture is a raw frame buffer of 24,576 bytes, a whole VRAM of",
         "bad        folder: lot/folder.left.png: is a folder; it must be a capture: ",
         "equal      good: ",
-        "bad        lonely: lot/lonely.state (1 bytes): it ends inside its contents; it must be a saved state, form 1 or 2",
+        "bad        lonely: lot/lonely.state (1 bytes): refusal 9: no saved state has this length; it must be a saved state, form 1 or 2",
         "bad        short: lot/short.vram (262,143 bytes): refusal 3: VRAM has 262,143 bytes; it must have 262,144",
         "bad        wide: lot/wide.drawing (26 bytes): refusal 5: SPT0 is 0x0000FFFF; it must be at most 0x3FF (10 bits)",
         "different  worn & <old>: ",

@@ -4,8 +4,8 @@ mod common;
 
 use common::Folder;
 
-const COMMANDS: [&str; 9] =
-    ["demo", "run", "step", "draw", "compare", "judge", "why", "completions", "man"];
+const COMMANDS: [&str; 10] =
+    ["demo", "run", "step", "draw", "compare", "judge", "why", "state", "completions", "man"];
 
 #[test]
 fn deliver_8_completions_know_every_command() {
@@ -33,7 +33,7 @@ fn deliver_8_the_manual_page_has_every_command_and_option() {
     let page = folder.vbmodel("man");
     assert_eq!((page.status, page.error.as_str()), (0, ""));
     assert!(page.text.starts_with(".TH VBMODEL 1 "), "{}", page.text);
-    for command in COMMANDS {
+    for command in COMMANDS.into_iter().chain(["state show"]) {
         assert!(
             page.text.contains(&format!("\n.SH VBMODEL {}\n", command.to_uppercase())),
             "{command}"

@@ -7,6 +7,7 @@ pub mod judge;
 pub mod pages;
 pub mod ran;
 pub mod run;
+pub mod state;
 pub mod step;
 pub mod why;
 

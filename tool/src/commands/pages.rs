@@ -42,16 +42,24 @@ pub fn man(command: &Command) -> Report {
         ".SH DESCRIPTION".to_string(),
         verbatim(command),
     ];
-    for one in command.get_subcommands().filter(|one| one.get_name() != "help") {
-        page.extend(section(one));
-    }
+    page.extend(sections(command, "VBMODEL"));
     Report::new(page.join("\n") + "\n", &(), 0)
 }
 
-fn section(command: &Command) -> Vec<String> {
-    let name = command.get_name();
+/// A section for each command of a command, and for each of theirs.
+fn sections(command: &Command, above: &str) -> Vec<String> {
+    let mut lines = Vec::new();
+    for one in command.get_subcommands().filter(|one| one.get_name() != "help") {
+        let name = format!("{above} {}", one.get_name().to_uppercase());
+        lines.extend(section(one, &name));
+        lines.extend(sections(one, &name));
+    }
+    lines
+}
+
+fn section(command: &Command, name: &str) -> Vec<String> {
     let about = command.get_about().map(ToString::to_string).unwrap_or_default();
-    let mut lines = vec![format!(".SH VBMODEL {}", name.to_uppercase()), escaped(&about) + "."];
+    let mut lines = vec![format!(".SH {name}"), escaped(&about) + "."];
     for argument in command.get_arguments().filter(|one| one.get_id() != "help") {
         lines.push(".TP".to_string());
         lines.push(format!(".B {}", escaped(&spelled(argument))));

@@ -18,10 +18,13 @@ pub fn finish(
     saves: &Saves,
     was_fatal: bool,
 ) -> Report {
-    let outputs = saves.of(bench);
-    let failure = outputs.write().err();
-    let written = if failure.is_none() { outputs.paths() } else { Vec::new() };
-    let told = Told::of(bench, ended, budget, written, was_fatal, failure.clone());
+    let written = saves.of(bench).and_then(|outputs| outputs.write().map(|()| outputs.paths()));
+    let (written, failure) = match written {
+        Ok(paths) => (paths, None),
+        Err(failure) => (Vec::new(), Some(failure)),
+    };
+    let mut told = Told::of(bench, ended, budget, written, was_fatal, failure.clone());
+    told.not_stored = saves.not_stored().filter(|_| failure.is_none());
     let status = match &ended.end {
         _ if failure.is_some() => 2,
         End::Interrupted => interrupt::STATUS,
@@ -55,6 +58,9 @@ struct Told {
     system: Named<u32>,
     drawing: Named<u16>,
     written: Vec<String>,
+    /// What is not in the last file written, where that is a saved state.
+    #[serde(skip_serializing_if = "Option::is_none")]
+    not_stored: Option<&'static str>,
 }
 
 impl Told {
@@ -88,6 +94,7 @@ impl Told {
             system: Named(system.collect()),
             drawing: Named(drawing.collect()),
             written,
+            not_stored: None,
         }
     }
 
@@ -107,7 +114,8 @@ impl Told {
             general.map(|(i, r)| format!("{:<5} 0x{r:08X}", format!("r{i}"))).collect();
         lines.extend(general.chunks(4).map(|row| row.join("  ")));
         lines.extend(self.written.iter().map(|path| format!("written:      {path}")));
-        lines.join("\n") + "\n"
+        let not_stored = self.not_stored.map(|what| format!(" ({what})")).unwrap_or_default();
+        lines.join("\n") + &not_stored + "\n"
     }
 }
 

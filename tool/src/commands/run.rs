@@ -25,9 +25,12 @@ const SLICE: u64 = 2_000_000;
   vbmodel demo
   vbmodel run --rom out/rom.bin --budget 1_000
 
-Example: go on from a saved state, and save where it stops:
-  vbmodel run --rom game.rom --wram a.wram --vram a.vram --processor a.processor --drawing a.drawing \\
-    --budget 1_000_000 --save-vram b.vram --save-processor b.processor --save-drawing b.drawing
+Example: save where it stops, and go on from there; `vbmodel state show a.state` tells what was saved:
+  vbmodel run --rom out/rom.bin --budget 1_000 --save-state a.state
+  vbmodel run --rom out/rom.bin --state a.state --budget 1_000 --save-state b.state
+
+A saved state holds WRAM, VRAM, pak RAM and both records, which may be files of their own instead (--wram, --save-wram
+and so on). It does not hold ROM. Request lines and timer are not stored: they are not modelled yet.
 
 Example: run to an address, then see what the next instructions do (`vbmodel help step`):
   vbmodel run --rom out/rom.bin --until 0x0700_0000 --save-processor a.processor --save-wram a.wram
