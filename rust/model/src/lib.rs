@@ -18,6 +18,7 @@ pub mod bus;
 pub mod character;
 pub mod display;
 pub mod drawing;
+pub mod encoding;
 pub mod exception;
 pub mod floating;
 pub mod instruction;
