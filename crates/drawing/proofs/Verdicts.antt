@@ -11,6 +11,8 @@ use Rattle.bus.specs.Refusal.{vramOk}
 use Rattle.refusal.specs.Number.{unless}
 use Rattle.bus.proofs.Accepted.{unless-passed}
 use Rattle.bus.specs.Registers.{registersOk}
+use Rattle.refusal.specs.declared.Refusal.{Refusal}
+use Rattle.refusal.specs.declared.Verdict.{Verdict}
 use Rattle.refusal.specs.declared.Verdict.the-variants.{Accepted, Refused}
 use Rattle.refusal.specs.declared.Refusal.the-variants.{VramLength, State, Frame, Index}
 use Rattle.drawing_pixel.specs.Character.{characterAddressOf}
@@ -91,3 +93,12 @@ module _ (v : List ℕ) (c : ℕ) where
       let l = accepted-length e in
       let h = character-small e in
       ap length (sym (character-accepted l h .1)) ∙ simp (length-take, length-drop) (omega arith)
+
+-- a refused verdict is not the accepted one
+acceptedTest : Verdict → ℕ
+acceptedTest Accepted = 1
+acceptedTest (Refused n) = 0
+
+pub refused-apart : (n : Refusal) → Refused n ≡ Accepted → ⊥
+unfolding acceptedTest
+refused-apart n e = omega (arith, ap acceptedTest e)

@@ -4,6 +4,9 @@ use bus::refusals;
 use refusal::Refusal;
 use refusal::Verdict;
 ghost use mathlib.Core.Path.{_≡_};
+ghost use Prim.Native.Nat.{_+_};
+ghost use denote.Ref.{ptr};
+ghost use Rattle.drawing_pixel.specs.Character.{characterAddressOf};
 ghost use Rattle.drawing.specs.Calls.{stripVerdictOf, drawStripOf, frameVerdictOf, drawFrameOf, characterVerdictOf, characterOf};
 
 // Draws strip `strip` of a frame into the images of both eyes.
@@ -50,7 +53,8 @@ pub fn draw_frame(vram: &mut [u8], drawing: Drawing, frame: u32) -> Verdict
 // A character's 16 bytes, a part of the lent VRAM that begins at the character's address; empty where
 // `character_refusal` refuses.
 pub fn character(vram: &[u8], c: u32) -> &[u8]
-    ensures { λ r. ⌜ now r ≡ characterOf (now (vram .entry)) c ⌝ }
+    ensures bytes { λ r. ⌜ now r ≡ characterOf (now (vram .entry)) c ⌝ }
+    ensures place { λ r. ⌜ (characterVerdictOf (now (vram .entry)) c ≡ Verdict.Accepted → (ptr r .0 ≡ ptr (vram .entry) .0) × (ptr r .1 ≡ ptr (vram .entry) .1 + characterAddressOf c)) ⌝ }
 {
     if vram.len() != 262144 {
         return &vram[..0];

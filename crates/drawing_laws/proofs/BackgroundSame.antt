@@ -10,7 +10,8 @@ use Rattle.drawing_pixel.specs.Character.{rowAddressOf, cellPixelOf}
 use Rattle.drawing_pixel.specs.World.{bgmOf, columnInOf, rowInOf, worldCoversOf}
 use Rattle.drawing_pixel.specs.Background.{parameterAddressOf, parameterOf, biasIndexOf, biasXOf, affineParameterOf, affineXOf, affineYOf, sourceXOf, sourceYOf, sourceCellAddressOf, sourcePixelOf, backgroundPixelOf}
 use Rattle.drawing_laws.specs.Demand3.{Each, SameByte}
-use Rattle.drawing_laws.specs.SourceBytes.{halfBytesOf, affineBytesOf, parameterBytesOf, cellBytesOf, backgroundBytesOf}
+use Rattle.drawing_laws.specs.PixelBytes.{halfBytesOf, affineBytesOf, parameterBytesOf}
+use Rattle.drawing_laws.specs.SourceBytes.{cellBytesOf, backgroundBytesOf}
 use Rattle.drawing_laws.proofs.Each.{each-left, each-right}
 use Rattle.drawing_laws.proofs.Choices.{pick-same}
 use Rattle.drawing_laws.proofs.Halfwords.{half-same}

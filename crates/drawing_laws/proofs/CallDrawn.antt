@@ -16,7 +16,8 @@ use Rattle.bus.specs.Refusal.{vramOk}
 use Rattle.refusal.specs.declared.Verdict.{Verdict}
 use Rattle.refusal.specs.declared.Verdict.the-variants.{Accepted, Refused}
 use Rattle.drawing.specs.Calls.{whenAccepted, stripVerdictOf, drawStripOf, frameVerdictOf, drawFrameOf}
-use Rattle.drawing_laws.specs.Drawn.{frameCall, stripCall, acceptedOf, drawsStripOf, afterOf, inImagesOf, PixelDrawn, ByteKept, LengthKept}
+use Rattle.drawing_laws.specs.Drawn.{frameCall, stripCall, drawsStripOf, afterOf, inImagesOf, PixelDrawn, ByteKept, LengthKept}
+use Rattle.drawing_laws.proofs.Verdicts.{accepted-given}
 use Rattle.drawing_laws.proofs.Registers.{bkcol-below}
 use Rattle.drawing_laws.proofs.Images.{pixel-outside-images}
 use Rattle.drawing_laws.proofs.PixelValue.{pixel-below}
@@ -87,13 +88,16 @@ unfolding drawStripOf stripVerdictOf vramOk
 strip-accepted vram regs frame s l ok f a = simp (l, ok, lt-ltb frame 2 f, a)
 
 pub pixel-drawn : PixelDrawn
-unfolding acceptedOf drawsStripOf afterOf frameOf
-pixel-drawn vram regs frame frameCall eye x y l ok f e c a d =
-    rw (frame-accepted vram regs frame l ok f)
-    (strips-pixel vram regs frame eye x y l ok f e c 28 (omega arith) (ltb-true (y / 8) 28 d))
-pixel-drawn vram regs frame (stripCall s) eye x y l ok f e c a d =
-    rw (strip-accepted vram regs frame s l ok f a)
-    (strip-pixel vram regs frame eye x y l ok f e c vram l s (ltb-true s 28 a) (eqb-true (y / 8) s d))
+unfolding drawsStripOf afterOf frameOf
+pixel-drawn vram regs frame frameCall eye x y v e c d =
+    let g = accepted-given vram regs frame frameCall v in
+    rw (frame-accepted vram regs frame (g .bytes) (g .registers) (g .frame-below))
+    (strips-pixel vram regs frame eye x y (g .bytes) (g .registers) (g .frame-below) e c 28 (omega arith) (ltb-true (y / 8) 28 d))
+pixel-drawn vram regs frame (stripCall s) eye x y v e c d =
+    let g = accepted-given vram regs frame (stripCall s) v in
+    rw (strip-accepted vram regs frame s (g .bytes) (g .registers) (g .frame-below) (g .strip))
+    (strip-pixel vram regs frame eye x y (g .bytes) (g .registers) (g .frame-below) e c vram (g .bytes) s
+    (ltb-true s 28 (g .strip)) (eqb-true (y / 8) s d))
 
 -- a byte of a strip that the frame call does not draw lies in none of strips 0 to 27
 frame-others : (frame a : ℕ) → (inImagesOf frame a && ltb (a % 64 / 2) 28) ≡ false → (s : ℕ) → s < 28 → inStripOf frame s a ≡ false

@@ -9,10 +9,12 @@ use borrow.Author.Tests.{not-true}
 use Rattle.word.specs.Choose.{pick}
 use Rattle.bus.specs.Registers.{sptOf}
 use Rattle.drawing_pixel.specs.World.{worldOf, endOf}
-use Rattle.drawing_pixel.specs.Object.{groupCountOf}
+use Rattle.drawing_pixel.specs.Object.{objectOf, groupCountOf}
 use Rattle.drawing_pixel.specs.Pixel.{drawsObjectsOf, counterOf}
+use Rattle.drawing_pixel.proofs.Painting.{object-covered}
 use Rattle.drawing_laws.specs.Covers.{noEndOf, reachedOf, objectWorldsOf, groupOf, inGroupOf, drawsOverOf, someBelow, objectCoversPixelOf}
-use Rattle.drawing_laws.specs.SourceBytes.{amongOf, worldDrawsOf, worldsDrawOf}
+use Rattle.drawing_laws.specs.PixelBytes.{amongOf}
+use Rattle.drawing_laws.specs.SourceBytes.{worldDrawsOf, worldsDrawOf}
 use Rattle.drawing_laws.proofs.Choices.{and-left, and-right, and-both, or-left, or-right, or-cases, false-not-true}
 use Rattle.drawing_laws.proofs.Groups.{in-group-among, object-worlds-below, counter-step}
 use Rattle.drawing_laws.proofs.DrawnCovers.{no-end-more, group-is}
@@ -59,7 +61,7 @@ module _ (vram regs : List ℕ) (starts : Starts regs) (eye x y j : ℕ) (b : j 
       and-both (drawsObjectsOf w) _ (and-left (drawsObjectsOf w) _ drawn)
       (and-both (amongOf (groupCountOf regs counter) (sptOf regs counter) j) _
       (in-group-among regs counter j (starts counter c) b (and-left (inGroupOf regs counter j) _ rest))
-      (and-right (inGroupOf regs counter j) _ rest))
+      (object-covered w (objectOf vram j) eye x y ∙ and-right (inGroupOf regs counter j) _ rest))
 
   some-drawn : (n k counter : ℕ) → n + k ≡ 32
       → noEndOf vram n k ≡ true

@@ -6,10 +6,12 @@ use mathlib.Core.Path.{_≡_, refl, sym, ap, _∙_}
 use native.Mathlib.Omega.{arith}
 use Rattle.bus.specs.Registers.{sptOf}
 use Rattle.drawing_pixel.specs.World.{worldOf, endOf}
-use Rattle.drawing_pixel.specs.Object.{groupCountOf}
+use Rattle.drawing_pixel.specs.Object.{objectOf, groupCountOf}
 use Rattle.drawing_pixel.specs.Pixel.{drawsObjectsOf, counterOf}
+use Rattle.drawing_pixel.proofs.Painting.{object-covered}
 use Rattle.drawing_laws.specs.Covers.{noEndOf, reachedOf, objectWorldsOf, groupOf, inGroupOf, drawsOverOf, someBelow, objectCoversPixelOf}
-use Rattle.drawing_laws.specs.SourceBytes.{amongOf, worldDrawsOf, worldsDrawOf}
+use Rattle.drawing_laws.specs.PixelBytes.{amongOf}
+use Rattle.drawing_laws.specs.SourceBytes.{worldDrawsOf, worldsDrawOf}
 use Rattle.drawing_laws.proofs.Choices.{and-left, and-right, and-both, or-left, or-right, or-cases, pick-second, not-of-false, false-not-true}
 use Rattle.drawing_laws.proofs.Groups.{among-in-group, object-worlds-below, counter-step}
 
@@ -44,7 +46,8 @@ module _ (vram regs : List ℕ) (eye x y j : ℕ) (b : j < 1024) where
       (rw g
       (and-both (inGroupOf regs counter j) _
       (among-in-group regs counter j b (and-left (amongOf (groupCountOf regs counter) (sptOf regs counter) j) _ rest))
-      (and-right (amongOf (groupCountOf regs counter) (sptOf regs counter) j) _ rest))))
+      (sym (object-covered w (objectOf vram j) eye x y)
+      ∙ and-right (amongOf (groupCountOf regs counter) (sptOf regs counter) j) _ rest))))
 
   worlds-draw : (n k counter : ℕ) → n + k ≡ 32
       → noEndOf vram n k ≡ true

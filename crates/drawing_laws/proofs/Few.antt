@@ -12,8 +12,11 @@ use Rattle.drawing_pixel.specs.World.{worldOf, endOf, skippedOf, bgmOf, columnI
 use Rattle.drawing_pixel.specs.Background.{parameterAddressOf, biasIndexOf, sourceXOf, sourceYOf}
 use Rattle.drawing_pixel.specs.Object.{objectOf}
 use Rattle.drawing_laws.specs.Covers.{noEndOf, reachedOf, backgroundCoversOf, objectCoversPixelOf, countBelow, coveringWorldsOf, coveringObjectsOf}
-use Rattle.drawing_laws.specs.SourceBytes.{halfBytesOf, affineBytesOf, parameterBytesOf, cellBytesOf, backgroundBytesOf, worldBytesOf, worldsBytesOf, worldsDrawOf, objectBytesOf, objectsBytesOf, sourceBytesOf}
+use Rattle.drawing_laws.specs.PixelBytes.{halfBytesOf, affineBytesOf, parameterBytesOf}
+use Rattle.drawing_laws.specs.SourceBytes.{cellBytesOf, backgroundBytesOf, worldBytesOf, worldsBytesOf, worldsDrawOf, objectBytesOf, objectsBytesOf, sourceBytesOf}
 use Rattle.drawing_laws.specs.Demand3.{Few}
+use Rattle.drawing_pixel.proofs.Painting.{world-covers}
+use Rattle.drawing_laws.proofs.PixelBytes.{listed-formula}
 use Rattle.drawing_laws.proofs.DrawnCovers.{no-end-more, reached, drawn-covers}
 
 -- a list that a test chooses is no longer than the longer of the two
@@ -51,7 +54,7 @@ world-length vram n eye x y r =
     let p : length (parameterBytesOf w eye j) ≤ 10 = parameters-length w eye j in
     let c : length (cellBytesOf vram w (sourceXOf vram w eye i j) (sourceYOf vram w eye i j)) ≡ 4 =
     cell-length vram w (sourceXOf vram w eye i j) (sourceYOf vram w eye i j) in
-    rw r
+    rw (r, ← world-covers w eye x y)
     (chosen-length (skippedOf w) (eqb (bgmOf w) 3) (worldCoversOf w eye x y) (parameters ++ cell)
     (rw (length-append parameters cell) (omega arith)))
 
@@ -73,7 +76,7 @@ worlds-few vram eye x y (suc n) k q h = go (endOf (worldOf vram n)) refl (worlds
         let rest = later on in
         rw (length-append (worldBytesOf vram (worldOf vram n) eye x y) (worldsBytesOf vram eye x y n)) (omega arith)
 
-objects-few : (vram regs : List ℕ) (eye x y n : ℕ) → n ≤ 1024
+pub objects-few : (vram regs : List ℕ) (eye x y n : ℕ) → n ≤ 1024
     → length (objectsBytesOf vram regs eye x y n) ≤ 2 * countBelow n (objectCoversPixelOf vram regs eye x y)
 unfolding objectsBytesOf objectBytesOf countBelow
 objects-few vram regs eye x y zero h = omega arith
@@ -88,9 +91,13 @@ objects-few vram regs eye x y (suc k) h =
     go true e = rw (drawn-covers vram regs eye x y k h e) (omega arith)
     go false e = omega arith
 
-pub few : Few
+source-few : (vram regs : List ℕ) (eye x y : ℕ)
+    → length (sourceBytesOf vram regs eye x y) ≤ 14 * coveringWorldsOf vram eye x y + 2 * coveringObjectsOf vram regs eye x y
 unfolding sourceBytesOf coveringWorldsOf coveringObjectsOf noEndOf
-few vram regs eye x y =
+source-few vram regs eye x y =
     let worlds = worlds-few vram eye x y 32 0 refl refl in
     let objects = objects-few vram regs eye x y 1024 (omega arith) in
     rw (length-append (worldsBytesOf vram eye x y 32) (objectsBytesOf vram regs eye x y 1024)) (omega arith)
+
+pub few : Few
+few vram regs eye x y = rw (← listed-formula vram regs eye x y) (source-few vram regs eye x y)

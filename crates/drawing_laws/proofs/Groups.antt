@@ -13,7 +13,7 @@ use Rattle.drawing_pixel.specs.World.{worldOf}
 use Rattle.drawing_pixel.specs.Object.{objectAfterOf, groupCountOf}
 use Rattle.drawing_pixel.specs.Pixel.{counterAfterOf, drawsObjectsOf, counterOf}
 use Rattle.drawing_laws.specs.Covers.{objectWorldsOf, inGroupOf}
-use Rattle.drawing_laws.specs.SourceBytes.{amongOf}
+use Rattle.drawing_laws.specs.PixelBytes.{amongOf}
 use Rattle.drawing_laws.proofs.Choices.{or-cases, false-not-true}
 
 among-below : (count j k : ℕ) → k < 1024 → amongOf count j k ≡ true → (j + 1024 - k) % 1024 < count

@@ -8,7 +8,7 @@ use Rattle.word.specs.LittleEndian.{halfAt}
 use Rattle.drawing_pixel.specs.World.{worldOf}
 use Rattle.drawing_pixel.specs.Object.{objectOf}
 use Rattle.drawing_laws.specs.Demand3.{Each, SameByte, SameTables}
-use Rattle.drawing_laws.specs.SourceBytes.{halfBytesOf}
+use Rattle.drawing_laws.specs.PixelBytes.{halfBytesOf}
 
 module _ (first second : List ℕ) where
   pub half-same : (a : ℕ) → Each (SameByte first second) (halfBytesOf a) → halfAt second a ≡ halfAt first a

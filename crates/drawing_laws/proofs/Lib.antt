@@ -1,8 +1,7 @@
--- `Answerable`, `Few`, `NoFewer`, `CallDrawn`, `Images` and `ListedAddresses` prove the statements of specs/Demand3 and specs/Drawn;
+-- `Answerable`, `Few`, `Lengths`, `CallDrawn`, `Images` and `ListedAddresses` prove the statements of specs/Demand3 and specs/Drawn;
 -- `ShortWorlds` those of specs/ShortWorlds.
 pub mod Answerable
 pub mod Few
-pub mod NoFewer
 pub mod CallDrawn
 pub mod Images
 pub mod ListedAddresses
@@ -21,3 +20,6 @@ mod PixelValue
 mod Registers
 pub mod StripBytes
 mod StripPixel
+pub mod PixelBytes
+pub mod Lengths
+mod Verdicts

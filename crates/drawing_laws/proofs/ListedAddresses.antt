@@ -10,8 +10,10 @@ use Rattle.drawing_pixel.specs.Signed.{bitOf}
 use Rattle.drawing_pixel.specs.Character.{characterAddressOf, flippedOf, rowAddressOf}
 use Rattle.drawing_pixel.specs.World.{worldOf, overOf, scxOf, scyOf}
 use Rattle.drawing_pixel.specs.Background.{parameterAddressOf, insideOf, mapNumberOf, mapCellAddressOf, cellAddressOf, sourceCellAddressOf}
+use Rattle.drawing_laws.proofs.PixelBytes.{listed-formula}
 use Rattle.drawing_laws.specs.Demand3.{Each, ListedInVram}
-use Rattle.drawing_laws.specs.SourceBytes.{halfBytesOf, sourceBytesOf}
+use Rattle.drawing_laws.specs.PixelBytes.{halfBytesOf}
+use Rattle.drawing_laws.specs.SourceBytes.{sourceBytesOf}
 use Rattle.drawing_laws.proofs.ListedBytes.{listed-each}
 
 -- an address is clear of every image: past the images, or in the last quarter of its 0x8000 bytes
@@ -87,4 +89,5 @@ cell-in-vram vram n sx sy h =
 
 pub listed-in-vram : ListedInVram
 listed-in-vram vram regs eye x y h =
-    listed-each (λ a. a < 262144) vram parameter-in-vram (λ n sx sy. cell-in-vram vram n sx sy h) row-in-vram regs eye x y
+    rw (← listed-formula vram regs eye x y)
+    (listed-each (λ a. a < 262144) vram parameter-in-vram (λ n sx sy. cell-in-vram vram n sx sy h) row-in-vram regs eye x y)

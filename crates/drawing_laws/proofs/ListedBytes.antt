@@ -16,7 +16,8 @@ use Rattle.drawing_pixel.specs.Background.{parameterAddressOf, biasIndexOf, sou
 use Rattle.drawing_pixel.specs.Object.{groupCountOf, objectOf, objectRowOf, objectShownOf, objectCoversOf}
 use Rattle.drawing_pixel.specs.Pixel.{counterOf, drawsObjectsOf}
 use Rattle.drawing_laws.specs.Demand3.{Each}
-use Rattle.drawing_laws.specs.SourceBytes.{halfBytesOf, amongOf, affineBytesOf, parameterBytesOf, cellBytesOf, backgroundBytesOf, worldBytesOf, worldsBytesOf, worldDrawsOf, worldsDrawOf, objectBytesOf, objectsBytesOf, sourceBytesOf}
+use Rattle.drawing_laws.specs.PixelBytes.{halfBytesOf, amongOf, affineBytesOf, parameterBytesOf}
+use Rattle.drawing_laws.specs.SourceBytes.{cellBytesOf, backgroundBytesOf, worldBytesOf, worldsBytesOf, worldDrawsOf, worldsDrawOf, objectBytesOf, objectsBytesOf, sourceBytesOf}
 use Rattle.drawing_laws.proofs.Each.{each-join, each-pick}
 use Rattle.drawing_laws.proofs.Choices.{and-left, and-right, or-cases, pick-second, false-not-true}
 

@@ -3,7 +3,7 @@
 use Prim.Native.Nat.{ℕ, zero, suc, _<_, _≤_}
 use mathlib.Core.Bool.{Bool, true, false}
 use mathlib.Core.List.{List, []}
-use mathlib.Core.Path.{_≡_, refl}
+use mathlib.Core.Path.{_≡_, refl, sym, _∙_}
 use lib.Dec.{eqb}
 use native.Mathlib.Omega.{arith}
 use borrow.Author.Tests.{eqb-true, eqb-false}
@@ -11,7 +11,9 @@ use Rattle.word.specs.Choose.{pick}
 use Rattle.bus.specs.Registers.{sptOf, bkcolOf}
 use Rattle.drawing_pixel.specs.World.{worldOf, endOf, skippedOf, bgmOf}
 use Rattle.drawing_pixel.specs.Object.{objectOf, groupCountOf, groupPixelOf}
-use Rattle.drawing_pixel.specs.Pixel.{counterAfterOf, drawsObjectsOf, counterOf, worldPixelOf, worldsPixelOf, pixelOf}
+use Rattle.drawing_pixel.specs.Pixel.{counterAfterOf, drawsObjectsOf, counterOf, pixelOf}
+use Rattle.drawing_pixel.specs.Painting.{worldPixelOf, worldsPixelOf, paintedPixelOf}
+use Rattle.drawing_pixel.proofs.Painting.{pixel-formula}
 use Rattle.drawing_laws.specs.Demand3.{Each, SameByte, SameTables}
 use Rattle.drawing_laws.specs.SourceBytes.{worldDrawsOf, worldsDrawOf, objectBytesOf, objectsBytesOf, worldBytesOf, worldsBytesOf, sourceBytesOf}
 use Rattle.drawing_laws.proofs.Each.{each-left, each-right}
@@ -108,10 +110,15 @@ module _ (first second : List ℕ) (t : SameTables first second) (regs : List �
           let other : k ≡ n → ⊥ = eqb-false k n e in
           r (omega arith) f
 
-  pub pixel-same : (eye x y : ℕ) → Each (SameByte first second) (sourceBytesOf first regs eye x y)
-      → pixelOf second regs eye x y ≡ pixelOf first regs eye x y
-  unfolding pixelOf sourceBytesOf
-  pixel-same eye x y h =
+  painted-same : (eye x y : ℕ) → Each (SameByte first second) (sourceBytesOf first regs eye x y)
+      → paintedPixelOf second regs eye x y ≡ paintedPixelOf first regs eye x y
+  unfolding paintedPixelOf sourceBytesOf
+  painted-same eye x y h =
       worlds-pixel-same eye x y 32 3 (bkcolOf regs) (omega arith) (omega arith)
       (each-left (SameByte first second) (worldsBytesOf first eye x y 32) _ h)
       (drawn-same eye x y 1024 (each-right (SameByte first second) (worldsBytesOf first eye x y 32) _ h))
+
+  pub pixel-same : (eye x y : ℕ) → Each (SameByte first second) (sourceBytesOf first regs eye x y)
+      → pixelOf second regs eye x y ≡ pixelOf first regs eye x y
+  pixel-same eye x y h =
+      sym (pixel-formula second regs eye x y) ∙ painted-same eye x y h ∙ pixel-formula first regs eye x y

@@ -9,7 +9,9 @@ use Rattle.drawing_pixel.specs.Character.{shadeOf, cellPixelOf}
 use Rattle.drawing_pixel.specs.World.{worldOf, endOf, skippedOf, bgmOf, worldCoversOf}
 use Rattle.drawing_pixel.specs.Background.{sourcePixelOf, backgroundPixelOf}
 use Rattle.drawing_pixel.specs.Object.{objectOf, objectCoversOf, objectPixelOf, objectAfterOf, objectsPixelOf, groupCountOf, groupPixelOf}
-use Rattle.drawing_pixel.specs.Pixel.{counterOf, worldPixelOf, worldsPixelOf, pixelOf}
+use Rattle.drawing_pixel.specs.Pixel.{counterOf, pixelOf}
+use Rattle.drawing_pixel.specs.Painting.{worldPixelOf, worldsPixelOf, paintedPixelOf}
+use Rattle.drawing_pixel.proofs.Painting.{pixel-formula}
 use Rattle.drawing_pixel.proofs.Pairs.{pair-lt}
 
 pick-below : (b : Bool) {p q : ℕ} → p < 4 → q < 4 → pick b p q < 4
@@ -54,6 +56,9 @@ module _ (vram regs : List ℕ) where
       pick-below (endOf (worldOf vram n)) h
       (worlds-below eye x y n (counterOf (worldOf vram n) counter) _ (world-below (worldOf vram n) counter eye x y before h))
 
+  painted-below : (eye x y : ℕ) → bkcolOf regs < 4 → paintedPixelOf vram regs eye x y < 4
+  unfolding paintedPixelOf
+  painted-below eye x y h = worlds-below eye x y 32 3 (bkcolOf regs) h
+
   pub pixel-below : (eye x y : ℕ) → bkcolOf regs < 4 → pixelOf vram regs eye x y < 4
-  unfolding pixelOf
-  pixel-below eye x y h = worlds-below eye x y 32 3 (bkcolOf regs) h
+  pixel-below eye x y h = rw (← pixel-formula vram regs eye x y) (painted-below eye x y h)

@@ -12,8 +12,10 @@ use Rattle.word.specs.Choose.{pick}
 use Rattle.drawing_pixel.specs.World.{worldOf, bgmOf, gyOf, heightOf, topInImageOf, rowsOf, worldShownOf, columnCoveredOf, rowCoveredOf, worldCoversOf}
 use Rattle.drawing_pixel.specs.Fields.{GY}
 use Rattle.drawing_pixel.specs.Integers.{aboveZero}
-use Rattle.drawing_pixel.specs.HeightFormulas.{world-height}
-use Rattle.drawing_pixel.specs.WindowFormulas.{window-top, plainRow, plain-row}
+use Rattle.drawing_pixel.proofs.HeightFormulas.{world-height}
+use Rattle.drawing_pixel.specs.WindowFormulas.{plainRow}
+use Rattle.drawing_pixel.proofs.WindowFormulas.{window-top, plain-row}
+use Rattle.drawing_pixel.proofs.Painting.{world-covers}
 use Rattle.drawing_laws.specs.Covers.{reachedOf, backgroundCoversOf}
 use Rattle.drawing_laws.specs.ShortWorlds.{Showing, TopInImage, StripCovered, AddedInStrip, PlainCovered, AffinePlain, FiveRows}
 use Rattle.drawing_laws.proofs.Choices.{and-left, and-right, and-both, not-of-false, false-not-true}
@@ -67,7 +69,8 @@ module _ (vram : List ℕ) (eye x y n : ℕ) where
       let mode : bgmOf (worldOf vram n) ≡ 3 → ⊥ = λ e. omega arith in
       and-both (reachedOf vram n) _ (s .reached)
       (and-both (not (eqb (bgmOf (worldOf vram n)) 3)) _ (not-of-false _ (ne-eqb _ _ mode))
-      (and-both (worldShownOf (worldOf vram n) eye) _ (s .shown)
+      (sym (world-covers (worldOf vram n) eye x y)
+      ∙ and-both (worldShownOf (worldOf vram n) eye) _ (s .shown)
       (and-both (rowCoveredOf (worldOf vram n) y) _ r (s .column))))
 
   covers-row : backgroundCoversOf vram eye x y n ≡ true → rowCoveredOf (worldOf vram n) y ≡ true
@@ -75,7 +78,8 @@ module _ (vram : List ℕ) (eye x y n : ℕ) where
   covers-row e =
       and-left (rowCoveredOf (worldOf vram n) y) _
       (and-right (worldShownOf (worldOf vram n) eye) _
-      (and-right (not (eqb (bgmOf (worldOf vram n)) 3)) _ (and-right (reachedOf vram n) _ e)))
+      (world-covers (worldOf vram n) eye x y
+      ∙ and-right (not (eqb (bgmOf (worldOf vram n)) 3)) _ (and-right (reachedOf vram n) _ e)))
 
 pub strip-covered : StripCovered
 strip-covered vram eye x y n g s t l u =

@@ -7,9 +7,9 @@ use mathlib.Core.List.{List}
 use lib.Dec.{eqb, ltb}
 use Rattle.word.specs.Choose.{pick}
 use Rattle.bus.specs.Registers.{sptOf}
-use Rattle.drawing_pixel.specs.World.{worldOf, endOf, bgmOf, worldCoversOf}
-use Rattle.drawing_pixel.specs.Object.{objectOf, objectCoversOf, groupCountOf}
-use Rattle.drawing_pixel.specs.Pixel.{drawsObjectsOf}
+use Rattle.drawing_pixel.specs.World.{worldOf, endOf, bgmOf}
+use Rattle.drawing_pixel.specs.Object.{objectOf, groupCountOf}
+use Rattle.drawing_pixel.specs.Pixel.{worldCovers, objectCovers, drawsObjectsOf}
 
 -- whether none of the k worlds from world n on has END
 unfoldable pub noEndOf : List ℕ → ℕ → ℕ → Bool
@@ -36,14 +36,14 @@ inGroupOf regs n k = ltb ((sptOf regs n + 1024 - k) % 1024) (groupCountOf regs n
 -- whether world n is a background world that covers the pixel: reached, shown to the eye, the pixel in its window
 unfoldable pub backgroundCoversOf : List ℕ → ℕ → ℕ → ℕ → ℕ → Bool
 backgroundCoversOf vram eye x y n =
-    reachedOf vram n && (not (eqb (bgmOf (worldOf vram n)) 3) && worldCoversOf (worldOf vram n) eye x y)
+    reachedOf vram n && (not (eqb (bgmOf (worldOf vram n)) 3) && worldCovers (worldOf vram n) eye x y)
 
 -- whether world n is a reached object world that draws object k to the eye, the pixel in the object's square
 unfoldable pub drawsOverOf : List ℕ → List ℕ → ℕ → ℕ → ℕ → ℕ → ℕ → Bool
 drawsOverOf vram regs eye x y k n =
     reachedOf vram n
     && (drawsObjectsOf (worldOf vram n)
-    && (inGroupOf regs (groupOf vram n) k && objectCoversOf (worldOf vram n) (objectOf vram k) eye x y))
+    && (inGroupOf regs (groupOf vram n) k && objectCovers (worldOf vram n) (objectOf vram k) eye x y))
 
 -- whether a test holds of a number below n
 unfoldable pub someBelow : ℕ → (ℕ → Bool) → Bool

@@ -1,17 +1,21 @@
--- Demand 3 (paper 01, "The bytes a pixel answers to"): the statements. Their proofs are `answerable`, `few`, `no-fewer`,
+-- Demand 3 (paper 01, "The bytes a pixel answers to"): the statements. Their proofs are `answerable`, `few`, `listed-length`,
 -- `pixel-outside-images` and `listed-in-vram` in proofs/. Memories are lists of 262,144 numbers; that they are bytes is
 -- assumed only where it is said.
-use Prim.Native.Nat.{ℕ, _+_, _*_, _/_, _≤_, _<_}
-use mathlib.Core.Bool.{true, false}
+use Prim.Native.Nat.{ℕ, zero, suc, _+_, _*_, _/_, _≤_, _<_}
+use mathlib.Core.Bool.{Bool, true, false}
 use mathlib.Core.List.{List, [], _∷_}
 use mathlib.Core.Path.{_≡_}
 use lib.ListN.{length, getD}
+use lib.Dec.{eqb}
+use Rattle.word.specs.Choose.{pick}
 use Rattle.bus.specs.Registers.{registersOk}
+use Rattle.refusal.specs.declared.Verdict.the-variants.{Accepted}
+use Rattle.drawing_pixel.specs.World.{worldOf, bgmOf}
 use Rattle.drawing_pixel.specs.Pixel.{pixelOf}
 use Rattle.drawing_pixel.specs.Strip.{storedPixelOf}
-use Rattle.drawing_laws.specs.Drawn.{Call, acceptedOf, drawsStripOf, afterOf, inImagesOf}
-use Rattle.drawing_laws.specs.Covers.{coveringWorldsOf, coveringObjectsOf}
-use Rattle.drawing_laws.specs.SourceBytes.{sourceBytesOf}
+use Rattle.drawing_laws.specs.Drawn.{Call, callVerdictOf, drawsStripOf, afterOf, inImagesOf}
+use Rattle.drawing_laws.specs.Covers.{backgroundCoversOf, coveringWorldsOf, coveringObjectsOf}
+use Rattle.drawing_laws.specs.PixelBytes.{pixelBytesOf}
 
 -- something holds of each number of a list
 abbrev pub Each : (ℕ → Type 0) → List ℕ → Type 0
@@ -27,21 +31,19 @@ pub record SameTables (first second : List ℕ) : Type 0 where
   pub worlds : (a : ℕ) → 0x3D800 ≤ a → a < 0x3D800 + 32 * 32 → SameByte first second a
   pub objects : (a : ℕ) → 0x3E000 ≤ a → a < 0x3E000 + 1024 * 8 → SameByte first second a
 
--- a pixel that both calls draw is the same after them where tables and listed bytes were the same before them
+-- a pixel that both calls draw, neither refused, is the same after them where tables and listed bytes were the same before
+-- them
 abbrev pub Answerable : Type 0
 Answerable =
-    (first second regs : List ℕ) (frame : ℕ) (one other : Call) (eye x y : ℕ) → length first ≡ 262144
-    → length second ≡ 262144
-    → registersOk regs ≡ true
-    → frame < 2
+    (first second regs : List ℕ) (frame : ℕ) (one other : Call) (eye x y : ℕ)
+    → callVerdictOf first regs frame one ≡ Accepted
+    → callVerdictOf second regs frame other ≡ Accepted
     → eye < 2
     → x < 384
-    → acceptedOf one ≡ true
-    → acceptedOf other ≡ true
     → drawsStripOf one (y / 8) ≡ true
     → drawsStripOf other (y / 8) ≡ true
     → SameTables first second
-    → Each (SameByte first second) (sourceBytesOf first regs eye x y)
+    → Each (SameByte first second) (pixelBytesOf first regs eye x y)
     → storedPixelOf (afterOf second regs frame other) frame eye x y
     ≡ storedPixelOf (afterOf first regs frame one) frame eye x y
 
@@ -49,13 +51,24 @@ Answerable =
 abbrev pub Few : Type 0
 Few =
     (vram regs : List ℕ) (eye x y : ℕ)
-    → length (sourceBytesOf vram regs eye x y) ≤ 14 * coveringWorldsOf vram eye x y + 2 * coveringObjectsOf vram regs eye x y
+    → length (pixelBytesOf vram regs eye x y) ≤ 14 * coveringWorldsOf vram eye x y + 2 * coveringObjectsOf vram regs eye x y
 
--- and what covers is listed: at least 4 bytes for each covering background world, 2 for each covering object
-abbrev pub NoFewer : Type 0
-NoFewer =
+-- how many bytes a background world has: its cell and character row, and 2 parameter bytes for H-bias, 10 for affine
+abbrev pub worldBytesCountOf : List ℕ → ℕ
+worldBytesCountOf w = pick (eqb (bgmOf w) 0) 4 (pick (eqb (bgmOf w) 1) 6 14)
+
+-- the sum of f over the numbers below n of which a test holds
+unfoldable pub sumBelow : ℕ → (ℕ → Bool) → (ℕ → ℕ) → ℕ
+sumBelow zero test f = 0
+sumBelow (suc n) test f = pick (test n) (f n) 0 + sumBelow n test f
+
+-- and exactly that long: 4 for each covering normal world, 6 for H-bias, 14 for affine, 2 for each covering object
+abbrev pub ListedLength : Type 0
+ListedLength =
     (vram regs : List ℕ) (eye x y : ℕ) → registersOk regs ≡ true
-    → 4 * coveringWorldsOf vram eye x y + 2 * coveringObjectsOf vram regs eye x y ≤ length (sourceBytesOf vram regs eye x y)
+    → length (pixelBytesOf vram regs eye x y)
+    ≡ sumBelow 32 (backgroundCoversOf vram eye x y) (λ n. worldBytesCountOf (worldOf vram n))
+    + 2 * coveringObjectsOf vram regs eye x y
 
 -- memories that agree outside a frame's images have the same pixels
 abbrev pub PixelOutsideImages : Type 0
@@ -68,4 +81,4 @@ PixelOutsideImages =
 abbrev pub ListedInVram : Type 0
 ListedInVram =
     (vram regs : List ℕ) (eye x y : ℕ) → ((a : ℕ) → getD vram a 0 < 256)
-    → Each (λ a. a < 262144) (sourceBytesOf vram regs eye x y)
+    → Each (λ a. a < 262144) (pixelBytesOf vram regs eye x y)

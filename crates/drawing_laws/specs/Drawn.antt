@@ -6,20 +6,21 @@ use mathlib.Core.List.{List}
 use mathlib.Core.Path.{_≡_}
 use lib.ListN.{length, getD}
 use lib.Dec.{eqb, ltb}
-use Rattle.bus.specs.Registers.{registersOk}
+use Rattle.refusal.specs.declared.Verdict.{Verdict}
+use Rattle.refusal.specs.declared.Verdict.the-variants.{Accepted}
 use Rattle.drawing_pixel.specs.Pixel.{pixelOf}
 use Rattle.drawing_pixel.specs.Strip.{storedPixelOf}
-use Rattle.drawing.specs.Calls.{drawStripOf, drawFrameOf}
+use Rattle.drawing.specs.Calls.{stripVerdictOf, frameVerdictOf, drawStripOf, drawFrameOf}
 
 -- a call that draws: the frame call, or the strip call with its strip number
 pub data Call : Type 0 where
   frameCall : Call
   stripCall : ℕ → Call
 
--- the strip numbers that are accepted: up to 27
-unfoldable pub acceptedOf : Call → Bool
-acceptedOf frameCall = true
-acceptedOf (stripCall s) = ltb s 28
+-- the call's own verdict
+unfoldable pub callVerdictOf : List ℕ → List ℕ → ℕ → Call → Verdict
+callVerdictOf vram regs frame frameCall = frameVerdictOf vram regs frame
+callVerdictOf vram regs frame (stripCall own) = stripVerdictOf vram regs frame own
 
 -- whether a call draws a strip: the frame call 0 to 27, the strip call its own
 unfoldable pub drawsStripOf : Call → ℕ → Bool
@@ -38,12 +39,9 @@ inImagesOf frame a = (ltb a 0x20000 && eqb (a / 0x8000 % 2) frame) && ltb (a % 0
 -- a drawn pixel, as it stands after the call, is the pixel of memory as it was before it
 abbrev pub PixelDrawn : Type 0
 PixelDrawn =
-    (vram regs : List ℕ) (frame : ℕ) (call : Call) (eye x y : ℕ) → length vram ≡ 262144
-    → registersOk regs ≡ true
-    → frame < 2
+    (vram regs : List ℕ) (frame : ℕ) (call : Call) (eye x y : ℕ) → callVerdictOf vram regs frame call ≡ Accepted
     → eye < 2
     → x < 384
-    → acceptedOf call ≡ true
     → drawsStripOf call (y / 8) ≡ true
     → storedPixelOf (afterOf vram regs frame call) frame eye x y ≡ pixelOf vram regs eye x y
 

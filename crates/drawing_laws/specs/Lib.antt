@@ -1,4 +1,5 @@
 pub mod Covers
+pub mod PixelBytes
 pub mod SourceBytes
 pub mod Drawn
 pub mod Demand3

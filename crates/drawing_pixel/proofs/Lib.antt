@@ -13,3 +13,13 @@ pub mod Windows
 mod Heights
 pub mod Lists
 pub mod Strips
+pub mod RowBits
+pub mod Integers
+pub mod Floors
+pub mod Fields
+pub mod HeightFormulas
+pub mod WindowFormulas
+pub mod SourceFormulas
+pub mod CellFormulas
+pub mod ObjectFormulas
+pub mod Painting

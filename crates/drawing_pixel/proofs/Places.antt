@@ -8,7 +8,8 @@ use lib.Bits.{bitAnd, bitXor}
 use Rattle.word.specs.Choose.{pick}
 use Rattle.drawing_pixel.specs.Signed.{bitOf}
 use Rattle.drawing_pixel.specs.Character.{pairOf, flippedOf, valueOf}
-use Rattle.drawing_pixel.specs.RowBits.{PlaceUnit, bits-picked, picked-value}
+use Rattle.drawing_pixel.specs.RowBits.{PlaceUnit}
+use Rattle.drawing_pixel.proofs.RowBits.{bits-picked, picked-value}
 use Rattle.drawing_pixel.proofs.Pairs.{below-eight}
 
 -- the unit of a position by its mask

@@ -9,7 +9,9 @@ use Rattle.drawing_pixel.specs.Character.{shadeOf, cellPixelOf}
 use Rattle.drawing_pixel.specs.World.{worldOf, endOf, skippedOf, bgmOf, worldCoversOf}
 use Rattle.drawing_pixel.specs.Background.{sourcePixelOf, backgroundPixelOf}
 use Rattle.drawing_pixel.specs.Object.{objectOf, objectPixelOf, objectCoversOf, objectAfterOf, objectsPixelOf, groupPixelOf, groupCountOf}
-use Rattle.drawing_pixel.specs.Pixel.{worldPixelOf, worldsPixelOf, counterOf, pixelOf}
+use Rattle.drawing_pixel.specs.Pixel.{counterOf, pixelOf}
+use Rattle.drawing_pixel.specs.Painting.{worldPixelOf, worldsPixelOf, paintedPixelOf}
+use Rattle.drawing_pixel.proofs.Painting.{pixel-formula}
 use Rattle.drawing_pixel.proofs.Pairs.{pair-lt}
 
 pick-small : (b : Bool) {m n : ℕ} → m < 4 → n < 4 → pick b m n < 4
@@ -61,5 +63,7 @@ worlds-small vram regs eye x y (suc n) counter v h =
 
 -- where BKCOL is within its width, every pixel is two bits
 pub pixel-small : (vram regs : List ℕ) (eye x y : ℕ) → bkcolOf regs < 4 → pixelOf vram regs eye x y < 4
-unfolding pixelOf
-pixel-small vram regs eye x y h = worlds-small vram regs eye x y 32 3 (bkcolOf regs) h
+pixel-small vram regs eye x y h = rw (← pixel-formula vram regs eye x y) (painted-small vram regs eye x y h)
+  where
+    painted-small : (vram regs : List ℕ) (eye x y : ℕ) → bkcolOf regs < 4 → paintedPixelOf vram regs eye x y < 4
+    painted-small vram regs eye x y h = unfold paintedPixelOf in worlds-small vram regs eye x y 32 3 (bkcolOf regs) h

@@ -1,13 +1,9 @@
 -- Signed fields over the integers, by paper 01's names, and the one law that ties a biased field to them at every width.
 -- Here and in the formulas of windows, sources, cells, objects and pixels, a name without `Of` is paper 01's quantity over the
 -- integers, and the same name with `Of` is the definition over the natural numbers that drawing is proved against.
-use Prim.Native.Nat.{ℕ, _+_, _-_, _*_, _%_, _<_, _≤_}
-use native.Mathlib.Nat as NatL
-use native.Mathlib.Decide.{decLt}
-use native.Mathlib.Omega.{arith}
-use mathlib.Core.Path.{_≡_, sym, ap, _∙_}
+use Prim.Native.Nat.{ℕ, _+_, _-_, _*_, _%_, _<_}
+use mathlib.Core.Path.{_≡_}
 use mathlib.Core.List.{List}
-use borrow.Author.Tests.{lt-ltb, le-ltb}
 use lib.Dec.{eqb}
 use lib.ListN.{getD}
 use lib.IntN.{ℤ, pos, _+ℤ_, _-ℤ_}
@@ -15,7 +11,6 @@ use Rattle.word.specs.Choose.{pick}
 use Rattle.word.specs.Extend.{signedOf}
 use Rattle.drawing_pixel.specs.Signed.{biasedOf}
 use Rattle.drawing_pixel.specs.World.{bgmOf}
-use Rattle.drawing_pixel.specs.Integers.{Is, is-pos, is-sum, is-difference, is-moved, is-tied, aboveZero, is-above}
 
 -- the low bits of a halfword, read signed; `half` is half the range of the width
 abbrev pub fieldOf : ℕ → ℕ → ℤ
@@ -58,36 +53,7 @@ JP o = fieldOf 512 (getD o 1 0)
 abbrev pub withParallax : ℕ → ℤ → ℤ → ℤ
 withParallax eye position parallax = pick (eqb eye 0) (position -ℤ parallax) (position +ℤ parallax)
 
-not-negative : (half h : ℕ) → h % (2 * half) < half → Is (fieldOf half h) (biasedOf half h) half
-unfolding signedOf
-not-negative half h l =
-    let small : h % (2 * half) + half < 2 * half = omega arith in
-    let value : biasedOf half h ≡ h % (2 * half) + half = sym (NatL.mod-add-mod h (2 * half) half) ∙ NatL.mod-eq-of-lt small in
-    simp (lt-ltb (h % (2 * half)) half l) (is-moved (is-pos (h % (2 * half))) (omega arith))
-
-negative : (half h : ℕ) → 0 < half → half ≤ h % (2 * half) → Is (fieldOf half h) (biasedOf half h) half
-unfolding signedOf
-negative half h p l =
-    let two : 0 < 2 * half = omega arith in
-    let bound = NatL.mod-lt h two in
-    let high : 2 * half ≤ h % (2 * half) + half = omega arith in
-    let small : h % (2 * half) + half - 2 * half < 2 * half = omega arith in
-    let value : biasedOf half h ≡ h % (2 * half) + half - 2 * half =
-    sym (NatL.mod-add-mod h (2 * half) half) ∙ NatL.mod-eq-sub-mod high ∙ NatL.mod-eq-of-lt small in
-    simp (le-ltb (h % (2 * half)) half l) (is-moved (is-difference (is-pos (h % (2 * half))) (is-pos (2 * half))) (omega arith))
-
-pub is-field : (half h : ℕ) → 0 < half → Is (fieldOf half h) (biasedOf half h) half
-is-field half h p =
-    elim (decLt (h % (2 * half)) half) [
-      | yes l ↦ not-negative half h l
-      | no n ↦ negative half h p (omega arith)
-    ]
-
 -- a biased field is the field's signed value plus half its range, at every width
-pub biased-field : (half h : ℕ) → 0 < half → pos (biasedOf half h) ≡ signedOf half (h % (2 * half)) +ℤ pos half
-biased-field half h p = is-tied (is-field half h p)
-
--- a size that is a field plus 1, none where that is not above 0
-pub field-plus-one : (half h : ℕ) → 0 < half → aboveZero (fieldOf half h +ℤ pos 1) ≡ biasedOf half h + 1 - half
-field-plus-one half h p =
-    is-above (is-sum (is-field half h p) (is-pos 1)) ∙ ap (λ v. biasedOf half h + 1 - v) (NatL.add-zero half)
+abbrev pub BiasedField : Type 0
+BiasedField =
+    (half h : ℕ) → 0 < half → pos (biasedOf half h) ≡ signedOf half (h % (2 * half)) +ℤ pos half

@@ -4,9 +4,6 @@ pub mod RowBits
 pub mod World
 pub mod Background
 pub mod Object
-pub mod Pixel
-pub mod Strip
-pub mod Buffer
 pub mod Integers
 pub mod Floors
 pub mod Fields
@@ -15,4 +12,7 @@ pub mod WindowFormulas
 pub mod SourceFormulas
 pub mod CellFormulas
 pub mod ObjectFormulas
-pub mod PixelFormulas
+pub mod Pixel
+pub mod Painting
+pub mod Strip
+pub mod Buffer

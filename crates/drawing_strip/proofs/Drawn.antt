@@ -8,7 +8,9 @@ use lib.ListN.{length, getD, replicate, getD-replicate}
 use lib.Seq.{ext-getD}
 use Rattle.bus.specs.Registers.{bkcolOf}
 use Rattle.drawing_pixel.specs.Character.{pairOf}
-use Rattle.drawing_pixel.specs.Pixel.{worldsPixelOf, pixelOf}
+use Rattle.drawing_pixel.specs.Pixel.{pixelOf}
+use Rattle.drawing_pixel.specs.Painting.{worldsPixelOf, paintedPixelOf}
+use Rattle.drawing_pixel.proofs.Painting.{pixel-formula}
 use Rattle.drawing_pixel.specs.Strip.{fourPixelsOf, stripByteOf, stripOf}
 use Rattle.drawing_pixel.specs.Buffer.{Strip}
 use Rattle.drawing_pixel.proofs.Pairs.{below-eight}
@@ -29,13 +31,14 @@ filled (suc (suc (suc (suc b)))) h = absurd (omega arith)
 pub worked : (vram regs : List ℕ) (eye strip : ℕ) (columns : List ℕ) → bkcolOf regs < 4
     → Strip (λ x r. worldsPixelOf vram regs eye x (8 * strip + r) 32 3) (replicate 384 (getD regs 12 0 * 21845)) columns
     → Worked vram regs eye strip columns
-unfolding pixelOf bkcolOf
+unfolding paintedPixelOf bkcolOf
 worked vram regs eye strip columns h s =
     record {
       pixels = λ x r u v.
           s .pixels x r u v
           ∙ ap (worldsPixelOf vram regs eye x (8 * strip + r) 32 3)
-          (ap (λ (n : ℕ). pairOf n r) (getD-replicate 384 x (getD regs 12 0 * 21845) 0 u) ∙ filled (getD regs 12 0) h r v);
+          (ap (λ (n : ℕ). pairOf n r) (getD-replicate 384 x (getD regs 12 0 * 21845) 0 u) ∙ filled (getD regs 12 0) h r v)
+          ∙ pixel-formula vram regs eye x (8 * strip + r);
     }
 
 -- the four pairs of a byte

@@ -13,7 +13,8 @@ use Rattle.drawing_pixel.specs.Character.{pairOf}
 use Rattle.drawing_pixel.specs.World.{worldOf, skippedOf, bgmOf, endOf}
 use Rattle.drawing_pixel.specs.Background.{backgroundPixelOf}
 use Rattle.drawing_pixel.specs.Object.{groupPixelOf}
-use Rattle.drawing_pixel.specs.Pixel.{counterAfterOf, drawsObjectsOf, counterOf, worldPixelOf, worldsPixelOf}
+use Rattle.drawing_pixel.specs.Pixel.{counterAfterOf, drawsObjectsOf, counterOf}
+use Rattle.drawing_pixel.specs.Painting.{worldPixelOf, worldsPixelOf}
 use Rattle.drawing_pixel.specs.Buffer.{Strip}
 
 -- the flags of a world are its first halfword

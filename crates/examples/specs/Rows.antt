@@ -6,12 +6,12 @@ use mathlib.Core.List.{List, [], _∷_, map}
 use mathlib.Core.Path.{_≡_, refl}
 use lib.ListN.{replicate}
 use Rattle.word.specs.Choose.{pick}
-use Rattle.word.specs.Extend.{extendOf}
+use Rattle.word.specs.Extend.{extendOf, signedOf}
 use Rattle.bus.specs.Place.{Place, wramAt, vramAt, romAt, regionOf, mirrorOf, vipPlace, registerPlace, placeOf}
 use Rattle.bus.specs.Memory.{Memory, memoryOf, alignedOf}
 use Rattle.processor_arithmetic.specs.Flag.{flagsOf, keepCarryOf, flagOf}
 use Rattle.processor_arithmetic.specs.Sign.{magnitudeOf, negativeOf}
-use Rattle.processor_arithmetic.specs.Sum.{sumOf, biasedOf, outsideOf}
+use Rattle.processor_arithmetic.specs.Sum.{sumOf}
 use Rattle.processor_arithmetic.specs.Quotient.{divideOf, quotientOf, remainderOf, quotientOverflowsOf}
 use Rattle.processor_arithmetic.specs.Condition.{conditionOf}
 use Rattle.processor_decode.specs.Opcode.{decodeOf, shortRows, branchRows, longRows}
@@ -131,7 +131,7 @@ rows =
 
 -- every row's printed answer is the definitions' answer
 pub rows-hold : map (λ (r : Row). answer (r .question)) rows ≡ map (λ (r : Row). r .printed) rows
-unfolding rows row answer nowhere stateWith pcAfter pcsFrom flagsIn extendOf sumOf biasedOf outsideOf flagsOf keepCarryOf
+unfolding rows row answer nowhere stateWith pcAfter pcsFrom flagsIn extendOf sumOf signedOf flagsOf keepCarryOf
     divideOf quotientOf remainderOf quotientOverflowsOf magnitudeOf negativeOf conditionOf decodeOf shortRows branchRows longRows
     executeOf placeOf regionOf vipPlace registerPlace mirrorOf
     characterAddressOf shadeOf pairOf worldWith shownFrom columnCoveredOf windowLeftOf edgeOf columnsOf

@@ -5,16 +5,16 @@ use mathlib.Core.Bool.{false}
 use mathlib.Core.List.{List, [], _∷_}
 use mathlib.Core.Path.{_≡_, _∙_}
 use native.Mathlib.Omega.{arith}
-use lib.ListN.{length}
 use Rattle.drawing_laws.specs.Demand3.{Each, SameByte, SameTables}
 use Rattle.drawing_laws.specs.Drawn.{Call, afterOf, inImagesOf}
-use Rattle.drawing_laws.specs.SourceBytes.{sourceBytesOf}
+use Rattle.drawing_laws.specs.PixelBytes.{pixelBytesOf}
+use Rattle.drawing_laws.proofs.PixelBytes.{listed-formula}
 use Rattle.drawing_laws.proofs.Answerable.{answerable}
-use Rattle.drawing_laws.proofs.CallDrawn.{byte-kept, length-kept}
+use Rattle.drawing_laws.proofs.CallDrawn.{byte-kept}
 use Rattle.drawing_laws.proofs.Images.{clear-outside}
 use Rattle.drawing_laws.proofs.ListedAddresses.{Clear, listed-clear}
 use Rattle.probe.specs.Kept.{Write, allWrittenOf}
-use Rattle.probe.proofs.ProbeKept.{probe-kept, probe-length}
+use Rattle.probe.proofs.ProbeKept.{probe-kept}
 use Rattle.probe.proofs.Ranges.{before-maps, past-maps}
 use Rattle.overlay.specs.Undisturbed.{Outside, Undisturbed}
 
@@ -42,10 +42,9 @@ module _ (vram regs : List ℕ) (frame : ℕ) (one : Call) (writes : List Write)
 
 pub undisturbed : Undisturbed
 unfolding second
-undisturbed vram regs frame one other writes eye x y l ok f e c a b d g out =
-    answerable vram (second vram regs frame one writes) regs frame one other eye x y l
-    (probe-length (afterOf vram regs frame one) writes ∙ length-kept vram regs frame one ∙ l) ok f e c a b d g
+undisturbed vram regs frame one other writes eye x y a b e c d g out =
+    answerable vram (second vram regs frame one writes) regs frame one other eye x y a b e c d g
     (same-tables vram regs frame one writes)
     (each-both Clear Outside (SameByte vram (second vram regs frame one writes))
     (λ i clear o. same-byte vram regs frame one writes i clear o)
-    (sourceBytesOf vram regs eye x y) (listed-clear vram regs eye x y) out)
+    (pixelBytesOf vram regs eye x y) (rw (← listed-formula vram regs eye x y) (listed-clear vram regs eye x y)) out)

@@ -5,12 +5,11 @@ use Prim.Native.Nat.{ℕ, _/_, _<_}
 use mathlib.Core.Bool.{true, false}
 use mathlib.Core.List.{List}
 use mathlib.Core.Path.{_≡_}
-use lib.ListN.{length}
-use Rattle.bus.specs.Registers.{registersOk}
+use Rattle.refusal.specs.declared.Verdict.the-variants.{Accepted}
 use Rattle.drawing_pixel.specs.Strip.{storedPixelOf}
 use Rattle.drawing_laws.specs.Demand3.{Each}
-use Rattle.drawing_laws.specs.Drawn.{Call, acceptedOf, drawsStripOf, afterOf}
-use Rattle.drawing_laws.specs.SourceBytes.{sourceBytesOf}
+use Rattle.drawing_laws.specs.Drawn.{Call, callVerdictOf, drawsStripOf, afterOf}
+use Rattle.drawing_laws.specs.PixelBytes.{pixelBytesOf}
 use Rattle.probe.specs.Probe.{inRangesOf}
 use Rattle.probe.specs.Kept.{Write, allWrittenOf}
 
@@ -22,15 +21,13 @@ Outside a = inRangesOf a ≡ false
 -- the second, whatever the probe wrote between them
 abbrev pub Undisturbed : Type 0
 Undisturbed =
-    (vram regs : List ℕ) (frame : ℕ) (one other : Call) (writes : List Write) (eye x y : ℕ) → length vram ≡ 262144
-    → registersOk regs ≡ true
-    → frame < 2
+    (vram regs : List ℕ) (frame : ℕ) (one other : Call) (writes : List Write) (eye x y : ℕ)
+    → callVerdictOf vram regs frame one ≡ Accepted
+    → callVerdictOf (allWrittenOf (afterOf vram regs frame one) writes) regs frame other ≡ Accepted
     → eye < 2
     → x < 384
-    → acceptedOf one ≡ true
-    → acceptedOf other ≡ true
     → drawsStripOf one (y / 8) ≡ true
     → drawsStripOf other (y / 8) ≡ true
-    → Each Outside (sourceBytesOf vram regs eye x y)
+    → Each Outside (pixelBytesOf vram regs eye x y)
     → storedPixelOf (afterOf (allWrittenOf (afterOf vram regs frame one) writes) regs frame other) frame eye x y
     ≡ storedPixelOf (afterOf vram regs frame one) frame eye x y

@@ -10,13 +10,16 @@ use Rattle.word.specs.Choose.{pick}
 use Rattle.processor_arithmetic.specs.Flag.{bitOf}
 
 -- a sum wrapped where it came out below its first part
-pub sum-carry : (a b : ℕ) → a < 2 ^ 32 → b < 2 ^ 32 → bitOf (ltb ((a + b) % 2 ^ 32) a) ≡ (a + b) / 2 ^ 32
+pub sum-carry : (a b : ℕ) → a < 2 ^ 32 → b < 2 ^ 32 → bitOf (ltb ((a + b) % 2 ^ 32) a) ≡ bitOf (leb (2 ^ 32) (a + b))
 sum-carry a b ha hb =
     elim (decLt ((a + b) % 2 ^ 32) a) [
-      | yes h ↦ simp (lt-ltb ((a + b) % 2 ^ 32) a h) (omega arith)
+      | yes h ↦
+          let w : 2 ^ 32 ≤ a + b = omega arith in
+          simp (lt-ltb ((a + b) % 2 ^ 32) a h) (simp (le-leb (2 ^ 32) (a + b) w))
       | no h ↦
           let k : a ≤ (a + b) % 2 ^ 32 = omega arith in
-          simp (le-ltb ((a + b) % 2 ^ 32) a k) (omega arith)
+          let w : a + b < 2 ^ 32 = omega arith in
+          simp (le-ltb ((a + b) % 2 ^ 32) a k) (simp (lt-leb (2 ^ 32) (a + b) w))
     ]
 
 pub bit-not : (b : Bool) → bitOf (not b) ≡ pick b 0 1

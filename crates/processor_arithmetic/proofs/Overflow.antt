@@ -1,13 +1,17 @@
 -- When a signed sum of words is no signed word: where the sign of the wrapped sum is neither part's. A difference a - b is
 -- what b is added to for a, and overflows where that sum does.
 use Prim.Native.Nat.{ℕ, zero, suc, _+_, _-_, _*_, _/_, _%_, _^_, _<_, _≤_}
-use mathlib.Core.Path.{_≡_, ap₂, sym, _∙_}
+use mathlib.Core.Path.{_≡_, ap, ap₂, sym, _∙_}
 use native.Mathlib.Decide.{ℕ-discrete}
 use native.Mathlib.Omega.{arith}
 use borrow.Author.Tests.{eq-eqb, ne-eqb}
 use lib.Bits.{bitAnd, bitXor, and-shr, xor-shr}
-use Rattle.processor_arithmetic.specs.Sum.{biasedOf, outsideOf}
-use Rattle.processor_arithmetic.specs.Biased.{bias-small, bias-mod, difference-mod}
+use lib.IntN.{ℤ, _+ℤ_, _-ℤ_}
+use Rattle.processor_arithmetic.specs.Flag.{bitOf}
+use Rattle.processor_arithmetic.specs.Integer.{signed, outside}
+use Rattle.processor_arithmetic.proofs.Bias.{biasedOf, outsideOf}
+use Rattle.processor_arithmetic.proofs.Biased.{bias-small, bias-mod, difference-mod, sum-difference, difference-difference}
+use Rattle.processor_arithmetic.proofs.Reading.{outside-bit}
 
 -- two binary digits p and q, which with or without a carry in make the digit s and the carry c
 signs : (p q s c : ℕ) → p < 2 → q < 2 → s < 2 → p + q ≤ s + 2 * c → s + 2 * c ≤ p + q + 1
@@ -54,7 +58,7 @@ sum-range a b s t p q c h e k =
     let m : (t + 2 ^ 31) / 2 ^ 32 + p + q ≡ s / 2 ^ 31 + c + 1 = omega arith in
     omega arith
 
-pub sum-overflow-bit : (a b s : ℕ) → a < 2 ^ 32 → b < 2 ^ 32 → s ≡ (a + b) % 2 ^ 32
+sum-overflow-bit : (a b s : ℕ) → a < 2 ^ 32 → b < 2 ^ 32 → s ≡ (a + b) % 2 ^ 32
     → bitAnd (bitXor a s) (bitXor b s) / 2 ^ 31 ≡ outsideOf (biasedOf a + biasedOf b)
 sum-overflow-bit a b s ha hb e =
     let p = a / 2 ^ 31 in
@@ -71,7 +75,7 @@ opposite : (x y : ℕ) → x < 2 ^ 32 → y < 2 ^ 32
     → ((x + (2 ^ 32 - y) + 2 ^ 31) % 2 ^ 32 + y + 2 ^ 31) / 2 ^ 32 + (x + (2 ^ 32 - y) + 2 ^ 31) / 2 ^ 32 ≡ 2
 opposite x y hx hy = omega arith
 
-pub difference-overflow-sum : (a b : ℕ) → a < 2 ^ 32 → b < 2 ^ 32
+difference-overflow-sum : (a b : ℕ) → a < 2 ^ 32 → b < 2 ^ 32
     → outsideOf (biasedOf ((a + (2 ^ 32 - b)) % 2 ^ 32) + biasedOf b) ≡ outsideOf (biasedOf a + (2 ^ 32 - biasedOf b))
 difference-overflow-sum a b ha hb =
     let x = biasedOf a in
@@ -82,3 +86,28 @@ difference-overflow-sum a b ha hb =
     (outside-even ((x + (2 ^ 32 - y) + 2 ^ 31) % 2 ^ 32 + y) (omega arith)
     ∙ omega (arith, opposite x y hx hy)
     ∙ sym (outside-even (x + (2 ^ 32 - y)) (omega arith)))
+
+-- the same over the whole numbers
+pub sum-outside : (a b : ℕ) → a < 2 ^ 32 → b < 2 ^ 32
+    → outsideOf (biasedOf a + biasedOf b) ≡ bitOf (outside (signed a +ℤ signed b))
+sum-outside a b ha hb =
+    outside-bit (biasedOf a + biasedOf b) ∙ ap (λ (z : ℤ). bitOf (outside z)) (sym (sum-difference a b ha hb))
+
+pub difference-outside : (a b : ℕ) → a < 2 ^ 32 → b < 2 ^ 32
+    → outsideOf (biasedOf a + (2 ^ 32 - biasedOf b)) ≡ bitOf (outside (signed a -ℤ signed b))
+difference-outside a b ha hb =
+    outside-bit (biasedOf a + (2 ^ 32 - biasedOf b))
+    ∙ ap (λ (z : ℤ). bitOf (outside z)) (sym (difference-difference a b ha hb))
+
+-- OV of a sum, as the code tests it
+pub sum-overflow-signs : (a b s : ℕ) → a < 2 ^ 32 → b < 2 ^ 32 → s ≡ (a + b) % 2 ^ 32
+    → bitAnd (bitXor a s) (bitXor b s) / 2 ^ 31 ≡ bitOf (outside (signed a +ℤ signed b))
+sum-overflow-signs a b s ha hb e = sum-overflow-bit a b s ha hb e ∙ sum-outside a b ha hb
+
+-- OV of a difference is that of its sum with what was taken away
+pub difference-sum-outside : (a b : ℕ) → a < 2 ^ 32 → b < 2 ^ 32
+    → bitOf (outside (signed ((a + (2 ^ 32 - b)) % 2 ^ 32) +ℤ signed b)) ≡ bitOf (outside (signed a -ℤ signed b))
+difference-sum-outside a b ha hb =
+    sym (sum-outside ((a + (2 ^ 32 - b)) % 2 ^ 32) b (omega arith) hb)
+    ∙ difference-overflow-sum a b ha hb
+    ∙ difference-outside a b ha hb

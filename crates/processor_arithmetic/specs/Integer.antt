@@ -1,7 +1,8 @@
--- The three words that the laws of Signed, Multiplied, Divided, Shifted and Compared speak in.
-use Prim.Native.Nat.{ℕ, _^_}
+-- Words and whole numbers: the signed reading of a word, the two's complement of a whole number, and which whole numbers
+-- are no signed word.
+use Prim.Native.Nat.{ℕ, _-_, _/_, _%_, _^_}
 use mathlib.Core.Bool.{Bool, true}
-use lib.IntN.{ℤ, pos, negℤ}
+use lib.IntN.{ℤ, pos, negsuc, negℤ}
 use lib.Signed.{ltZ, leZ}
 use Rattle.word.specs.Choose.{pick}
 use Rattle.word.specs.Extend.{signedOf}
@@ -17,3 +18,13 @@ signed64 w = signedOf (2 ^ 63) w
 -- whether a whole number is no signed word: below -2 ^ 31, or not below 2 ^ 31
 abbrev pub outside : ℤ → Bool
 outside z = pick (ltZ z (negℤ (pos (2 ^ 31)))) true (leZ (pos (2 ^ 31)) z)
+
+-- the two's complement of a whole number at the width whose range is given: 2 ^ 32 or 2 ^ 64
+abbrev pub complementOf : ℕ → ℤ → ℕ
+complementOf range (pos n) = n % range
+complementOf range (negsuc n) = range - 1 - n % range
+
+-- a whole number divided by a natural one, rounded down
+abbrev pub floorOf : ℤ → ℕ → ℤ
+floorOf (pos n) d = pos (n / d)
+floorOf (negsuc n) d = negsuc (n / d)

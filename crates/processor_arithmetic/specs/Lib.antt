@@ -1,5 +1,6 @@
 pub mod Flag
 pub mod Sign
+pub mod Integer
 pub mod Sum
 pub mod Shift
 pub mod Bitwise
@@ -9,17 +10,10 @@ pub mod Condition
 pub mod Bit
 pub mod Places
 pub mod Digit
-pub mod Integer
-pub mod Difference
-pub mod Reading
-pub mod Biased
 pub mod Signed
-pub mod Product64
 pub mod Multiplied
 pub mod Truncation
-pub mod Division
 pub mod Divided
-pub mod Floor
 pub mod Shifted
-pub mod Order
 pub mod Compared
+pub mod Entry

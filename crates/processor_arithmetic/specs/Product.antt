@@ -1,9 +1,10 @@
 -- MUL and MULU (document 000, "Arithmetic"; paper 01): the 64-bit product, its high word to r30, its low word to reg2.
 use Prim.Native.Nat.{ℕ, _+_, _-_, _*_, _/_, _%_, _^_}
 use lib.Dec.{ltb, eqb}
+use lib.IntN.{_*ℤ_}
 use Rattle.word.specs.Choose.{pick}
-use Rattle.processor_arithmetic.specs.Flag.{keepCarryOf, signOf}
-use Rattle.processor_arithmetic.specs.Sign.{magnitudeOf}
+use Rattle.processor_arithmetic.specs.Flag.{keepCarryOf}
+use Rattle.processor_arithmetic.specs.Integer.{signed, complementOf}
 use Rattle.processor_arithmetic.specs.declared.Pair.{Pair}
 
 -- a signed word at 64 bits
@@ -21,15 +22,9 @@ wordsOf w psw =
     let low = w % 2 ^ 32 in
     record { r30 = w / 2 ^ 32; reg2 = low; psw = keepCarryOf psw (overflowsOf w) low }
 
--- the 64-bit number of -m
-unfoldable pub negative64Of : ℕ → ℕ
-negative64Of m = (2 ^ 64 - m) % 2 ^ 64
-
--- the signed product at 64 bits: the product of the magnitudes, negative where the signs differ
+-- the product of the signed readings, at 64 bits
 unfoldable pub productOf : ℕ → ℕ → ℕ
-productOf a b =
-    let m = magnitudeOf a * magnitudeOf b in
-    pick (eqb (signOf a) (signOf b)) m (negative64Of m)
+productOf a b = complementOf (2 ^ 64) (signed a *ℤ signed b)
 
 -- MUL
 unfoldable pub multiplyOf : ℕ → ℕ → ℕ → Pair

@@ -1,8 +1,7 @@
 -- Shifts with their flags (document 000, "Bitwise"; paper 01: amounts mod 32, CY the last bit out, clear for amount 0).
-use Prim.Native.Nat.{ℕ, _-_, _*_, _/_, _%_, _^_}
-use lib.Dec.{ltb}
-use Rattle.word.specs.Choose.{pick}
+use Prim.Native.Nat.{ℕ, _*_, _/_, _%_, _^_}
 use Rattle.processor_arithmetic.specs.Flag.{flagsOf}
+use Rattle.processor_arithmetic.specs.Integer.{signed, complementOf, floorOf}
 use Rattle.processor_arithmetic.specs.declared.Outcome.{Outcome}
 
 -- the last bit out to the left: bit 32 - n, which 2 ^ n takes to bit 32
@@ -13,9 +12,9 @@ leftOutOf a n = a * 2 ^ n / 2 ^ 32 % 2
 unfoldable pub rightOutOf : ℕ → ℕ → ℕ
 rightOutOf a n = 2 * a / 2 ^ n % 2
 
--- a shifted right with copies of its top bit: of a word with the top bit set, the complement is shifted
+-- a shifted right with copies of its top bit: the signed reading divided by 2 ^ n and rounded down
 unfoldable pub arithmeticRightOf : ℕ → ℕ → ℕ
-arithmeticRightOf a n = pick (ltb a (2 ^ 31)) (a / 2 ^ n) (2 ^ 32 - 1 - (2 ^ 32 - 1 - a) / 2 ^ n)
+arithmeticRightOf a n = complementOf (2 ^ 32) (floorOf (signed a) (2 ^ n))
 
 -- SHL
 unfoldable pub shiftLeftOf : ℕ → ℕ → ℕ → Outcome

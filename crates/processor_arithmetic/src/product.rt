@@ -3,9 +3,9 @@ use crate::Pair;
 use crate::flag::bit;
 use crate::flag::keep_carry;
 ghost use mathlib.Core.Path.{_≡_};
-ghost use Prim.Native.Nat.{_<_, _≤_, _^_};
+ghost use Prim.Native.Nat.{_-_, _%_, _<_, _≤_, _^_};
 ghost use Rattle.processor_arithmetic.specs.Sign.{magnitudeOf};
-ghost use Rattle.processor_arithmetic.specs.Product.{extend64Of, wordsOf, negative64Of, multiplyOf, multiplyUnsignedOf};
+ghost use Rattle.processor_arithmetic.specs.Product.{extend64Of, wordsOf, multiplyOf, multiplyUnsignedOf};
 
 // The signed word x at 64 bits.
 fn extend64(x: u64) -> u64
@@ -20,7 +20,7 @@ fn extend64(x: u64) -> u64
 
 // The 64-bit number of -m.
 fn negative64(m: u64) -> u64
-    ensures { λ r. ⌜ r ≡ negative64Of m ⌝ }
+    ensures { λ r. ⌜ r ≡ (2 ^ 64 - m) % 2 ^ 64 ⌝ }
 {
     if m == 0 {
         return 0;

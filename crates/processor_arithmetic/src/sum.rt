@@ -4,12 +4,15 @@ use crate::flag::bit;
 use crate::flag::flags;
 ghost use mathlib.Core.Path.{_≡_};
 ghost use Prim.Native.Nat.{_+_, _%_, _<_, _^_};
-ghost use Rattle.processor_arithmetic.specs.Sum.{biasedOf, outsideOf, sumOf, differenceOf, compareOf};
+ghost use lib.IntN.{_+ℤ_};
+ghost use Rattle.processor_arithmetic.specs.Flag.{bitOf};
+ghost use Rattle.processor_arithmetic.specs.Integer.{signed, outside};
+ghost use Rattle.processor_arithmetic.specs.Sum.{sumOf, differenceOf, compareOf};
 
 // 1 where the signed sum of a and b is no signed word: the sign of the wrapped sum is neither's.
 fn overflow(a: u32, b: u32, sum: u32) -> u32
     requires { ⌜ sum ≡ (a + b) % 2 ^ 32 ⌝ }
-    ensures { λ r. ⌜ (r ≡ outsideOf (biasedOf a + biasedOf b)) × (r < 2) ⌝ }
+    ensures { λ r. ⌜ (r ≡ bitOf (outside (signed a +ℤ signed b))) × (r < 2) ⌝ }
 {
     ((a ^ sum) & (b ^ sum)) / 2147483648
 }

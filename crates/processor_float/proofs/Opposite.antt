@@ -10,7 +10,7 @@ use lib.Ieee.{Float, inf, Format, binary32, neg, prec, emax, low, size, nearest,
 use lib.Ieee.Fits.{round-is}
 use Rattle.word.specs.Extend.{signedOf}
 use Rattle.processor_arithmetic.specs.Integer.{signed}
-use Rattle.processor_arithmetic.specs.Reading.{plain-reading, negative-reading}
+use Rattle.processor_arithmetic.proofs.Reading.{plain-reading, negative-reading}
 
 opposite-odd : (d q k l : ℕ) → neg (odd d false q k l) ≡ odd d true q k l
 unfolding odd neg

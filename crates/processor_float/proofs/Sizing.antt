@@ -14,7 +14,7 @@ use lib.Ieee.Fits.{nearest-le}
 use lib.Ieee.Nearest.{closest, closest-same, div-same}
 use Rattle.word.specs.Choose.{pick}
 use Rattle.processor_arithmetic.specs.Integer.{outside}
-use Rattle.processor_arithmetic.specs.Reading.{outside-negative}
+use Rattle.processor_arithmetic.proofs.Reading.{outside-negative}
 use Rattle.processor_float.specs.Operand.{exponentOf, digitsOf, unitsIn, unitsOf, signedBy}
 use Rattle.processor_float.specs.Conversion.{nearestSizeOf, truncatedSizeOf, outsideOf}
 use Rattle.processor_float.proofs.Closest.{closest-less, closest-none}

@@ -19,7 +19,7 @@ use Rattle.word.specs.Choose.{pick}
 use Rattle.word.specs.Extend.{signedOf}
 use Rattle.processor_arithmetic.specs.Sign.{negativeOf}
 use Rattle.processor_arithmetic.specs.Integer.{signed, outside}
-use Rattle.processor_arithmetic.specs.Reading.{plain-reading, negative-reading, outside-negative, magnitude-absolute, magnitude-small}
+use Rattle.processor_arithmetic.proofs.Reading.{plain-reading, negative-reading, outside-negative, magnitude-absolute, magnitude-small}
 use Rattle.processor_float.specs.Operand.{reservedOf, unitsOf, signedBy, valueOf}
 use Rattle.processor_float.specs.Conversion.{nearestSizeOf, truncatedSizeOf, signedWordOf, convertedOf, nearestOf, truncatedOf}
 use Rattle.processor_float.proofs.Tested.{pick-true, pick-false}

@@ -11,3 +11,4 @@ pub mod Answering
 pub mod Comparing
 pub mod Converting
 pub mod Rearranging
+pub mod Flagged

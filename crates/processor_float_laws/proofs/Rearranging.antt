@@ -11,8 +11,9 @@ use lib.IntN.{ℤ, pos, negsuc, negℤ, subℕ, _+ℤ_, _-ℤ_, _*ℤ_, +ℤ-com
 use lib.Pow.{high, low, shr-shr, mod-mod-pow, field}
 use Rattle.word.specs.Choose.{pick}
 use Rattle.word.specs.Extend.{extendOf, signedOf}
-use Rattle.processor_arithmetic.specs.Bit.{bitAt, same-below}
-use Rattle.processor_arithmetic.specs.Difference.{difference-above, difference-plain, difference-equal, negative-plain, times-negative, negative-times}
+use Rattle.processor_arithmetic.specs.Bit.{bitAt}
+use Rattle.processor_arithmetic.proofs.Bits.{same-below}
+use Rattle.processor_arithmetic.proofs.Difference.{difference-above, difference-plain, difference-equal, negative-plain, times-negative, negative-times}
 use Rattle.processor_float.specs.Nintendo.{xbOf, xhOf, reversedOf, revOf, mpyhwOf}
 use Rattle.processor_float.proofs.Reversal.{reversed-small}
 use Rattle.processor_float_laws.specs.Rearranged.{byteAt, BytesExchanged, HalvesExchanged, Reversed, Multiplied}

@@ -8,7 +8,7 @@ use borrow.Author.Tests.{lt-ltb, le-ltb, lt-leb, le-leb, eq-eqb, ne-eqb}
 use lib.Dec.{ltb, leb, eqb}
 use lib.IntN.{ℤ, pos, negsuc, negℤ, natAbs, subℕ, _+ℤ_, _-ℤ_, _*ℤ_, negℤ-negℤ, negℤ-+ℤ, +ℤ-comm}
 use lib.Ieee.{unlike}
-use Rattle.processor_arithmetic.specs.Difference.{difference-below, difference-above, difference-plain, times-negative, negative-times, negative-negative}
+use Rattle.processor_arithmetic.proofs.Difference.{difference-below, difference-above, difference-plain, times-negative, negative-times, negative-negative}
 use Rattle.processor_float.specs.Operand.{unitsOf, signedBy, valueOf}
 use Rattle.processor_float_laws.specs.Exact.{signedSize}
 

@@ -1,15 +1,14 @@
 -- Each flag of the floating instructions at its place, and every other bit kept (document 000, "PSW"; request W4): Z is
 -- bit 0, S bit 1, OV bit 2, CY bit 3, FUD bit 5.
-use Prim.Native.Nat.{ℕ, _+_, _*_, _/_, _%_, _^_, _<_, _≤_}
-use mathlib.Core.Path.{_≡_, ap, _∙_}
+use Prim.Native.Nat.{ℕ, _^_, _<_, _≤_}
+use mathlib.Core.Path.{_≡_}
 use mathlib.Core.Logic.{_≢_}
-use mathlib.Core.Bool.{Bool, true, false}
-use native.Mathlib.Omega.{arith}
+use mathlib.Core.Bool.{Bool}
 use lib.Dec.{ltb}
 use Rattle.word.specs.Choose.{pick}
-use Rattle.processor_arithmetic.specs.Flag.{bitOf, setFlagOf}
-use Rattle.processor_arithmetic.specs.Bit.{bitAt, same-above}
-use Rattle.processor_arithmetic.specs.Places.{Placed, keep-carry-placed, set-flag, set-flag-others}
+use Rattle.processor_arithmetic.specs.Flag.{bitOf}
+use Rattle.processor_arithmetic.specs.Bit.{bitAt}
+use Rattle.processor_arithmetic.specs.Places.{Placed}
 use Rattle.processor_float.specs.Operand.{isZero}
 use Rattle.processor_float.specs.Flag.{orderFlagsOf, underflowOf, numberFlagsOf, conversionFlagsOf}
 
@@ -22,40 +21,9 @@ pub record Ordered (psw : ℕ) (zero negative : Bool) (after : ℕ) : Type 0 whe
   pub others : (k : ℕ) → 4 ≤ k → bitAt k after ≡ bitAt k psw
 
 -- CMPF.S, with `zero` for equal and `negative` for lower
-pub order-placed : (psw : ℕ) (zero negative : Bool) → Ordered psw zero negative (orderFlagsOf psw zero negative)
-unfolding orderFlagsOf
-order-placed psw true true =
-    record {
-      at-z = omega arith;
-      at-s = omega arith;
-      at-ov = omega arith;
-      at-cy = omega arith;
-      others = λ k h. same-above _ psw 4 k (omega arith) h;
-    }
-order-placed psw true false =
-    record {
-      at-z = omega arith;
-      at-s = omega arith;
-      at-ov = omega arith;
-      at-cy = omega arith;
-      others = λ k h. same-above _ psw 4 k (omega arith) h;
-    }
-order-placed psw false true =
-    record {
-      at-z = omega arith;
-      at-s = omega arith;
-      at-ov = omega arith;
-      at-cy = omega arith;
-      others = λ k h. same-above _ psw 4 k (omega arith) h;
-    }
-order-placed psw false false =
-    record {
-      at-z = omega arith;
-      at-s = omega arith;
-      at-ov = omega arith;
-      at-cy = omega arith;
-      others = λ k h. same-above _ psw 4 k (omega arith) h;
-    }
+abbrev pub OrderPlaced : Type 0
+OrderPlaced =
+    (psw : ℕ) (zero negative : Bool) → Ordered psw zero negative (orderFlagsOf psw zero negative)
 
 -- ADDF.S, SUBF.S, MULF.S, DIVF.S and CVT.WS: FUD is set where the result underflowed, else kept; so are all above CY
 pub record Numbered (psw w : ℕ) (underflowed : Bool) (after : ℕ) : Type 0 where
@@ -63,20 +31,11 @@ pub record Numbered (psw w : ℕ) (underflowed : Bool) (after : ℕ) : Type 0 wh
   pub at-fud : bitAt 5 after ≡ pick underflowed 1 (bitAt 5 psw)
   pub others : (k : ℕ) → 4 ≤ k → k ≢ 5 → bitAt k after ≡ bitAt k psw
 
-pub number-placed : (psw w : ℕ) (underflowed : Bool) → Numbered psw w underflowed (numberFlagsOf psw w underflowed)
-unfolding numberFlagsOf underflowOf
-number-placed psw w true =
-    let o = order-placed (setFlagOf 32 psw) (isZero w) (ltb (2 ^ 31) w) in
-    record {
-      order = o;
-      at-fud = o .others 5 (omega arith) ∙ set-flag 5 psw;
-      others = λ k h n. o .others k h ∙ set-flag-others k 5 psw n;
-    }
-number-placed psw w false =
-    let o = order-placed psw (isZero w) (ltb (2 ^ 31) w) in
-    record { order = o; at-fud = o .others 5 (omega arith); others = λ k h n. o .others k h }
+abbrev pub NumberPlaced : Type 0
+NumberPlaced =
+    (psw w : ℕ) (underflowed : Bool) → Numbered psw w underflowed (numberFlagsOf psw w underflowed)
 
 -- CVT.SW and TRNC.SW: OV cleared, CY kept (ruling W4.4)
-pub conversion-placed : (psw w : ℕ) → w < 2 ^ 32 → Placed psw (bitAt 3 psw) 0 w (conversionFlagsOf psw w)
-unfolding conversionFlagsOf
-conversion-placed psw w h = keep-carry-placed psw 0 w (omega arith) h
+abbrev pub ConversionPlaced : Type 0
+ConversionPlaced =
+    (psw w : ℕ) → w < 2 ^ 32 → Placed psw (bitAt 3 psw) 0 w (conversionFlagsOf psw w)

@@ -13,7 +13,7 @@ use Rattle.processor_decode.specs.declared.Decoded.{Decoded}
 use Rattle.processor_decode.specs.declared.Decoded.the-variants.{Modelled, NotModelled}
 use Rattle.processor_machine.specs.State.{State, Stepped}
 use Rattle.processor_step.specs.Step.{firstOf, secondOf, nextOf, performOf, runningStepOf, stepInOf, stepOf}
-use Rattle.processor_machine.specs.PswMask.{psw-bits-mask}
+use Rattle.processor_machine.proofs.PswMask.{psw-bits-mask}
 use Rattle.processor_machine.specs.declared.Mode.{Mode}
 use Rattle.processor_machine.specs.declared.Mode.the-variants.{Running, Halted, Fatal}
 use Rattle.processor.specs.Run.{Run, afterOf, afterStep, runOf}

@@ -10,7 +10,7 @@ use lib.Ieee.{binary32, toBits}
 use Rattle.processor_arithmetic.specs.declared.Outcome.{Outcome}
 use Rattle.processor_arithmetic.specs.declared.Pair.{Pair}
 use Rattle.processor_arithmetic.specs.Flag.{bitOf, flagOf, setIdOf, clearIdOf}
-use Rattle.processor_arithmetic.specs.Bit.{bit-small}
+use Rattle.processor_arithmetic.proofs.Bits.{bit-small}
 use Rattle.processor_arithmetic.specs.Product.{multiplyOf, multiplyUnsignedOf}
 use Rattle.processor_arithmetic.specs.Quotient.{divideOf, divideUnsignedOf}
 use Rattle.processor_arithmetic.specs.Condition.{conditionOf}

@@ -11,7 +11,7 @@ use lib.Seq.{getD-set-other}
 use lib.Ieee.{binary32, toBits}
 use Rattle.processor_arithmetic.specs.Bit.{bitAt}
 use Rattle.processor_arithmetic.specs.Flag.{flagOf}
-use Rattle.processor_arithmetic.specs.Places.{set-flag, set-flag-others}
+use Rattle.processor_arithmetic.proofs.Places.{set-flag, set-flag-others}
 use Rattle.bus.specs.Memory.{Memory}
 use Rattle.processor_decode.specs.SubOpcode.{subRows, extendedOf}
 use Rattle.processor_decode.specs.Opcode.{shortRows, branchRows, longRows, decodeOf}
@@ -24,7 +24,7 @@ use Rattle.processor_float.specs.Flag.{orderFlagsOf, underflowOf, numberFlagsOf
 use Rattle.processor_float.specs.declared.Compared.{Compared}
 use Rattle.processor_float.specs.declared.FloatOutcome.{FloatOutcome}
 use Rattle.processor_float.specs.declared.FloatOutcome.the-variants.{Number, Word, Reserved, Invalid, ZeroDivide, Overflow}
-use Rattle.processor_float_laws.specs.Flagged.{order-placed, number-placed, conversion-placed}
+use Rattle.processor_float_laws.proofs.Flagged.{order-placed, number-placed, conversion-placed}
 use Rattle.processor_machine.specs.State.{State, Stepped, regOf, putOf}
 use Rattle.processor_machine.specs.Exception.{codeOf, handlerOf, restoreOf, savedOf, fatalOf, duplexedEntryOf, regularEntryOf, enterOf, raiseOf}
 use Rattle.processor_machine.specs.declared.Cause.{Cause}

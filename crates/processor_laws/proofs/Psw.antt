@@ -6,7 +6,7 @@ use mathlib.Core.Bool.{Bool, true, false}
 use native.Mathlib.Omega.{arith}
 use lib.Dec.{ltb, eqb}
 use Rattle.processor_arithmetic.specs.Flag.{bitOf, setFlagOf, signOf, zeroOf, flagsOf, keepCarryOf, setIdOf, clearIdOf, setEpOf, setNpOf, clearAeOf, regularOf, duplexedOf}
-use Rattle.processor_arithmetic.specs.Bit.{bit-small}
+use Rattle.processor_arithmetic.proofs.Bits.{bit-small}
 use Rattle.processor_float.specs.Operand.{isZero}
 use Rattle.processor_float.specs.Flag.{orderFlagsOf, underflowOf, numberFlagsOf, conversionFlagsOf}
 use Rattle.processor_machine.specs.System.{pswBitsOf}

@@ -7,7 +7,7 @@ use native.Mathlib.Omega.{arith}
 use borrow.Author.Tests.{eq-eqb, ne-eqb}
 use lib.ListN.{getD, set, length-set}
 use Rattle.processor_arithmetic.specs.Sign.{magnitudeOf}
-use Rattle.processor_arithmetic.specs.Reading.{magnitude-small}
+use Rattle.processor_arithmetic.proofs.Reading.{magnitude-small}
 use Rattle.processor_machine.specs.State.{putOf}
 use Rattle.processor_machine.specs.System.{pswBitsOf, systemOf, Status, statusOf, writtenOf}
 use Rattle.processor_laws.proofs.Lists.{set-each, each-row}

@@ -3,23 +3,24 @@ use Prim.Native.Nat.{ℕ, _+_, _-_, _*_, _/_, _%_, _^_, _<_}
 use native.Mathlib.Nat.{div-le-self, mod-le}
 use native.Mathlib.Omega.{arith}
 use lib.Bits.{bitAnd, bitOr, bitXor, and-lt, or-lt, xor-lt}
-use lib.Dec.{ltb, eqb}
+use lib.Dec.{ltb, leb, eqb}
+use lib.IntN.{_+ℤ_, _-ℤ_}
 use Rattle.word.specs.Choose.{pick}
 use Rattle.processor_arithmetic.specs.declared.Outcome.{Outcome}
 use Rattle.processor_arithmetic.specs.declared.Pair.{Pair}
 use Rattle.processor_arithmetic.specs.Flag.{bitOf}
-use Rattle.processor_arithmetic.specs.Bit.{bit-small}
-use Rattle.processor_arithmetic.specs.Sum.{biasedOf, outsideOf, sumOf, differenceOf, compareOf}
-use Rattle.processor_arithmetic.specs.Biased.{outside-small}
+use Rattle.processor_arithmetic.proofs.Bits.{bit-small}
+use Rattle.processor_arithmetic.specs.Sum.{sumOf, differenceOf, compareOf}
+use Rattle.processor_arithmetic.specs.Integer.{signed, outside}
 use Rattle.processor_arithmetic.specs.Shift.{leftOutOf, rightOutOf, shiftLeftOf, shiftRightOf, shiftArithmeticOf}
-use Rattle.processor_arithmetic.specs.Floor.{right-bit, sar-word}
+use Rattle.processor_arithmetic.proofs.Floor.{right-bit, sar-word}
 use Rattle.processor_arithmetic.specs.Bitwise.{andOf, orOf, xorOf, notOf}
 use Rattle.processor_arithmetic.specs.Sign.{magnitudeOf, negativeOf}
-use Rattle.processor_arithmetic.specs.Reading.{magnitude-small}
+use Rattle.processor_arithmetic.proofs.Reading.{magnitude-small}
 use Rattle.processor_arithmetic.specs.Product.{productOf, overflowsOf, wordsOf, multiplyOf, multiplyUnsignedOf}
-use Rattle.processor_arithmetic.specs.Product64.{product-word, unsigned-word, overflow-small}
+use Rattle.processor_arithmetic.proofs.Product64.{product-word, unsigned-word, overflow-small}
 use Rattle.processor_arithmetic.specs.Quotient.{divideOf, divideUnsignedOf, quotientOf, remainderOf, quotientOverflowsOf}
-use Rattle.processor_arithmetic.specs.Division.{quotient-word}
+use Rattle.processor_arithmetic.proofs.Division.{quotient-word}
 use Rattle.processor_decode.specs.declared.RegisterOperation.{RegisterOperation}
 use Rattle.processor_decode.specs.declared.ImmediateOperation.{ImmediateOperation}
 use Rattle.processor_decode.specs.declared.LongOperation.{LongOperation}
@@ -65,7 +66,7 @@ module _ (a b psw : ℕ) (ha : a < 2 ^ 32) (hb : b < 2 ^ 32) (h : Format psw) wh
   sum-result =
       record {
         word = omega arith;
-        format = flags-format psw ((a + b) / 2 ^ 32) (outsideOf (biasedOf a + biasedOf b)) ((a + b) % 2 ^ 32) h (omega arith) (outside-small (biasedOf a + biasedOf b)) (omega arith);
+        format = flags-format psw _ _ ((a + b) % 2 ^ 32) h (bit-small (leb (2 ^ 32) (a + b))) (bit-small (outside (signed a +ℤ signed b))) (omega arith);
       }
 
   difference-result : Result (differenceOf a b psw)
@@ -73,7 +74,7 @@ module _ (a b psw : ℕ) (ha : a < 2 ^ 32) (hb : b < 2 ^ 32) (h : Format psw) wh
   difference-result =
       record {
         word = omega arith;
-        format = flags-format psw (bitOf (ltb a b)) (outsideOf (biasedOf a + (2 ^ 32 - biasedOf b))) ((a + (2 ^ 32 - b)) % 2 ^ 32) h (bit-small (ltb a b)) (outside-small (biasedOf a + (2 ^ 32 - biasedOf b))) (omega arith);
+        format = flags-format psw _ _ ((a + (2 ^ 32 - b)) % 2 ^ 32) h (bit-small (ltb a b)) (bit-small (outside (signed a -ℤ signed b))) (omega arith);
       }
 
   compare-result : Result (compareOf a b psw)

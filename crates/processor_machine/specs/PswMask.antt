@@ -1,20 +1,10 @@
 -- What a PSW format keeps of a word is its AND with 0x000FF3FF (paper 01).
-use Prim.Native.Nat.{ℕ, _+_, _*_, _/_, _%_, _^_, _<_}
-use mathlib.Core.Path.{_≡_, sym, ap, _∙_}
-use native.Mathlib.Omega.{arith}
-use lib.Pow.{split}
-use lib.Bits.{bitAnd, and-block, and-mask}
+use Prim.Native.Nat.{ℕ}
+use mathlib.Core.Path.{_≡_}
+use lib.Bits.{bitAnd}
 use Rattle.processor_machine.specs.System.{pswBitsOf}
 
 -- the ten low bits, and the eight from bit 12 on
-pub psw-bits-mask : (v : ℕ) → pswBitsOf v ≡ bitAnd v 0x000FF3FF
-unfolding pswBitsOf
-psw-bits-mask v =
-    let low : v % 2 ^ 12 < 2 ^ 12 = omega arith in
-    let sum : v % 1024 + v / 4096 % 256 * 4096 ≡ v / 2 ^ 12 % 2 ^ 8 * 2 ^ 12 + v % 2 ^ 12 % 2 ^ 10 = omega arith in
-    sum
-    ∙ sym
-    (ap (λ (n : ℕ). bitAnd n 0x000FF3FF) (sym (split v 12))
-    ∙ and-block 12 (v / 2 ^ 12) 255 (v % 2 ^ 12) 1023 low (omega arith)
-    ∙ ap (λ (n : ℕ). n * 2 ^ 12 + bitAnd (v % 2 ^ 12) 1023) (and-mask (v / 2 ^ 12) 8)
-    ∙ ap (λ (n : ℕ). v / 2 ^ 12 % 2 ^ 8 * 2 ^ 12 + n) (and-mask (v % 2 ^ 12) 10))
+abbrev pub PswBitsMask : Type 0
+PswBitsMask =
+    (v : ℕ) → pswBitsOf v ≡ bitAnd v 0x000FF3FF

@@ -2,7 +2,7 @@
 use borrow.Author.Needs.{needs}
 use Rattle.drawing_pixel.proofs.picked.Statement.{statement}
 use Rattle.drawing_pixel.proofs.picked.Tie as tie
-use Rattle.drawing_pixel.specs.RowBits.{bits-picked}
+use Rattle.drawing_pixel.proofs.RowBits.{bits-picked}
 
 flipped-requires : tie.Need-flipped-requires
 flipped-requires c κs = search needs

@@ -2,7 +2,7 @@
 use borrow.Author.Needs.{needs}
 use Rattle.drawing_pixel.proofs.value.Statement.{statement}
 use Rattle.drawing_pixel.proofs.value.Tie as tie
-use Rattle.drawing_pixel.specs.RowBits.{picked-value}
+use Rattle.drawing_pixel.proofs.RowBits.{picked-value}
 use Rattle.drawing_pixel.proofs.Pairs.{value-small}
 
 picked-requires : tie.Need-picked-requires

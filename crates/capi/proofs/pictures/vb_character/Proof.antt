@@ -27,11 +27,11 @@ number-requires c κs = search needs
 
 returns : tie.Need-returns
 returns c = let e = sym (c .before .before .before .character-refusal .ensures) ∙ c .before .enum-told .given .1 in
-    (rw e, (rw e (c .character-address .ensures .0), ap length (c .before .before .before .before .character .ensures)))
+    (rw e, (rw e (c .character-address .ensures .0), ap length (c .before .before .before .before .character .ensures .0)))
 
 returns-2 : tie.Need-returns-2
 returns-2 c = let e = sym (c .before .before .before .before .character-refusal .ensures) ∙ c .before .before .verdict .given .1 in
-    (rw e (c .number .ensures), (rw e, ap length (c .before .before .before .before .before .character .ensures)))
+    (rw e (c .number .ensures), (rw e, ap length (c .before .before .before .before .before .character .ensures .0)))
 
 pub vb-character-spec : {M : Type 1} → statement M
 vb-character-spec =

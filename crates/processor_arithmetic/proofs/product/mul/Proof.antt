@@ -3,7 +3,8 @@ use native.Mathlib.Omega.{arith}
 use borrow.Author.Tests.{eq-eqb, ne-eqb}
 use borrow.Author.Needs.{needs}
 use Rattle.processor_arithmetic.proofs.Magnitude.{product-below}
-use Rattle.processor_arithmetic.specs.Product.{multiplyOf, productOf}
+use Rattle.processor_arithmetic.specs.Product.{multiplyOf}
+use Rattle.processor_arithmetic.proofs.Product64.{negative64Of, signsProductOf, product-signs}
 use Rattle.processor_arithmetic.proofs.product.mul.Statement.{statement}
 use Rattle.processor_arithmetic.proofs.product.mul.Tie as tie
 
@@ -26,9 +27,10 @@ words-requires : tie.Need-words-requires
 words-requires c κs = search needs
 
 returns : tie.Need-returns
-unfolding multiplyOf productOf
+unfolding multiplyOf signsProductOf negative64Of
 returns c =
-    rw (c .words .ensures, c .before .before .magnitude2 .ensures .0, c .before .before .before .magnitude .ensures .0)
+    let a = c .before .before .before .before .args in
+    rw (product-signs (a .a) (a .b) (omega arith) (omega arith), c .words .ensures, c .before .before .magnitude2 .ensures .0, c .before .before .before .magnitude .ensures .0)
     (simp (eq-eqb _ _ (c .before .if1 .taken)))
 
 negative64-requires : tie.Need-negative64-requires
@@ -38,9 +40,10 @@ words-requires-2 : tie.Need-words-requires-2
 words-requires-2 c κs = search needs
 
 returns-2 : tie.Need-returns-2
-unfolding multiplyOf productOf
+unfolding multiplyOf signsProductOf negative64Of
 returns-2 c =
-    rw (c .words2 .ensures, c .before .negative64 .ensures, c .before .before .before .magnitude2 .ensures .0, c .before .before .before .before .magnitude .ensures .0)
+    let a = c .before .before .before .before .before .args in
+    rw (product-signs (a .a) (a .b) (omega arith) (omega arith), c .words2 .ensures, c .before .negative64 .ensures, c .before .before .before .magnitude2 .ensures .0, c .before .before .before .before .magnitude .ensures .0)
     (simp (ne-eqb _ _ (c .before .before .if1 .left)))
 
 pub mul-spec : {M : Type 1} → statement M

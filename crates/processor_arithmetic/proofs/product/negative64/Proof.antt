@@ -1,12 +1,10 @@
 -- `processor_arithmetic::product::negative64`: by omega.
 use native.Mathlib.Omega.{arith}
 use borrow.Author.Needs.{needs}
-use Rattle.processor_arithmetic.specs.Product.{negative64Of}
 use Rattle.processor_arithmetic.proofs.product.negative64.Statement.{statement}
 use Rattle.processor_arithmetic.proofs.product.negative64.Tie as tie
 
 returns : tie.Need-returns
-unfolding negative64Of
 returns c = omega arith
 
 sub-result : tie.Need-sub-result
@@ -16,7 +14,6 @@ add-result : tie.Need-add-result
 add-result c = search needs
 
 returns-2 : tie.Need-returns-2
-unfolding negative64Of
 returns-2 c = omega arith
 
 pub negative64-spec : {M : Type 1} → statement M

@@ -2,9 +2,8 @@
 use Prim.Native.Nat.{_-_}
 use lib.Pow.{shr-le}
 use native.Mathlib.Omega.{arith}
-use borrow.Author.Tests.{lt-ltb, le-ltb}
 use borrow.Author.Needs.{needs}
-use Rattle.processor_arithmetic.specs.Shift.{arithmeticRightOf}
+use Rattle.processor_arithmetic.proofs.Floor.{sar-low, sar-high}
 use Rattle.processor_arithmetic.proofs.shift.arithmetic_right.Statement.{statement}
 use Rattle.processor_arithmetic.proofs.shift.arithmetic_right.Tie as tie
 
@@ -12,8 +11,7 @@ shr-result : tie.Need-shr-result
 shr-result c = search needs
 
 returns : tie.Need-returns
-unfolding arithmeticRightOf
-returns c = simp (lt-ltb _ _ (c .if1 .taken))
+returns c = rw (sar-low (c .before .args .a) (c .before .args .n) (c .if1 .taken))
 
 sub-result : tie.Need-sub-result
 sub-result c = search needs
@@ -25,8 +23,7 @@ sub-result-2 : tie.Need-sub-result-2
 sub-result-2 c = omega (arith, shr-le (4294967295 - c .before .args .a) (c .before .args .n))
 
 returns-2 : tie.Need-returns-2
-unfolding arithmeticRightOf
-returns-2 c = simp (le-ltb _ _ (c .if1 .left))
+returns-2 c = rw (sar-high (c .before .args .a) (c .before .args .n) (omega arith) (c .if1 .left))
 
 pub arithmetic-right-spec : {M : Type 1} → statement M
 arithmetic-right-spec =

@@ -3,7 +3,7 @@ use native.Mathlib.Omega.{arith}
 use mathlib.Core.Path.{_≡_}
 use Prim.Native.Nat.{_+_, _-_, _%_, _^_}
 use borrow.Author.Needs.{needs}
-use Rattle.processor_arithmetic.proofs.Overflow.{difference-overflow-sum}
+use Rattle.processor_arithmetic.proofs.Overflow.{difference-sum-outside}
 use Rattle.processor_arithmetic.specs.Sum.{differenceOf}
 use Rattle.processor_arithmetic.proofs.sum.sub.Statement.{statement}
 use Rattle.processor_arithmetic.proofs.sum.sub.Tie as tie
@@ -25,7 +25,7 @@ unfolding differenceOf
 returns c =
     let a = c .before .before .before .before .args in
     let e : c .before .before .before .wrapping-sub-u32 .result ≡ (a .a + (2 ^ 32 - a .b)) % 2 ^ 32 = omega arith in
-    rw (c .flags .ensures, c .before .overflow .ensures .0, c .before .before .bit .ensures .0, e, difference-overflow-sum (a .a) (a .b) (omega arith) (omega arith))
+    rw (c .flags .ensures, c .before .overflow .ensures .0, c .before .before .bit .ensures .0, e, difference-sum-outside (a .a) (a .b) (omega arith) (omega arith))
 
 pub sub-spec : {M : Type 1} → statement M
 sub-spec =

@@ -6,11 +6,11 @@ use native.Mathlib.Nat.{mod-add-mod}
 use native.Mathlib.Omega.{arith}
 use borrow.Author.Tests.{ne-eqb}
 use lib.IntN.{ℤ, subℕ, _+ℤ_, _-ℤ_}
-use Rattle.processor_arithmetic.specs.Sum.{biasedOf, outsideOf}
+use Rattle.processor_arithmetic.proofs.Bias.{biasedOf, outsideOf}
 use Rattle.processor_arithmetic.specs.Integer.{signed, outside}
-use Rattle.processor_arithmetic.specs.Difference.{difference-sum, difference-negative, difference-equal}
-use Rattle.processor_arithmetic.specs.Reading.{signed-difference, outside-bit}
-use Rattle.processor_arithmetic.specs.Bit.{bit-small}
+use Rattle.processor_arithmetic.proofs.Difference.{difference-sum, difference-negative, difference-equal}
+use Rattle.processor_arithmetic.proofs.Reading.{signed-difference, outside-bit}
+use Rattle.processor_arithmetic.proofs.Bits.{bit-small}
 
 pub outside-small : (t : ℕ) → outsideOf t < 2
 outside-small t = rw (outside-bit t) (bit-small (outside (subℕ t (2 ^ 32))))

@@ -7,16 +7,28 @@ use native.Mathlib.Decide.{decLt, ℕ-discrete}
 use native.Mathlib.Nat.{mul-le-mul}
 use native.Mathlib.Omega.{arith}
 use borrow.Author.Tests.{lt-ltb, le-ltb, lt-leb, le-leb, eq-eqb, ne-eqb}
-use lib.Dec.{leb}
+use lib.Dec.{leb, eqb}
 use lib.IntN.{pos, negℤ, _*ℤ_}
+use Rattle.word.specs.Choose.{pick}
 use Rattle.word.specs.Extend.{signedOf}
 use Rattle.processor_arithmetic.specs.Flag.{bitOf, signOf}
 use Rattle.processor_arithmetic.specs.Sign.{magnitudeOf}
-use Rattle.processor_arithmetic.specs.Product.{extend64Of, overflowsOf, negative64Of, productOf}
-use Rattle.processor_arithmetic.specs.Integer.{signed, signed64, outside}
-use Rattle.processor_arithmetic.specs.Difference.{times-negative, negative-times, negative-negative}
-use Rattle.processor_arithmetic.specs.Reading.{magnitude-small, signed-low, signed-high, plain-reading, negative-reading}
-use Rattle.processor_arithmetic.specs.Bit.{bit-small}
+use Rattle.processor_arithmetic.specs.Product.{extend64Of, overflowsOf, productOf}
+use Rattle.processor_arithmetic.specs.Integer.{signed, signed64, outside, complementOf}
+use Rattle.processor_arithmetic.proofs.Complement.{complement-below, complement-signed64}
+use Rattle.processor_arithmetic.proofs.Difference.{times-negative, negative-times, negative-negative}
+use Rattle.processor_arithmetic.proofs.Reading.{magnitude-small, signed-low, signed-high, plain-reading, negative-reading}
+use Rattle.processor_arithmetic.proofs.Bits.{bit-small}
+
+-- the 64-bit number of -m
+unfoldable pub negative64Of : ℕ → ℕ
+negative64Of m = (2 ^ 64 - m) % 2 ^ 64
+
+-- the product as the code makes it: that of the magnitudes, negative where the signs differ
+unfoldable pub signsProductOf : ℕ → ℕ → ℕ
+signsProductOf a b =
+    let m = magnitudeOf a * magnitudeOf b in
+    pick (eqb (signOf a) (signOf b)) m (negative64Of m)
 
 pub product-small : (a b : ℕ) → magnitudeOf a * magnitudeOf b ≤ 2 ^ 62
 product-small a b = mul-le-mul (magnitude-small a) (magnitude-small b)
@@ -28,17 +40,17 @@ negative64 (suc m) h =
     let e : (2 ^ 64 - suc m) % 2 ^ 64 ≡ 2 ^ 64 - suc m = omega arith in
     rw e (negative-reading (2 ^ 63) (suc m) (omega arith) (omega arith))
 
-same-signs : (a b : ℕ) → signOf a ≡ signOf b → productOf a b ≡ magnitudeOf a * magnitudeOf b
-unfolding productOf
+same-signs : (a b : ℕ) → signOf a ≡ signOf b → signsProductOf a b ≡ magnitudeOf a * magnitudeOf b
+unfolding signsProductOf
 same-signs a b e = simp (eq-eqb (signOf a) (signOf b) e)
 
-other-signs : (a b : ℕ) → signOf a ≢ signOf b → productOf a b ≡ negative64Of (magnitudeOf a * magnitudeOf b)
-unfolding productOf
+other-signs : (a b : ℕ) → signOf a ≢ signOf b → signsProductOf a b ≡ negative64Of (magnitudeOf a * magnitudeOf b)
+unfolding signsProductOf
 other-signs a b e = simp (ne-eqb (signOf a) (signOf b) e)
 
--- the signed product at 64 bits is the product of the signed readings
-pub product-signed : (a b : ℕ) → a < 2 ^ 32 → b < 2 ^ 32 → signed64 (productOf a b) ≡ signed a *ℤ signed b
-product-signed a b ha hb =
+-- read signed, it is the product of the signed readings
+signs-signed : (a b : ℕ) → a < 2 ^ 32 → b < 2 ^ 32 → signed64 (signsProductOf a b) ≡ signed a *ℤ signed b
+signs-signed a b ha hb =
     elim (decLt a (2 ^ 31)) [
       | yes la ↦
           elim (decLt b (2 ^ 31)) [
@@ -64,8 +76,8 @@ product-signed a b ha hb =
           ]
     ]
 
-pub product-word : (a b : ℕ) → productOf a b < 2 ^ 64
-product-word a b =
+signs-word : (a b : ℕ) → signsProductOf a b < 2 ^ 64
+signs-word a b =
     elim (ℕ-discrete (signOf a) (signOf b)) [
       | yes e ↦ rw (same-signs a b e) (omega (arith, product-small a b))
       | no e ↦ rw (other-signs a b e) (negative-word (magnitudeOf a * magnitudeOf b))
@@ -73,6 +85,20 @@ product-word a b =
   where
     negative-word : (m : ℕ) → negative64Of m < 2 ^ 64
     negative-word m = unfold negative64Of in omega arith
+
+-- so it is the definition's
+pub product-signs : (a b : ℕ) → a < 2 ^ 32 → b < 2 ^ 32 → productOf a b ≡ signsProductOf a b
+unfolding productOf
+product-signs a b ha hb =
+    ap (complementOf (2 ^ 64)) (sym (signs-signed a b ha hb)) ∙ complement-signed64 (signsProductOf a b) (signs-word a b)
+
+-- the signed product at 64 bits, read signed, is the product of the signed readings
+pub product-signed : (a b : ℕ) → a < 2 ^ 32 → b < 2 ^ 32 → signed64 (productOf a b) ≡ signed a *ℤ signed b
+product-signed a b ha hb = ap signed64 (product-signs a b ha hb) ∙ signs-signed a b ha hb
+
+pub product-word : (a b : ℕ) → productOf a b < 2 ^ 64
+unfolding productOf
+product-word a b = complement-below (signed a *ℤ signed b)
 
 pub extend-low : (x : ℕ) → x < 2 ^ 31 → extend64Of x ≡ x
 unfolding extend64Of

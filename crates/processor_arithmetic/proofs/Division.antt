@@ -15,8 +15,9 @@ use Rattle.processor_arithmetic.specs.Flag.{bitOf, signOf}
 use Rattle.processor_arithmetic.specs.Sign.{magnitudeOf, negativeOf}
 use Rattle.processor_arithmetic.specs.Quotient.{quotientOf, remainderOf, quotientOverflowsOf}
 use Rattle.processor_arithmetic.specs.Integer.{signed}
-use Rattle.processor_arithmetic.specs.Reading.{magnitude-low, magnitude-high, magnitude-small, signed-low, signed-high, plain-reading, negative-reading}
-use Rattle.processor_arithmetic.specs.Truncation.{Truncated, both-positive, divisor-negative, dividend-negative, both-negative}
+use Rattle.processor_arithmetic.proofs.Reading.{magnitude-low, magnitude-high, magnitude-small, signed-low, signed-high, plain-reading, negative-reading}
+use Rattle.processor_arithmetic.specs.Truncation.{Truncated}
+use Rattle.processor_arithmetic.proofs.Truncation.{both-positive, divisor-negative, dividend-negative, both-negative}
 
 negative-word : (m : ℕ) → m ≤ 2 ^ 31 → signed (negativeOf m) ≡ negℤ (pos m)
 unfolding negativeOf signedOf

@@ -4,15 +4,16 @@ use mathlib.Core.Path.{_≡_, sym, ap, _∙_}
 use native.Mathlib.Decide.{decLt}
 use native.Mathlib.Nat.{mod-lt, mul-div-mul-left, mul-div-mul-right, suc-mul}
 use native.Mathlib.Omega.{arith}
-use borrow.Author.Tests.{lt-ltb, le-ltb}
+use borrow.Author.Tests.{le-ltb}
 use lib.IntN.{ℤ, pos, negsuc, subℕ, _+ℤ_, _*ℤ_}
 use lib.Pow.{pow-pos, pow-add, split, low, shr-le}
 use Rattle.word.specs.Extend.{signedOf}
 use Rattle.processor_arithmetic.specs.Shift.{leftOutOf, rightOutOf, arithmeticRightOf}
 use Rattle.processor_arithmetic.specs.Integer.{signed}
-use Rattle.processor_arithmetic.specs.Difference.{difference-plain, difference-equal, difference-sum, difference-below, difference-above, negative-plain}
-use Rattle.processor_arithmetic.specs.Reading.{plain-reading}
-use Rattle.processor_arithmetic.specs.Digit.{complement}
+use Rattle.processor_arithmetic.proofs.Difference.{difference-plain, difference-equal, difference-sum, difference-below, difference-above, negative-plain}
+use Rattle.processor_arithmetic.proofs.Reading.{plain-reading}
+use Rattle.processor_arithmetic.proofs.Complement.{floor-below, floor-above}
+use Rattle.processor_arithmetic.proofs.Digit.{complement}
 use Rattle.processor_arithmetic.specs.Bit.{bitAt}
 
 -- a times 2 ^ n, from bit 32 on, is a from bit 32 - n on
@@ -46,11 +47,11 @@ right-zero a n e = ap (rightOutOf a) e ∙ nothing a
 
 pub sar-low : (a n : ℕ) → a < 2 ^ 31 → arithmeticRightOf a n ≡ a / 2 ^ n
 unfolding arithmeticRightOf
-sar-low a n h = simp (lt-ltb a (2 ^ 31) h)
+sar-low a n h = floor-below a n h
 
-pub sar-high : (a n : ℕ) → 2 ^ 31 ≤ a → arithmeticRightOf a n ≡ 2 ^ 32 - 1 - (2 ^ 32 - 1 - a) / 2 ^ n
+pub sar-high : (a n : ℕ) → a < 2 ^ 32 → 2 ^ 31 ≤ a → arithmeticRightOf a n ≡ 2 ^ 32 - 1 - (2 ^ 32 - 1 - a) / 2 ^ n
 unfolding arithmeticRightOf
-sar-high a n h = simp (le-ltb a (2 ^ 31) h)
+sar-high a n ha h = floor-above a n ha h
 
 pub sar-word : (a n : ℕ) → a < 2 ^ 32 → arithmeticRightOf a n < 2 ^ 32
 sar-word a n ha =
@@ -58,7 +59,7 @@ sar-word a n ha =
       | yes l ↦ rw (sar-low a n l) (omega (arith, shr-le a n))
       | no l ↦
           let g : 2 ^ 31 ≤ a = omega arith in
-          rw (sar-high a n g) (omega arith)
+          rw (sar-high a n ha g) (omega arith)
     ]
 
 -- the low bits of a complement

@@ -11,13 +11,15 @@ use lib.IntN.{ℤ, pos, negsuc, subℕ}
 use lib.Signed.{ltZ, leZ}
 use Rattle.word.specs.Choose.{pick}
 use Rattle.processor_arithmetic.specs.Flag.{bitOf, signOf}
-use Rattle.processor_arithmetic.specs.Sum.{differenceOf, compareOf, biasedOf, outsideOf}
+use Rattle.processor_arithmetic.specs.Sum.{differenceOf, compareOf}
+use Rattle.processor_arithmetic.proofs.Bias.{biasedOf, outsideOf}
 use Rattle.processor_arithmetic.specs.Condition.{isSet, _xor_}
 use Rattle.processor_arithmetic.specs.Integer.{signed}
-use Rattle.processor_arithmetic.specs.Difference.{difference-below, difference-above}
-use Rattle.processor_arithmetic.specs.Reading.{signed-difference}
-use Rattle.processor_arithmetic.specs.Biased.{bias-small, difference-mod}
-use Rattle.processor_arithmetic.specs.Signed.{difference-placed}
+use Rattle.processor_arithmetic.proofs.Difference.{difference-below, difference-above}
+use Rattle.processor_arithmetic.proofs.Reading.{signed-difference}
+use Rattle.processor_arithmetic.proofs.Biased.{bias-small, difference-mod}
+use Rattle.processor_arithmetic.proofs.Overflow.{difference-outside}
+use Rattle.processor_arithmetic.proofs.Signed.{difference-placed}
 
 pub not-less : (x y : ℕ) → not (ltb x y) ≡ leb y x
 not-less x y =
@@ -181,7 +183,7 @@ less-set a b psw ha hb =
     let p = difference-placed a b psw ha hb in
     let sa : biasedOf a < 2 ^ 32 = bias-small a in
     let sb : biasedOf b < 2 ^ 32 = bias-small b in
-    ap (λ (n : ℕ). _xor_ (eqb n 1) (isSet 2 (differenceOf a b psw .psw))) (p .at-ov)
+    ap (λ (n : ℕ). _xor_ (eqb n 1) (isSet 2 (differenceOf a b psw .psw))) (p .at-ov ∙ sym (difference-outside a b ha hb))
     ∙ ap (λ (n : ℕ). _xor_ (eqb (outsideOf t) 1) (eqb n 1)) (p .at-s ∙ ap signOf (difference-word a b hb))
     ∙ negative-flags t (omega arith)
     ∙ same-less t (2 ^ 32) (biasedOf a) (biasedOf b) (omega arith) (omega arith)

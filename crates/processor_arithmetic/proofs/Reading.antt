@@ -11,9 +11,9 @@ use Rattle.word.specs.Choose.{pick}
 use Rattle.word.specs.Extend.{signedOf}
 use Rattle.processor_arithmetic.specs.Flag.{bitOf}
 use Rattle.processor_arithmetic.specs.Sign.{magnitudeOf}
-use Rattle.processor_arithmetic.specs.Sum.{biasedOf, outsideOf}
+use Rattle.processor_arithmetic.proofs.Bias.{biasedOf, outsideOf}
 use Rattle.processor_arithmetic.specs.Integer.{signed, outside}
-use Rattle.processor_arithmetic.specs.Difference.{difference-below, difference-above, difference-plain, difference-equal, negative-plain}
+use Rattle.processor_arithmetic.proofs.Difference.{difference-below, difference-above, difference-plain, difference-equal, negative-plain}
 
 -- a signed reading by the biased one
 pub signed-difference : (a : ℕ) → a < 2 ^ 32 → signed a ≡ subℕ (biasedOf a) (2 ^ 31)

@@ -1,0 +1,117 @@
+-- `background-formula`, `object-formula` and `pixel-formula`: the statements of specs/Painting.
+use Prim.Native.Nat.{ℕ, zero, suc, _+_, _%_}
+use mathlib.Core.Path.{_≡_, refl, ap, subst, _∙_}
+use mathlib.Core.Bool.{Bool, true, false, _&&_}
+use mathlib.Core.List.{List}
+use lib.IntN.{ℤ, pos, _+ℤ_, _-ℤ_}
+use Rattle.word.specs.Choose.{pick}
+use Rattle.bus.specs.Registers.{sptOf, bkcolOf}
+use Rattle.drawing_pixel.specs.World.{worldOf, columnInOf, rowInOf, worldShownOf, worldCoversOf, rowCoveredOf, columnCoveredOf}
+use Rattle.drawing_pixel.specs.Background.{cellAddressOf, sourceCellAddressOf, sourcePixelOf, backgroundPixelOf}
+use Rattle.drawing_pixel.specs.Object.{objectOf, objectRowOf, objectPixelOf, objectAfterOf, groupCountOf, objectsPixelOf, groupPixelOf}
+use Rattle.drawing_pixel.specs.Painting.{worldPixelOf, worldsPixelOf, paintedPixelOf, WorldCovers, ObjectCovered, BackgroundFormula, ObjectFormula, PixelFormula}
+use Rattle.drawing_pixel.specs.Integers.{aboveZero}
+use Rattle.drawing_pixel.specs.Floors.{modZ}
+use Rattle.drawing_pixel.proofs.WindowFormulas.{column-covered, row-covered, column-offset, row-offset, offset-small, and-second}
+use Rattle.drawing_pixel.specs.SourceFormulas.{sourceX, sourceY}
+use Rattle.drawing_pixel.proofs.SourceFormulas.{source-x, source-y}
+use Rattle.drawing_pixel.proofs.CellFormulas.{source-wraps, source-wraps-down, source-in-cell, source-inside, map-cell}
+use Rattle.drawing_pixel.proofs.ObjectFormulas.{object-covers, object-offset, object-row}
+use Rattle.drawing_pixel.specs.Pixel.{cellAddress, objectRow, sourcePixel, backgroundPixel, objectsPixel, worldPixel, worldsPixel, counterOf, pixelOf}
+
+natural : (z : ℤ) (n : ℕ) → pos n ≡ z → pos (aboveZero z) ≡ z
+natural z n e = subst (λ v. pos (aboveZero v) ≡ v) e refl
+
+-- the cell of a source pixel, and its row in that cell
+pub source-cell : (w : List ℕ) (x y : ℤ) (sx sy : ℕ) → pos sx ≡ x +ℤ pos 8388608 → pos sy ≡ y +ℤ pos 8388608
+    → sourceCellAddressOf w sx sy ≡ cellAddress w x y
+unfolding sourceCellAddressOf cellAddressOf
+source-cell w x y sx sy e f =
+    let s = natural _ _ (source-wraps w x sx e) in
+    let t = natural _ _ (source-wraps-down w y sy f) in
+    rw (source-inside w x y sx sy e f, map-cell w x y sx sy _ _ e f s t)
+
+pub source-line : (y : ℤ) (sy : ℕ) → pos sy ≡ y +ℤ pos 8388608 → sy % 8 ≡ aboveZero (modZ y 8)
+source-line y sy f = ap aboveZero (source-in-cell y sy f)
+
+source-pixel : (vram regs w : List ℕ) (x y : ℤ) (sx sy before : ℕ) → pos sx ≡ x +ℤ pos 8388608 → pos sy ≡ y +ℤ pos 8388608
+    → sourcePixelOf vram regs w sx sy before ≡ sourcePixel vram regs w x y before
+unfolding sourcePixelOf
+source-pixel vram regs w x y sx sy before e f =
+    rw (source-cell w x y sx sy e f, source-line x sx e, source-line y sy f)
+
+pub world-covers : WorldCovers
+unfolding worldCoversOf
+world-covers w eye x y = rw (row-covered w y, column-covered w eye x)
+
+pub shown-column : (w : List ℕ) (eye x y : ℕ) → worldCoversOf w eye x y ≡ true → columnCoveredOf w eye x ≡ true
+unfolding worldCoversOf
+shown-column w eye x y e =
+    and-second (rowCoveredOf w y) (columnCoveredOf w eye x)
+    (and-second (worldShownOf w eye) (rowCoveredOf w y && columnCoveredOf w eye x) e)
+
+where-held : (b : Bool) (u v before : ℕ) → (b ≡ true → u ≡ v) → pick b u before ≡ pick b v before
+where-held true u v before f = f refl
+where-held false u v before f = refl
+
+module _ (vram regs w : List ℕ) (eye x y before : ℕ) where
+  at-offsets : backgroundPixelOf vram regs w eye x y before
+      ≡ pick (worldCoversOf w eye x y)
+      (sourcePixel vram regs w
+      (sourceX vram w eye (columnInOf w eye x) (rowInOf w y))
+      (sourceY vram w eye (columnInOf w eye x) (rowInOf w y))
+      before)
+      before
+  unfolding backgroundPixelOf
+  at-offsets =
+      where-held (worldCoversOf w eye x y) _ _ before
+      (λ covered.
+      let small = offset-small w eye x (shown-column w eye x y covered) in
+      source-pixel vram regs w
+      (sourceX vram w eye (columnInOf w eye x) (rowInOf w y))
+      (sourceY vram w eye (columnInOf w eye x) (rowInOf w y)) _ _ before
+      (source-x vram w eye (columnInOf w eye x) (rowInOf w y) small)
+      (source-y vram w eye (columnInOf w eye x) (rowInOf w y) small))
+
+  at-window : backgroundPixelOf vram regs w eye x y before ≡ backgroundPixel vram regs w eye x y before
+  at-window = at-offsets ∙ rw (world-covers w eye x y, column-offset w eye x, row-offset w y)
+
+pub background-formula : BackgroundFormula
+background-formula vram regs w eye x y before = at-window vram regs w eye x y before
+
+pub object-covered : ObjectCovered
+object-covered w o eye x y = object-covers w o eye x y
+
+-- the object's row, as a natural number
+pub object-line : (o : List ℕ) (y : ℕ) → objectRowOf o y ≡ aboveZero (objectRow o y)
+object-line o y = ap aboveZero (object-row o y)
+
+pub object-formula : ObjectFormula
+unfolding objectPixelOf
+object-formula vram regs w o eye x y before =
+    rw (object-covered w o eye x y, object-offset o eye x, object-line o y)
+
+module _ (vram regs : List ℕ) (eye x y : ℕ) where
+  objects-formula : (w : List ℕ) (count k before : ℕ)
+      → objectsPixelOf vram regs w eye x y count k before ≡ objectsPixel vram regs w eye x y count k before
+  unfolding objectsPixelOf objectsPixel
+  objects-formula w zero k before = refl
+  objects-formula w (suc count) k before =
+      rw (object-formula vram regs w (objectOf vram k) eye x y before) (objects-formula w count (objectAfterOf k) _)
+
+  world-formula : (w : List ℕ) (counter before : ℕ)
+      → worldPixelOf vram regs w counter eye x y before ≡ worldPixel vram regs w counter eye x y before
+  unfolding worldPixelOf worldPixel groupPixelOf
+  world-formula w counter before =
+      rw (background-formula vram regs w eye x y before, objects-formula w (groupCountOf regs counter) (sptOf regs counter) before)
+
+  worlds-formula : (n counter before : ℕ)
+      → worldsPixelOf vram regs eye x y n counter before ≡ worldsPixel vram regs eye x y n counter before
+  unfolding worldsPixelOf worldsPixel
+  worlds-formula zero counter before = refl
+  worlds-formula (suc n) counter before =
+      rw (world-formula (worldOf vram n) counter before, worlds-formula n (counterOf (worldOf vram n) counter) _)
+
+pub pixel-formula : PixelFormula
+unfolding paintedPixelOf pixelOf
+pixel-formula vram regs eye x y = worlds-formula vram regs eye x y 32 3 (bkcolOf regs)

@@ -1,0 +1,36 @@
+-- The laws of specs/Compared, proved.
+use mathlib.Core.Path.{_≡_, sym, ap, _∙_}
+use mathlib.Core.Bool.{Bool, not}
+use lib.Dec.{ltb, leb}
+use lib.Signed.{ltZ, leZ}
+use Rattle.processor_arithmetic.specs.Sum.{compareOf}
+use Rattle.processor_arithmetic.specs.Condition.{conditionOf, isSet, _or_, _xor_}
+use Rattle.processor_arithmetic.specs.Integer.{signed}
+use Rattle.processor_arithmetic.proofs.Order.{carry-set, zero-set, less-set, less-or-equal, less-equal-set, not-less, not-lessℤ, not-both-ways}
+use Rattle.processor_arithmetic.specs.Compared.{Compared}
+
+pub compared : Compared
+unfolding conditionOf
+compared a b psw ha hb =
+    let p = compareOf a b psw .psw in
+    let c = carry-set a b psw ha hb in
+    let z = zero-set a b psw ha hb in
+    let l = less-set a b psw ha hb in
+    let nh : _or_ (isSet 8 (compareOf a b psw .psw)) (isSet 1 (compareOf a b psw .psw)) ≡ leb a b =
+    ap (λ (t : Bool). _or_ t (isSet 1 p)) c ∙ ap (_or_ (ltb a b)) z ∙ less-or-equal a b
+    in
+    let le : _or_ (_xor_ (isSet 4 (compareOf a b psw .psw)) (isSet 2 (compareOf a b psw .psw))) (isSet 1 (compareOf a b psw .psw)) ≡ leZ (signed a) (signed b) =
+    ap (λ (t : Bool). _or_ t (isSet 1 p)) l ∙ ap (_or_ (ltZ (signed a) (signed b))) z ∙ less-equal-set a b psw ha hb
+    in
+    record {
+      lower = c;
+      equal = z;
+      not-higher = nh;
+      less = l;
+      less-equal = le;
+      not-lower = ap not c ∙ not-less a b;
+      not-equal = ap not z;
+      higher = ap not (nh ∙ sym (not-less b a)) ∙ not-both-ways (ltb b a);
+      greater-equal = ap not l ∙ not-lessℤ (signed a) (signed b);
+      greater = ap not (le ∙ sym (not-lessℤ (signed b) (signed a))) ∙ not-both-ways (ltZ (signed b) (signed a));
+    }

@@ -1,0 +1,62 @@
+-- The laws of specs/Shifted, proved.
+use Prim.Native.Nat.{ℕ, _-_, _*_, _/_, _%_, _^_, _<_, _≤_}
+use mathlib.Core.Path.{_≡_, ap, _∙_}
+use native.Mathlib.Decide.{decLt}
+use native.Mathlib.Nat.{mod-lt}
+use native.Mathlib.Omega.{arith}
+use lib.IntN.{pos, _+ℤ_, _*ℤ_}
+use lib.Pow.{pow-pos, shr-le}
+use Rattle.processor_arithmetic.specs.Shift.{leftOutOf, rightOutOf, arithmeticRightOf, shiftLeftOf, shiftRightOf, shiftArithmeticOf}
+use Rattle.processor_arithmetic.specs.Integer.{signed}
+use Rattle.processor_arithmetic.proofs.Places.{flags-placed}
+use Rattle.processor_arithmetic.specs.Bit.{bitAt}
+use Rattle.processor_arithmetic.proofs.Floor.{sar-low, sar-high, sar-word, floor-high, floor-low, left-out, right-some, right-zero, right-bit}
+use Rattle.processor_arithmetic.specs.Shifted.{ShiftLeftPlaced, ShiftLeftOut, ShiftLeftNone, ShiftRightPlaced, ShiftRightOut, ShiftRightNone, ShiftArithmeticPlaced, ShiftArithmeticOut, ShiftArithmeticNone, ShiftArithmeticFloor}
+
+pub shift-left-placed : ShiftLeftPlaced
+unfolding shiftLeftOf
+shift-left-placed a b psw = flags-placed psw (leftOutOf a (b % 32)) 0 (a * 2 ^ (b % 32) % 2 ^ 32) (left-bit a (b % 32)) (omega arith) (omega arith)
+  where
+    left-bit : (a n : ℕ) → leftOutOf a n < 2
+    left-bit a n = unfold leftOutOf in omega arith
+
+pub shift-left-out : ShiftLeftOut
+shift-left-out a b psw = shift-left-placed a b psw .at-cy ∙ left-out a (b % 32) (omega arith)
+
+pub shift-left-none : ShiftLeftNone
+shift-left-none a b psw ha e = shift-left-out a b psw ∙ ap (λ (n : ℕ). bitAt (32 - n) a) e ∙ omega arith
+
+pub shift-right-placed : ShiftRightPlaced
+unfolding shiftRightOf
+shift-right-placed a b psw ha =
+    flags-placed psw (rightOutOf a (b % 32)) 0 (a / 2 ^ (b % 32)) (right-bit a (b % 32)) (omega arith) (omega (arith, shr-le a (b % 32)))
+
+pub shift-right-out : ShiftRightOut
+shift-right-out a b psw ha h = shift-right-placed a b psw ha .at-cy ∙ right-some a (b % 32) h
+
+pub shift-right-none : ShiftRightNone
+shift-right-none a b psw ha e = shift-right-placed a b psw ha .at-cy ∙ right-zero a (b % 32) e
+
+pub shift-arithmetic-placed : ShiftArithmeticPlaced
+unfolding shiftArithmeticOf
+shift-arithmetic-placed a b psw ha =
+    flags-placed psw (rightOutOf a (b % 32)) 0 (arithmeticRightOf a (b % 32)) (right-bit a (b % 32)) (omega arith) (sar-word a (b % 32) ha)
+
+pub shift-arithmetic-out : ShiftArithmeticOut
+shift-arithmetic-out a b psw ha h = shift-arithmetic-placed a b psw ha .at-cy ∙ right-some a (b % 32) h
+
+pub shift-arithmetic-none : ShiftArithmeticNone
+shift-arithmetic-none a b psw ha e = shift-arithmetic-placed a b psw ha .at-cy ∙ right-zero a (b % 32) e
+
+pub shift-arithmetic-floor : ShiftArithmeticFloor
+unfolding shiftArithmeticOf
+shift-arithmetic-floor a b psw ha = (divided a (b % 32) ha (omega arith), mod-lt a (pow-pos (b % 32)))
+  where
+    divided : (a n : ℕ) → a < 2 ^ 32 → n ≤ 32 → signed a ≡ signed (arithmeticRightOf a n) *ℤ pos (2 ^ n) +ℤ pos (a % 2 ^ n)
+    divided a n ha hn =
+        elim (decLt a (2 ^ 31)) [
+          | yes l ↦ rw (sar-low a n l) (floor-low a n l)
+          | no l ↦
+              let g : 2 ^ 31 ≤ a = omega arith in
+              rw (sar-high a n ha g) (floor-high a n ha hn g)
+        ]

@@ -1,0 +1,2 @@
+pub mod PswMask
+pub mod AbsoluteValue
