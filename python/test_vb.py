@@ -58,15 +58,29 @@ class Module(unittest.TestCase):
 
     def test_memory_is_written_where_it_is_lent(self):
         rom, wram, vram, pak = memories()
-        drawing = vb.vb_reset().drawing
-        self.assertEqual(vb.vb_store_word(rom, wram, vram, pak, drawing, 0x05000010, 0x11223344).refusal, 0)
+        machine = vb.vb_reset()
+        records = (machine.drawing, machine.processor.hardware)
+        self.assertEqual(vb.vb_store_word(rom, wram, vram, pak, *records, 0x05000010, 0x11223344).refusal, 0)
         self.assertEqual(wram[0x10:0x14], b"\x44\x33\x22\x11")
-        loaded = vb.vb_load_half(rom, wram, vram, pak, drawing, 0x05010012)
+        loaded = vb.vb_load_half(rom, wram, vram, pak, *records, 0x05010012)
         self.assertEqual((loaded.refusal, loaded.value), (0, 0x1122))
         with self.assertRaises(TypeError):
-            vb.vb_store_byte(rom, bytes(65536), vram, pak, drawing, 0x05000000, 1)
+            vb.vb_store_byte(rom, bytes(65536), vram, pak, *records, 0x05000000, 1)
         with self.assertRaises(TypeError):
             vb.vb_reset(1)
+
+    def test_the_timer_is_set_ticks_and_is_read(self):
+        rom, wram, vram, pak = memories()
+        drawing, hardware = vb.vb_drawing(), vb.vb_hardware()
+        for address, value in ((0x02000018, 2), (0x02000020, vb.VB_T_ENB | vb.VB_TIM_Z_INT)):
+            hardware = vb.vb_store_byte(rom, wram, vram, pak, drawing, hardware, address, value).hardware
+        for count, lines in ((1, 0), (0, vb.VB_LINE_TIMER)):
+            ticked = vb.vb_tick(hardware)
+            hardware = ticked.hardware
+            self.assertEqual((ticked.refusal, hardware.count, hardware.lines), (0, count, lines))
+        loaded = vb.vb_load_word(rom, wram, vram, pak, drawing, hardware, 0x02000020)
+        self.assertEqual(loaded.value, 0xE4 | vb.VB_T_ENB | vb.VB_Z_STAT | vb.VB_TIM_Z_INT)
+        self.assertEqual(vb.vb_tick(vb.vb_hardware(lines=32)).refusal, 5)
 
     def test_refusals_are_numbers(self):
         rom, wram, vram, pak = memories()

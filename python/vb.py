@@ -114,8 +114,8 @@ def _load(names):
     for name, value in macros.items():
         if re.fullmatch(r"\d+u?", value):
             names[name] = int(value.rstrip("u"))
-    for name, value in re.findall(r"(VB_\w+) = (\d+)", text):
-        names[name] = int(value)
+    for name, value in re.findall(r"(VB_\w+) = (0x[0-9A-Fa-f]+|\d+)", text):
+        names[name] = int(value, 0)
     for body, name in re.findall(r"typedef struct \{(.*?)\} (\w+);", text, flags=re.S):
         names[name] = KINDS[name] = type(name, (ctypes.Structure,), {"_fields_": _fields(body)})
         names["RECORDS"].append(names[name])

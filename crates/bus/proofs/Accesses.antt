@@ -19,6 +19,10 @@ found a r e = sym (region-code a) ∙ e
 pub missed : (a r : ℕ) → (a / 16777216 % 8 ≡ r → ⊥) → regionOf a ≡ r → ⊥
 missed a r n e = n (region-code a ∙ e)
 
+-- the regions below 3, which the code left behind
+pub above : (a r : ℕ) → r < 3 → 2 < a / 16777216 % 8 → regionOf a ≡ r → ⊥
+above a r low high e = omega (arith, region-code a)
+
 module _ (m : Memory) (a : ℕ) where
   pub wram-byte : regionOf a ≡ 5 → loadOf m 1 a ≡ getD (m .wram) (a % 65536) 0
   unfolding byteOf
@@ -46,12 +50,12 @@ module _ (m : Memory) (a : ℕ) where
 
 -- a region with nothing to read
 abbrev pub Quiet : ℕ → Type 0
-Quiet r = (r ≡ 5 → ⊥) × ((r ≡ 7 → ⊥) × ((r ≡ 0 → ⊥) × (r ≡ 6 → ⊥)))
+Quiet r = (r ≡ 5 → ⊥) × ((r ≡ 7 → ⊥) × ((r ≡ 0 → ⊥) × ((r ≡ 6 → ⊥) × (r ≡ 2 → ⊥))))
 
 quiet-at : (m : Memory) (a b : ℕ) → regionOf b ≡ regionOf a → Quiet (regionOf a) → byteOf m b ≡ 0
 quiet-at m a b e q =
     let p = subst Quiet (sym e) q in
-    byte-nothing m b (p .0) (p .1 .0) (p .1 .1 .0) (p .1 .1 .1)
+    byte-nothing m b (p .0) (p .1 .0) (p .1 .1 .0) (p .1 .1 .1 .0) (p .1 .1 .1 .1)
 
 pub nothing-byte : (m : Memory) (a : ℕ) → Quiet (regionOf a) → loadOf m 1 a ≡ 0
 nothing-byte m a q = byte-load m a ∙ quiet-at m a a refl q
@@ -68,12 +72,12 @@ nothing-word m a q =
 
 -- a region that takes nothing
 abbrev pub Inert : ℕ → Type 0
-Inert r = (r ≡ 5 → ⊥) × ((r ≡ 0 → ⊥) × (r ≡ 6 → ⊥))
+Inert r = (r ≡ 5 → ⊥) × ((r ≡ 0 → ⊥) × ((r ≡ 6 → ⊥) × (r ≡ 2 → ⊥)))
 
 inert-at : (m : Memory) (a b v : ℕ) → regionOf b ≡ regionOf a → Inert (regionOf a) → putByte m b v ≡ m
 inert-at m a b v e q =
     let p = subst Inert (sym e) q in
-    put-nothing m b v (p .0) (p .1 .0) (p .1 .1)
+    put-nothing m b v (p .0) (p .1 .0) (p .1 .1 .0) (p .1 .1 .1)
 
 pub nothing-put-byte : (m : Memory) (a v : ℕ) → Inert (regionOf a) → storeByteOf m a v ≡ m
 unfolding storeByteOf

@@ -13,12 +13,18 @@ use lib.Pow.{pow-pos}
 use lib.Seq.{getD-set-same, getD-set-other, set-out}
 use Rattle.word.specs.Choose.{pick}
 use Rattle.refusal.specs.declared.Verdict.the-variants.{Accepted}
-use Rattle.bus.specs.Registers.{widthOf, keptOf, withinFrom, registersOk}
-use Rattle.bus.specs.Place.{Place, vramAt, wramAt, pakAt, romAt, drawingAt, versionAt, silent, unlisted, unmapped, soundUnit, hardware, nothing, expansion}
+use Rattle.bus_timer.specs.Ports.{hardwareOk, portWrittenOf}
+use Rattle.bus_timer.specs.declared.Hardware.{Hardware}
+use Rattle.bus_timer.proofs.Accepting.{ok-fits, fits-ok, write-accepted}
+use Rattle.bus_timer.proofs.Choices.{pick-true}
+use Rattle.bus.specs.Registers.{widthOf, keptOf, withinFrom, drawingOk, hardwareIn, withHardware, registersOk}
+use Rattle.bus.specs.Place.{Place, vramAt, wramAt, pakAt, romAt, drawingAt, versionAt, silent, unlisted, unmapped, hardwareAt, soundUnit, nothing, expansion, placeOf}
 use Rattle.bus.specs.Memory.{Memory, Lengths, verdictOf, putPlace, putDrawing, placeIn, putByte, putRegister, putHalfword, storeByteOf, storeHalfOf, storeWordOf}
 use Rattle.bus.proofs.Accepted.{accepted-lengths, accepted-registers, lengths-accepted}
+use Rattle.bus.proofs.Devices.{drawing-ok-same, with-register, with-length, with-fits}
+use Rattle.bus.proofs.DrawingPlaces.{Proper, place-proper}
 
--- registersOk, register by register
+-- drawingOk, register by register
 within-each : (d : List ℕ) (k n : ℕ) → withinFrom d k n ≡ true → (j : ℕ) → j < n → getD d (k + j) 0 < 2 ^ widthOf (k + j)
 within-each d k zero h j less = absurd (omega arith)
 within-each d k (suc n) h j less =
@@ -46,30 +52,68 @@ each-within d k (suc n) p =
         let f : k + 1 + j ≡ k + (j + 1) = omega arith in
         rw f (p (j + 1) (omega arith))
 
--- the widths of an accepted record's registers
-pub register-within : (d : List ℕ) → registersOk d ≡ true → (k : ℕ) → k < 13 → getD d k 0 < 2 ^ widthOf k
-unfolding registersOk
-register-within d h k less =
+-- the widths of accepted drawing registers
+pub drawing-within : (d : List ℕ) → drawingOk d ≡ true → (k : ℕ) → k < 13 → getD d k 0 < 2 ^ widthOf k
+unfolding drawingOk
+drawing-within d h k less =
     let e : 0 + k ≡ k = omega arith in
     rw e at (within-each d 0 13 h k less)
 
-pub registers-within : (d : List ℕ) → ((k : ℕ) → k < 13 → getD d k 0 < 2 ^ widthOf k) → registersOk d ≡ true
-unfolding registersOk
-registers-within d p = each-within d 0 13 (λ j h. let e : 0 + j ≡ j = omega arith in rw e (p j h))
+pub within-drawing : (d : List ℕ) → ((k : ℕ) → k < 13 → getD d k 0 < 2 ^ widthOf k) → drawingOk d ≡ true
+unfolding drawingOk
+within-drawing d p = each-within d 0 13 (λ j h. let e : 0 + j ≡ j = omega arith in rw e (p j h))
 
--- a register that takes a value keeps its width
-set-within : (d : List ℕ) (k v : ℕ) → registersOk d ≡ true → registersOk (set d k (keptOf k v)) ≡ true
-set-within d k v h = registers-within (set d k (keptOf k v)) each
+-- what an accepted record's registers are: the drawing registers, the lines and the timer
+pub registers-both : (d : List ℕ) → registersOk d ≡ true → (drawingOk d ≡ true) × (hardwareOk (hardwareIn d) ≡ true)
+unfolding registersOk
+registers-both d h = pick-true (drawingOk d) (hardwareOk (hardwareIn d)) h
+
+pub both-registers : (d : List ℕ) → drawingOk d ≡ true → hardwareOk (hardwareIn d) ≡ true → registersOk d ≡ true
+unfolding registersOk
+both-registers d p q = rw (p, q)
+
+pub register-within : (d : List ℕ) → registersOk d ≡ true → (k : ℕ) → k < 13 → getD d k 0 < 2 ^ widthOf k
+register-within d h = drawing-within d (registers-both d h .0)
+
+-- a drawing register that takes a value keeps its width, and the lines and the timer
+set-drawing : (d : List ℕ) (k v : ℕ) → drawingOk d ≡ true → drawingOk (set d k (keptOf k v)) ≡ true
+set-drawing d k v h = within-drawing (set d k (keptOf k v)) each
   where
     each : (j : ℕ) → j < 13 → getD (set d k (keptOf k v)) j 0 < 2 ^ widthOf j
     each j less =
         elim (ℕ-discrete j k) [
-          | no ne ↦ rw (getD-set-other d k j (keptOf k v) 0 ne) (register-within d h j less)
+          | no ne ↦ rw (getD-set-other d k j (keptOf k v) 0 ne) (drawing-within d h j less)
           | yes e ↦ elim (decLt k (length d)) [
             | yes inside ↦ rw (e, getD-set-same d k (keptOf k v) 0 inside) (mod-lt v (pow-pos (widthOf k)))
-            | no outside ↦ rw (set-out d k (keptOf k v) (omega arith)) (register-within d h j less)
+            | no outside ↦ rw (set-out d k (keptOf k v) (omega arith)) (drawing-within d h j less)
           ]
         ]
+
+pub set-hardware : (d : List ℕ) (k x : ℕ) → k < 13 → hardwareIn (set d k x) ≡ hardwareIn d
+unfolding hardwareIn
+set-hardware d k x less =
+    let a : 13 ≡ k → ⊥ = λ e. omega arith in
+    let b : 14 ≡ k → ⊥ = λ e. omega arith in
+    let f : 15 ≡ k → ⊥ = λ e. omega arith in
+    let g : 16 ≡ k → ⊥ = λ e. omega arith in
+    rw (getD-set-other d k 13 x 0 a, getD-set-other d k 14 x 0 b, getD-set-other d k 15 x 0 f, getD-set-other d k 16 x 0 g)
+
+set-within : (d : List ℕ) (k v : ℕ) → k < 13 → registersOk d ≡ true → registersOk (set d k (keptOf k v)) ≡ true
+set-within d k v less h =
+    let p = registers-both d h in
+    both-registers (set d k (keptOf k v)) (set-drawing d k v (p .0))
+    (rw (set-hardware d k (keptOf k v) less) (p .1))
+
+-- a register of the timer that takes a byte keeps the drawing registers, and the lines and the timer stay accepted
+pub with-accepted : (d : List ℕ) (h : Hardware) → registersOk d ≡ true → hardwareOk h ≡ true → registersOk (withHardware d h) ≡ true
+with-accepted d h p ok =
+    both-registers (withHardware d h)
+    (drawing-ok-same (withHardware d h) d (with-register d h) ∙ registers-both d p .0)
+    (fits-ok (hardwareIn (withHardware d h)) (with-fits d h (ok-fits h ok)))
+
+written-within : (d : List ℕ) (o b : ℕ) → registersOk d ≡ true → registersOk (withHardware d (portWrittenOf (hardwareIn d) o b)) ≡ true
+written-within d o b p =
+    with-accepted d (portWrittenOf (hardwareIn d) o b) p (write-accepted (hardwareIn d) o b (registers-both d p .1))
 
 -- what a store may not change
 pub record Shape (m n : Memory) : Type 0 where
@@ -133,36 +177,44 @@ place-shape m (pakAt i) b =
 place-shape m (romAt i) b = same m
 place-shape m (drawingAt k x) b = same m
 place-shape m (versionAt x) b = same m
+place-shape m (hardwareAt o) b =
+    record {
+      same-rom = refl;
+      same-wram = refl;
+      same-vram = refl;
+      same-pak = refl;
+      same-regs = with-length (m .regs) _;
+      still-within = written-within (m .regs) o b;
+    }
 place-shape m silent b = same m
 place-shape m unlisted b = same m
 place-shape m unmapped b = same m
 place-shape m soundUnit b = same m
-place-shape m hardware b = same m
 place-shape m nothing b = same m
 place-shape m expansion b = same m
 
-drawing-shape : (m : Memory) (p : Place) (v : ℕ) → Shape m (putDrawing m p v)
-drawing-shape m (vramAt i) v = same m
-drawing-shape m (wramAt i) v = same m
-drawing-shape m (pakAt i) v = same m
-drawing-shape m (romAt i) v = same m
-drawing-shape m (drawingAt k x) v =
+drawing-shape : (m : Memory) (p : Place) (v : ℕ) → Proper p → Shape m (putDrawing m p v)
+drawing-shape m (vramAt i) v less = same m
+drawing-shape m (wramAt i) v less = same m
+drawing-shape m (pakAt i) v less = same m
+drawing-shape m (romAt i) v less = same m
+drawing-shape m (drawingAt k x) v less =
     record {
       same-rom = refl;
       same-wram = refl;
       same-vram = refl;
       same-pak = refl;
       same-regs = length-set (m .regs) k (keptOf k v);
-      still-within = set-within (m .regs) k v;
+      still-within = set-within (m .regs) k v less;
     }
-drawing-shape m (versionAt x) v = same m
-drawing-shape m silent v = same m
-drawing-shape m unlisted v = same m
-drawing-shape m unmapped v = same m
-drawing-shape m soundUnit v = same m
-drawing-shape m hardware v = same m
-drawing-shape m nothing v = same m
-drawing-shape m expansion v = same m
+drawing-shape m (versionAt x) v less = same m
+drawing-shape m (hardwareAt o) v less = same m
+drawing-shape m silent v less = same m
+drawing-shape m unlisted v less = same m
+drawing-shape m unmapped v less = same m
+drawing-shape m soundUnit v less = same m
+drawing-shape m nothing v less = same m
+drawing-shape m expansion v less = same m
 
 pub byte-shape : (m : Memory) (a v : ℕ) → Shape m (putByte m a v)
 unfolding putByte
@@ -170,7 +222,8 @@ byte-shape m a v = place-shape m (placeIn m a) (v % 256)
 
 pub register-shape : (m : Memory) (a v : ℕ) → Shape m (putRegister m a v)
 unfolding putRegister
-register-shape m a v = drawing-shape m (placeIn m a) (v % 65536)
+register-shape m a v =
+    drawing-shape m (placeIn m a) (v % 65536) (place-proper (length (m .rom)) (length (m .pak)) a)
 
 pub halfword-shape : (m : Memory) (a v : ℕ) → Shape m (putHalfword m a v)
 unfolding putHalfword

@@ -1,4 +1,5 @@
 mod OneOf
+pub mod Devices
 mod Indices
 mod Power
 pub mod Places
@@ -7,7 +8,9 @@ pub mod Spans
 mod VipPlaces
 mod VipAccess
 mod PakRam
+pub mod PortAccess
 mod Accesses
+pub mod DrawingPlaces
 pub mod Accepted
 pub mod Kept
 pub mod Mapped

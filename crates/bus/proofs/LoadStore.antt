@@ -8,14 +8,18 @@ use lib.ListN.{length, getD, set, length-set}
 use lib.Seq.{getD-set-same, getD-set-other}
 use Rattle.word.proofs.RoundTrip.{half-same, word-same}
 use Rattle.word.specs.LittleEndian.{halfAt, wordAt, putHalf, putWord}
-use Rattle.bus.specs.Registers.{keptOf}
-use Rattle.bus.specs.Place.{Place, vramAt, wramAt, pakAt, romAt, drawingAt, versionAt, silent, unlisted, unmapped, soundUnit, hardware, nothing, expansion}
+use Rattle.bus_timer.specs.Ports.{portByteOf, portWrittenOf}
+use Rattle.bus_timer.specs.declared.Hardware.{Hardware}
+use Rattle.bus.specs.Registers.{keptOf, hardwareIn}
+use Rattle.bus.specs.Place.{Place, vramAt, wramAt, pakAt, romAt, drawingAt, versionAt, silent, unlisted, unmapped, hardwareAt, soundUnit, nothing, expansion}
 use Rattle.bus.specs.Memory.{Memory, byteOf, loadOf, readPlace, placeIn, putPlace, putDrawing, putByte, putRegister, putHalfword, storeByteOf, storeHalfOf, storeWordOf, withWram, withVram}
-use Rattle.bus.proofs.Kept.{Shape, byte-shape, register-shape, halfword-shape}
+use Rattle.bus.proofs.Devices.{with-register}
+use Rattle.bus.proofs.DrawingPlaces.{Proper, place-proper}
+use Rattle.bus.proofs.Kept.{Shape, set-hardware, byte-shape, register-shape, halfword-shape}
 use Rattle.bus.proofs.Halfwords.{byte-load}
 use Rattle.bus.proofs.Spans.{Span, span-half, span-word, half-wram, half-vram, word-wram, word-vram}
 
--- what a store to a place may change: its byte, or its whole register
+-- what a store to a place may change: its byte, its whole register, or the whole timer
 abbrev pub cellOf : Place → Place
 cellOf (vramAt i) = vramAt i
 cellOf (wramAt i) = wramAt i
@@ -23,11 +27,11 @@ cellOf (pakAt i) = pakAt i
 cellOf (romAt i) = romAt i
 cellOf (drawingAt k x) = drawingAt k 0
 cellOf (versionAt x) = versionAt x
+cellOf (hardwareAt o) = hardwareAt 0
 cellOf silent = silent
 cellOf unlisted = unlisted
 cellOf unmapped = unmapped
 cellOf soundUnit = soundUnit
-cellOf hardware = hardware
 cellOf nothing = nothing
 cellOf expansion = expansion
 
@@ -39,11 +43,11 @@ Held m (pakAt i) = i < length (m .pak)
 Held m (romAt i) = ⊥
 Held m (drawingAt k x) = ⊥
 Held m (versionAt x) = ⊥
+Held m (hardwareAt o) = ⊥
 Held m silent = ⊥
 Held m unlisted = ⊥
 Held m unmapped = ⊥
 Held m soundUnit = ⊥
-Held m hardware = ⊥
 Held m nothing = ⊥
 Held m expansion = ⊥
 
@@ -54,11 +58,11 @@ read-other-vram m i b (pakAt j) ne = refl
 read-other-vram m i b (romAt j) ne = refl
 read-other-vram m i b (drawingAt k x) ne = refl
 read-other-vram m i b (versionAt x) ne = refl
+read-other-vram m i b (hardwareAt o) ne = refl
 read-other-vram m i b silent ne = refl
 read-other-vram m i b unlisted ne = refl
 read-other-vram m i b unmapped ne = refl
 read-other-vram m i b soundUnit ne = refl
-read-other-vram m i b hardware ne = refl
 read-other-vram m i b nothing ne = refl
 read-other-vram m i b expansion ne = refl
 
@@ -69,11 +73,11 @@ read-other-wram m i b (pakAt j) ne = refl
 read-other-wram m i b (romAt j) ne = refl
 read-other-wram m i b (drawingAt k x) ne = refl
 read-other-wram m i b (versionAt x) ne = refl
+read-other-wram m i b (hardwareAt o) ne = refl
 read-other-wram m i b silent ne = refl
 read-other-wram m i b unlisted ne = refl
 read-other-wram m i b unmapped ne = refl
 read-other-wram m i b soundUnit ne = refl
-read-other-wram m i b hardware ne = refl
 read-other-wram m i b nothing ne = refl
 read-other-wram m i b expansion ne = refl
 
@@ -84,60 +88,78 @@ read-other-pak m i b (pakAt j) ne = getD-set-other (m .pak) i j b 0 (λ e. ne (a
 read-other-pak m i b (romAt j) ne = refl
 read-other-pak m i b (drawingAt k x) ne = refl
 read-other-pak m i b (versionAt x) ne = refl
+read-other-pak m i b (hardwareAt o) ne = refl
 read-other-pak m i b silent ne = refl
 read-other-pak m i b unlisted ne = refl
 read-other-pak m i b unmapped ne = refl
 read-other-pak m i b soundUnit ne = refl
-read-other-pak m i b hardware ne = refl
 read-other-pak m i b nothing ne = refl
 read-other-pak m i b expansion ne = refl
 
--- a byte put elsewhere
-read-other : (m : Memory) (p q : Place) (b : ℕ) → cellOf q ≢ cellOf p → readPlace (putPlace m p b) q ≡ readPlace m q
-read-other m (vramAt i) q b ne = read-other-vram m i b q ne
-read-other m (wramAt i) q b ne = read-other-wram m i b q ne
-read-other m (pakAt i) q b ne = read-other-pak m i b q ne
-read-other m (romAt i) q b ne = refl
-read-other m (drawingAt k x) q b ne = refl
-read-other m (versionAt x) q b ne = refl
-read-other m silent q b ne = refl
-read-other m unlisted q b ne = refl
-read-other m unmapped q b ne = refl
-read-other m soundUnit q b ne = refl
-read-other m hardware q b ne = refl
-read-other m nothing q b ne = refl
-read-other m expansion q b ne = refl
+-- a byte written to the timer leaves what is not the timer's
+read-other-hardware : (m : Memory) (o b : ℕ) (q : Place) → cellOf q ≢ hardwareAt 0 → Proper q
+    → readPlace (putPlace m (hardwareAt o) b) q ≡ readPlace m q
+read-other-hardware m o b (vramAt j) ne less = refl
+read-other-hardware m o b (wramAt j) ne less = refl
+read-other-hardware m o b (pakAt j) ne less = refl
+read-other-hardware m o b (romAt j) ne less = refl
+read-other-hardware m o b (drawingAt k x) ne less =
+    ap (λ (n : ℕ). n / 256 ^ x % 256) (with-register (m .regs) (portWrittenOf (hardwareIn (m .regs)) o b) k less)
+read-other-hardware m o b (versionAt x) ne less = refl
+read-other-hardware m o b (hardwareAt p) ne less = absurd (ne refl)
+read-other-hardware m o b silent ne less = refl
+read-other-hardware m o b unlisted ne less = refl
+read-other-hardware m o b unmapped ne less = refl
+read-other-hardware m o b soundUnit ne less = refl
+read-other-hardware m o b nothing ne less = refl
+read-other-hardware m o b expansion ne less = refl
 
-read-other-register : (m : Memory) (k v : ℕ) (q : Place) → cellOf q ≢ drawingAt k 0 → readPlace (putDrawing m (drawingAt k 0) v) q ≡ readPlace m q
-read-other-register m k v (vramAt j) ne = refl
-read-other-register m k v (wramAt j) ne = refl
-read-other-register m k v (pakAt j) ne = refl
-read-other-register m k v (romAt j) ne = refl
-read-other-register m k v (drawingAt j x) ne = rw (getD-set-other (m .regs) k j (keptOf k v) 0 (λ e. ne (ap (λ (n : ℕ). drawingAt n 0) e)))
-read-other-register m k v (versionAt x) ne = refl
-read-other-register m k v silent ne = refl
-read-other-register m k v unlisted ne = refl
-read-other-register m k v unmapped ne = refl
-read-other-register m k v soundUnit ne = refl
-read-other-register m k v hardware ne = refl
-read-other-register m k v nothing ne = refl
-read-other-register m k v expansion ne = refl
+-- a byte put elsewhere
+read-other : (m : Memory) (p q : Place) (b : ℕ) → Proper q → cellOf q ≢ cellOf p → readPlace (putPlace m p b) q ≡ readPlace m q
+read-other m (vramAt i) q b less ne = read-other-vram m i b q ne
+read-other m (wramAt i) q b less ne = read-other-wram m i b q ne
+read-other m (pakAt i) q b less ne = read-other-pak m i b q ne
+read-other m (romAt i) q b less ne = refl
+read-other m (drawingAt k x) q b less ne = refl
+read-other m (versionAt x) q b less ne = refl
+read-other m (hardwareAt o) q b less ne = read-other-hardware m o b q ne less
+read-other m silent q b less ne = refl
+read-other m unlisted q b less ne = refl
+read-other m unmapped q b less ne = refl
+read-other m soundUnit q b less ne = refl
+read-other m nothing q b less ne = refl
+read-other m expansion q b less ne = refl
+
+read-other-register : (m : Memory) (k v : ℕ) (q : Place) → k < 13 → cellOf q ≢ drawingAt k 0 → readPlace (putDrawing m (drawingAt k 0) v) q ≡ readPlace m q
+read-other-register m k v (vramAt j) less ne = refl
+read-other-register m k v (wramAt j) less ne = refl
+read-other-register m k v (pakAt j) less ne = refl
+read-other-register m k v (romAt j) less ne = refl
+read-other-register m k v (drawingAt j x) less ne = rw (getD-set-other (m .regs) k j (keptOf k v) 0 (λ e. ne (ap (λ (n : ℕ). drawingAt n 0) e)))
+read-other-register m k v (versionAt x) less ne = refl
+read-other-register m k v (hardwareAt o) less ne = ap (λ (h : Hardware). portByteOf h o) (set-hardware (m .regs) k (keptOf k v) less)
+read-other-register m k v silent less ne = refl
+read-other-register m k v unlisted less ne = refl
+read-other-register m k v unmapped less ne = refl
+read-other-register m k v soundUnit less ne = refl
+read-other-register m k v nothing less ne = refl
+read-other-register m k v expansion less ne = refl
 
 -- a register written elsewhere
-drawing-other : (m : Memory) (p q : Place) (v : ℕ) → cellOf q ≢ cellOf p → readPlace (putDrawing m p v) q ≡ readPlace m q
-drawing-other m (vramAt i) q v ne = refl
-drawing-other m (wramAt i) q v ne = refl
-drawing-other m (pakAt i) q v ne = refl
-drawing-other m (romAt i) q v ne = refl
-drawing-other m (drawingAt k x) q v ne = read-other-register m k v q ne
-drawing-other m (versionAt x) q v ne = refl
-drawing-other m silent q v ne = refl
-drawing-other m unlisted q v ne = refl
-drawing-other m unmapped q v ne = refl
-drawing-other m soundUnit q v ne = refl
-drawing-other m hardware q v ne = refl
-drawing-other m nothing q v ne = refl
-drawing-other m expansion q v ne = refl
+drawing-other : (m : Memory) (p q : Place) (v : ℕ) → Proper p → cellOf q ≢ cellOf p → readPlace (putDrawing m p v) q ≡ readPlace m q
+drawing-other m (vramAt i) q v less ne = refl
+drawing-other m (wramAt i) q v less ne = refl
+drawing-other m (pakAt i) q v less ne = refl
+drawing-other m (romAt i) q v less ne = refl
+drawing-other m (drawingAt k x) q v less ne = read-other-register m k v q less ne
+drawing-other m (versionAt x) q v less ne = refl
+drawing-other m (hardwareAt o) q v less ne = refl
+drawing-other m silent q v less ne = refl
+drawing-other m unlisted q v less ne = refl
+drawing-other m unmapped q v less ne = refl
+drawing-other m soundUnit q v less ne = refl
+drawing-other m nothing q v less ne = refl
+drawing-other m expansion q v less ne = refl
 
 -- a byte put there
 read-same : (m : Memory) (p : Place) (b : ℕ) → Held m p → readPlace (putPlace m p b) p ≡ b
@@ -147,11 +169,11 @@ read-same m (pakAt i) b h = getD-set-same (m .pak) i b 0 h
 read-same m (romAt i) b h = absurd h
 read-same m (drawingAt k x) b h = absurd h
 read-same m (versionAt x) b h = absurd h
+read-same m (hardwareAt o) b h = absurd h
 read-same m silent b h = absurd h
 read-same m unlisted b h = absurd h
 read-same m unmapped b h = absurd h
 read-same m soundUnit b h = absurd h
-read-same m hardware b h = absurd h
 read-same m nothing b h = absurd h
 read-same m expansion b h = absurd h
 
@@ -166,12 +188,12 @@ Apart m b a = cellOf (placeIn m b) ≢ cellOf (placeIn m a)
 put-elsewhere : (m : Memory) (a b v : ℕ) → Apart m b a → byteOf (putByte m a v) b ≡ byteOf m b
 unfolding byteOf putByte
 put-elsewhere m a b v ne =
-    rw (shape-place m (putByte m a v) (byte-shape m a v) b) (read-other m (placeIn m a) (placeIn m b) (v % 256) ne)
+    rw (shape-place m (putByte m a v) (byte-shape m a v) b) (read-other m (placeIn m a) (placeIn m b) (v % 256) (place-proper (length (m .rom)) (length (m .pak)) b) ne)
 
 write-elsewhere : (m : Memory) (a b v : ℕ) → Apart m b a → byteOf (putRegister m a v) b ≡ byteOf m b
 unfolding byteOf putRegister
 write-elsewhere m a b v ne =
-    rw (shape-place m (putRegister m a v) (register-shape m a v) b) (drawing-other m (placeIn m a) (placeIn m b) (v % 65536) ne)
+    rw (shape-place m (putRegister m a v) (register-shape m a v) b) (drawing-other m (placeIn m a) (placeIn m b) (v % 65536) (place-proper (length (m .rom)) (length (m .pak)) a) ne)
 
 moved : (m n : Memory) → Shape m n → (b a : ℕ) → Apart m b a → Apart n b a
 moved m n p b a ne = rw (shape-place m n p b, shape-place m n p a) ne
@@ -218,11 +240,11 @@ held-plain m n (pakAt i) v h = refl
 held-plain m n (romAt i) v h = refl
 held-plain m n (drawingAt k x) v h = absurd h
 held-plain m n (versionAt x) v h = refl
+held-plain m n (hardwareAt o) v h = refl
 held-plain m n silent v h = refl
 held-plain m n unlisted v h = refl
 held-plain m n unmapped v h = refl
 held-plain m n soundUnit v h = refl
-held-plain m n hardware v h = refl
 held-plain m n nothing v h = refl
 held-plain m n expansion v h = refl
 

@@ -10,7 +10,8 @@ use borrow.Author.Tests.{lt-ltb, le-ltb}
 use lib.ListN.{length, getD, set}
 use Rattle.word.specs.Choose.{pick}
 use Rattle.bus.specs.Refusal.{romOk}
-use Rattle.bus.specs.Place.{Place, vramAt, wramAt, pakAt, romAt, mirrorOf, vipPlace, registerPlace, regionOf, placeOf}
+use Rattle.bus_timer.specs.Ports.{hardwareOffsetOf}
+use Rattle.bus.specs.Place.{Place, vramAt, wramAt, pakAt, romAt, hardwareAt, mirrorOf, vipPlace, registerPlace, regionOf, placeOf}
 use Rattle.bus.specs.Memory.{Memory, byteOf, readPlace, putPlace, putDrawing, placeIn, putByte, putRegister, withWram, withVram, withPak}
 use Rattle.bus.proofs.Power.{rom-power, power-low}
 
@@ -58,6 +59,10 @@ module _ (romLength pakLength a : ℕ) where
   unfolding placeOf
   place-vip e = rw e (ap vipPlace (omega arith))
 
+  pub place-hardware : regionOf a ≡ 2 → placeOf romLength pakLength a ≡ hardwareAt (hardwareOffsetOf a)
+  unfolding placeOf
+  place-hardware e = rw e
+
   pub place-pak : regionOf a ≡ 6 → placeOf romLength pakLength a ≡ pakAt (a % 2 ^ 27 % pakLength)
   unfolding placeOf
   place-pak e = rw e
@@ -67,41 +72,39 @@ module _ (romLength pakLength a : ℕ) where
   place-rom e ok = rw e (ap romAt (power-low 2 romLength (rom-power romLength ok) a))
 
 -- the regions that the code does not test for: reads
-abbrev Four : ℕ → Type 0
-Four r = (r ≡ 1) ⊎ ((r ≡ 2) ⊎ ((r ≡ 3) ⊎ (r ≡ 4)))
+abbrev Three : ℕ → Type 0
+Three r = (r ≡ 1) ⊎ ((r ≡ 3) ⊎ (r ≡ 4))
 
 below : (r k : ℕ) → r < k + 1 → (r ≡ k → ⊥) → r < k
 below r k h n = omega arith
 
-four-below : (r : ℕ) → r < 5 → (r ≡ 0 → ⊥) → Four r
-four-below r h n0 =
+three-below : (r : ℕ) → r < 5 → (r ≡ 0 → ⊥) → (r ≡ 2 → ⊥) → Three r
+three-below r h n0 n2 =
     elim (ℕ-discrete r 1) [
       | yes e ↦ inl e
-      | no n1 ↦ elim (ℕ-discrete r 2) [
+      | no n1 ↦ elim (ℕ-discrete r 3) [
         | yes e ↦ inr (inl e)
-        | no n2 ↦ elim (ℕ-discrete r 3) [
-          | yes e ↦ inr (inr (inl e))
-          | no n3 ↦ inr (inr (inr (omega arith)))
-        ]
+        | no n3 ↦ inr (inr (omega arith))
       ]
     ]
 
-four : (r : ℕ) → r < 8 → (r ≡ 5 → ⊥) → (r ≡ 7 → ⊥) → (r ≡ 0 → ⊥) → (r ≡ 6 → ⊥) → Four r
-four r h n5 n7 n0 n6 = four-below r (below r 5 (below r 6 (below r 7 h n7) n6) n5) n0
+three : (r : ℕ) → r < 8 → (r ≡ 5 → ⊥) → (r ≡ 7 → ⊥) → (r ≡ 0 → ⊥) → (r ≡ 6 → ⊥) → (r ≡ 2 → ⊥) → Three r
+three r h n5 n7 n0 n6 n2 = three-below r (below r 5 (below r 6 (below r 7 h n7) n6) n5) n0 n2
 
-read-four : (m : Memory) (a : ℕ) → Four (regionOf a) → byteOf m a ≡ 0
+read-three : (m : Memory) (a : ℕ) → Three (regionOf a) → byteOf m a ≡ 0
 unfolding byteOf placeOf
-read-four m a (inl e) = rw e
-read-four m a (inr (inl e)) = rw e
-read-four m a (inr (inr (inl e))) = rw e
-read-four m a (inr (inr (inr e))) = rw e
+read-three m a (inl e) = rw e
+read-three m a (inr (inl e)) = rw e
+read-three m a (inr (inr e)) = rw e
 
--- regions 1 to 4 read 0
-pub byte-nothing : (m : Memory) (a : ℕ) → (regionOf a ≡ 5 → ⊥) → (regionOf a ≡ 7 → ⊥) → (regionOf a ≡ 0 → ⊥) → (regionOf a ≡ 6 → ⊥) → byteOf m a ≡ 0
-byte-nothing m a n5 n7 n0 n6 = read-four m a (four (regionOf a) (region-bound a) n5 n7 n0 n6)
+-- regions 1, 3 and 4 read 0
+pub byte-nothing : (m : Memory) (a : ℕ) → (regionOf a ≡ 5 → ⊥) → (regionOf a ≡ 7 → ⊥) → (regionOf a ≡ 0 → ⊥) → (regionOf a ≡ 6 → ⊥)
+    → (regionOf a ≡ 2 → ⊥)
+    → byteOf m a ≡ 0
+byte-nothing m a n5 n7 n0 n6 n2 = read-three m a (three (regionOf a) (region-bound a) n5 n7 n0 n6 n2)
 
 abbrev Seven : ℕ → Type 0
-Seven r = (r ≡ 5) ⊎ ((r ≡ 6) ⊎ ((r ≡ 7) ⊎ Four r))
+Seven r = (r ≡ 5) ⊎ ((r ≡ 6) ⊎ ((r ≡ 7) ⊎ ((r ≡ 2) ⊎ Three r)))
 
 seven : (r : ℕ) → r < 8 → (r ≡ 0 → ⊥) → Seven r
 seven r h n0 =
@@ -111,7 +114,10 @@ seven r h n0 =
         | yes e ↦ inr (inl e)
         | no n6 ↦ elim (ℕ-discrete r 7) [
           | yes e ↦ inr (inr (inl e))
-          | no n7 ↦ inr (inr (inr (four r h n5 n7 n0 n6)))
+          | no n7 ↦ elim (ℕ-discrete r 2) [
+            | yes e ↦ inr (inr (inr (inl e)))
+            | no n2 ↦ inr (inr (inr (inr (three r h n5 n7 n0 n6 n2))))
+          ]
         ]
       ]
     ]
@@ -126,20 +132,22 @@ register-seven m a v (inr (inr (inr (inr (inl e))))) = rw e
 register-seven m a v (inr (inr (inr (inr (inr (inl e)))))) = rw e
 register-seven m a v (inr (inr (inr (inr (inr (inr e)))))) = rw e
 
--- registers stand in region 0 alone
+-- drawing registers stand in region 0 alone
 pub register-elsewhere : (m : Memory) (a v : ℕ) → (regionOf a ≡ 0 → ⊥) → putRegister m a v ≡ m
 register-elsewhere m a v n0 = register-seven m a v (seven (regionOf a) (region-bound a) n0)
 
-put-seven : (m : Memory) (a v : ℕ) → (regionOf a ≡ 5 → ⊥) → (regionOf a ≡ 6 → ⊥) → Seven (regionOf a) → putByte m a v ≡ m
+put-seven : (m : Memory) (a v : ℕ) → (regionOf a ≡ 5 → ⊥) → (regionOf a ≡ 6 → ⊥) → (regionOf a ≡ 2 → ⊥) → Seven (regionOf a)
+    → putByte m a v ≡ m
 unfolding putByte placeOf
-put-seven m a v n5 n6 (inl e) = absurd (n5 e)
-put-seven m a v n5 n6 (inr (inl e)) = absurd (n6 e)
-put-seven m a v n5 n6 (inr (inr (inl e))) = rw e
-put-seven m a v n5 n6 (inr (inr (inr (inl e)))) = rw e
-put-seven m a v n5 n6 (inr (inr (inr (inr (inl e))))) = rw e
-put-seven m a v n5 n6 (inr (inr (inr (inr (inr (inl e)))))) = rw e
-put-seven m a v n5 n6 (inr (inr (inr (inr (inr (inr e)))))) = rw e
+put-seven m a v n5 n6 n2 (inl e) = absurd (n5 e)
+put-seven m a v n5 n6 n2 (inr (inl e)) = absurd (n6 e)
+put-seven m a v n5 n6 n2 (inr (inr (inl e))) = rw e
+put-seven m a v n5 n6 n2 (inr (inr (inr (inl e)))) = absurd (n2 e)
+put-seven m a v n5 n6 n2 (inr (inr (inr (inr (inl e))))) = rw e
+put-seven m a v n5 n6 n2 (inr (inr (inr (inr (inr (inl e)))))) = rw e
+put-seven m a v n5 n6 n2 (inr (inr (inr (inr (inr (inr e)))))) = rw e
 
--- regions 1 to 4 and ROM take no byte
-pub put-nothing : (m : Memory) (a v : ℕ) → (regionOf a ≡ 5 → ⊥) → (regionOf a ≡ 0 → ⊥) → (regionOf a ≡ 6 → ⊥) → putByte m a v ≡ m
-put-nothing m a v n5 n0 n6 = put-seven m a v n5 n6 (seven (regionOf a) (region-bound a) n0)
+-- regions 1, 3 and 4 and ROM take no byte
+pub put-nothing : (m : Memory) (a v : ℕ) → (regionOf a ≡ 5 → ⊥) → (regionOf a ≡ 0 → ⊥) → (regionOf a ≡ 6 → ⊥) → (regionOf a ≡ 2 → ⊥)
+    → putByte m a v ≡ m
+put-nothing m a v n5 n0 n6 n2 = put-seven m a v n5 n6 n2 (seven (regionOf a) (region-bound a) n0)

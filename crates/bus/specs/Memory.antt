@@ -1,21 +1,22 @@
--- The lent memories with the drawing registers, and what loads and stores mean: paper 01, "Addresses".
+-- The lent memories with the device registers, and what loads and stores mean: paper 01, "Addresses".
 -- A load is the little-endian number of its bytes, at every size. A store is a composition of steps
--- that are total: put a byte (nothing at a register), put a register (nothing elsewhere).
+-- that are total: put a byte (nothing at a VIP register), put a VIP register (nothing elsewhere).
 use Prim.Native.Nat.{ℕ, zero, suc, _+_, _-_, _/_, _%_, _^_, _<_}
-use mathlib.Core.Bool.{true}
+use mathlib.Core.Bool.{Bool, true}
 use mathlib.Core.List.{List, [], _∷_}
 use mathlib.Core.Path.{_≡_}
 use lib.ListN.{getD, set, length}
 use Rattle.word.specs.LittleEndian.{littleEndian}
-use Rattle.bus.specs.Registers.{version, keptOf, registersOk}
-use Rattle.bus.specs.Place.{Place, vramAt, wramAt, pakAt, romAt, drawingAt, versionAt, silent, unlisted, unmapped, soundUnit, hardware, nothing, expansion, placeOf}
+use Rattle.bus_timer.specs.Ports.{portByteOf, portWrittenOf}
+use Rattle.bus.specs.Registers.{version, keptOf, hardwareIn, withHardware, registersOk}
+use Rattle.bus.specs.Place.{Place, vramAt, wramAt, pakAt, romAt, drawingAt, versionAt, silent, unlisted, unmapped, hardwareAt, soundUnit, nothing, expansion, placeOf}
 use Rattle.bus.specs.Refusal.{romOk, wramOk, vramOk, pakOk}
 use Rattle.refusal.specs.Number.{unless}
 use Rattle.refusal.specs.declared.Verdict.{Verdict}
 use Rattle.refusal.specs.declared.Verdict.the-variants.{Accepted}
 use Rattle.refusal.specs.declared.Refusal.the-variants.{RomLength, WramLength, VramLength, PakLength, State}
 
--- the lent memories, each a list of bytes, and the drawing registers
+-- the lent memories, each a list of bytes, and the device registers
 pub record Memory : Type 0 where
   pub rom : List ℕ
   pub wram : List ℕ
@@ -39,12 +40,16 @@ withPak m xs = memoryOf (m .rom) (m .wram) (m .vram) xs (m .regs)
 abbrev pub withRegs : Memory → List ℕ → Memory
 withRegs m xs = memoryOf (m .rom) (m .wram) (m .vram) (m .pak) xs
 
--- refusals 1 to 5, as far as the lengths of the memories and the drawing registers are their subject
-unfoldable pub verdictAt : ℕ → ℕ → ℕ → ℕ → List ℕ → Verdict
-verdictAt rom wram vram pak regs =
+-- refusals 1 to 5, by the lengths of the memories and whether 5 has nothing against the state
+abbrev pub verdictWhen : ℕ → ℕ → ℕ → ℕ → Bool → Verdict
+verdictWhen rom wram vram pak stateOk =
     unless (romOk rom) RomLength
     (unless (wramOk wram) WramLength
-    (unless (vramOk vram) VramLength (unless (pakOk pak) PakLength (unless (registersOk regs) State Accepted))))
+    (unless (vramOk vram) VramLength (unless (pakOk pak) PakLength (unless stateOk State Accepted))))
+
+-- refusals 1 to 5, as far as the lengths of the memories and the device registers are their subject
+unfoldable pub verdictAt : ℕ → ℕ → ℕ → ℕ → List ℕ → Verdict
+verdictAt rom wram vram pak regs = verdictWhen rom wram vram pak (registersOk regs)
 
 abbrev pub verdictOf : Memory → Verdict
 verdictOf m = verdictAt (length (m .rom)) (length (m .wram)) (length (m .vram)) (length (m .pak)) (m .regs)
@@ -68,11 +73,11 @@ readPlace m (pakAt i) = getD (m .pak) i 0
 readPlace m (romAt i) = getD (m .rom) i 0
 readPlace m (drawingAt k b) = getD (m .regs) k 0 / 256 ^ b % 256
 readPlace m (versionAt b) = version / 256 ^ b % 256
+readPlace m (hardwareAt o) = portByteOf (hardwareIn (m .regs)) o
 readPlace m silent = 0
 readPlace m unlisted = 0
 readPlace m unmapped = 0
 readPlace m soundUnit = 0
-readPlace m hardware = 0
 readPlace m nothing = 0
 readPlace m expansion = 0
 
@@ -98,7 +103,7 @@ pub record Reads (m : Memory) (size a value : ℕ) : Type 0 where
   pub means : value ≡ loadOf m size a
   pub fits : value < 256 ^ size
 
--- a byte put at a place of VRAM, WRAM or pak RAM; nothing elsewhere
+-- a byte put at a place of VRAM, WRAM or pak RAM, or written to a register of the timer; nothing elsewhere
 abbrev pub putPlace : Memory → Place → ℕ → Memory
 putPlace m (vramAt i) b = withVram m (set (m .vram) i b)
 putPlace m (wramAt i) b = withWram m (set (m .wram) i b)
@@ -106,11 +111,11 @@ putPlace m (pakAt i) b = withPak m (set (m .pak) i b)
 putPlace m (romAt i) b = m
 putPlace m (drawingAt k x) b = m
 putPlace m (versionAt x) b = m
+putPlace m (hardwareAt o) b = withRegs m (withHardware (m .regs) (portWrittenOf (hardwareIn (m .regs)) o b))
 putPlace m silent b = m
 putPlace m unlisted b = m
 putPlace m unmapped b = m
 putPlace m soundUnit b = m
-putPlace m hardware b = m
 putPlace m nothing b = m
 putPlace m expansion b = m
 
@@ -122,23 +127,23 @@ putDrawing m (pakAt i) v = m
 putDrawing m (romAt i) v = m
 putDrawing m (drawingAt k x) v = withRegs m (set (m .regs) k (keptOf k v))
 putDrawing m (versionAt x) v = m
+putDrawing m (hardwareAt o) v = m
 putDrawing m silent v = m
 putDrawing m unlisted v = m
 putDrawing m unmapped v = m
 putDrawing m soundUnit v = m
-putDrawing m hardware v = m
 putDrawing m nothing v = m
 putDrawing m expansion v = m
 
--- the low 8 bits of v stored at one address, where there is memory
+-- the low 8 bits of v stored at one address, where there is memory or a register of the timer
 unfoldable pub putByte : Memory → ℕ → ℕ → Memory
 putByte m a v = putPlace m (placeIn m a) (v % 256)
 
--- the low 16 bits of v written to the register that holds an address, where there is one
+-- the low 16 bits of v written to the drawing register that holds an address, where there is one
 unfoldable pub putRegister : Memory → ℕ → ℕ → Memory
 putRegister m a v = putDrawing m (placeIn m a) (v % 65536)
 
--- a byte store: memory takes the low 8 bits of the source, a register its low 16 bits
+-- a byte store: memory and the timer take the low 8 bits of the source, a VIP register its low 16 bits
 unfoldable pub storeByteOf : Memory → ℕ → ℕ → Memory
 storeByteOf m a v = putRegister (putByte m a v) a v
 

@@ -1,4 +1,4 @@
--- Where the byte at an address leads: paper 01, "Addresses". The place tells apart what reads alike, so that
+-- Where the byte at an address leads: paper 01, "Addresses"; paper 02, W6 (region 2). The place tells apart what reads alike, so that
 -- later requests can speak of it: a register of 000 that the model keeps silent, an address of the register
 -- range where 000 lists none, and the ranges of the VIP with nothing behind them.
 use Prim.Native.Nat.{ℕ, _+_, _-_, _*_, _/_, _%_, _^_}
@@ -6,6 +6,7 @@ use mathlib.Core.List.{[], _∷_}
 use lib.ListN.{getD}
 use lib.Dec.{ltb, eqb}
 use Rattle.word.specs.Choose.{pick, member, indexOf}
+use Rattle.bus_timer.specs.Ports.{hardwareOffsetOf}
 use Rattle.bus.specs.Registers.{drawingAddresses, silentAddresses, versionAddress}
 
 pub data Place : Type 0 where
@@ -24,9 +25,10 @@ pub data Place : Type 0 where
   unlisted : Place
   -- the VIP's other ranges
   unmapped : Place
-  -- regions 1, 2, 3 and 4
+  -- the byte at an offset of region 2: a register of the timer, or one with nothing behind it
+  hardwareAt : ℕ → Place
+  -- regions 1, 3 and 4
   soundUnit : Place
-  hardware : Place
   nothing : Place
   expansion : Place
 
@@ -59,7 +61,7 @@ placeOf romLength pakLength a =
     let b = a % 2 ^ 27 in
     getD (vipPlace (b % 2 ^ 19)
     ∷ soundUnit
-    ∷ hardware
+    ∷ hardwareAt (hardwareOffsetOf a)
     ∷ nothing
     ∷ expansion
     ∷ wramAt (b % 65536)

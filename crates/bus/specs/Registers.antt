@@ -1,11 +1,16 @@
--- The drawing registers: SPT0 to SPT3, GPLT0 to GPLT3, JPLT0 to JPLT3 and BKCOL, a list of 13 halfwords in that order.
--- Paper 01, "Addresses" (widths) and refusal 5; paper 000, "I/O Registers" (addresses).
+-- The device registers, a list of 17 halfwords: the 13 drawing registers SPT0 to SPT3, GPLT0 to GPLT3, JPLT0 to JPLT3 and
+-- BKCOL, then the request lines and the timer's count, reload and control bits. Paper 01, "Addresses" (widths) and
+-- refusal 5; paper 000, "I/O Registers" (addresses); paper 02, W6 (lines and timer). The drawing calls are given the
+-- first 13 alone.
 use Prim.Native.Nat.{ℕ, zero, suc, _+_, _%_, _^_}
 use mathlib.Core.Bool.{Bool, true, false}
-use mathlib.Core.List.{List, [], _∷_}
-use lib.ListN.{getD}
+use mathlib.Core.List.{List, [], _∷_, _++_}
+use lib.ListN.{getD, set}
 use lib.Dec.{ltb}
 use Rattle.word.specs.Choose.{pick}
+use Rattle.bus_timer.specs.Timer.{hardwareOf}
+use Rattle.bus_timer.specs.Ports.{hardwareOk}
+use Rattle.bus_timer.specs.declared.Hardware.{Hardware}
 
 -- SPT n
 unfoldable pub sptOf : List ℕ → ℕ → ℕ
@@ -80,5 +85,44 @@ withinFrom d k zero = true
 withinFrom d k (suc n) = pick (ltb (getD d k 0) (2 ^ widthOf k)) (withinFrom d (k + 1) n) false
 
 -- 5, of the drawing registers: none of the 13 exceeds its width
+unfoldable pub drawingOk : List ℕ → Bool
+drawingOk d = withinFrom d 0 13
+
+-- where the request lines and the timer stand among the device registers
+abbrev pub linesPlace : ℕ
+linesPlace = 13
+
+abbrev pub countPlace : ℕ
+countPlace = 14
+
+abbrev pub reloadPlace : ℕ
+reloadPlace = 15
+
+abbrev pub controlPlace : ℕ
+controlPlace = 16
+
+-- the n registers from k on
+abbrev pub registersFrom : List ℕ → ℕ → ℕ → List ℕ
+registersFrom d k zero = []
+registersFrom d k (suc n) = getD d k 0 ∷ registersFrom d (suc k) n
+
+-- the drawing registers of the device registers
+unfoldable pub drawingIn : List ℕ → List ℕ
+drawingIn d = registersFrom d 0 13
+
+-- the request lines and the timer of the device registers
+unfoldable pub hardwareIn : List ℕ → Hardware
+hardwareIn d = hardwareOf (getD d linesPlace 0) (getD d countPlace 0) (getD d reloadPlace 0) (getD d controlPlace 0)
+
+-- the device registers with other request lines and another timer
+unfoldable pub withHardware : List ℕ → Hardware → List ℕ
+withHardware d h =
+    set (set (set (set d linesPlace (h .lines)) countPlace (h .count)) reloadPlace (h .reload)) controlPlace (h .control)
+
+-- the device registers of 13 drawing registers, the request lines and the timer
+unfoldable pub deviceOf : List ℕ → Hardware → List ℕ
+deviceOf drawing h = registersFrom drawing 0 13 ++ (h .lines ∷ h .count ∷ h .reload ∷ h .control ∷ [])
+
+-- 5, of the device registers: no drawing register, request line or field of the timer exceeds its width
 unfoldable pub registersOk : List ℕ → Bool
-registersOk d = withinFrom d 0 13
+registersOk d = pick (drawingOk d) (hardwareOk (hardwareIn d)) false

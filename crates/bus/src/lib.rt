@@ -1,9 +1,11 @@
-// The bus: where an address leads, loads and stores over the lent memories, the drawing registers,
+// The bus: where an address leads, loads and stores over the lent memories, the device registers,
 // and paper 01's refusals 1 to 5. The functions here are for the crates above; the calls that test
 // their arguments and refuse are those of the crate bus_calls.
+pub mod device;
 pub mod load;
 pub mod outside;
 mod pak;
+mod ports;
 pub mod refusals;
 mod registers;
 pub mod store;
@@ -12,9 +14,10 @@ mod vip;
 // The drawing registers: SPT0 to SPT3, GPLT0 to GPLT3, JPLT0 to JPLT3, BKCOL.
 pub type DrawingRegisters = [u16; 13];
 
-// What stands behind bus addresses and is not memory: the drawing registers. It is lent as an array, because a
-// reference to a struct is not walked by the prover and a struct by value costs a run its speed.
-pub type Device = [u16; 13];
+// What stands behind bus addresses and is not memory: the drawing registers, then the request lines and the timer's
+// count, reload and control bits. It is lent as an array, because a reference to a struct is not walked by the prover
+// and a struct by value costs a run its speed.
+pub type Device = [u16; 17];
 
 pub struct Drawing {
     pub regs: DrawingRegisters,

@@ -2,6 +2,7 @@
 use crate::Device;
 use crate::Loaded;
 use crate::pak;
+use crate::ports;
 use crate::vip;
 ghost use mathlib.Core.Path.{_≡_};
 ghost use mathlib.Core.List.{List};
@@ -12,7 +13,7 @@ ghost use Rattle.bus.specs.Place.{regionOf};
 ghost use Rattle.bus.specs.Refusal.{romOk, pakOk};
 ghost use Rattle.bus.specs.Memory.{memoryOf, Lengths, Reads};
 
-// A byte, a halfword and a word that stand neither in WRAM nor in ROM: of the VIP, of pak RAM, or 0.
+// A byte, a halfword and a word that stand neither in WRAM nor in ROM: of the VIP, of pak RAM, of the timer, or 0.
 fn byte_elsewhere(vram: &[u8], pak: &[u8], regs: &Device, address: u32) -> u32
     requires { ⌜ (length (now vram) ≡ 262144) × (pakOk (length (now pak)) ≡ true) × (regionOf address ≡ 5 → ⊥) × (regionOf address ≡ 7 → ⊥) ⌝ }
     ensures { λ r. ⌜ ((rom wram : List ℕ) → Reads (memoryOf rom wram (now (vram .entry)) (now (pak .entry)) (now (regs .entry))) 1 address r) ⌝ }
@@ -23,6 +24,9 @@ fn byte_elsewhere(vram: &[u8], pak: &[u8], regs: &Device, address: u32) -> u32
     }
     if region == 6 {
         return pak::byte(pak, address);
+    }
+    if region == 2 {
+        return ports::byte(regs, address);
     }
     0
 }
@@ -38,6 +42,9 @@ fn half_elsewhere(vram: &[u8], pak: &[u8], regs: &Device, address: u32) -> u32
     if region == 6 {
         return pak::half(pak, address);
     }
+    if region == 2 {
+        return ports::half(regs, address);
+    }
     0
 }
 
@@ -51,6 +58,9 @@ fn word_elsewhere(vram: &[u8], pak: &[u8], regs: &Device, address: u32) -> u32
     }
     if region == 6 {
         return pak::word(pak, address);
+    }
+    if region == 2 {
+        return ports::word(regs, address);
     }
     0
 }

@@ -1,18 +1,18 @@
-// Every region but 0, the VIP: WRAM, ROM, pak RAM, and those with nothing behind them. No drawing register stands
-// there, so the accesses of a call that tests its arguments need none. Addresses are those of the bus.
+// Regions 3 to 7: WRAM, ROM, pak RAM, and those with nothing behind them. No device register stands there, so the
+// accesses of a call that tests its arguments need none. Addresses are those of the bus.
 use crate::load;
 use crate::pak;
 ghost use mathlib.Core.Path.{_≡_};
 ghost use mathlib.Core.Bool.{true};
 ghost use mathlib.Core.List.{List};
-ghost use Prim.Native.Nat.{ℕ, _/_, _%_};
+ghost use Prim.Native.Nat.{ℕ, _/_, _%_, _<_};
 ghost use lib.ListN.{length};
 ghost use Rattle.bus.specs.Refusal.{romOk, pakOk};
 ghost use Rattle.bus.specs.Memory.{memoryOf, Reads, storeByteOf, storeHalfOf, storeWordOf};
 
-// A byte, a halfword and a word outside the VIP.
+// A byte, a halfword and a word there.
 pub fn byte(rom: &[u8], wram: &[u8], pak: &[u8], address: u32) -> u32
-    requires { ⌜ (romOk (length (now rom)) ≡ true) × (length (now wram) ≡ 65536) × (pakOk (length (now pak)) ≡ true) × (address / 16777216 % 8 ≡ 0 → ⊥) ⌝ }
+    requires { ⌜ (romOk (length (now rom)) ≡ true) × (length (now wram) ≡ 65536) × (pakOk (length (now pak)) ≡ true) × (2 < address / 16777216 % 8) ⌝ }
     ensures { λ r. ⌜ ((vram regs : List ℕ) → Reads (memoryOf (now (rom .entry)) (now (wram .entry)) vram (now (pak .entry)) regs) 1 address r) ⌝ }
 {
     let region = address / 16777216 % 8;
@@ -31,7 +31,7 @@ pub fn byte(rom: &[u8], wram: &[u8], pak: &[u8], address: u32) -> u32
 }
 
 pub fn half(rom: &[u8], wram: &[u8], pak: &[u8], address: u32) -> u32
-    requires { ⌜ (romOk (length (now rom)) ≡ true) × (length (now wram) ≡ 65536) × (pakOk (length (now pak)) ≡ true) × (address / 16777216 % 8 ≡ 0 → ⊥) ⌝ }
+    requires { ⌜ (romOk (length (now rom)) ≡ true) × (length (now wram) ≡ 65536) × (pakOk (length (now pak)) ≡ true) × (2 < address / 16777216 % 8) ⌝ }
     ensures { λ r. ⌜ ((vram regs : List ℕ) → Reads (memoryOf (now (rom .entry)) (now (wram .entry)) vram (now (pak .entry)) regs) 2 address r) ⌝ }
 {
     let region = address / 16777216 % 8;
@@ -48,7 +48,7 @@ pub fn half(rom: &[u8], wram: &[u8], pak: &[u8], address: u32) -> u32
 }
 
 pub fn word(rom: &[u8], wram: &[u8], pak: &[u8], address: u32) -> u32
-    requires { ⌜ (romOk (length (now rom)) ≡ true) × (length (now wram) ≡ 65536) × (pakOk (length (now pak)) ≡ true) × (address / 16777216 % 8 ≡ 0 → ⊥) ⌝ }
+    requires { ⌜ (romOk (length (now rom)) ≡ true) × (length (now wram) ≡ 65536) × (pakOk (length (now pak)) ≡ true) × (2 < address / 16777216 % 8) ⌝ }
     ensures { λ r. ⌜ ((vram regs : List ℕ) → Reads (memoryOf (now (rom .entry)) (now (wram .entry)) vram (now (pak .entry)) regs) 4 address r) ⌝ }
 {
     let region = address / 16777216 % 8;
@@ -66,9 +66,9 @@ pub fn word(rom: &[u8], wram: &[u8], pak: &[u8], address: u32) -> u32
     0
 }
 
-// A byte, a halfword and a word stored outside the VIP: to WRAM, to pak RAM, or nowhere.
+// A byte, a halfword and a word stored there: to WRAM, to pak RAM, or nowhere.
 pub fn put_byte(wram: &mut [u8], pak: &mut [u8], address: u32, value: u32)
-    requires { ⌜ (length (now wram) ≡ 65536) × (pakOk (length (now pak)) ≡ true) × (address / 16777216 % 8 ≡ 0 → ⊥) ⌝ }
+    requires { ⌜ (length (now wram) ≡ 65536) × (pakOk (length (now pak)) ≡ true) × (2 < address / 16777216 % 8) ⌝ }
     ensures { λ r. ⌜ ((rom vram regs : List ℕ) → memoryOf rom (now (wram .exit)) vram (now (pak .exit)) regs ≡ storeByteOf (memoryOf rom (now (wram .entry)) vram (now (pak .entry)) regs) address value) ⌝ }
 {
     let region = address / 16777216 % 8;
@@ -83,7 +83,7 @@ pub fn put_byte(wram: &mut [u8], pak: &mut [u8], address: u32, value: u32)
 }
 
 pub fn put_half(wram: &mut [u8], pak: &mut [u8], address: u32, value: u32)
-    requires { ⌜ (length (now wram) ≡ 65536) × (pakOk (length (now pak)) ≡ true) × (address / 16777216 % 8 ≡ 0 → ⊥) ⌝ }
+    requires { ⌜ (length (now wram) ≡ 65536) × (pakOk (length (now pak)) ≡ true) × (2 < address / 16777216 % 8) ⌝ }
     ensures { λ r. ⌜ ((rom vram regs : List ℕ) → memoryOf rom (now (wram .exit)) vram (now (pak .exit)) regs ≡ storeHalfOf (memoryOf rom (now (wram .entry)) vram (now (pak .entry)) regs) address value) ⌝ }
 {
     let region = address / 16777216 % 8;
@@ -98,7 +98,7 @@ pub fn put_half(wram: &mut [u8], pak: &mut [u8], address: u32, value: u32)
 }
 
 pub fn put_word(wram: &mut [u8], pak: &mut [u8], address: u32, value: u32)
-    requires { ⌜ (length (now wram) ≡ 65536) × (pakOk (length (now pak)) ≡ true) × (address / 16777216 % 8 ≡ 0 → ⊥) ⌝ }
+    requires { ⌜ (length (now wram) ≡ 65536) × (pakOk (length (now pak)) ≡ true) × (2 < address / 16777216 % 8) ⌝ }
     ensures { λ r. ⌜ ((rom vram regs : List ℕ) → memoryOf rom (now (wram .exit)) vram (now (pak .exit)) regs ≡ storeWordOf (memoryOf rom (now (wram .entry)) vram (now (pak .entry)) regs) address value) ⌝ }
 {
     let region = address / 16777216 % 8;

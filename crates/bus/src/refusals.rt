@@ -1,12 +1,15 @@
-// Refusals 1 to 5, as far as memories and drawing registers are their subject.
+// Refusals 1 to 5, as far as memories and device registers are their subject.
 use crate::Device;
+use crate::DrawingRegisters;
+use crate::device;
+use bus_timer::Hardware;
 use refusal::Refusal;
 use refusal::Verdict;
 ghost use mathlib.Core.Path.{_≡_};
 ghost use Prim.Native.Nat.{_^_};
 ghost use Rattle.bus.specs.Refusal.{romOk, pakOk};
-ghost use Rattle.bus.specs.Registers.{registersOk, widthOf};
-ghost use Rattle.bus.specs.Memory.{verdictAt};
+ghost use Rattle.bus.specs.Registers.{drawingOk, deviceOf, registersOk, widthOf};
+ghost use Rattle.bus.specs.Memory.{verdictWhen, verdictAt};
 
 // Whether a ROM may be n bytes long.
 pub fn rom_ok(n: usize) -> bool
@@ -85,8 +88,8 @@ fn limit(k: usize) -> u16
 }
 
 // Whether every drawing register is within its width.
-pub fn registers_ok(regs: &Device) -> bool
-    ensures { λ r. ⌜ r ≡ registersOk (now (regs .entry)) ⌝ }
+pub fn drawing_ok(regs: &DrawingRegisters) -> bool
+    ensures { λ r. ⌜ r ≡ drawingOk (now (regs .entry)) ⌝ }
 {
     let mut k = 0;
     while k < 13 {
@@ -98,9 +101,27 @@ pub fn registers_ok(regs: &Device) -> bool
     true
 }
 
-// The lowest of refusals 1 to 5 whose condition holds of the memories' lengths and the drawing registers.
-pub fn verdict(rom: usize, wram: usize, vram: usize, pak: usize, regs: &Device) -> Verdict
-    ensures { λ r. ⌜ r ≡ verdictAt rom wram vram pak (now (regs .entry)) ⌝ }
+// Whether every drawing register, the request lines and the timer are within their widths.
+pub fn records_ok(drawing: &DrawingRegisters, hardware: Hardware) -> bool
+    ensures { λ r. ⌜ r ≡ registersOk (deviceOf (now (drawing .entry)) hardware) ⌝ }
+{
+    if !drawing_ok(drawing) {
+        return false;
+    }
+    bus_timer::ports::ok(hardware)
+}
+
+// The same of the device registers.
+pub fn registers_ok(device: &Device) -> bool
+    ensures { λ r. ⌜ r ≡ registersOk (now (device .entry)) ⌝ }
+{
+    let drawing = device::drawing_in(device);
+    records_ok(&drawing, device::hardware_in(device))
+}
+
+// The lowest of refusals 1 to 5 whose condition holds, where it is known whether 5's does.
+fn first(rom: usize, wram: usize, vram: usize, pak: usize, state: bool) -> Verdict
+    ensures { λ r. ⌜ r ≡ verdictWhen rom wram vram pak state ⌝ }
 {
     if !rom_ok(rom) {
         return Verdict::Refused(Refusal::RomLength);
@@ -114,8 +135,29 @@ pub fn verdict(rom: usize, wram: usize, vram: usize, pak: usize, regs: &Device) 
     if !pak_ok(pak) {
         return Verdict::Refused(Refusal::PakLength);
     }
-    if !registers_ok(regs) {
+    if !state {
         return Verdict::Refused(Refusal::State);
     }
     Verdict::Accepted
+}
+
+// The lowest of refusals 1 to 5 whose condition holds of the memories' lengths and the device registers.
+pub fn verdict(rom: usize, wram: usize, vram: usize, pak: usize, regs: &Device) -> Verdict
+    ensures { λ r. ⌜ r ≡ verdictAt rom wram vram pak (now (regs .entry)) ⌝ }
+{
+    first(rom, wram, vram, pak, registers_ok(regs))
+}
+
+// The same of the two records that a public call is given.
+pub fn call_verdict(
+    rom: usize,
+    wram: usize,
+    vram: usize,
+    pak: usize,
+    drawing: &DrawingRegisters,
+    hardware: Hardware,
+) -> Verdict
+    ensures { λ r. ⌜ r ≡ verdictAt rom wram vram pak (deviceOf (now (drawing .entry)) hardware) ⌝ }
+{
+    first(rom, wram, vram, pak, records_ok(drawing, hardware))
 }

@@ -2,6 +2,7 @@
 // whole source register: a byte store writes its low 16 bits to a VIP register.
 use crate::Device;
 use crate::pak;
+use crate::ports;
 use crate::vip;
 ghost use mathlib.Core.Path.{_≡_};
 ghost use mathlib.Core.Bool.{true};
@@ -12,7 +13,7 @@ ghost use Rattle.bus.specs.Place.{regionOf};
 ghost use Rattle.bus.specs.Refusal.{pakOk};
 ghost use Rattle.bus.specs.Memory.{memoryOf, Lengths, storeByteOf, storeHalfOf, storeWordOf};
 
-// A byte, a halfword and a word that do not go to WRAM: to the VIP, to pak RAM, or nowhere.
+// A byte, a halfword and a word that do not go to WRAM: to the VIP, to pak RAM, to the timer, or nowhere.
 fn byte_elsewhere(vram: &mut [u8], pak: &mut [u8], regs: &mut Device, address: u32, value: u32)
     requires { ⌜ (length (now vram) ≡ 262144) × (pakOk (length (now pak)) ≡ true) × (regionOf address ≡ 5 → ⊥) ⌝ }
     ensures { λ r. ⌜ ((rom wram : List ℕ) → memoryOf rom wram (now (vram .exit)) (now (pak .exit)) (now (regs .exit)) ≡ storeByteOf (memoryOf rom wram (now (vram .entry)) (now (pak .entry)) (now (regs .entry))) address value) ⌝ }
@@ -24,6 +25,10 @@ fn byte_elsewhere(vram: &mut [u8], pak: &mut [u8], regs: &mut Device, address: u
     }
     if region == 6 {
         pak::put_byte(pak, address, value);
+        return;
+    }
+    if region == 2 {
+        ports::put_byte(regs, address, value);
     }
 }
 
@@ -38,6 +43,10 @@ fn half_elsewhere(vram: &mut [u8], pak: &mut [u8], regs: &mut Device, address: u
     }
     if region == 6 {
         pak::put_half(pak, address, value);
+        return;
+    }
+    if region == 2 {
+        ports::put_half(regs, address, value);
     }
 }
 
@@ -52,6 +61,10 @@ fn word_elsewhere(vram: &mut [u8], pak: &mut [u8], regs: &mut Device, address: u
     }
     if region == 6 {
         pak::put_word(pak, address, value);
+        return;
+    }
+    if region == 2 {
+        ports::put_word(regs, address, value);
     }
 }
 

@@ -1,15 +1,18 @@
-// The bus's public calls: each tests refusals 1 to 5 and then loads or stores. They take the drawing registers by
-// value, and a store gives them back. Only accesses to region 0, the VIP, are lent a copy of them.
+// The bus's public calls: each tests refusals 1 to 5 and then loads or stores. They take the drawing registers and the
+// request lines with the timer by value, and a store gives both back. Only accesses to regions 0 to 2, where the VIP and
+// the timer are, are lent a copy of them as device registers.
 use bus::Drawing;
+use bus::device;
 use bus::load;
 use bus::outside;
 use bus::refusals;
 use bus::store;
+use bus_timer::Hardware;
 use refusal::Refusal;
 use refusal::Verdict;
 ghost use mathlib.Core.Path.{_≡_};
-ghost use Rattle.bus.specs.Memory.{memoryOf, verdictOf, storeByteOf, storeHalfOf, storeWordOf};
-ghost use Rattle.bus_calls.specs.Access.{checkedLoadOf, checkedStoreOf};
+ghost use Rattle.bus.specs.Memory.{verdictOf, storeByteOf, storeHalfOf, storeWordOf};
+ghost use Rattle.bus_calls.specs.Access.{entering, leaving, checkedLoadOf, checkedStoreOf};
 
 // What a load read: its value, and bit k of `undefined` set where byte k, counted from the aligned address, is undefined.
 pub struct Reading {
@@ -23,10 +26,11 @@ pub enum Load {
     Refused(Refusal),
 }
 
-// The answer of a store: the drawing registers afterwards beside the verdict.
+// The answer of a store: the drawing registers, the request lines and the timer afterwards beside the verdict.
 pub struct Stored {
     pub verdict: Verdict,
     pub drawing: Drawing,
+    pub hardware: Hardware,
 }
 
 // Loads a byte.
@@ -36,17 +40,26 @@ pub fn load_byte(
     vram: &[u8],
     pak: &[u8],
     drawing: Drawing,
+    hardware: Hardware,
     address: u32,
 ) -> Load
-    ensures { λ r. ⌜ r ≡ checkedLoadOf (memoryOf (now (rom .entry)) (now (wram .entry)) (now (vram .entry)) (now (pak .entry)) (drawing .regs)) 1 address ⌝ }
+    ensures { λ r. ⌜ r ≡ checkedLoadOf (entering rom wram vram pak (drawing .regs) hardware) 1 address ⌝ }
 {
-    let verdict = refusals::verdict(rom.len(), wram.len(), vram.len(), pak.len(), &drawing.regs);
+    let verdict = refusals::call_verdict(
+        rom.len(),
+        wram.len(),
+        vram.len(),
+        pak.len(),
+        &drawing.regs,
+        hardware,
+    );
     match verdict {
         Verdict::Accepted => {
             let undefined = bus_defined::byte(address);
-            if address / 16777216 % 8 == 0 {
+            if address / 16777216 % 8 < 3 {
                 let regs = drawing.regs;
-                let loaded = load::byte(rom, wram, vram, pak, &regs, address);
+                let lent = device::device_of(regs, hardware);
+                let loaded = load::byte(rom, wram, vram, pak, &lent, address);
                 let value = loaded.value;
                 return Load::Value(Reading { value, undefined });
             }
@@ -64,17 +77,26 @@ pub fn load_half(
     vram: &[u8],
     pak: &[u8],
     drawing: Drawing,
+    hardware: Hardware,
     address: u32,
 ) -> Load
-    ensures { λ r. ⌜ r ≡ checkedLoadOf (memoryOf (now (rom .entry)) (now (wram .entry)) (now (vram .entry)) (now (pak .entry)) (drawing .regs)) 2 address ⌝ }
+    ensures { λ r. ⌜ r ≡ checkedLoadOf (entering rom wram vram pak (drawing .regs) hardware) 2 address ⌝ }
 {
-    let verdict = refusals::verdict(rom.len(), wram.len(), vram.len(), pak.len(), &drawing.regs);
+    let verdict = refusals::call_verdict(
+        rom.len(),
+        wram.len(),
+        vram.len(),
+        pak.len(),
+        &drawing.regs,
+        hardware,
+    );
     match verdict {
         Verdict::Accepted => {
             let undefined = bus_defined::half(address);
-            if address / 16777216 % 8 == 0 {
+            if address / 16777216 % 8 < 3 {
                 let regs = drawing.regs;
-                let loaded = load::half(rom, wram, vram, pak, &regs, address);
+                let lent = device::device_of(regs, hardware);
+                let loaded = load::half(rom, wram, vram, pak, &lent, address);
                 let value = loaded.value;
                 return Load::Value(Reading { value, undefined });
             }
@@ -92,17 +114,26 @@ pub fn load_word(
     vram: &[u8],
     pak: &[u8],
     drawing: Drawing,
+    hardware: Hardware,
     address: u32,
 ) -> Load
-    ensures { λ r. ⌜ r ≡ checkedLoadOf (memoryOf (now (rom .entry)) (now (wram .entry)) (now (vram .entry)) (now (pak .entry)) (drawing .regs)) 4 address ⌝ }
+    ensures { λ r. ⌜ r ≡ checkedLoadOf (entering rom wram vram pak (drawing .regs) hardware) 4 address ⌝ }
 {
-    let verdict = refusals::verdict(rom.len(), wram.len(), vram.len(), pak.len(), &drawing.regs);
+    let verdict = refusals::call_verdict(
+        rom.len(),
+        wram.len(),
+        vram.len(),
+        pak.len(),
+        &drawing.regs,
+        hardware,
+    );
     match verdict {
         Verdict::Accepted => {
             let undefined = bus_defined::word(address);
-            if address / 16777216 % 8 == 0 {
+            if address / 16777216 % 8 < 3 {
                 let regs = drawing.regs;
-                let loaded = load::word(rom, wram, vram, pak, &regs, address);
+                let lent = device::device_of(regs, hardware);
+                let loaded = load::word(rom, wram, vram, pak, &lent, address);
                 let value = loaded.value;
                 return Load::Value(Reading { value, undefined });
             }
@@ -120,32 +151,46 @@ pub fn store_byte(
     vram: &mut [u8],
     pak: &mut [u8],
     drawing: Drawing,
+    hardware: Hardware,
     address: u32,
     value: u32,
 ) -> Stored
-    ensures verdict { λ r. ⌜ r .verdict ≡ verdictOf (memoryOf (now (rom .entry)) (now (wram .entry)) (now (vram .entry)) (now (pak .entry)) (drawing .regs)) ⌝ }
-    ensures memory { λ r. ⌜ (let m = memoryOf (now (rom .entry)) (now (wram .entry)) (now (vram .entry)) (now (pak .entry)) (drawing .regs) in memoryOf (now (rom .entry)) (now (wram .exit)) (now (vram .exit)) (now (pak .exit)) (r .drawing .regs) ≡ checkedStoreOf m (storeByteOf m address value)) ⌝ }
+    ensures verdict { λ r. ⌜ r .verdict ≡ verdictOf (entering rom wram vram pak (drawing .regs) hardware) ⌝ }
+    ensures memory { λ r. ⌜ (let m = entering rom wram vram pak (drawing .regs) hardware in leaving rom wram vram pak (r .drawing .regs) (r .hardware) ≡ checkedStoreOf m (storeByteOf m address value)) ⌝ }
 {
-    let verdict = refusals::verdict(rom.len(), wram.len(), vram.len(), pak.len(), &drawing.regs);
+    let verdict = refusals::call_verdict(
+        rom.len(),
+        wram.len(),
+        vram.len(),
+        pak.len(),
+        &drawing.regs,
+        hardware,
+    );
     match verdict {
         Verdict::Accepted => {
-            if address / 16777216 % 8 == 0 {
-                let mut regs = drawing.regs;
-                store::byte(rom, wram, vram, pak, &mut regs, address, value);
+            if address / 16777216 % 8 < 3 {
+                let before = drawing.regs;
+                let mut lent = device::device_of(before, hardware);
+                store::byte(rom, wram, vram, pak, &mut lent, address, value);
+                let regs = device::drawing_in(&lent);
+                let timer = device::hardware_in(&lent);
                 return Stored {
                     verdict: Verdict::Accepted,
                     drawing: Drawing { regs },
+                    hardware: timer,
                 };
             }
             outside::put_byte(wram, pak, address, value);
             Stored {
                 verdict: Verdict::Accepted,
                 drawing,
+                hardware,
             }
         }
         Verdict::Refused(refusal) => Stored {
             verdict: Verdict::Refused(refusal),
             drawing,
+            hardware,
         },
     }
 }
@@ -157,32 +202,46 @@ pub fn store_half(
     vram: &mut [u8],
     pak: &mut [u8],
     drawing: Drawing,
+    hardware: Hardware,
     address: u32,
     value: u32,
 ) -> Stored
-    ensures verdict { λ r. ⌜ r .verdict ≡ verdictOf (memoryOf (now (rom .entry)) (now (wram .entry)) (now (vram .entry)) (now (pak .entry)) (drawing .regs)) ⌝ }
-    ensures memory { λ r. ⌜ (let m = memoryOf (now (rom .entry)) (now (wram .entry)) (now (vram .entry)) (now (pak .entry)) (drawing .regs) in memoryOf (now (rom .entry)) (now (wram .exit)) (now (vram .exit)) (now (pak .exit)) (r .drawing .regs) ≡ checkedStoreOf m (storeHalfOf m address value)) ⌝ }
+    ensures verdict { λ r. ⌜ r .verdict ≡ verdictOf (entering rom wram vram pak (drawing .regs) hardware) ⌝ }
+    ensures memory { λ r. ⌜ (let m = entering rom wram vram pak (drawing .regs) hardware in leaving rom wram vram pak (r .drawing .regs) (r .hardware) ≡ checkedStoreOf m (storeHalfOf m address value)) ⌝ }
 {
-    let verdict = refusals::verdict(rom.len(), wram.len(), vram.len(), pak.len(), &drawing.regs);
+    let verdict = refusals::call_verdict(
+        rom.len(),
+        wram.len(),
+        vram.len(),
+        pak.len(),
+        &drawing.regs,
+        hardware,
+    );
     match verdict {
         Verdict::Accepted => {
-            if address / 16777216 % 8 == 0 {
-                let mut regs = drawing.regs;
-                store::half(rom, wram, vram, pak, &mut regs, address, value);
+            if address / 16777216 % 8 < 3 {
+                let before = drawing.regs;
+                let mut lent = device::device_of(before, hardware);
+                store::half(rom, wram, vram, pak, &mut lent, address, value);
+                let regs = device::drawing_in(&lent);
+                let timer = device::hardware_in(&lent);
                 return Stored {
                     verdict: Verdict::Accepted,
                     drawing: Drawing { regs },
+                    hardware: timer,
                 };
             }
             outside::put_half(wram, pak, address, value);
             Stored {
                 verdict: Verdict::Accepted,
                 drawing,
+                hardware,
             }
         }
         Verdict::Refused(refusal) => Stored {
             verdict: Verdict::Refused(refusal),
             drawing,
+            hardware,
         },
     }
 }
@@ -194,32 +253,46 @@ pub fn store_word(
     vram: &mut [u8],
     pak: &mut [u8],
     drawing: Drawing,
+    hardware: Hardware,
     address: u32,
     value: u32,
 ) -> Stored
-    ensures verdict { λ r. ⌜ r .verdict ≡ verdictOf (memoryOf (now (rom .entry)) (now (wram .entry)) (now (vram .entry)) (now (pak .entry)) (drawing .regs)) ⌝ }
-    ensures memory { λ r. ⌜ (let m = memoryOf (now (rom .entry)) (now (wram .entry)) (now (vram .entry)) (now (pak .entry)) (drawing .regs) in memoryOf (now (rom .entry)) (now (wram .exit)) (now (vram .exit)) (now (pak .exit)) (r .drawing .regs) ≡ checkedStoreOf m (storeWordOf m address value)) ⌝ }
+    ensures verdict { λ r. ⌜ r .verdict ≡ verdictOf (entering rom wram vram pak (drawing .regs) hardware) ⌝ }
+    ensures memory { λ r. ⌜ (let m = entering rom wram vram pak (drawing .regs) hardware in leaving rom wram vram pak (r .drawing .regs) (r .hardware) ≡ checkedStoreOf m (storeWordOf m address value)) ⌝ }
 {
-    let verdict = refusals::verdict(rom.len(), wram.len(), vram.len(), pak.len(), &drawing.regs);
+    let verdict = refusals::call_verdict(
+        rom.len(),
+        wram.len(),
+        vram.len(),
+        pak.len(),
+        &drawing.regs,
+        hardware,
+    );
     match verdict {
         Verdict::Accepted => {
-            if address / 16777216 % 8 == 0 {
-                let mut regs = drawing.regs;
-                store::word(rom, wram, vram, pak, &mut regs, address, value);
+            if address / 16777216 % 8 < 3 {
+                let before = drawing.regs;
+                let mut lent = device::device_of(before, hardware);
+                store::word(rom, wram, vram, pak, &mut lent, address, value);
+                let regs = device::drawing_in(&lent);
+                let timer = device::hardware_in(&lent);
                 return Stored {
                     verdict: Verdict::Accepted,
                     drawing: Drawing { regs },
+                    hardware: timer,
                 };
             }
             outside::put_word(wram, pak, address, value);
             Stored {
                 verdict: Verdict::Accepted,
                 drawing,
+                hardware,
             }
         }
         Verdict::Refused(refusal) => Stored {
             verdict: Verdict::Refused(refusal),
             drawing,
+            hardware,
         },
     }
 }

@@ -11,7 +11,8 @@ use lib.Dec.{T, ltb, leb, eqb}
 use lib.ListN.{length, getD}
 use Rattle.word.specs.Choose.{pick, member, indexOf}
 use Rattle.bus.specs.Registers.{drawingAddresses, silentAddresses, versionAddress}
-use Rattle.bus.specs.Place.{Place, vramAt, wramAt, pakAt, romAt, drawingAt, versionAt, silent, unlisted, unmapped, soundUnit, hardware, nothing, expansion, registerPlace, vipPlace, mirrorOf, regionOf, placeOf}
+use Rattle.bus_timer.specs.Ports.{hardwareOffsetOf}
+use Rattle.bus.specs.Place.{Place, vramAt, wramAt, pakAt, romAt, drawingAt, versionAt, silent, unlisted, unmapped, hardwareAt, soundUnit, nothing, expansion, registerPlace, vipPlace, mirrorOf, regionOf, placeOf}
 use Rattle.bus.specs.Memory.{Memory, byteOf, readPlace, placeIn}
 use Rattle.bus.proofs.Places.{region-code, region-half, place-vip}
 use Rattle.bus_defined.specs.Defined.{definedPlace, definedOf, undefinedOf, registerAddresses}
@@ -126,7 +127,7 @@ rest-defined p ps (suc k) all n = getD-defined ps k all
 abbrev elsewhere : Memory → ℕ → List Place
 elsewhere m a =
     soundUnit
-    ∷ hardware
+    ∷ hardwareAt (hardwareOffsetOf a)
     ∷ nothing
     ∷ expansion
     ∷ wramAt (a % 2 ^ 27 % 65536)
@@ -244,9 +245,9 @@ place-reads-zero m (pakAt i) h = absurd (true≢false h)
 place-reads-zero m (romAt i) h = absurd (true≢false h)
 place-reads-zero m (drawingAt k b) h = absurd (true≢false h)
 place-reads-zero m (versionAt b) h = absurd (true≢false h)
+place-reads-zero m (hardwareAt o) h = absurd (true≢false h)
 place-reads-zero m silent h = refl
 place-reads-zero m soundUnit h = refl
-place-reads-zero m hardware h = refl
 place-reads-zero m nothing h = refl
 place-reads-zero m expansion h = refl
 

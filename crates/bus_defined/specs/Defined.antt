@@ -4,7 +4,7 @@ use Prim.Native.Nat.{ℕ, zero, suc, _+_, _^_}
 use mathlib.Core.Bool.{Bool, true, false}
 use mathlib.Core.List.{List, [], _∷_}
 use Rattle.word.specs.Choose.{pick}
-use Rattle.bus.specs.Place.{Place, vramAt, wramAt, pakAt, romAt, drawingAt, versionAt, silent, unlisted, unmapped, soundUnit, hardware, nothing, expansion}
+use Rattle.bus.specs.Place.{Place, vramAt, wramAt, pakAt, romAt, drawingAt, versionAt, silent, unlisted, unmapped, hardwareAt, soundUnit, nothing, expansion}
 use Rattle.bus.specs.Memory.{Memory, placeIn, alignedOf}
 
 -- whether a byte of a place is defined
@@ -17,9 +17,9 @@ definedPlace (pakAt i) = true
 definedPlace (romAt i) = true
 definedPlace (drawingAt k b) = true
 definedPlace (versionAt b) = true
+definedPlace (hardwareAt o) = true
 definedPlace silent = true
 definedPlace soundUnit = true
-definedPlace hardware = true
 definedPlace nothing = true
 definedPlace expansion = true
 

@@ -1,5 +1,5 @@
 -- `Periods`, `TimerLines` and `Accepting` prove the statements of specs/.
-mod Choices
+pub mod Choices
 mod Digits
 pub mod Periods
 pub mod TimerLines

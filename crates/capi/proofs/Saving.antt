@@ -6,8 +6,7 @@ use borrow.Author.Tests.{lt-ltb, le-ltb}
 use Rattle.refusal.specs.Number.{verdictNumber}
 use Rattle.bus.specs.Memory.{Memory}
 use Rattle.refusal.specs.declared.Verdict.{Verdict}
-use Rattle.processor.specs.Record.{stateIn}
-use Rattle.processor.specs.Acceptance.{acceptanceOf}
+use Rattle.processor.specs.Acceptance.{acceptanceIn}
 use Rattle.processor.specs.declared.Processor.{Processor}
 use Rattle.saved.specs.Calls.{writeVerdictOf, writtenOf, Restored, readOf}
 use Rattle.capi.specs.Execution.{processorIn, misuseNumber}
@@ -15,7 +14,7 @@ use Rattle.capi.specs.States.{writeNumberAt, writtenAt, restoredGives, r
 use Rattle.capi.specs.declared.execution.VbProcessor.{VbProcessor}
 
 module _ (p : VbProcessor) (m : Memory) (file : List ℕ) (q : Processor) (e : q ≡ processorIn p) where
-  pub write-misused : (v : Verdict) → v ≡ acceptanceOf (stateIn q) m → 2 < p .mode
+  pub write-misused : (v : Verdict) → v ≡ acceptanceIn q m → 2 < p .mode
       → (misuseNumber v ≡ writeNumberAt p m file) × (file ≡ writtenAt p m file)
   unfolding writeNumberAt writtenAt
   write-misused v f h = (rw (f, e) (simp (lt-ltb 2 (p .mode) h)), simp (lt-ltb 2 (p .mode) h))
@@ -26,7 +25,7 @@ module _ (p : VbProcessor) (m : Memory) (file : List ℕ) (q : Processor) (e : q
   write-done h v after f g =
       (simp (le-ltb 2 (p .mode) h) (ap verdictNumber (rw e at f)), simp (le-ltb 2 (p .mode) h) (rw e at g))
 
-  pub read-misused : (v : Verdict) → v ≡ acceptanceOf (stateIn q) m → 2 < p .mode → restoredGives (misuseNumber v) p m ≡ readAt p m file
+  pub read-misused : (v : Verdict) → v ≡ acceptanceIn q m → 2 < p .mode → restoredGives (misuseNumber v) p m ≡ readAt p m file
   unfolding readAt
   read-misused v f h = rw (f, e) (simp (lt-ltb 2 (p .mode) h))
 

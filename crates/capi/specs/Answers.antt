@@ -1,17 +1,35 @@
 -- What the C boundary gives for a call's answer: paper 01's number, 0 for none, and 0 for a value that was refused.
 use Prim.Native.Nat.{ℕ}
-use Rattle.refusal.specs.Number.{numberOf}
+use Rattle.refusal.specs.Number.{numberOf, verdictNumber}
 use Rattle.bus_calls.specs.declared.Load.{Load}
 use Rattle.bus_calls.specs.declared.Load.the-variants.{Value, Refused as LoadRefused}
 use Rattle.refusal.specs.declared.Verdict.{Verdict}
 use Rattle.refusal.specs.declared.Verdict.the-variants.{Accepted, Refused}
+use Rattle.bus_calls.specs.declared.Stored.{Stored}
+use Rattle.bus_tick.specs.declared.Ticked.{Ticked}
+use Rattle.capi.specs.Hardware.{hardwareOut}
 use Rattle.capi.specs.declared.accesses.VbLoaded.{VbLoaded}
+use Rattle.capi.specs.declared.accesses.VbStored.{VbStored}
+use Rattle.capi.specs.declared.ticks.VbTicked.{VbTicked}
 use Rattle.drawing_pixel.specs.Character.{characterAddressOf}
 
 -- a load's answer: its refusal, its value and the mask of its undefined bytes
 abbrev pub loadedOf : Load → VbLoaded
 loadedOf (Value l) = record { refusal = 0; value = l .value; undefined = l .undefined }
 loadedOf (LoadRefused n) = record { refusal = numberOf n; value = 0; undefined = 0 }
+
+-- a store's answer: its refusal and both records
+abbrev pub storedOf : Stored → VbStored
+storedOf s =
+    record {
+      refusal = verdictNumber (s .verdict);
+      drawing = record { regs = s .drawing .regs };
+      hardware = hardwareOut (s .hardware);
+    }
+
+-- a tick's answer: its refusal, and the request lines and the timer
+abbrev pub tickedOf : Ticked → VbTicked
+tickedOf t = record { refusal = verdictNumber (t .verdict); hardware = hardwareOut (t .hardware) }
 
 -- where a character's part begins, 0 where it was refused
 abbrev pub partOffset : Verdict → ℕ → ℕ

@@ -1,6 +1,6 @@
 -- What the C boundary gives for a step and a run (include/vb.h): paper 01's refusal number or VB_MISUSE, the number of
 -- the answer and the code of its cause, and the records with the mode as a number.
-use Prim.Native.Nat.{ℕ}
+use Prim.Native.Nat.{ℕ, _%_}
 use lib.Dec.{ltb, eqb}
 use Rattle.word.specs.Choose.{pick}
 use Rattle.refusal.specs.Number.{numberOf, verdictNumber}
@@ -11,13 +11,14 @@ use Rattle.processor_machine.specs.Exception.{codeOf}
 use Rattle.processor_machine.specs.declared.Mode.{Mode}
 use Rattle.processor_machine.specs.declared.Mode.the-variants.{Running, Halted, Fatal}
 use Rattle.processor_machine.specs.declared.Answer.{Answer}
-use Rattle.processor_machine.specs.declared.Answer.the-variants.{Ended, Trapped, TurnedFatal, WasHalted, WasFatal, Refused}
+use Rattle.processor_machine.specs.declared.Answer.the-variants.{Ended, Trapped, Interrupted, TurnedFatal, WasHalted, WasFatal, Refused}
+use Rattle.processor_interrupt.specs.Interrupt.{interruptCodeOf}
 use Rattle.processor_reads.specs.Reads.{noneOf}
 use Rattle.processor_reads.specs.declared.Undefined.{Undefined}
-use Rattle.processor.specs.Record.{stateIn}
-use Rattle.processor.specs.Acceptance.{acceptanceOf}
+use Rattle.processor.specs.Acceptance.{acceptanceIn}
 use Rattle.processor.specs.Calls.{Done, Ran, checkedStepOf, checkedRunOf}
 use Rattle.processor.specs.declared.Processor.{Processor}
+use Rattle.capi.specs.Hardware.{hardwareGiven, hardwareOut}
 use Rattle.capi.specs.declared.execution.VbProcessor.{VbProcessor}
 use Rattle.capi.specs.declared.execution.VbUndefined.{VbUndefined}
 
@@ -25,6 +26,7 @@ use Rattle.capi.specs.declared.execution.VbUndefined.{VbUndefined}
 abbrev pub answerRefusal : Answer → ℕ
 answerRefusal Ended = 0
 answerRefusal (Trapped cause) = 0
+answerRefusal (Interrupted level) = 0
 answerRefusal (TurnedFatal cause) = 0
 answerRefusal WasHalted = 0
 answerRefusal WasFatal = 0
@@ -34,15 +36,17 @@ answerRefusal (Refused n) = numberOf n
 abbrev pub answerNumber : Answer → ℕ
 answerNumber Ended = 0
 answerNumber (Trapped cause) = 1
+answerNumber (Interrupted level) = 5
 answerNumber (TurnedFatal cause) = 2
 answerNumber WasHalted = 3
 answerNumber WasFatal = 4
 answerNumber (Refused n) = 0
 
--- the code of the exception that a step raised
+-- the code of the exception that a step raised, or of the interrupt that it accepted, whose level has three bits
 abbrev pub answerCode : Answer → ℕ
 answerCode Ended = 0
 answerCode (Trapped cause) = codeOf cause
+answerCode (Interrupted level) = interruptCodeOf (level % 8)
 answerCode (TurnedFatal cause) = codeOf cause
 answerCode WasHalted = 0
 answerCode WasFatal = 0
@@ -73,6 +77,7 @@ processorIn p =
       sr29 = p .sr29;
       sr31 = p .sr31;
       mode = modeIn (p .mode);
+      hardware = hardwareGiven (p .hardware);
     }
 
 unfoldable pub processorOut : Processor → VbProcessor
@@ -90,6 +95,7 @@ processorOut p =
       sr29 = p .sr29;
       sr31 = p .sr31;
       mode = modeNumber (p .mode);
+      hardware = hardwareOut (p .hardware);
     }
 
 -- the masks of a step, field by field
@@ -120,7 +126,7 @@ stepDone d =
 
 unfoldable pub stepAt : VbProcessor → Memory → StepAtBoundary
 stepAt p m =
-    pick (ltb 2 (p .mode)) (stepGives (misuseNumber (acceptanceOf (stateIn (processorIn p)) m)) 0 0 (undefinedOut noneOf) p m)
+    pick (ltb 2 (p .mode)) (stepGives (misuseNumber (acceptanceIn (processorIn p) m)) 0 0 (undefinedOut noneOf) p m)
     (stepDone (checkedStepOf (processorIn p) m))
 
 -- what vb_run gives
@@ -138,5 +144,5 @@ runDone r = runGives (verdictNumber (r .verdict)) (r .count) (processorOut (r .p
 
 unfoldable pub runAt : ℕ → VbProcessor → Memory → RunAtBoundary
 runAt budget p m =
-    pick (ltb 2 (p .mode)) (runGives (misuseNumber (acceptanceOf (stateIn (processorIn p)) m)) 0 p m)
+    pick (ltb 2 (p .mode)) (runGives (misuseNumber (acceptanceIn (processorIn p) m)) 0 p m)
     (runDone (checkedRunOf budget (processorIn p) m))

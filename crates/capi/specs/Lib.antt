@@ -1,3 +1,4 @@
+pub mod Hardware
 pub mod Answers
 pub mod Execution
 pub mod States

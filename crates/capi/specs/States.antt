@@ -6,8 +6,7 @@ use lib.Dec.{ltb}
 use Rattle.word.specs.Choose.{pick}
 use Rattle.refusal.specs.Number.{verdictNumber}
 use Rattle.bus.specs.Memory.{Memory}
-use Rattle.processor.specs.Record.{stateIn}
-use Rattle.processor.specs.Acceptance.{acceptanceOf}
+use Rattle.processor.specs.Acceptance.{acceptanceIn}
 use Rattle.saved.specs.Calls.{writeVerdictOf, writtenOf, Restored, readOf}
 use Rattle.capi.specs.Execution.{processorIn, processorOut, misuseNumber}
 use Rattle.capi.specs.declared.execution.VbProcessor.{VbProcessor}
@@ -15,7 +14,7 @@ use Rattle.capi.specs.declared.execution.VbProcessor.{VbProcessor}
 -- what vb_write_state answers, and the room afterwards
 unfoldable pub writeNumberAt : VbProcessor → Memory → List ℕ → ℕ
 writeNumberAt p m room =
-    pick (ltb 2 (p .mode)) (misuseNumber (acceptanceOf (stateIn (processorIn p)) m)) (verdictNumber (writeVerdictOf (processorIn p) m room))
+    pick (ltb 2 (p .mode)) (misuseNumber (acceptanceIn (processorIn p) m)) (verdictNumber (writeVerdictOf (processorIn p) m room))
 
 unfoldable pub writtenAt : VbProcessor → Memory → List ℕ → List ℕ
 writtenAt p m room = pick (ltb 2 (p .mode)) room (writtenOf (processorIn p) m room)
@@ -34,5 +33,5 @@ restoredDone r = restoredGives (verdictNumber (r .verdict)) (processorOut (r .pr
 
 unfoldable pub readAt : VbProcessor → Memory → List ℕ → RestoredAtBoundary
 readAt p m file =
-    pick (ltb 2 (p .mode)) (restoredGives (misuseNumber (acceptanceOf (stateIn (processorIn p)) m)) p m)
+    pick (ltb 2 (p .mode)) (restoredGives (misuseNumber (acceptanceIn (processorIn p) m)) p m)
     (restoredDone (readOf (processorIn p) m file))

@@ -1,13 +1,18 @@
 // Loads and stores.
+use crate::hardware::VbHardware;
+use crate::hardware::hardware_given;
+use crate::hardware::hardware_out;
 use bus::Drawing;
 use bus_calls::Load;
+use bus_calls::Stored;
 use refusal::number;
 use refusal::verdict_number;
 ghost use mathlib.Core.Path.{_≡_};
 ghost use Rattle.refusal.specs.Number.{verdictNumber};
-ghost use Rattle.bus.specs.Memory.{memoryOf, verdictOf, storeByteOf, storeHalfOf, storeWordOf};
-ghost use Rattle.bus_calls.specs.Access.{checkedLoadOf, checkedStoreOf};
-ghost use Rattle.capi.specs.Answers.{loadedOf};
+ghost use Rattle.bus.specs.Memory.{verdictOf, storeByteOf, storeHalfOf, storeWordOf};
+ghost use Rattle.bus_calls.specs.Access.{entering, leaving, checkedLoadOf, checkedStoreOf};
+ghost use Rattle.capi.specs.Hardware.{hardwareGiven};
+ghost use Rattle.capi.specs.Answers.{loadedOf, storedOf};
 
 // The drawing registers: SPT0 to SPT3, GPLT0 to GPLT3, JPLT0 to JPLT3, BKCOL.
 #[repr(C)]
@@ -27,6 +32,7 @@ pub struct VbLoaded {
 pub struct VbStored {
     pub refusal: u32,
     pub drawing: VbDrawing,
+    pub hardware: VbHardware,
 }
 
 // A load's answer at the boundary.
@@ -47,6 +53,20 @@ fn loaded(answer: Load) -> VbLoaded
     }
 }
 
+// A store's answer at the boundary.
+fn stored(answer: Stored) -> VbStored
+    ensures { λ r. ⌜ r ≡ storedOf answer ⌝ }
+{
+    let verdict = answer.verdict;
+    let after = answer.drawing.regs;
+    let timer = answer.hardware;
+    VbStored {
+        refusal: verdict_number(verdict),
+        drawing: VbDrawing { regs: after },
+        hardware: hardware_out(timer),
+    }
+}
+
 #[no_mangle]
 pub extern "C" fn vb_load_byte(
     rom: &[u8],
@@ -54,12 +74,14 @@ pub extern "C" fn vb_load_byte(
     vram: &[u8],
     pak: &[u8],
     drawing: VbDrawing,
+    hardware: VbHardware,
     address: u32,
 ) -> VbLoaded
-    ensures { λ r. ⌜ r ≡ loadedOf (checkedLoadOf (memoryOf (now (rom .entry)) (now (wram .entry)) (now (vram .entry)) (now (pak .entry)) (drawing .regs)) 1 address) ⌝ }
+    ensures { λ r. ⌜ r ≡ loadedOf (checkedLoadOf (entering rom wram vram pak (drawing .regs) (hardwareGiven hardware)) 1 address) ⌝ }
 {
     let regs = drawing.regs;
-    loaded(bus_calls::load_byte(rom, wram, vram, pak, Drawing { regs }, address))
+    let given = hardware_given(hardware);
+    loaded(bus_calls::load_byte(rom, wram, vram, pak, Drawing { regs }, given, address))
 }
 
 #[no_mangle]
@@ -69,12 +91,14 @@ pub extern "C" fn vb_load_half(
     vram: &[u8],
     pak: &[u8],
     drawing: VbDrawing,
+    hardware: VbHardware,
     address: u32,
 ) -> VbLoaded
-    ensures { λ r. ⌜ r ≡ loadedOf (checkedLoadOf (memoryOf (now (rom .entry)) (now (wram .entry)) (now (vram .entry)) (now (pak .entry)) (drawing .regs)) 2 address) ⌝ }
+    ensures { λ r. ⌜ r ≡ loadedOf (checkedLoadOf (entering rom wram vram pak (drawing .regs) (hardwareGiven hardware)) 2 address) ⌝ }
 {
     let regs = drawing.regs;
-    loaded(bus_calls::load_half(rom, wram, vram, pak, Drawing { regs }, address))
+    let given = hardware_given(hardware);
+    loaded(bus_calls::load_half(rom, wram, vram, pak, Drawing { regs }, given, address))
 }
 
 #[no_mangle]
@@ -84,12 +108,14 @@ pub extern "C" fn vb_load_word(
     vram: &[u8],
     pak: &[u8],
     drawing: VbDrawing,
+    hardware: VbHardware,
     address: u32,
 ) -> VbLoaded
-    ensures { λ r. ⌜ r ≡ loadedOf (checkedLoadOf (memoryOf (now (rom .entry)) (now (wram .entry)) (now (vram .entry)) (now (pak .entry)) (drawing .regs)) 4 address) ⌝ }
+    ensures { λ r. ⌜ r ≡ loadedOf (checkedLoadOf (entering rom wram vram pak (drawing .regs) (hardwareGiven hardware)) 4 address) ⌝ }
 {
     let regs = drawing.regs;
-    loaded(bus_calls::load_word(rom, wram, vram, pak, Drawing { regs }, address))
+    let given = hardware_given(hardware);
+    loaded(bus_calls::load_word(rom, wram, vram, pak, Drawing { regs }, given, address))
 }
 
 #[no_mangle]
@@ -99,20 +125,25 @@ pub extern "C" fn vb_store_byte(
     vram: &mut [u8],
     pak: &mut [u8],
     drawing: VbDrawing,
+    hardware: VbHardware,
     address: u32,
     value: u32,
 ) -> VbStored
-    ensures refusal { λ r. ⌜ r .refusal ≡ verdictNumber (verdictOf (memoryOf (now (rom .entry)) (now (wram .entry)) (now (vram .entry)) (now (pak .entry)) (drawing .regs))) ⌝ }
-    ensures memory { λ r. ⌜ (let m = memoryOf (now (rom .entry)) (now (wram .entry)) (now (vram .entry)) (now (pak .entry)) (drawing .regs) in memoryOf (now (rom .entry)) (now (wram .exit)) (now (vram .exit)) (now (pak .exit)) (r .drawing .regs) ≡ checkedStoreOf m (storeByteOf m address value)) ⌝ }
+    ensures refusal { λ r. ⌜ r .refusal ≡ verdictNumber (verdictOf (entering rom wram vram pak (drawing .regs) (hardwareGiven hardware))) ⌝ }
+    ensures memory { λ r. ⌜ (let m = entering rom wram vram pak (drawing .regs) (hardwareGiven hardware) in leaving rom wram vram pak (r .drawing .regs) (hardwareGiven (r .hardware)) ≡ checkedStoreOf m (storeByteOf m address value)) ⌝ }
 {
     let regs = drawing.regs;
-    let stored = bus_calls::store_byte(rom, wram, vram, pak, Drawing { regs }, address, value);
-    let verdict = stored.verdict;
-    let after = stored.drawing.regs;
-    VbStored {
-        refusal: verdict_number(verdict),
-        drawing: VbDrawing { regs: after },
-    }
+    let given = hardware_given(hardware);
+    stored(bus_calls::store_byte(
+        rom,
+        wram,
+        vram,
+        pak,
+        Drawing { regs },
+        given,
+        address,
+        value,
+    ))
 }
 
 #[no_mangle]
@@ -122,20 +153,25 @@ pub extern "C" fn vb_store_half(
     vram: &mut [u8],
     pak: &mut [u8],
     drawing: VbDrawing,
+    hardware: VbHardware,
     address: u32,
     value: u32,
 ) -> VbStored
-    ensures refusal { λ r. ⌜ r .refusal ≡ verdictNumber (verdictOf (memoryOf (now (rom .entry)) (now (wram .entry)) (now (vram .entry)) (now (pak .entry)) (drawing .regs))) ⌝ }
-    ensures memory { λ r. ⌜ (let m = memoryOf (now (rom .entry)) (now (wram .entry)) (now (vram .entry)) (now (pak .entry)) (drawing .regs) in memoryOf (now (rom .entry)) (now (wram .exit)) (now (vram .exit)) (now (pak .exit)) (r .drawing .regs) ≡ checkedStoreOf m (storeHalfOf m address value)) ⌝ }
+    ensures refusal { λ r. ⌜ r .refusal ≡ verdictNumber (verdictOf (entering rom wram vram pak (drawing .regs) (hardwareGiven hardware))) ⌝ }
+    ensures memory { λ r. ⌜ (let m = entering rom wram vram pak (drawing .regs) (hardwareGiven hardware) in leaving rom wram vram pak (r .drawing .regs) (hardwareGiven (r .hardware)) ≡ checkedStoreOf m (storeHalfOf m address value)) ⌝ }
 {
     let regs = drawing.regs;
-    let stored = bus_calls::store_half(rom, wram, vram, pak, Drawing { regs }, address, value);
-    let verdict = stored.verdict;
-    let after = stored.drawing.regs;
-    VbStored {
-        refusal: verdict_number(verdict),
-        drawing: VbDrawing { regs: after },
-    }
+    let given = hardware_given(hardware);
+    stored(bus_calls::store_half(
+        rom,
+        wram,
+        vram,
+        pak,
+        Drawing { regs },
+        given,
+        address,
+        value,
+    ))
 }
 
 #[no_mangle]
@@ -145,18 +181,23 @@ pub extern "C" fn vb_store_word(
     vram: &mut [u8],
     pak: &mut [u8],
     drawing: VbDrawing,
+    hardware: VbHardware,
     address: u32,
     value: u32,
 ) -> VbStored
-    ensures refusal { λ r. ⌜ r .refusal ≡ verdictNumber (verdictOf (memoryOf (now (rom .entry)) (now (wram .entry)) (now (vram .entry)) (now (pak .entry)) (drawing .regs))) ⌝ }
-    ensures memory { λ r. ⌜ (let m = memoryOf (now (rom .entry)) (now (wram .entry)) (now (vram .entry)) (now (pak .entry)) (drawing .regs) in memoryOf (now (rom .entry)) (now (wram .exit)) (now (vram .exit)) (now (pak .exit)) (r .drawing .regs) ≡ checkedStoreOf m (storeWordOf m address value)) ⌝ }
+    ensures refusal { λ r. ⌜ r .refusal ≡ verdictNumber (verdictOf (entering rom wram vram pak (drawing .regs) (hardwareGiven hardware))) ⌝ }
+    ensures memory { λ r. ⌜ (let m = entering rom wram vram pak (drawing .regs) (hardwareGiven hardware) in leaving rom wram vram pak (r .drawing .regs) (hardwareGiven (r .hardware)) ≡ checkedStoreOf m (storeWordOf m address value)) ⌝ }
 {
     let regs = drawing.regs;
-    let stored = bus_calls::store_word(rom, wram, vram, pak, Drawing { regs }, address, value);
-    let verdict = stored.verdict;
-    let after = stored.drawing.regs;
-    VbStored {
-        refusal: verdict_number(verdict),
-        drawing: VbDrawing { regs: after },
-    }
+    let given = hardware_given(hardware);
+    stored(bus_calls::store_word(
+        rom,
+        wram,
+        vram,
+        pak,
+        Drawing { regs },
+        given,
+        address,
+        value,
+    ))
 }

@@ -1,5 +1,8 @@
 // A step, a run and a reset.
 use crate::accesses::VbDrawing;
+use crate::hardware::VbHardware;
+use crate::hardware::hardware_given;
+use crate::hardware::hardware_out;
 use bus::Drawing;
 use processor::Processor;
 use processor_machine::Answer;
@@ -13,7 +16,7 @@ ghost use Rattle.bus.specs.Memory.{memoryOf};
 ghost use Rattle.processor.specs.Calls.{resetOf};
 ghost use Rattle.capi.specs.Execution.{answerRefusal, answerNumber, answerCode, modeNumber, modeIn, processorIn, processorOut, undefinedOut, misuseNumber, stepGives, stepAt, runGives, runAt};
 
-// The processor's record; mode is 0 running, 1 halted, 2 fatal.
+// The processor's record; mode is 0 running, 1 halted, 2 fatal. The request lines and the timer are its last member.
 #[repr(C)]
 pub struct VbProcessor {
     pub regs: [u32; 32],
@@ -28,6 +31,7 @@ pub struct VbProcessor {
     pub sr29: u32,
     pub sr31: u32,
     pub mode: u32,
+    pub hardware: VbHardware,
 }
 
 // Which bytes that a step read are undefined: of its first halfword, of its second, and of its load.
@@ -90,6 +94,8 @@ pub fn processor_in(p: VbProcessor) -> Processor
 {
     let regs = p.regs;
     let mode = mode_in(p.mode);
+    let given = p.hardware;
+    let hardware = hardware_given(given);
     Processor {
         regs,
         pc: p.pc,
@@ -103,6 +109,7 @@ pub fn processor_in(p: VbProcessor) -> Processor
         sr29: p.sr29,
         sr31: p.sr31,
         mode,
+        hardware,
     }
 }
 
@@ -112,6 +119,8 @@ pub fn processor_out(p: Processor) -> VbProcessor
     let regs = p.regs;
     let mode = p.mode;
     let mode = mode_number(mode);
+    let held = p.hardware;
+    let hardware = hardware_out(held);
     VbProcessor {
         regs,
         pc: p.pc,
@@ -125,6 +134,7 @@ pub fn processor_out(p: Processor) -> VbProcessor
         sr29: p.sr29,
         sr31: p.sr31,
         mode,
+        hardware,
     }
 }
 
@@ -154,6 +164,7 @@ fn answer_refusal(answer: Answer) -> u32
     match answer {
         Answer::Ended => 0,
         Answer::Trapped(_) => 0,
+        Answer::Interrupted(_) => 0,
         Answer::TurnedFatal(_) => 0,
         Answer::WasHalted => 0,
         Answer::WasFatal => 0,
@@ -167,6 +178,7 @@ fn answer_number(answer: Answer) -> u32
     match answer {
         Answer::Ended => 0,
         Answer::Trapped(_) => 1,
+        Answer::Interrupted(_) => 5,
         Answer::TurnedFatal(_) => 2,
         Answer::WasHalted => 3,
         Answer::WasFatal => 4,
@@ -180,6 +192,7 @@ fn answer_code(answer: Answer) -> u32
     match answer {
         Answer::Ended => 0,
         Answer::Trapped(cause) => processor_machine::exception::code(cause),
+        Answer::Interrupted(level) => 0xFE00 + 16 * (level % 8),
         Answer::TurnedFatal(cause) => processor_machine::exception::code(cause),
         Answer::WasHalted => 0,
         Answer::WasFatal => 0,

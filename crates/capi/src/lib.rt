@@ -2,6 +2,8 @@
 pub mod accesses;
 pub mod brightness;
 pub mod execution;
+pub mod hardware;
 pub mod pictures;
 pub mod probes;
 pub mod states;
+pub mod ticks;

@@ -10,7 +10,7 @@ use borrow.Author.Tests.{eq-eqb, ne-eqb, lt-ltb, le-ltb, ltb-true, eqb-true}
 use Rattle.bus.specs.Refusal.{vramOk}
 use Rattle.refusal.specs.Number.{unless}
 use Rattle.bus.proofs.Accepted.{unless-passed}
-use Rattle.bus.specs.Registers.{registersOk}
+use Rattle.bus.specs.Registers.{drawingOk}
 use Rattle.refusal.specs.declared.Refusal.{Refusal}
 use Rattle.refusal.specs.declared.Verdict.{Verdict}
 use Rattle.refusal.specs.declared.Verdict.the-variants.{Accepted, Refused}
@@ -29,15 +29,15 @@ module _ (v regs : List ℕ) (frame strip : ℕ) where
   frame-length n = (simp (ne-eqb _ _ n), simp (ne-eqb _ _ n))
 
   module _ (e : length v ≡ 262144) where
-    pub strip-state : registersOk regs ≡ false → (Refused State ≡ stripVerdictOf v regs frame strip) × (v ≡ drawStripOf v regs frame strip)
+    pub strip-state : drawingOk regs ≡ false → (Refused State ≡ stripVerdictOf v regs frame strip) × (v ≡ drawStripOf v regs frame strip)
     unfolding drawStripOf stripVerdictOf vramOk
     strip-state r = (simp (eq-eqb _ _ e, r), simp (eq-eqb _ _ e, r))
 
-    pub frame-state : registersOk regs ≡ false → (Refused State ≡ frameVerdictOf v regs frame) × (v ≡ drawFrameOf v regs frame)
+    pub frame-state : drawingOk regs ≡ false → (Refused State ≡ frameVerdictOf v regs frame) × (v ≡ drawFrameOf v regs frame)
     unfolding drawFrameOf frameVerdictOf vramOk
     frame-state r = (simp (eq-eqb _ _ e, r), simp (eq-eqb _ _ e, r))
 
-    module _ (r : registersOk regs ≡ true) where
+    module _ (r : drawingOk regs ≡ true) where
       pub strip-frame : 2 ≤ frame → (Refused Frame ≡ stripVerdictOf v regs frame strip) × (v ≡ drawStripOf v regs frame strip)
       unfolding drawStripOf stripVerdictOf vramOk
       strip-frame h = (simp (eq-eqb _ _ e, r, le-ltb _ _ h), simp (eq-eqb _ _ e, r, le-ltb _ _ h))

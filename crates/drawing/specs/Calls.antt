@@ -6,7 +6,7 @@ use lib.ListN.{length, take, drop}
 use lib.Dec.{ltb}
 use Rattle.bus.specs.Refusal.{vramOk}
 use Rattle.refusal.specs.Number.{unless}
-use Rattle.bus.specs.Registers.{registersOk}
+use Rattle.bus.specs.Registers.{drawingOk}
 use Rattle.refusal.specs.declared.Verdict.{Verdict}
 use Rattle.refusal.specs.declared.Verdict.the-variants.{Accepted, Refused}
 use Rattle.refusal.specs.declared.Refusal.the-variants.{VramLength, State, Frame, Index}
@@ -22,7 +22,7 @@ whenAccepted (Refused n) refused accepted = refused
 unfoldable pub stripVerdictOf : List ℕ → List ℕ → ℕ → ℕ → Verdict
 stripVerdictOf vram regs frame strip =
     unless (vramOk (length vram)) VramLength
-    (unless (registersOk regs) State (unless (ltb frame 2) Frame (unless (ltb strip 28) Index Accepted)))
+    (unless (drawingOk regs) State (unless (ltb frame 2) Frame (unless (ltb strip 28) Index Accepted)))
 
 -- VRAM after the strip call
 unfoldable pub drawStripOf : List ℕ → List ℕ → ℕ → ℕ → List ℕ
@@ -31,7 +31,7 @@ drawStripOf vram regs frame strip = whenAccepted (stripVerdictOf vram regs frame
 -- the frame call's verdict: 3, 5, 7
 unfoldable pub frameVerdictOf : List ℕ → List ℕ → ℕ → Verdict
 frameVerdictOf vram regs frame =
-    unless (vramOk (length vram)) VramLength (unless (registersOk regs) State (unless (ltb frame 2) Frame Accepted))
+    unless (vramOk (length vram)) VramLength (unless (drawingOk regs) State (unless (ltb frame 2) Frame Accepted))
 
 -- VRAM after the frame call
 unfoldable pub drawFrameOf : List ℕ → List ℕ → ℕ → List ℕ

@@ -18,7 +18,7 @@ pub fn draw_strip(vram: &mut [u8], drawing: Drawing, frame: u32, strip: u32) -> 
     if vram.len() != 262144 {
         return Verdict::Refused(Refusal::VramLength);
     }
-    if !refusals::registers_ok(&regs) {
+    if !refusals::drawing_ok(&regs) {
         return Verdict::Refused(Refusal::State);
     }
     if 1 < frame {
@@ -40,7 +40,7 @@ pub fn draw_frame(vram: &mut [u8], drawing: Drawing, frame: u32) -> Verdict
     if vram.len() != 262144 {
         return Verdict::Refused(Refusal::VramLength);
     }
-    if !refusals::registers_ok(&regs) {
+    if !refusals::drawing_ok(&regs) {
         return Verdict::Refused(Refusal::State);
     }
     if 1 < frame {

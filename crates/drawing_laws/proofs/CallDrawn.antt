@@ -9,7 +9,7 @@ use native.Mathlib.Omega.{arith}
 use lib.ListN.{length, getD}
 use lib.Dec.{eqb, ltb}
 use borrow.Author.Tests.{ltb-true, eqb-true, lt-ltb}
-use Rattle.bus.specs.Registers.{registersOk}
+use Rattle.bus.specs.Registers.{drawingOk}
 use Rattle.drawing_pixel.specs.Pixel.{pixelOf}
 use Rattle.drawing_pixel.specs.Strip.{storedPixelOf, inStripOf, stripOf, stripsOf, frameOf}
 use Rattle.bus.specs.Refusal.{vramOk}
@@ -47,7 +47,7 @@ module _ (vram regs : List ℕ) (frame : ℕ) where
       strip-kept (stripsOf vram regs frame n) regs frame n a (h n (omega arith))
       ∙ strips-kept n a (λ s b. h s (omega arith))
 
-  module _ (eye x y : ℕ) (l : length vram ≡ 262144) (ok : registersOk regs ≡ true) (f : frame < 2) (e : eye < 2) (c : x < 384)
+  module _ (eye x y : ℕ) (l : length vram ≡ 262144) (ok : drawingOk regs ≡ true) (f : frame < 2) (e : eye < 2) (c : x < 384)
     where
       strips-same : (n : ℕ) → pixelOf (stripsOf vram regs frame n) regs eye x y ≡ pixelOf vram regs eye x y
       strips-same n =
@@ -76,12 +76,12 @@ module _ (vram regs : List ℕ) (frame : ℕ) where
           ]
 
 -- an accepted call leaves the frame or the strip drawn
-pub frame-accepted : (vram regs : List ℕ) (frame : ℕ) → length vram ≡ 262144 → registersOk regs ≡ true → frame < 2
+pub frame-accepted : (vram regs : List ℕ) (frame : ℕ) → length vram ≡ 262144 → drawingOk regs ≡ true → frame < 2
     → drawFrameOf vram regs frame ≡ frameOf vram regs frame
 unfolding drawFrameOf frameVerdictOf vramOk
 frame-accepted vram regs frame l ok f = simp (l, ok, lt-ltb frame 2 f)
 
-pub strip-accepted : (vram regs : List ℕ) (frame s : ℕ) → length vram ≡ 262144 → registersOk regs ≡ true → frame < 2
+pub strip-accepted : (vram regs : List ℕ) (frame s : ℕ) → length vram ≡ 262144 → drawingOk regs ≡ true → frame < 2
     → ltb s 28 ≡ true
     → drawStripOf vram regs frame s ≡ stripOf vram regs frame s
 unfolding drawStripOf stripVerdictOf vramOk

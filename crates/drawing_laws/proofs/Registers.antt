@@ -8,7 +8,7 @@ use lib.Dec.{ltb}
 use native.Mathlib.Omega.{arith}
 use borrow.Author.Tests.{ltb-true}
 use Rattle.word.specs.Choose.{pick}
-use Rattle.bus.specs.Registers.{sptOf, bkcolOf, widthOf, registersOk}
+use Rattle.bus.specs.Registers.{sptOf, bkcolOf, widthOf, drawingOk}
 
 first : (a : Bool) (b : Bool) → pick a b false ≡ true → a ≡ true
 first true b e = refl
@@ -18,7 +18,7 @@ later : (a : Bool) (b : Bool) → pick a b false ≡ true → b ≡ true
 later true b e = e
 later false b e = cc
 
--- whether each register named is within its width; of all thirteen, this is what `registersOk` computes to
+-- whether each register named is within its width; of all thirteen, this is what `drawingOk` computes to
 abbrev withinEach : List ℕ → List ℕ → Bool
 withinEach d [] = true
 withinEach d (k ∷ ks) = pick (ltb (getD d k 0) (2 ^ widthOf k)) (withinEach d ks) false
@@ -35,11 +35,11 @@ within d (k ∷ ks) e = (
   within d ks (later (ltb (getD d k 0) (2 ^ widthOf k)) _ e),
 )
 
-all : (d : List ℕ) → registersOk d ≡ true → Within d (0 ∷ 1 ∷ 2 ∷ 3 ∷ 4 ∷ 5 ∷ 6 ∷ 7 ∷ 8 ∷ 9 ∷ 10 ∷ 11 ∷ 12 ∷ [])
-unfolding registersOk
+all : (d : List ℕ) → drawingOk d ≡ true → Within d (0 ∷ 1 ∷ 2 ∷ 3 ∷ 4 ∷ 5 ∷ 6 ∷ 7 ∷ 8 ∷ 9 ∷ 10 ∷ 11 ∷ 12 ∷ [])
+unfolding drawingOk
 all d e = within d (0 ∷ 1 ∷ 2 ∷ 3 ∷ 4 ∷ 5 ∷ 6 ∷ 7 ∷ 8 ∷ 9 ∷ 10 ∷ 11 ∷ 12 ∷ []) e
 
-pub spt-below : (d : List ℕ) → registersOk d ≡ true → (n : ℕ) → n < 4 → sptOf d n < 1024
+pub spt-below : (d : List ℕ) → drawingOk d ≡ true → (n : ℕ) → n < 4 → sptOf d n < 1024
 unfolding sptOf
 spt-below d e zero h = all d e .0
 spt-below d e (suc zero) h = all d e .1 .0
@@ -47,6 +47,6 @@ spt-below d e (suc (suc zero)) h = all d e .1 .1 .0
 spt-below d e (suc (suc (suc zero))) h = all d e .1 .1 .1 .0
 spt-below d e (suc (suc (suc (suc n)))) h = absurd (omega arith)
 
-pub bkcol-below : (d : List ℕ) → registersOk d ≡ true → bkcolOf d < 4
+pub bkcol-below : (d : List ℕ) → drawingOk d ≡ true → bkcolOf d < 4
 unfolding bkcolOf
 bkcol-below d e = all d e .1 .1 .1 .1 .1 .1 .1 .1 .1 .1 .1 .1 .0

@@ -8,7 +8,7 @@ use mathlib.Core.Path.{_≡_}
 use lib.ListN.{length, getD}
 use lib.Dec.{eqb}
 use Rattle.word.specs.Choose.{pick}
-use Rattle.bus.specs.Registers.{registersOk}
+use Rattle.bus.specs.Registers.{drawingOk}
 use Rattle.refusal.specs.declared.Verdict.the-variants.{Accepted}
 use Rattle.drawing_pixel.specs.World.{worldOf, bgmOf}
 use Rattle.drawing_pixel.specs.Pixel.{pixelOf}
@@ -65,7 +65,7 @@ sumBelow (suc n) test f = pick (test n) (f n) 0 + sumBelow n test f
 -- and exactly that long: 4 for each covering normal world, 6 for H-bias, 14 for affine, 2 for each covering object
 abbrev pub ListedLength : Type 0
 ListedLength =
-    (vram regs : List ℕ) (eye x y : ℕ) → registersOk regs ≡ true
+    (vram regs : List ℕ) (eye x y : ℕ) → drawingOk regs ≡ true
     → length (pixelBytesOf vram regs eye x y)
     ≡ sumBelow 32 (backgroundCoversOf vram eye x y) (λ n. worldBytesCountOf (worldOf vram n))
     + 2 * coveringObjectsOf vram regs eye x y
@@ -73,7 +73,7 @@ ListedLength =
 -- memories that agree outside a frame's images have the same pixels
 abbrev pub PixelOutsideImages : Type 0
 PixelOutsideImages =
-    (first second regs : List ℕ) (frame eye x y : ℕ) → registersOk regs ≡ true
+    (first second regs : List ℕ) (frame eye x y : ℕ) → drawingOk regs ≡ true
     → ((a : ℕ) → inImagesOf frame a ≡ false → SameByte first second a)
     → pixelOf second regs eye x y ≡ pixelOf first regs eye x y
 

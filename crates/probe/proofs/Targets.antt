@@ -10,23 +10,23 @@ use lib.Dec.{ltb, eqb}
 use borrow.Author.Tests.{lt-ltb, le-ltb}
 use Rattle.word.specs.Choose.{pick, member, indexOf}
 use Rattle.bus.specs.Registers.{drawingAddresses, silentAddresses, versionAddress}
-use Rattle.bus.specs.Place.{Place, vramAt, wramAt, pakAt, romAt, drawingAt, versionAt, silent, unlisted, unmapped, soundUnit, hardware, nothing, expansion, registerPlace, mirrorOf, vipPlace, regionOf, placeOf}
+use Rattle.bus.specs.Place.{Place, vramAt, wramAt, pakAt, romAt, drawingAt, versionAt, silent, unlisted, unmapped, hardwareAt, soundUnit, nothing, expansion, registerPlace, mirrorOf, vipPlace, regionOf, placeOf}
 use Rattle.bus.proofs.Places.{region-code, place-vip}
 use Rattle.probe.specs.Probe.{vramIndexOf, targetOf}
 
 -- regions 1 to 7 do not lead to VRAM
-no-vram : (p : Place) (i j k r : ℕ) → (r ≡ 0 → ⊥)
-    → vramIndexOf (getD (p ∷ soundUnit ∷ hardware ∷ nothing ∷ expansion ∷ wramAt i ∷ pakAt j ∷ romAt k ∷ []) r nothing)
+no-vram : (p : Place) (o i j k r : ℕ) → (r ≡ 0 → ⊥)
+    → vramIndexOf (getD (p ∷ soundUnit ∷ hardwareAt o ∷ nothing ∷ expansion ∷ wramAt i ∷ pakAt j ∷ romAt k ∷ []) r nothing)
     ≡ 0x40000
-no-vram p i j k zero n = absurd (n refl)
-no-vram p i j k (suc zero) n = refl
-no-vram p i j k (suc (suc zero)) n = refl
-no-vram p i j k (suc (suc (suc zero))) n = refl
-no-vram p i j k (suc (suc (suc (suc zero)))) n = refl
-no-vram p i j k (suc (suc (suc (suc (suc zero))))) n = refl
-no-vram p i j k (suc (suc (suc (suc (suc (suc zero)))))) n = refl
-no-vram p i j k (suc (suc (suc (suc (suc (suc (suc zero))))))) n = refl
-no-vram p i j k (suc (suc (suc (suc (suc (suc (suc (suc r)))))))) n = refl
+no-vram p o i j k zero n = absurd (n refl)
+no-vram p o i j k (suc zero) n = refl
+no-vram p o i j k (suc (suc zero)) n = refl
+no-vram p o i j k (suc (suc (suc zero))) n = refl
+no-vram p o i j k (suc (suc (suc (suc zero)))) n = refl
+no-vram p o i j k (suc (suc (suc (suc (suc zero))))) n = refl
+no-vram p o i j k (suc (suc (suc (suc (suc (suc zero)))))) n = refl
+no-vram p o i j k (suc (suc (suc (suc (suc (suc (suc zero))))))) n = refl
+no-vram p o i j k (suc (suc (suc (suc (suc (suc (suc (suc r)))))))) n = refl
 
 no-register : (k x y : ℕ) (b₁ b₂ b₃ : Bool)
     → vramIndexOf (pick b₁ (drawingAt k x) (pick b₂ (versionAt y) (pick b₃ silent unlisted))) ≡ 0x40000
@@ -45,7 +45,7 @@ register-elsewhere v =
 module _ (rom pak a : ℕ) where
   pub elsewhere : (a / 16777216 % 8 ≡ 0 → ⊥) → vramIndexOf (placeOf rom pak a) ≡ 0x40000
   unfolding placeOf
-  elsewhere n = no-vram _ _ _ _ (regionOf a) (λ e. n (region-code a ∙ e))
+  elsewhere n = no-vram _ _ _ _ _ (regionOf a) (λ e. n (region-code a ∙ e))
 
   pub low : a / 16777216 % 8 ≡ 0 → a % 524288 < 0x40000 → vramIndexOf (placeOf rom pak a) ≡ a % 524288
   unfolding vipPlace
@@ -98,11 +98,11 @@ index-place (pakAt i) h = absurd (omega arith)
 index-place (romAt i) h = absurd (omega arith)
 index-place (drawingAt k b) h = absurd (omega arith)
 index-place (versionAt b) h = absurd (omega arith)
+index-place (hardwareAt o) h = absurd (omega arith)
 index-place silent h = absurd (omega arith)
 index-place unlisted h = absurd (omega arith)
 index-place unmapped h = absurd (omega arith)
 index-place soundUnit h = absurd (omega arith)
-index-place hardware h = absurd (omega arith)
 index-place nothing h = absurd (omega arith)
 index-place expansion h = absurd (omega arith)
 

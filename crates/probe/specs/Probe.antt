@@ -8,7 +8,7 @@ use lib.ListN.{length, set}
 use lib.Dec.{leb, ltb}
 use Rattle.refusal.specs.Number.{unless}
 use Rattle.bus.specs.Refusal.{romOk, wramOk, vramOk, pakOk}
-use Rattle.bus.specs.Place.{Place, vramAt, wramAt, pakAt, romAt, drawingAt, versionAt, silent, unlisted, unmapped, soundUnit, hardware, nothing, expansion, placeOf}
+use Rattle.bus.specs.Place.{Place, vramAt, wramAt, pakAt, romAt, drawingAt, versionAt, silent, unlisted, unmapped, hardwareAt, soundUnit, nothing, expansion, placeOf}
 use Rattle.bus.specs.Memory.{alignedOf}
 use Rattle.refusal.specs.declared.Verdict.{Verdict}
 use Rattle.refusal.specs.declared.Verdict.the-variants.{Accepted, Refused}
@@ -26,11 +26,11 @@ vramIndexOf (pakAt i) = 0x40000
 vramIndexOf (romAt i) = 0x40000
 vramIndexOf (drawingAt k b) = 0x40000
 vramIndexOf (versionAt b) = 0x40000
+vramIndexOf (hardwareAt o) = 0x40000
 vramIndexOf silent = 0x40000
 vramIndexOf unlisted = 0x40000
 vramIndexOf unmapped = 0x40000
 vramIndexOf soundUnit = 0x40000
-vramIndexOf hardware = 0x40000
 vramIndexOf nothing = 0x40000
 vramIndexOf expansion = 0x40000
 

@@ -1,4 +1,5 @@
--- Refusals 1 to 5 of a step and a run (paper 01, "Refusal numbers"): those of the bus, then what 5 says of the processor.
+-- Refusals 1 to 5 of a step and a run (paper 01, "Refusal numbers"): those of the bus, which test the request lines and the
+-- timer too (paper 02, W6), then what 5 says of the processor.
 use Prim.Native.Nat.{ℕ, _%_, _^_}
 use mathlib.Core.Bool.{Bool, false}
 use mathlib.Core.List.{List}
@@ -12,6 +13,8 @@ use Rattle.refusal.specs.declared.Verdict.the-variants.{Accepted, Refused}
 use Rattle.refusal.specs.declared.Refusal as refusal
 use Rattle.processor_machine.specs.State.{State}
 use Rattle.processor_machine.specs.System.{pswBitsOf}
+use Rattle.processor.specs.Record.{stateIn, busOf}
+use Rattle.processor.specs.declared.Processor.{Processor}
 
 -- both tests hold
 abbrev pub both : Bool → Bool → Bool
@@ -54,3 +57,7 @@ acceptanceAt rom wram vram pak device regs sys pc psw =
 abbrev pub acceptanceOf : State → Memory → Verdict
 acceptanceOf s m =
     acceptanceAt (length (m .rom)) (length (m .wram)) (length (m .vram)) (length (m .pak)) (m .regs) (s .regs) (s .sys) (s .pc) (s .psw)
+
+-- the same of what a public call is given
+abbrev pub acceptanceIn : Processor → Memory → Verdict
+acceptanceIn p m = acceptanceOf (stateIn p) (busOf p m)

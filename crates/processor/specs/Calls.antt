@@ -10,8 +10,8 @@ use Rattle.processor_reads.specs.declared.Undefined.{Undefined}
 use Rattle.processor_machine.specs.declared.Mode.the-variants.{Running}
 use Rattle.processor_machine.specs.declared.Answer.{Answer}
 use Rattle.processor_machine.specs.declared.Answer.the-variants.{Refused}
-use Rattle.processor.specs.Record.{stateIn, processorOf}
-use Rattle.processor.specs.Acceptance.{acceptanceOf}
+use Rattle.processor.specs.Record.{stateIn, busOf, lentOf, processorOf, resetHardware}
+use Rattle.processor.specs.Acceptance.{acceptanceIn}
 use Rattle.processor.specs.Run.{runOf}
 use Rattle.processor.specs.declared.Processor.{Processor}
 use Rattle.processor.specs.declared.Machine.{Machine}
@@ -29,12 +29,12 @@ doneOf answer u p m = record { answer = answer; undefined = u; processor = p; me
 -- a step, unless refused
 abbrev pub stepWhen : Verdict → Processor → Memory → Done
 stepWhen verdict.Accepted p m =
-    let t = stepOf (stateIn p) m in
-    doneOf (t .answer) (undefinedStepOf (stateIn p) m) (processorOf (t .state)) (t .memory)
+    let t = stepOf (stateIn p) (busOf p m) in
+    doneOf (t .answer) (undefinedStepOf (stateIn p) (busOf p m)) (processorOf (t .state) (t .memory .regs)) (lentOf (t .memory))
 stepWhen (verdict.Refused n) p m = doneOf (Refused n) noneOf p m
 
 unfoldable pub checkedStepOf : Processor → Memory → Done
-checkedStepOf p m = stepWhen (acceptanceOf (stateIn p) m) p m
+checkedStepOf p m = stepWhen (acceptanceIn p m) p m
 
 -- what a run's call gives
 pub record Ran : Type 0 where
@@ -49,14 +49,14 @@ ranOf v n p m = record { verdict = v; count = n; processor = p; memory = m }
 -- a run, unless refused: "refused so, its count is 0"
 abbrev pub runWhen : Verdict → ℕ → Processor → Memory → Ran
 runWhen verdict.Accepted budget p m =
-    let r = runOf budget (stateIn p) m in
-    ranOf (r .verdict) (r .count) (processorOf (r .state)) (r .memory)
+    let r = runOf budget (stateIn p) (busOf p m) in
+    ranOf (r .verdict) (r .count) (processorOf (r .state) (r .memory .regs)) (lentOf (r .memory))
 runWhen (verdict.Refused n) budget p m = ranOf (verdict.Refused n) 0 p m
 
 unfoldable pub checkedRunOf : ℕ → Processor → Memory → Ran
-checkedRunOf budget p m = runWhen (acceptanceOf (stateIn p) m) budget p m
+checkedRunOf budget p m = runWhen (acceptanceIn p m) budget p m
 
--- reset: "PC 0xFFFFFFF0, ECR 0xFFF0, PSW 0x8000, all else 0, running"
+-- reset: "PC 0xFFFFFFF0, ECR 0xFFF0, PSW 0x8000, all else 0, running"; "Lines and timer reset to 0" (paper 02, W6)
 unfoldable pub resetOf : Machine
 resetOf =
     record {
@@ -74,6 +74,7 @@ resetOf =
             sr29 = 0;
             sr31 = 0;
             mode = Running;
+            hardware = resetHardware;
           };
       drawing = record { regs = replicate 13 0 };
     }

@@ -1,7 +1,13 @@
--- The processor's record as the public calls have it, and the state that it stands for (machine, State).
+-- The processor's record as the public calls have it, and what it stands for: a state (machine, State), and the request
+-- lines and the timer among the device registers of the memory (bus, Registers). The public calls lend the memories with
+-- the drawing registers alone.
 use Prim.Native.Nat.{ℕ}
 use mathlib.Core.List.{List, [], _∷_}
 use lib.ListN.{getD}
+use Rattle.bus_timer.specs.Timer.{hardwareOf}
+use Rattle.bus_timer.specs.declared.Hardware.{Hardware}
+use Rattle.bus.specs.Registers.{drawingIn, hardwareIn, deviceOf}
+use Rattle.bus.specs.Memory.{Memory, withRegs}
 use Rattle.processor_machine.specs.State.{State, stateOf}
 use Rattle.processor.specs.declared.Processor.{Processor}
 
@@ -13,9 +19,17 @@ systemIn p = p .eipc ∷ p .eipsw ∷ p .fepc ∷ p .fepsw ∷ p .ecr ∷ p .sr2
 abbrev pub stateIn : Processor → State
 stateIn p = stateOf (p .regs) (systemIn p) (p .pc) (p .psw) (p .mode)
 
--- the record of a state
-abbrev pub processorOf : State → Processor
-processorOf s =
+-- the memory that a step has: the record's lines and timer stand beside the drawing registers
+abbrev pub busOf : Processor → Memory → Memory
+busOf p m = withRegs m (deviceOf (m .regs) (p .hardware))
+
+-- the memory as it was lent: the drawing registers alone
+abbrev pub lentOf : Memory → Memory
+lentOf m = withRegs m (drawingIn (m .regs))
+
+-- the record of a state and of the device registers
+abbrev pub processorOf : State → List ℕ → Processor
+processorOf s device =
     record {
       regs = s .regs;
       pc = s .pc;
@@ -29,4 +43,28 @@ processorOf s =
       sr29 = getD (s .sys) 6 0;
       sr31 = getD (s .sys) 7 0;
       mode = s .mode;
+      hardware = hardwareIn device;
     }
+
+-- the record with other request lines and another timer
+abbrev pub withHardware : Processor → Hardware → Processor
+withHardware p h =
+    record {
+      regs = p .regs;
+      pc = p .pc;
+      eipc = p .eipc;
+      eipsw = p .eipsw;
+      fepc = p .fepc;
+      fepsw = p .fepsw;
+      ecr = p .ecr;
+      psw = p .psw;
+      sr25 = p .sr25;
+      sr29 = p .sr29;
+      sr31 = p .sr31;
+      mode = p .mode;
+      hardware = h;
+    }
+
+-- lines and timer at reset
+abbrev pub resetHardware : Hardware
+resetHardware = hardwareOf 0 0 0 0

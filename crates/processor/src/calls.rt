@@ -8,13 +8,15 @@ use crate::record::joined;
 use crate::record::system;
 use crate::stretch;
 use bus::Drawing;
+use bus::device::device_of;
+use bus::device::drawing_in;
+use bus_timer::Hardware;
 use processor_machine::Answer;
 use processor_machine::Mode;
 use refusal::Verdict;
 ghost use mathlib.Core.Path.{_≡_};
 ghost use Rattle.bus.specs.Memory.{memoryOf};
-ghost use Rattle.processor.specs.Record.{stateIn};
-ghost use Rattle.processor.specs.Acceptance.{acceptanceOf};
+ghost use Rattle.processor.specs.Acceptance.{acceptanceIn};
 ghost use Rattle.processor.specs.Calls.{doneOf, ranOf, checkedStepOf, checkedRunOf, resetOf};
 
 // The lowest of refusals 1 to 5 that a step or a run with these arguments meets. It is `pub` for the crate capi, and no
@@ -27,11 +29,13 @@ pub fn verdict(
     processor: Processor,
     drawing: Drawing,
 ) -> Verdict
-    ensures { λ r. ⌜ r ≡ acceptanceOf (stateIn processor) (memoryOf (now (rom .entry)) (now (wram .entry)) (now (vram .entry)) (now (pak .entry)) (drawing .regs)) ⌝ }
+    ensures { λ r. ⌜ r ≡ acceptanceIn processor (memoryOf (now (rom .entry)) (now (wram .entry)) (now (vram .entry)) (now (pak .entry)) (drawing .regs)) ⌝ }
 {
     let regs = processor.regs;
     let sys = system(processor);
-    let device = drawing.regs;
+    let registers = drawing.regs;
+    let hardware = processor.hardware;
+    let device = device_of(registers, hardware);
     let pc = processor.pc;
     let psw = processor.psw;
     acceptance(
@@ -61,7 +65,9 @@ pub fn step(
 {
     let mut regs = processor.regs;
     let mut sys = system(processor);
-    let mut device = drawing.regs;
+    let registers = drawing.regs;
+    let hardware = processor.hardware;
+    let mut device = device_of(registers, hardware);
     let pc = processor.pc;
     let psw = processor.psw;
     let mode = processor.mode;
@@ -101,18 +107,19 @@ pub fn step(
             let before = processor.regs;
             let undefined = processor_reads::masks(answer, pc, fetched, &before);
             let mode = c.mode;
-            let processor = joined(regs, sys, c.pc, c.psw, mode);
+            let processor = joined(regs, sys, c.pc, c.psw, mode, &device);
+            let registers = drawing_in(&device);
             Stepped {
                 answer,
                 undefined,
                 processor,
-                drawing: Drawing { regs: device },
+                drawing: Drawing { regs: registers },
             }
         }
     }
 }
 
-// At most `budget` instructions.
+// At most `budget` instructions and interrupts.
 pub fn run(
     rom: &[u8],
     wram: &mut [u8],
@@ -126,7 +133,9 @@ pub fn run(
 {
     let mut regs = processor.regs;
     let mut sys = system(processor);
-    let mut device = drawing.regs;
+    let registers = drawing.regs;
+    let hardware = processor.hardware;
+    let mut device = device_of(registers, hardware);
     let pc = processor.pc;
     let psw = processor.psw;
     let mode = processor.mode;
@@ -163,12 +172,13 @@ pub fn run(
             );
             let verdict = f.verdict;
             let mode = f.mode;
-            let processor = joined(regs, sys, f.pc, f.psw, mode);
+            let processor = joined(regs, sys, f.pc, f.psw, mode, &device);
+            let registers = drawing_in(&device);
             Ran {
                 verdict,
                 count: f.count,
                 processor,
-                drawing: Drawing { regs: device },
+                drawing: Drawing { regs: registers },
             }
         }
     }
@@ -192,6 +202,12 @@ pub fn reset() -> Machine
             sr29: 0,
             sr31: 0,
             mode: Mode::Running,
+            hardware: Hardware {
+                lines: 0,
+                count: 0,
+                reload: 0,
+                control: 0,
+            },
         },
         drawing: Drawing { regs: [0u16; 13] },
     }

@@ -6,13 +6,14 @@ mod record;
 mod stretch;
 
 use bus::Drawing;
+use bus_timer::Hardware;
 use processor_machine::Answer;
 use processor_machine::Mode;
 use processor_reads::Undefined;
 use processor_step::step::Fetched;
 use refusal::Verdict;
 
-// The processor's record.
+// The processor's record; the request lines and the timer are its last field.
 pub struct Processor {
     pub regs: [u32; 32],
     pub pc: u32,
@@ -26,6 +27,7 @@ pub struct Processor {
     pub sr29: u32,
     pub sr31: u32,
     pub mode: Mode,
+    pub hardware: Hardware,
 }
 
 // What a step did, which bytes that it read are undefined, and both records afterwards.

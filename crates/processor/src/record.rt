@@ -1,5 +1,7 @@
 // The record of the public calls, and the registers that are lent inside.
 use crate::Processor;
+use bus::Device;
+use bus::device::hardware_in;
 use processor_machine::Mode;
 ghost use mathlib.Core.Path.{_≡_};
 ghost use Rattle.processor.specs.Record.{systemIn, processorOf};
@@ -21,10 +23,18 @@ pub fn system(p: Processor) -> [u32; 8]
     ]
 }
 
-// The record of the lent registers, PC, PSW and the mode.
-pub fn joined(regs: [u32; 32], sys: [u32; 8], pc: u32, psw: u32, mode: Mode) -> Processor
-    ensures { λ r. ⌜ r ≡ processorOf (stateOf regs sys pc psw mode) ⌝ }
+// The record of the lent registers, PC, PSW, the mode and the device registers.
+pub fn joined(
+    regs: [u32; 32],
+    sys: [u32; 8],
+    pc: u32,
+    psw: u32,
+    mode: Mode,
+    device: &Device,
+) -> Processor
+    ensures { λ r. ⌜ r ≡ processorOf (stateOf regs sys pc psw mode) (now (device .entry)) ⌝ }
 {
+    let hardware = hardware_in(device);
     Processor {
         regs,
         pc,
@@ -38,5 +48,6 @@ pub fn joined(regs: [u32; 32], sys: [u32; 8], pc: u32, psw: u32, mode: Mode) -> 
         sr29: sys[6],
         sr31: sys[7],
         mode,
+        hardware,
     }
 }

@@ -14,13 +14,14 @@ ghost use Rattle.processor_machine.specs.State.{stateOf, steppedOf};
 ghost use Rattle.processor_step.specs.Step.{stepOf, fetchedOf};
 ghost use Rattle.processor.specs.Run.{afterOf, runOf, ranBy};
 
-// An ended or trapped instruction counts; anything else stops the run.
+// An ended or trapped instruction counts, and so does an accepted interrupt; anything else stops the run.
 fn after(answer: Answer) -> After
     ensures { λ r. ⌜ r ≡ afterOf answer ⌝ }
 {
     match answer {
         Answer::Ended => After::Counted,
         Answer::Trapped(_) => After::Counted,
+        Answer::Interrupted(_) => After::Counted,
         Answer::TurnedFatal(_) => After::Stopped(Verdict::Accepted),
         Answer::WasHalted => After::Stopped(Verdict::Accepted),
         Answer::WasFatal => After::Stopped(Verdict::Accepted),
@@ -28,7 +29,7 @@ fn after(answer: Answer) -> After
     }
 }
 
-// At most `budget` instructions; of a budget of one, what that step answered and fetched.
+// At most `budget` instructions and interrupts; of a budget of one, what that step answered and fetched.
 pub fn run(
     rom: &[u8],
     wram: &mut [u8],

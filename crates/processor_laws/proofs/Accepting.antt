@@ -4,15 +4,20 @@ use mathlib.Core.Bool.{Bool}
 use mathlib.Core.Path.{sym, _∙_}
 use native.Mathlib.Omega.{arith}
 use lib.ListN.{length}
+use Rattle.bus_timer.proofs.Accepting as hardware
+use Rattle.bus_timer.proofs.Choices.{pick-cases}
+use Rattle.bus.specs.Registers.{hardwareIn}
 use Rattle.bus.specs.Memory.{Memory, loadOf}
 use Rattle.bus.proofs.Accepted.{accepted-registers, lengths-accepted}
-use Rattle.bus.proofs.Kept.{register-within, registers-within}
+use Rattle.bus.proofs.Kept.{register-within, within-drawing, registers-both, both-registers}
 use Rattle.processor_decode.specs.Format.{twoOf}
 use Rattle.processor_decode.specs.Opcode.{decodeOf}
 use Rattle.processor_decode.specs.declared.Decoded.{Decoded}
 use Rattle.processor_decode.specs.declared.Decoded.the-variants.{Modelled, NotModelled}
 use Rattle.processor_machine.specs.State.{State, Stepped}
-use Rattle.processor_step.specs.Step.{firstOf, secondOf, nextOf, performOf, runningStepOf, stepInOf, stepOf}
+use Rattle.processor_step.specs.Step.{firstOf, secondOf, nextOf, performOf, runningStepOf, stepInOf, instructionStepOf, linesIn, acceptsIn, interruptStepOf, stepOf}
+use Rattle.processor_interrupt.specs.Interrupt.{levelOf}
+use Rattle.processor_interrupt.proofs.Exactly.{accepts-taken}
 use Rattle.processor_machine.proofs.PswMask.{psw-bits-mask}
 use Rattle.processor_machine.specs.declared.Mode.{Mode}
 use Rattle.processor_machine.specs.declared.Mode.the-variants.{Running, Halted, Fatal}
@@ -24,7 +29,7 @@ use Rattle.processor_laws.proofs.Lists.{pick-each}
 use Rattle.processor_laws.proofs.Invariant.{Address, Good, told, tells, machine-good, good-machine}
 use Rattle.processor_laws.proofs.Stores.{load-half}
 use Rattle.processor_laws.proofs.Immediates.{Found, decoded-found}
-use Rattle.processor_laws.proofs.Exceptions.{Left}
+use Rattle.processor_laws.proofs.Exceptions.{Left, interrupt-left}
 use Rattle.processor_laws.proofs.Executes.{execute-left}
 
 next-address : (two : Bool) (pc : ℕ) → Address pc → Address (nextOf two pc)
@@ -57,9 +62,16 @@ module _ (s : State) (m : Memory) (g : Good s m) where
   step-in-left Halted = g
   step-in-left Fatal = g
 
+  instruction-left : Left (instructionStepOf s m)
+  unfolding instructionStepOf
+  instruction-left = step-in-left (s .mode)
+
   step-left : Left (stepOf s m)
   unfolding stepOf
-  step-left = step-in-left (s .mode)
+  step-left =
+      pick-cases Left (acceptsIn s m) (interruptStepOf s m) (instructionStepOf s m)
+      (λ e. interrupt-left (levelOf (linesIn m)) s m (accepts-taken (linesIn m) (s .psw) (s .mode) e .acceptable .level-below) g)
+      (λ e. instruction-left)
 
 -- a step leaves an accepted machine
 pub step-accepted : StepAccepted
@@ -96,10 +108,12 @@ run-count (suc budget) s m =
 
 -- what 5 says of an accepted machine
 pub accepted-means : AcceptedMeans
-accepted-means s m h =
-    let t = told s m (h .accepted) in
+unfolding hardwareIn
+accepted-means s m k =
+    let t = told s m (k .accepted) in
     let p = t .1 in
     let w = accepted-registers (length (m .rom)) (length (m .wram)) (length (m .vram)) (length (m .pak)) (m .regs) (t .0) in
+    let h = hardware.accepted-means (hardwareIn (m .regs)) (registers-both (m .regs) w .1) in
     record {
       zero-register = p .zero-register;
       pc-even = p .pc-even;
@@ -111,12 +125,16 @@ accepted-means s m h =
       fepsw-bits = sym (psw-bits-mask _) ∙ p .fepsw-format;
       sr31-most = p .sr31-most;
       drawing-widths = register-within (m .regs) w;
+      five-lines = h .five-lines;
+      control-bits = h .control-bits;
     }
 
 -- and the other way
 pub means-accepted : MeansAccepted
+unfolding hardwareIn
 means-accepted s m l p =
-    tells s m (lengths-accepted _ _ _ _ (m .regs) l (registers-within (m .regs) (p .drawing-widths)))
+    let h = hardware.means-accepted (hardwareIn (m .regs)) record { five-lines = p .five-lines; control-bits = p .control-bits } in
+    tells s m (lengths-accepted _ _ _ _ (m .regs) l (both-registers (m .regs) (within-drawing (m .regs) (p .drawing-widths)) h))
     record {
       zero-register = p .zero-register;
       pc-even = p .pc-even;

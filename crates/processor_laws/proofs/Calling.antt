@@ -1,18 +1,21 @@
 -- `step-call-accepted`, `run-call-accepted` and `reset-accepted`: the statements of specs/Called.
 use Prim.Native.Nat.{ℕ, zero, suc, _^_, _<_}
-use mathlib.Core.Bool.{true}
+use mathlib.Core.Bool.{true, false}
 use mathlib.Core.List.{List, [], _∷_}
-use mathlib.Core.Path.{_≡_, refl}
+use mathlib.Core.Path.{_≡_, refl, _∙_}
 use native.Mathlib.Omega.{arith}
 use lib.ListN.{length, getD, replicate}
-use Rattle.bus.specs.Registers.{registersOk}
+use Rattle.word.specs.Choose.{pick}
+use Rattle.bus_timer.specs.Ports.{controlBitsOf, hardwareOk}
+use Rattle.bus.specs.Registers.{drawingOk, deviceOf, registersOk}
+use Rattle.bus.proofs.Devices.{device-whole, device-length, device-ok}
 use Rattle.bus.specs.Memory.{Memory}
 use Rattle.bus.proofs.Accepted.{lengths-accepted}
 use Rattle.processor_machine.specs.State.{State}
 use Rattle.processor_machine.specs.System.{pswBitsOf}
 use Rattle.processor_step.specs.Step.{stepOf}
 use Rattle.processor.specs.Acceptance.{evenOk, formatsOk, stateOk, acceptanceAt, acceptanceOf}
-use Rattle.processor.specs.Record.{systemIn, stateIn, processorOf}
+use Rattle.processor.specs.Record.{systemIn, stateIn, busOf, lentOf, processorOf, resetHardware}
 use Rattle.processor.specs.Run.{runOf}
 use Rattle.processor.specs.Calls.{checkedStepOf, checkedRunOf, resetOf}
 use Rattle.processor_laws.specs.Accepted.{Below, Machine}
@@ -25,12 +28,12 @@ listed : (n : ℕ) (xs : List ℕ) → 0 < n → Each (λ (x : ℕ). x < n) xs �
 listed n xs h e i = each-at (λ (x : ℕ). x < n) xs i 0 e h
 
 -- a state and its record stand for the same machine
-same-acceptance : (s : State) (m : Memory) → acceptanceOf (stateIn (processorOf s)) m ≡ acceptanceOf s m
+same-acceptance : (s : State) (m : Memory) → acceptanceOf (stateIn (processorOf s (m .regs))) m ≡ acceptanceOf s m
 unfolding acceptanceAt stateOk evenOk formatsOk
 same-acceptance s m = refl
 
-record-machine : (s : State) (m : Memory) → Machine s m → Machine (stateIn (processorOf s)) m
-record-machine s m h =
+same-machine : (s : State) (m : Memory) → Machine s m → Machine (stateIn (processorOf s (m .regs))) m
+same-machine s m h =
     let z = h .sized in
     let w = z .system-words in
     record {
@@ -40,7 +43,7 @@ record-machine s m h =
             general-words = z .general-words;
             system = refl;
             system-words =
-                listed (2 ^ 32) (systemIn (processorOf s)) (omega arith)
+                listed (2 ^ 32) (systemIn (processorOf s (m .regs))) (omega arith)
                 (w 0, (w 1, (w 2, (w 3, (w 4, (w 5, (w 6, (w 7, tt))))))));
             pc-word = z .pc-word;
             psw-word = z .psw-word;
@@ -48,23 +51,27 @@ record-machine s m h =
             wram-bytes = z .wram-bytes;
             vram-bytes = z .vram-bytes;
             pak-bytes = z .pak-bytes;
-            drawing = z .drawing;
+            device = z .device;
           };
       accepted = rw (same-acceptance s m) (h .accepted);
     }
 
+-- taken apart and put together again
+record-machine : (s : State) (m : Memory) → Machine s m
+    → Machine (stateIn (processorOf s (m .regs))) (busOf (processorOf s (m .regs)) (lentOf m))
+record-machine s m h = rw (device-whole (m .regs) (h .sized .device)) (same-machine s m h)
+
 pub step-call-accepted : StepCallAccepted
 unfolding checkedStepOf
 step-call-accepted p m h =
-    rw (h .accepted)
-    (record-machine (stepOf (stateIn p) m .state) (stepOf (stateIn p) m .memory) (step-accepted (stateIn p) m h))
+    let t = stepOf (stateIn p) (busOf p m) in
+    rw (h .accepted) (record-machine (t .state) (t .memory) (step-accepted (stateIn p) (busOf p m) h))
 
 pub run-call-accepted : RunCallAccepted
 unfolding checkedRunOf
 run-call-accepted budget p m h =
-    rw (h .accepted)
-    (record-machine (runOf budget (stateIn p) m .state) (runOf budget (stateIn p) m .memory)
-    (run-accepted budget (stateIn p) m h))
+    let r = runOf budget (stateIn p) (busOf p m) in
+    rw (h .accepted) (record-machine (r .state) (r .memory) (run-accepted budget (stateIn p) (busOf p m) h))
 
 zeros : (n k i : ℕ) → 0 < k → getD (replicate n 0) i 0 < k
 zeros zero k i h = h
@@ -91,11 +98,14 @@ reset-accepted rom wram vram pak l r w v p =
             wram-bytes = w;
             vram-bytes = v;
             pak-bytes = p;
-            drawing = refl;
+            device = device-length (replicate 13 0) resetHardware;
           };
       accepted =
-          rw (lengths-accepted (length rom) (length wram) (length vram) (length pak) (replicate 13 0) l device);
+          rw (lengths-accepted (length rom) (length wram) (length vram) (length pak) (deviceOf (replicate 13 0) resetHardware) l device);
     }
   where
-    device : registersOk (replicate 13 0) ≡ true
-    device = unfold registersOk in refl
+    records : pick (drawingOk (replicate 13 0)) (hardwareOk resetHardware) false ≡ true
+    records = unfold drawingOk hardwareOk controlBitsOf in refl
+
+    device : registersOk (deviceOf (replicate 13 0) resetHardware) ≡ true
+    device = device-ok (replicate 13 0) resetHardware ∙ records

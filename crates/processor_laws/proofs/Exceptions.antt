@@ -1,18 +1,20 @@
--- An exception leaves an accepted machine, by its three entries: fatal, duplexed and regular.
+-- An exception leaves an accepted machine, by its three entries: fatal, duplexed and regular; and so does an interrupt.
 use Prim.Native.Nat.{ℕ, _+_, _-_, _*_, _/_, _%_, _^_, _<_}
 use mathlib.Core.Path.{refl}
 use native.Mathlib.Omega.{arith}
 use lib.Dec.{ltb, eqb}
 use lib.ListN.{getD, set}
-use Rattle.processor_arithmetic.specs.Flag.{flagOf, setFlagOf}
+use Rattle.processor_arithmetic.specs.Flag.{flagOf, setFlagOf, regularOf}
 use Rattle.bus.specs.Memory.{Memory}
-use Rattle.processor_machine.specs.State.{State, Stepped}
+use Rattle.processor_machine.specs.State.{State, Stepped, steppedOf}
 use Rattle.processor_machine.specs.Exception.{codeOf, handlerOf, restoreOf, savedOf, fatalOf, duplexedEntryOf, regularEntryOf, enterOf, raiseOf}
 use Rattle.processor_machine.specs.declared.Cause.{Cause}
 use Rattle.processor_machine.specs.declared.Cause.the-variants.{ZeroDivision, Illegal, Trap, FloatReserved, FloatInvalid, FloatZeroDivide, FloatOverflow}
+use Rattle.processor_machine.specs.declared.Answer.the-variants.{Interrupted}
+use Rattle.processor_interrupt.specs.Interrupt.{interruptCodeOf, interruptHandlerOf, interruptedOf}
 use Rattle.processor_laws.proofs.Lists.{pick-each}
 use Rattle.processor_laws.proofs.Invariant.{Format, Systems, Address, Good}
-use Rattle.processor_laws.proofs.Psw.{low-format, regular-format, duplexed-format}
+use Rattle.processor_laws.proofs.Psw.{low-format, regular-format, duplexed-format, level-format}
 use Rattle.processor_laws.proofs.Registers.{set-systems, eipc-system, eipsw-system, fepc-system, fepsw-system, ecr-system}
 
 -- the machine after a step
@@ -83,7 +85,7 @@ module _ (c : Cause) (s : State) (m : Memory) (g : Good s m) where
           memories = g .memories;
         }
 
-    regular-left : Left (regularEntryOf c code handler restore saved s m)
+    pub regular-left : Left (regularEntryOf c code handler restore saved s m)
     regular-left =
         let sys = set (set (s .sys) 0 restore) 1 saved in
         let h : Systems sys = set-systems (set (s .sys) 0 restore) 1 saved (eipsw-system saved hs) (set-systems (s .sys) 0 restore (eipc-system restore (hr .word) (hr .even)) (g .systems)) in
@@ -109,3 +111,19 @@ unfolding raiseOf
 raise-left c next s m hn g =
     enter-left c s m g (codeOf c) (handlerOf c) (restoreOf c (s .pc) next) (savedOf c (s .psw)) (code-small c) (handler-address c)
     (restore-address c (s .pc) next (g .address) hn) (saved-format c (s .psw) (g .format))
+
+-- an interrupt too: its entry is a regular exception's, with I replaced
+pub interrupt-left : (level : ℕ) (s : State) (m : Memory) → level < 5 → Good s m
+    → Left (steppedOf (Interrupted level) (interruptedOf level s) m)
+unfolding interruptedOf
+interrupt-left level s m hl g =
+    let code : interruptCodeOf level < 65536 = omega arith in
+    let handler : Address (interruptHandlerOf level) = record { word = omega arith; even = omega arith } in
+    let r = regular-left Illegal s m g (interruptCodeOf level) (interruptHandlerOf level) (s .pc) (s .psw) code handler (g .address) (g .format) in
+    record {
+      generals = r .generals;
+      systems = r .systems;
+      address = r .address;
+      format = level-format (level + 1) (regularOf (s .psw)) (omega arith) (r .format);
+      memories = r .memories;
+    }

@@ -57,7 +57,7 @@ pub record Bytes (m : Memory) : Type 0 where
 
 pub record Memories (m : Memory) : Type 0 where
   pub bytes : Bytes m
-  pub drawing : length (m .regs) ≡ 13
+  pub device : length (m .regs) ≡ 17
   pub verdict : verdictOf m ≡ Accepted
 
 pub record Good (s : State) (m : Memory) : Type 0 where
@@ -162,7 +162,7 @@ module _ (s : State) (m : Memory) where
         memories =
             record {
               bytes = record { rom = z .rom-bytes; wram = z .wram-bytes; vram = z .vram-bytes; pak = z .pak-bytes };
-              drawing = z .drawing;
+              device = z .device;
               verdict = t .0;
             };
       }
@@ -184,7 +184,7 @@ module _ (s : State) (m : Memory) where
               wram-bytes = g .memories .bytes .wram;
               vram-bytes = g .memories .bytes .vram;
               pak-bytes = g .memories .bytes .pak;
-              drawing = g .memories .drawing;
+              device = g .memories .device;
             };
         accepted =
             tells (g .memories .verdict)

@@ -1,5 +1,5 @@
--- A PSW stays within the bits of 0x000FF3FF: after results' flags, and with a floating flag, ID, EP, NP and AE set or
--- cleared.
+-- A PSW stays within the bits of 0x000FF3FF: after results' flags, with a floating flag, ID, EP, NP and AE set or cleared,
+-- and with I replaced.
 use Prim.Native.Nat.{ℕ, _+_, _-_, _*_, _/_, _%_, _^_, _≤_, _<_}
 use mathlib.Core.Path.{_≡_, subst}
 use mathlib.Core.Bool.{Bool, true, false}
@@ -10,6 +10,7 @@ use Rattle.processor_arithmetic.proofs.Bits.{bit-small}
 use Rattle.processor_float.specs.Operand.{isZero}
 use Rattle.processor_float.specs.Flag.{orderFlagsOf, underflowOf, numberFlagsOf, conversionFlagsOf}
 use Rattle.processor_machine.specs.System.{pswBitsOf}
+use Rattle.processor_interrupt.specs.Interrupt.{withLevelOf}
 use Rattle.processor_laws.proofs.Invariant.{Format}
 
 pub kept-format : (v : ℕ) → Format (pswBitsOf v)
@@ -154,3 +155,15 @@ regular-format psw h = clear-ae-format _ (set-id-format _ (set-ep-format psw h))
 pub duplexed-format : (psw : ℕ) → Format psw → Format (duplexedOf psw)
 unfolding duplexedOf
 duplexed-format psw h = clear-ae-format _ (set-id-format _ (set-np-format psw h))
+
+-- I replaced
+pub level-format : (level psw : ℕ) → level < 16 → Format psw → Format (withLevelOf level psw)
+unfolding withLevelOf
+level-format level psw hl h =
+    let p = parted psw h in
+    let q = high-small psw h in
+    let l : psw % 1024 < 1024 = omega arith in
+    let none : psw / 1048576 ≡ 0 = omega arith in
+    let low : psw % 65536 ≡ psw / 4096 % 16 * 4096 + psw % 1024 = omega arith in
+    joined (psw / 1048576 * 1048576 + level * 65536 + psw % 65536) (level * 16 + psw / 4096 % 16) (psw % 1024) (omega arith)
+    (omega arith) l

@@ -1,5 +1,6 @@
 -- `run-steps`, `run-counted` and `run-ends`: the statements of specs/Steps. Assumes nothing.
-use Prim.Native.Nat.{ℕ, zero, suc, _<_}
+use Prim.Native.Nat.{ℕ, zero, suc, _%_, _<_}
+use mathlib.Core.Bool.{Bool, false}
 use mathlib.Core.Path.{_≡_, refl, sym, ap}
 use native.Mathlib.Omega.{arith}
 use lib.Dec.{eqb}
@@ -14,7 +15,7 @@ use Rattle.processor_decode.specs.declared.Decoded.{Decoded}
 use Rattle.processor_decode.specs.declared.Decoded.the-variants.{Modelled, NotModelled}
 use Rattle.processor_decode.specs.declared.Instruction.{Instruction}
 use Rattle.processor_decode.specs.declared.Instruction.the-variants.{Register, Mul, Div, Mulu, Divu, Jmp, Immediate, Setf, Cli, Sei, Trap, Reti, Halt, Ldsr, Stsr, Bcond, Jr, Jal, Long, Load, In, Store, Out, Illegal, Cmpf, Floating, Nintendo}
-use Rattle.processor_machine.specs.State.{State, Stepped, stateOf, regOf}
+use Rattle.processor_machine.specs.State.{State, Stepped, stateOf, steppedOf, regOf}
 use Rattle.processor_machine.specs.Exception.{fatalOf, duplexedEntryOf, regularEntryOf, enterOf, raiseOf, codeOf, handlerOf, restoreOf, savedOf}
 use Rattle.processor_execute.specs.Execute.{goesOn, pairOf, settlesOf, comparesOf, jumpsOf, plusOf, executeOf}
 use Rattle.processor_execute.specs.Floating.{floatingOf}
@@ -22,12 +23,14 @@ use Rattle.processor_float.specs.Comparison.{comparisonOf}
 use Rattle.processor_float.specs.declared.Compared.{Compared}
 use Rattle.processor_float.specs.declared.FloatOutcome.{FloatOutcome}
 use Rattle.processor_float.specs.declared.FloatOutcome.the-variants.{Number, Word, Reserved, Invalid, ZeroDivide, Overflow}
-use Rattle.processor_step.specs.Step.{firstOf, secondOf, nextOf, performOf, runningStepOf, stepInOf, stepOf}
+use Rattle.processor_step.specs.Step.{firstOf, secondOf, nextOf, performOf, runningStepOf, stepInOf, instructionStepOf, linesIn, acceptsIn, interruptStepOf, stepOf}
+use Rattle.processor_step.proofs.Choosing.{step-instruction}
+use Rattle.processor_interrupt.specs.Interrupt.{acceptsOf}
 use Rattle.processor_machine.specs.declared.Cause as cause
 use Rattle.processor_machine.specs.declared.Mode.{Mode}
 use Rattle.processor_machine.specs.declared.Mode.the-variants.{Running, Halted, Fatal}
 use Rattle.processor_machine.specs.declared.Answer.{Answer}
-use Rattle.processor_machine.specs.declared.Answer.the-variants.{Ended, Trapped, TurnedFatal, WasHalted, WasFatal, Refused}
+use Rattle.processor_machine.specs.declared.Answer.the-variants.{Ended, Trapped, Interrupted, TurnedFatal, WasHalted, WasFatal, Refused}
 use Rattle.processor.specs.Run.{Run, afterOf, afterStep, runOf}
 use Rattle.processor.specs.declared.After.{After}
 use Rattle.processor.specs.declared.After.the-variants.{Counted, Stopped}
@@ -38,6 +41,7 @@ use Rattle.processor_laws.proofs.Lists.{pick-each}
 abbrev Leaves : Answer → Stepped → State → Memory → Type 0
 Leaves Ended t s m = Unit {0}
 Leaves (Trapped c) t s m = Unit {0}
+Leaves (Interrupted level) t s m = Unit {0}
 Leaves (TurnedFatal c) t s m = (t .state ≡ stateOf (s .regs) (s .sys) (s .pc) (s .psw) Fatal) × (t .memory ≡ m)
 Leaves WasHalted t s m = (t .state ≡ s) × (t .memory ≡ m)
 Leaves WasFatal t s m = (t .state ≡ s) × (t .memory ≡ m)
@@ -117,9 +121,13 @@ module _ (s : State) (m : Memory) where
   step-in-idle Halted = (refl, refl)
   step-in-idle Fatal = (refl, refl)
 
+  instruction-idle : Idle (instructionStepOf s m)
+  unfolding instructionStepOf
+  instruction-idle = step-in-idle (s .mode)
+
   step-idle : Idle (stepOf s m)
   unfolding stepOf
-  step-idle = step-in-idle (s .mode)
+  step-idle = pick-each Idle (acceptsIn s m) (interruptStepOf s m) (instructionStepOf s m) tt instruction-idle
 
 -- a machine that a step leaves as it was
 abbrev Still : State → Memory → Type 0
@@ -134,9 +142,19 @@ still-steps (suc n) s m h = rw (h .0, h .1) (still-steps n s m h)
 still-again : (s u : State) (m w : Memory) → u ≡ s → w ≡ m → Still s m → Still u w
 still-again s u m w e f h = rw (e, f) h
 
+-- a fatal machine accepts nothing
+fatal-masked : (lines psw : ℕ) → acceptsOf lines psw Fatal ≡ false
+unfolding acceptsOf
+fatal-masked lines psw = pick-each (λ (b : Bool). b ≡ false) (eqb (lines % 32) 0) false false refl refl
+
+fatal-instruction : (s : State) (m : Memory) → s .mode ≡ Fatal → instructionStepOf s m ≡ steppedOf WasFatal s m
+unfolding instructionStepOf
+fatal-instruction s m e = rw e
+
 fatal-still : (s : State) (m : Memory) → s .mode ≡ Fatal → Still s m
-unfolding stepOf
-fatal-still s m e = rw e (refl, refl)
+fatal-still s m e =
+    let masked : acceptsIn s m ≡ false = rw e (fatal-masked (linesIn m) (s .psw)) in
+    rw (step-instruction s m masked, fatal-instruction s m e) (refl, refl)
 
 module _ (budget : ℕ) (s : State) (m : Memory) where
   after-steps : (a : Answer) (rest : Run) → Leaves a (stepOf s m) s m
@@ -145,6 +163,7 @@ module _ (budget : ℕ) (s : State) (m : Memory) where
       ≡ stepsOf budget (stepOf s m .state) (stepOf s m .memory)
   after-steps Ended rest h e = e
   after-steps (Trapped c) rest h e = e
+  after-steps (Interrupted level) rest h e = e
   after-steps (TurnedFatal c) rest h e =
       sym (still-steps budget (stepOf s m .state) (stepOf s m .memory) (fatal-still _ _ (ap (λ (u : State). u .mode) (h .0))))
   after-steps WasHalted rest h e =
@@ -191,6 +210,16 @@ module _ (s : State) (m : Memory) where
         refused = e .refused;
       }
   after-counts (Trapped c) rest h e =
+      record {
+        same-memory = e .same-memory;
+        same-regs = e .same-regs;
+        same-sys = e .same-sys;
+        same-pc = e .same-pc;
+        same-psw = e .same-psw;
+        not-fatal = e .not-fatal;
+        refused = e .refused;
+      }
+  after-counts (Interrupted level) rest h e =
       record {
         same-memory = e .same-memory;
         same-regs = e .same-regs;

@@ -3,16 +3,20 @@ use Prim.Native.Nat.{ℕ, _+_, _-_, _*_, _/_, _%_, _^_, _<_}
 use mathlib.Core.List.{List}
 use mathlib.Core.Path.{_∙_}
 use native.Mathlib.Omega.{arith}
+use lib.Dec.{eqb}
 use lib.ListN.{set}
 use Rattle.word.proofs.Extended.{extended-word}
-use Rattle.bus.specs.Place.{Place, vramAt, wramAt, pakAt, romAt, drawingAt, versionAt, silent, unlisted, unmapped, soundUnit, hardware, nothing, expansion}
+use Rattle.bus_timer.specs.Ports.{tlr, thr, tcr, controlBitsOf, portByteOf}
+use Rattle.bus_timer.specs.declared.Hardware.{Hardware}
+use Rattle.bus.specs.Registers.{hardwareIn}
+use Rattle.bus.specs.Place.{Place, vramAt, wramAt, pakAt, romAt, drawingAt, versionAt, silent, unlisted, unmapped, hardwareAt, soundUnit, nothing, expansion}
 use Rattle.bus.specs.Memory.{Memory, readPlace, byteOf, loadOf, putPlace, putDrawing, placeIn, putByte, putRegister, putHalfword, storeByteOf, storeHalfOf, storeWordOf}
 use Rattle.bus.proofs.Kept.{Shape, store-byte-shape, store-half-shape, store-word-shape, shape-accepted}
 use Rattle.processor_decode.specs.declared.Width.{Width}
 use Rattle.processor_decode.specs.declared.Width.the-variants.{Byte, Half, Word}
 use Rattle.processor_execute.specs.Transfer.{loadedOf, inputOf, storedOf}
 use Rattle.processor_laws.specs.Accepted.{Below}
-use Rattle.processor_laws.proofs.Lists.{set-each}
+use Rattle.processor_laws.proofs.Lists.{set-each, pick-each}
 use Rattle.processor_laws.proofs.Invariant.{Bytes, Memories}
 
 set-below : (l : List ℕ) (k v : ℕ) → Below 256 l → v < 256 → Below 256 (set l k v)
@@ -28,11 +32,11 @@ place-bytes m (pakAt i) b hb h =
 place-bytes m (romAt i) b hb h = h
 place-bytes m (drawingAt k x) b hb h = h
 place-bytes m (versionAt x) b hb h = h
+place-bytes m (hardwareAt o) b hb h = record { rom = h .rom; wram = h .wram; vram = h .vram; pak = h .pak }
 place-bytes m silent b hb h = h
 place-bytes m unlisted b hb h = h
 place-bytes m unmapped b hb h = h
 place-bytes m soundUnit b hb h = h
-place-bytes m hardware b hb h = h
 place-bytes m nothing b hb h = h
 place-bytes m expansion b hb h = h
 
@@ -43,11 +47,11 @@ drawing-bytes m (pakAt i) v h = h
 drawing-bytes m (romAt i) v h = h
 drawing-bytes m (drawingAt k x) v h = record { rom = h .rom; wram = h .wram; vram = h .vram; pak = h .pak }
 drawing-bytes m (versionAt x) v h = h
+drawing-bytes m (hardwareAt o) v h = h
 drawing-bytes m silent v h = h
 drawing-bytes m unlisted v h = h
 drawing-bytes m unmapped v h = h
 drawing-bytes m soundUnit v h = h
-drawing-bytes m hardware v h = h
 drawing-bytes m nothing v h = h
 drawing-bytes m expansion v h = h
 
@@ -81,7 +85,7 @@ store-word-bytes m a v h =
 -- lengths and widths are the bus's laws
 shape-memories : (m n : Memory) → Shape m n → Bytes n → Memories m → Memories n
 shape-memories m n p b h =
-    record { bytes = b; drawing = p .same-regs ∙ h .drawing; verdict = shape-accepted m n p (h .verdict) }
+    record { bytes = b; device = p .same-regs ∙ h .device; verdict = shape-accepted m n p (h .verdict) }
 
 pub stored-memories : (m : Memory) (w : Width) (a v : ℕ) → Memories m → Memories (storedOf m w a v)
 stored-memories m Byte a v h =
@@ -91,6 +95,17 @@ stored-memories m Half a v h =
 stored-memories m Word a v h =
     shape-memories m (storeWordOf m a v) (store-word-shape m a v) (store-word-bytes m a v (h .bytes)) h
 
+port-small : (h : Hardware) (o : ℕ) → portByteOf h o < 256
+unfolding portByteOf controlBitsOf
+port-small h o =
+    let low : h .count % 256 < 256 = omega arith in
+    let high : h .count / 256 % 256 < 256 = omega arith in
+    let control : 0xE4 + (h .control % 4 + h .control / 8 % 4 * 8) < 256 = omega arith in
+    let none : 0 < 256 = omega arith in
+    pick-each (λ (x : ℕ). x < 256) (eqb o tlr) (h .count % 256) _ low
+    (pick-each (λ (x : ℕ). x < 256) (eqb o thr) (h .count / 256 % 256) _ high
+    (pick-each (λ (x : ℕ). x < 256) (eqb o tcr) (0xE4 + (h .control % 4 + h .control / 8 % 4 * 8)) 0 control none))
+
 read-byte : (m : Memory) (p : Place) → Bytes m → readPlace m p < 256
 read-byte m (vramAt i) h = h .vram i
 read-byte m (wramAt i) h = h .wram i
@@ -98,11 +113,11 @@ read-byte m (pakAt i) h = h .pak i
 read-byte m (romAt i) h = h .rom i
 read-byte m (drawingAt k b) h = omega arith
 read-byte m (versionAt b) h = omega arith
+read-byte m (hardwareAt o) h = port-small (hardwareIn (m .regs)) o
 read-byte m silent h = omega arith
 read-byte m unlisted h = omega arith
 read-byte m unmapped h = omega arith
 read-byte m soundUnit h = omega arith
-read-byte m hardware h = omega arith
 read-byte m nothing h = omega arith
 read-byte m expansion h = omega arith
 

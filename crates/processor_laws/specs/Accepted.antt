@@ -6,7 +6,7 @@ use mathlib.Core.List.{List}
 use mathlib.Core.Path.{_≡_}
 use lib.Bits.{bitAnd}
 use lib.ListN.{length, getD}
-use Rattle.bus.specs.Registers.{widthOf}
+use Rattle.bus.specs.Registers.{widthOf, linesPlace, controlPlace}
 use Rattle.bus.specs.Memory.{Memory, Lengths}
 use Rattle.refusal.specs.declared.Verdict.the-variants.{Accepted}
 use Rattle.processor_machine.specs.State.{State}
@@ -19,7 +19,7 @@ abbrev pub Below : ℕ → List ℕ → Type 0
 Below n xs = (i : ℕ) → getD xs i 0 < n
 
 -- the sizes that the Rattle types give for any call: 32 general and 8 stored system registers, PC and PSW of 32 bits,
--- memories of bytes, 13 drawing registers
+-- memories of bytes, 17 device registers
 pub record Sized (s : State) (m : Memory) : Type 0 where
   pub general : length (s .regs) ≡ 32
   pub general-words : Below (2 ^ 32) (s .regs)
@@ -31,7 +31,7 @@ pub record Sized (s : State) (m : Memory) : Type 0 where
   pub wram-bytes : Below 256 (m .wram)
   pub vram-bytes : Below 256 (m .vram)
   pub pak-bytes : Below 256 (m .pak)
-  pub drawing : length (m .regs) ≡ 13
+  pub device : length (m .regs) ≡ 17
 
 -- a machine that a call is given and does not refuse by 1 to 5
 pub record Machine (s : State) (m : Memory) : Type 0 where
@@ -51,7 +51,8 @@ RunAccepted =
 abbrev pub RunCount : Type 0
 RunCount = (budget : ℕ) (s : State) (m : Memory) → runOf budget s m .count ≤ budget
 
--- what 5 then says: EIPC, EIPSW, FEPC, FEPSW, 25 and 31 are 0, 1, 2, 3, 5 and 7 of the stored system registers
+-- what 5 then says: EIPC, EIPSW, FEPC, FEPSW, 25 and 31 are 0, 1, 2, 3, 5 and 7 of the stored system registers; of the
+-- device registers it tests the drawing registers, the request lines and the timer's control bits
 pub record Means (s : State) (m : Memory) : Type 0 where
   pub zero-register : getD (s .regs) 0 0 ≡ 0
   pub pc-even : s .pc % 2 ≡ 0
@@ -63,6 +64,8 @@ pub record Means (s : State) (m : Memory) : Type 0 where
   pub fepsw-bits : bitAnd (getD (s .sys) 3 0) 0x000FF3FF ≡ getD (s .sys) 3 0
   pub sr31-most : getD (s .sys) 7 0 ≤ 0x80000000
   pub drawing-widths : (k : ℕ) → k < 13 → getD (m .regs) k 0 < 2 ^ widthOf k
+  pub five-lines : getD (m .regs) linesPlace 0 < 2 ^ 5
+  pub control-bits : bitAnd (getD (m .regs) controlPlace 0) 0x1B ≡ getD (m .regs) controlPlace 0
 
 abbrev pub AcceptedMeans : Type 0
 AcceptedMeans = (s : State) (m : Memory) → Machine s m → Means s m

@@ -5,7 +5,7 @@ use Prim.Native.Nat.{ℕ}
 use mathlib.Core.List.{List}
 use lib.ListN.{length}
 use Rattle.bus.specs.Memory.{Memory, Lengths, memoryOf}
-use Rattle.processor.specs.Record.{stateIn}
+use Rattle.processor.specs.Record.{stateIn, busOf}
 use Rattle.processor.specs.Calls.{checkedStepOf, checkedRunOf, resetOf}
 use Rattle.processor.specs.declared.Processor.{Processor}
 use Rattle.processor_laws.specs.Accepted.{Below, Machine}
@@ -13,14 +13,16 @@ use Rattle.processor_laws.specs.Accepted.{Below, Machine}
 -- a step's call
 abbrev pub StepCallAccepted : Type 0
 StepCallAccepted =
-    (p : Processor) (m : Memory) → Machine (stateIn p) m
-    → Machine (stateIn (checkedStepOf p m .processor)) (checkedStepOf p m .memory)
+    (p : Processor) (m : Memory) → Machine (stateIn p) (busOf p m)
+    → let q = checkedStepOf p m .processor in
+    Machine (stateIn q) (busOf q (checkedStepOf p m .memory))
 
 -- a run's call
 abbrev pub RunCallAccepted : Type 0
 RunCallAccepted =
-    (budget : ℕ) (p : Processor) (m : Memory) → Machine (stateIn p) m
-    → Machine (stateIn (checkedRunOf budget p m .processor)) (checkedRunOf budget p m .memory)
+    (budget : ℕ) (p : Processor) (m : Memory) → Machine (stateIn p) (busOf p m)
+    → let q = checkedRunOf budget p m .processor in
+    Machine (stateIn q) (busOf q (checkedRunOf budget p m .memory))
 
 -- reset
 abbrev pub ResetAccepted : Type 0
@@ -30,4 +32,5 @@ ResetAccepted =
     → Below 256 wram
     → Below 256 vram
     → Below 256 pak
-    → Machine (stateIn (resetOf .processor)) (memoryOf rom wram vram pak (resetOf .drawing .regs))
+    → let p = resetOf .processor in
+    Machine (stateIn p) (busOf p (memoryOf rom wram vram pak (resetOf .drawing .regs)))

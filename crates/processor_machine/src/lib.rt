@@ -27,10 +27,11 @@ pub enum Cause {
     FloatOverflow,
 }
 
-// What a step did.
+// What a step did; an accepted interrupt carries its level.
 pub enum Answer {
     Ended,
     Trapped(Cause),
+    Interrupted(u32),
     TurnedFatal(Cause),
     WasHalted,
     WasFatal,

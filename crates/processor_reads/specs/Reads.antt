@@ -15,7 +15,7 @@ use Rattle.processor_decode.specs.declared.Decoded.{Decoded}
 use Rattle.processor_decode.specs.declared.Decoded.the-variants.{Modelled, NotModelled}
 use Rattle.processor_machine.specs.State.{State, regOf}
 use Rattle.processor_machine.specs.declared.Answer.{Answer}
-use Rattle.processor_machine.specs.declared.Answer.the-variants.{Ended, Trapped, TurnedFatal, WasHalted, WasFatal, Refused}
+use Rattle.processor_machine.specs.declared.Answer.the-variants.{Ended, Trapped, Interrupted, TurnedFatal, WasHalted, WasFatal, Refused}
 use Rattle.processor_execute.specs.Execute.{plusOf}
 use Rattle.processor_step.specs.Step.{stepOf, fetchedOf}
 use Rattle.processor_step.specs.declared.step.Fetched.{Fetched}
@@ -78,11 +78,12 @@ readOf h s m =
 abbrev pub noneOf : Undefined
 noneOf = record { first = 0; second = 0; load = 0 }
 
--- by the answer: a trapped step and one that turned fatal have fetched; a step in halted or fatal mode has not, and a
--- refusal answers its number alone
+-- by the answer: a trapped step and one that turned fatal have fetched; a step in halted or fatal mode and one that accepted
+-- an interrupt have not, and a refusal answers its number alone
 abbrev pub undefinedWhen : Answer → Undefined → Undefined
 undefinedWhen Ended u = u
 undefinedWhen (Trapped cause) u = u
+undefinedWhen (Interrupted level) u = noneOf
 undefinedWhen (TurnedFatal cause) u = u
 undefinedWhen WasHalted u = noneOf
 undefinedWhen WasFatal u = noneOf

@@ -56,13 +56,15 @@ fn read(pc: u32, fetched: Fetched, regs: &[u32; 32]) -> Undefined
     }
 }
 
-// Those of a step with its answer: it fetched nothing in halted or fatal mode, and a refusal answers its number alone.
+// Those of a step with its answer: it fetched nothing in halted or fatal mode or where it accepted an interrupt, and a
+// refusal answers its number alone.
 pub fn masks(answer: Answer, pc: u32, fetched: Fetched, regs: &[u32; 32]) -> Undefined
     ensures { λ r. ⌜ ((sys : List ℕ) (psw : ℕ) (mode : Mode) (m : Memory) → r ≡ undefinedWhen answer (readOf fetched (stateOf (now (regs .entry)) sys pc psw mode) m)) ⌝ }
 {
     match answer {
         Answer::Ended => read(pc, fetched, regs),
         Answer::Trapped(_) => read(pc, fetched, regs),
+        Answer::Interrupted(_) => none(),
         Answer::TurnedFatal(_) => read(pc, fetched, regs),
         Answer::WasHalted => none(),
         Answer::WasFatal => none(),

@@ -1,8 +1,11 @@
--- A step (paper 01, "Instructions"): the instruction at PC is fetched once, decoded and executed. In halted or fatal
--- mode a step "does nothing and says which"; an instruction that is not modelled is refusal 6.
+-- A step (paper 01, "Instructions"; paper 02, W6): an interrupt is accepted, or the instruction at PC is fetched once,
+-- decoded and executed. In halted or fatal mode a step "does nothing and says which"; an instruction that is not modelled
+-- is refusal 6.
 use Prim.Native.Nat.{ℕ, _+_, _%_, _^_}
 use mathlib.Core.Bool.{Bool}
 use Rattle.word.specs.Choose.{pick}
+use lib.ListN.{getD}
+use Rattle.bus.specs.Registers.{linesPlace}
 use Rattle.bus.specs.Memory.{Memory, loadOf}
 use Rattle.refusal.specs.declared.Refusal as refusal
 use Rattle.processor_decode.specs.Format.{twoOf}
@@ -13,7 +16,8 @@ use Rattle.processor_machine.specs.State.{State, Stepped, steppedOf}
 use Rattle.processor_execute.specs.Execute.{executeOf}
 use Rattle.processor_machine.specs.declared.Mode.{Mode}
 use Rattle.processor_machine.specs.declared.Mode.the-variants.{Running, Halted, Fatal}
-use Rattle.processor_machine.specs.declared.Answer.the-variants.{WasHalted, WasFatal, Refused}
+use Rattle.processor_machine.specs.declared.Answer.the-variants.{Interrupted, WasHalted, WasFatal, Refused}
+use Rattle.processor_interrupt.specs.Interrupt.{levelOf, acceptsOf, interruptedOf}
 use Rattle.processor_step.specs.declared.step.Fetched.{Fetched}
 
 -- the first halfword, at PC
@@ -46,20 +50,41 @@ runningStepOf s m =
     let two = twoOf first in
     performOf (decodeOf first (secondOf two (s .pc) m)) (nextOf two (s .pc)) s m
 
--- a step, by the mode
+-- a step with no interrupt accepted, by the mode
 abbrev pub stepInOf : Mode → State → Memory → Stepped
 stepInOf Running s m = runningStepOf s m
 stepInOf Halted s m = steppedOf WasHalted s m
 stepInOf Fatal s m = steppedOf WasFatal s m
 
-unfoldable pub stepOf : State → Memory → Stepped
-stepOf s m = stepInOf (s .mode) s m
+unfoldable pub instructionStepOf : State → Memory → Stepped
+instructionStepOf s m = stepInOf (s .mode) s m
 
--- the halfwords that a step fetches: none in halted or fatal mode
+-- the five request lines, bit n that of level n
+abbrev pub linesIn : Memory → ℕ
+linesIn m = getD (m .regs) linesPlace 0
+
+-- whether an interrupt is accepted
+abbrev pub acceptsIn : State → Memory → Bool
+acceptsIn s m = acceptsOf (linesIn m) (s .psw) (s .mode)
+
+-- the step that accepts one: memory, the lines and the timer stay
+abbrev pub interruptStepOf : State → Memory → Stepped
+interruptStepOf s m =
+    let level = levelOf (linesIn m) in
+    steppedOf (Interrupted level) (interruptedOf level s) m
+
+-- a step: acceptance "is a step of its own .. and comes before the next instruction is looked at"
+unfoldable pub stepOf : State → Memory → Stepped
+stepOf s m = pick (acceptsIn s m) (interruptStepOf s m) (instructionStepOf s m)
+
+-- the halfwords that a step fetches: none in halted or fatal mode, and none where an interrupt is accepted
+abbrev pub notFetched : Fetched
+notFetched = record { first = 0; second = 0 }
+
 abbrev pub fetchedInOf : Mode → ℕ → Memory → Fetched
 fetchedInOf Running pc m = fetchedAt pc m
-fetchedInOf Halted pc m = record { first = 0; second = 0 }
-fetchedInOf Fatal pc m = record { first = 0; second = 0 }
+fetchedInOf Halted pc m = notFetched
+fetchedInOf Fatal pc m = notFetched
 
-abbrev pub fetchedOf : State → Memory → Fetched
-fetchedOf s m = fetchedInOf (s .mode) (s .pc) m
+unfoldable pub fetchedOf : State → Memory → Fetched
+fetchedOf s m = pick (acceptsIn s m) notFetched (fetchedInOf (s .mode) (s .pc) m)

@@ -1,16 +1,23 @@
-// A step: the instruction at PC is fetched once, decoded and executed.
+// A step: an interrupt is accepted, or the instruction at PC is fetched once, decoded and executed.
 use crate::execute::execute;
 use bus::Device;
 use processor_decode::Decoded;
+use processor_interrupt::acceptance::accepts;
+use processor_interrupt::acceptance::level;
+use processor_interrupt::entry::enter;
 use processor_machine::Answer;
 use processor_machine::Control;
 use processor_machine::Mode;
 use refusal::Refusal;
 ghost use lib.ListN.{length};
 ghost use mathlib.Core.Path.{_≡_};
-ghost use Rattle.bus.specs.Memory.{memoryOf, Lengths};
-ghost use Rattle.processor_machine.specs.State.{stateOf, leaves};
-ghost use Rattle.processor_step.specs.Step.{firstOf, secondOf, nextOf, stepOf, runningStepOf, fetchedAt, fetchedOf};
+ghost use mathlib.Core.List.{List};
+ghost use Prim.Native.Nat.{ℕ};
+ghost use Rattle.bus.specs.Memory.{Memory, memoryOf, Lengths};
+ghost use Rattle.processor_machine.specs.State.{stateOf, steppedOf, leaves};
+ghost use Rattle.processor_machine.specs.declared.Mode.{Mode};
+ghost use Rattle.processor_interrupt.specs.Interrupt.{levelOf, interruptedOf};
+ghost use Rattle.processor_step.specs.Step.{firstOf, secondOf, nextOf, runningStepOf, instructionStepOf, stepOf, fetchedAt, notFetched, fetchedInOf, fetchedOf};
 
 // The halfwords that a step fetched; 0 for one that it did not.
 pub struct Fetched {
@@ -126,8 +133,8 @@ fn running(
     }
 }
 
-// A step in any mode.
-pub fn step(
+// A step with no interrupt accepted, in any mode.
+fn instruction(
     rom: &[u8],
     wram: &mut [u8],
     vram: &mut [u8],
@@ -140,8 +147,8 @@ pub fn step(
     mode: Mode,
 ) -> Performed
     requires { ⌜ Lengths (length (now rom)) (length (now wram)) (length (now vram)) (length (now pak)) ⌝ }
-    ensures done { λ r. ⌜ leaves (now (regs .exit)) (now (sys .exit)) (r .control) (memoryOf (now (rom .entry)) (now (wram .exit)) (now (vram .exit)) (now (pak .exit)) (now (device .exit))) ≡ stepOf (stateOf (now (regs .entry)) (now (sys .entry)) pc psw mode) (memoryOf (now (rom .entry)) (now (wram .entry)) (now (vram .entry)) (now (pak .entry)) (now (device .entry))) ⌝ }
-    ensures fetched { λ r. ⌜ r .fetched ≡ fetchedOf (stateOf (now (regs .entry)) (now (sys .entry)) pc psw mode) (memoryOf (now (rom .entry)) (now (wram .entry)) (now (vram .entry)) (now (pak .entry)) (now (device .entry))) ⌝ }
+    ensures done { λ r. ⌜ leaves (now (regs .exit)) (now (sys .exit)) (r .control) (memoryOf (now (rom .entry)) (now (wram .exit)) (now (vram .exit)) (now (pak .exit)) (now (device .exit))) ≡ instructionStepOf (stateOf (now (regs .entry)) (now (sys .entry)) pc psw mode) (memoryOf (now (rom .entry)) (now (wram .entry)) (now (vram .entry)) (now (pak .entry)) (now (device .entry))) ⌝ }
+    ensures fetched { λ r. ⌜ r .fetched ≡ fetchedInOf mode pc (memoryOf (now (rom .entry)) (now (wram .entry)) (now (vram .entry)) (now (pak .entry)) (now (device .entry))) ⌝ }
 {
     match mode {
         Mode::Running => running(rom, wram, vram, pak, device, regs, sys, pc, psw),
@@ -170,4 +177,49 @@ pub fn step(
             },
         },
     }
+}
+
+// The step that accepts an interrupt: nothing is fetched.
+fn interrupt(sys: &mut [u32; 8], lines: u16, pc: u32, psw: u32) -> Performed
+    ensures done { λ r. ⌜ ((regs : List ℕ) (mode : Mode) (m : Memory) → leaves regs (now (sys .exit)) (r .control) m ≡ steppedOf (Answer.Interrupted (levelOf lines)) (interruptedOf (levelOf lines) (stateOf regs (now (sys .entry)) pc psw mode)) m) ⌝ }
+    ensures fetched { λ r. ⌜ r .fetched ≡ notFetched ⌝ }
+{
+    let level = level(lines);
+    let entered = enter(sys, level, pc, psw);
+    Performed {
+        control: Control {
+            pc: entered.pc,
+            psw: entered.psw,
+            mode: Mode::Running,
+            answer: Answer::Interrupted(level),
+        },
+        fetched: Fetched {
+            first: 0,
+            second: 0,
+        },
+    }
+}
+
+// A step in any mode. The lines stand first: with none raised nothing else is tested.
+pub fn step(
+    rom: &[u8],
+    wram: &mut [u8],
+    vram: &mut [u8],
+    pak: &mut [u8],
+    device: &mut Device,
+    regs: &mut [u32; 32],
+    sys: &mut [u32; 8],
+    pc: u32,
+    psw: u32,
+    mode: Mode,
+) -> Performed
+    requires { ⌜ Lengths (length (now rom)) (length (now wram)) (length (now vram)) (length (now pak)) ⌝ }
+    ensures done { λ r. ⌜ leaves (now (regs .exit)) (now (sys .exit)) (r .control) (memoryOf (now (rom .entry)) (now (wram .exit)) (now (vram .exit)) (now (pak .exit)) (now (device .exit))) ≡ stepOf (stateOf (now (regs .entry)) (now (sys .entry)) pc psw mode) (memoryOf (now (rom .entry)) (now (wram .entry)) (now (vram .entry)) (now (pak .entry)) (now (device .entry))) ⌝ }
+    ensures fetched { λ r. ⌜ r .fetched ≡ fetchedOf (stateOf (now (regs .entry)) (now (sys .entry)) pc psw mode) (memoryOf (now (rom .entry)) (now (wram .entry)) (now (vram .entry)) (now (pak .entry)) (now (device .entry))) ⌝ }
+{
+    let lines = device[13];
+    if accepts(lines, psw, mode) {
+        return interrupt(sys, lines, pc, psw);
+    }
+    instruction(rom, wram, vram, pak, device, regs, sys, pc, psw, mode)
 }

@@ -1,4 +1,4 @@
--- The record of a machine's 43 words is its own, and 43 words whose mode is at most 2 are those of their record. Assumes nothing.
+-- The record of a machine's 43 words is its own with lines and timer at reset, and 43 words whose mode is at most 2 are those of their record. Assumes nothing.
 use Prim.Native.Nat.{ℕ, zero, suc, _+_, _≤_}
 use native.Mathlib.Omega.{arith}
 use mathlib.Core.List.{List, [], _∷_, _++_}
@@ -7,6 +7,7 @@ use lib.ListN.{length, getD, take, drop, length-append, length-drop, take-append
 use lib.Seq.{take-at, drop-at, drop-cons, getD-drop}
 use Rattle.processor_machine.specs.declared.Mode.{Mode}
 use Rattle.processor_machine.specs.declared.Mode.the-variants.{Running, Halted, Fatal}
+use Rattle.processor.specs.Record.{withHardware, resetHardware}
 use Rattle.processor.specs.declared.Processor.{Processor}
 use Rattle.saved.specs.Body.{modeWordOf, modeOf, restOf, wordsOf, processorOf, processorIn}
 
@@ -30,7 +31,7 @@ pub length-rest : (p : Processor) → length (restOf p) ≡ 11
 unfolding restOf
 length-rest p = refl
 
-record-back : (p : Processor) → processorOf (p .regs) (restOf p) ≡ p
+record-back : (p : Processor) → processorOf (p .regs) (restOf p) ≡ withHardware p resetHardware
 unfolding processorOf restOf
 record-back p = rw (mode-back (p .mode))
 
@@ -39,7 +40,7 @@ module _ (p : Processor) (l : length (p .regs) ≡ 32) where
   unfolding wordsOf
   length-words = simp length-append (omega (arith, length-rest p))
 
-  pub processor-back : processorIn (wordsOf p) ≡ p
+  pub processor-back : processorIn (wordsOf p) ≡ withHardware p resetHardware
   unfolding processorIn wordsOf
   processor-back = rw (take-at (p .regs) (restOf p) 32 l, drop-at (p .regs) (restOf p) 32 l) (record-back p)
 

@@ -15,8 +15,9 @@ use Rattle.refusal.specs.declared.Verdict.the-variants.{Accepted, Refused}
 use Rattle.bus.specs.Memory.{Memory, memoryOf, verdictAt, Lengths}
 use Rattle.bus.specs.Refusal.{pakLengths, pakOk}
 use Rattle.bus.proofs.Accepted.{accepted-lengths}
-use Rattle.processor_machine.specs.State.{State}
-use Rattle.processor.specs.Acceptance.{thenOf, stateOk, acceptanceAt, acceptanceOf}
+use Rattle.processor.specs.Record.{stateIn, busOf}
+use Rattle.processor.specs.Acceptance.{thenOf, stateOk, acceptanceAt, acceptanceIn}
+use Rattle.processor.specs.declared.Processor.{Processor}
 use Rattle.saved_layout.specs.Layout.{form1, placeOf, fileLengthOf}
 use Rattle.saved_layout.specs.File.{wramIn, vramIn, pakIn}
 use Rattle.saved_layout.proofs.Places.{third, fourth, fifth, length-is}
@@ -27,12 +28,14 @@ first-accepted (Refused n) later e =
     let z : _≡_ {A = ℕ} 0 1 = cc in
     absurd (omega arith)
 
-pub lengths-of : (s : State) (m : Memory) → acceptanceOf s m ≡ Accepted
+pub lengths-of : (p : Processor) (m : Memory) → acceptanceIn p m ≡ Accepted
     → Lengths (length (m .rom)) (length (m .wram)) (length (m .vram)) (length (m .pak))
 unfolding acceptanceAt
-lengths-of s m e =
-    accepted-lengths (length (m .rom)) (length (m .wram)) (length (m .vram)) (length (m .pak)) (m .regs)
-    (first-accepted (verdictAt (length (m .rom)) (length (m .wram)) (length (m .vram)) (length (m .pak)) (m .regs))
+lengths-of p m e =
+    let s = stateIn p in
+    let device = busOf p m .regs in
+    accepted-lengths (length (m .rom)) (length (m .wram)) (length (m .vram)) (length (m .pak)) device
+    (first-accepted (verdictAt (length (m .rom)) (length (m .wram)) (length (m .vram)) (length (m .pak)) device)
     (unless (stateOk (s .regs) (s .sys) (s .pc) (s .psw)) refusal.the-variants.State Accepted) e)
 
 -- a pak RAM length is one of a list whose numbers are small

@@ -16,10 +16,14 @@ use Rattle.refusal.specs.Number.{unless}
 use Rattle.refusal.specs.declared.Refusal as refusal
 use Rattle.refusal.specs.declared.Verdict.{Verdict}
 use Rattle.refusal.specs.declared.Verdict.the-variants.{Accepted, Refused}
+use Rattle.bus_timer.specs.Ports.{controlBitsOf, hardwareOk}
+use Rattle.bus_timer.specs.declared.Hardware.{Hardware}
+use Rattle.bus.specs.Registers.{drawingOk, deviceOf, registersOk}
 use Rattle.bus.specs.Memory.{Memory, memoryOf, verdictAt, Lengths}
+use Rattle.bus.proofs.Devices.{device-ok}
 use Rattle.bus.proofs.Accepted.{accepted-registers, lengths-accepted, unless-passed}
-use Rattle.processor.specs.Record.{stateIn}
-use Rattle.processor.specs.Acceptance.{thenOf, stateOk, acceptanceAt, acceptanceOf}
+use Rattle.processor.specs.Record.{stateIn, busOf, withHardware, resetHardware}
+use Rattle.processor.specs.Acceptance.{thenOf, stateOk, acceptanceAt, acceptanceIn}
 use Rattle.processor.specs.declared.Processor.{Processor}
 use Rattle.saved_layout.specs.Numbers.{wordsFrom, halvesFrom}
 use Rattle.saved_layout.specs.Layout.{form1, placeOf, fileLengthOf}
@@ -41,21 +45,39 @@ then-accepted (Refused n) later e =
     let z : _≡_ {A = ℕ} 0 1 = cc in
     absurd (omega arith)
 
+-- two tests that hold
+both-true : (a b : Bool) → pick a b false ≡ true → (a ≡ true) × (b ≡ true)
+both-true true b e = (refl, e)
+both-true false b e =
+    let z : _≡_ {A = ℕ} 0 1 = cc in
+    absurd (omega arith)
+
+-- lines and timer at reset pass 5 where the drawing registers do
+reset-ok : (d : List ℕ) (h : Hardware) → registersOk (deviceOf d h) ≡ true → registersOk (deviceOf d resetHardware) ≡ true
+reset-ok d h e =
+    let drawing = both-true (drawingOk d) (hardwareOk h) (sym (device-ok d h) ∙ e) .0 in
+    device-ok d resetHardware ∙ rw drawing zero
+  where
+    zero : hardwareOk resetHardware ≡ true
+    zero = unfold hardwareOk controlBitsOf in refl
+
 module _ (p : Processor) (m : Memory) (rom : List ℕ) where
-  other-rom : acceptanceOf (stateIn p) m ≡ Accepted → (r : Lengths (length rom) (length (m .wram)) (length (m .vram)) (length (m .pak)))
-      → acceptanceOf (stateIn p) (memoryOf rom (m .wram) (m .vram) (m .pak) (m .regs)) ≡ Accepted
+  other-rom : acceptanceIn p m ≡ Accepted → (r : Lengths (length rom) (length (m .wram)) (length (m .vram)) (length (m .pak)))
+      → acceptanceIn (withHardware p resetHardware) (memoryOf rom (m .wram) (m .vram) (m .pak) (m .regs)) ≡ Accepted
   unfolding acceptanceAt
   other-rom e r =
-      let both = then-accepted (verdictAt (length (m .rom)) (length (m .wram)) (length (m .vram)) (length (m .pak)) (m .regs))
+      let device = busOf p m .regs in
+      let both = then-accepted (verdictAt (length (m .rom)) (length (m .wram)) (length (m .vram)) (length (m .pak)) device)
       (unless (stateOk (stateIn p .regs) (stateIn p .sys) (stateIn p .pc) (stateIn p .psw)) refusal.the-variants.State Accepted) e in
-      let v = lengths-accepted (length rom) (length (m .wram)) (length (m .vram)) (length (m .pak)) (m .regs) r
-      (accepted-registers (length (m .rom)) (length (m .wram)) (length (m .vram)) (length (m .pak)) (m .regs) (both .0)) in
+      let v = lengths-accepted (length rom) (length (m .wram)) (length (m .vram)) (length (m .pak)) (deviceOf (m .regs) resetHardware) r
+      (reset-ok (m .regs) (p .hardware)
+      (accepted-registers (length (m .rom)) (length (m .wram)) (length (m .vram)) (length (m .pak)) device (both .0))) in
       rw v (both .1)
 
 -- what is written for an accepted machine
 module _ (p : Processor) (m : Memory) (s : Savable p m) where
   lengths : Lengths (length (m .rom)) (length (m .wram)) (length (m .vram)) (length (m .pak))
-  lengths = lengths-of (stateIn p) m (s .accepted)
+  lengths = lengths-of p m (s .accepted)
 
   few : length (m .pak) ≤ 16777216
   few = pak-small (length (m .pak)) (lengths .pak-ok)
@@ -73,7 +95,7 @@ module _ (p : Processor) (m : Memory) (s : Savable p m) where
     unfolding stateFileOf
     words = rw same (words-kept (wordsOf p) (m .regs) (m .wram) (m .vram) (m .pak) (length-words p (s .general)) (s .drawing) (lengths .wram-ok) (lengths .vram-ok) few (under (2 ^ 32) (wordsOf p) (s .words)))
 
-    held-processor : heldProcessorOf form1 n (stateFileOf form1 p m) ≡ p
+    held-processor : heldProcessorOf form1 n (stateFileOf form1 p m) ≡ withHardware p resetHardware
     unfolding heldProcessorOf
     held-processor = rw words (processor-back p (s .general))
 
@@ -96,11 +118,11 @@ module _ (p : Processor) (m : Memory) (s : Savable p m) where
         le-leb (getD (wordsIn form1 (length (n .pak)) (stateFileOf form1 p m)) 42 0) 2 (rw (words, e) (mode-small (p .mode)))
 
     -- the test of 10 passes
-    pub made : (q : Processor) → acceptanceOf (stateIn q) n ≡ Accepted → bytesOk form1 n (stateFileOf form1 p m) ≡ true
+    pub made : (q : Processor) → acceptanceIn q n ≡ Accepted → bytesOk form1 n (stateFileOf form1 p m) ≡ true
     made q accepted =
         let r : Lengths (length (n .rom)) (length (m .wram)) (length (m .vram)) (length (m .pak))
         = record {
-          rom-ok = lengths-of (stateIn q) n accepted .rom-ok;
+          rom-ok = lengths-of q n accepted .rom-ok;
           wram-ok = lengths .wram-ok;
           vram-ok = lengths .vram-ok;
           pak-ok = lengths .pak-ok;
@@ -111,13 +133,6 @@ pub read-written : ReadWritten
 read-written p q m n s accepted same =
     sym (read-accepted q n (stateFileOf form1 p m) accepted (due p m s ∙ ap (fileLengthOf form1) (sym same)) (made p m s n same q accepted))
     ∙ rw (held-processor p m s n same, held-memory p m s n same)
-
--- the three tests of 10
-both-true : (a b : Bool) → pick a b false ≡ true → (a ≡ true) × (b ≡ true)
-both-true true b e = (refl, e)
-both-true false b e =
-    let z : _≡_ {A = ℕ} 0 1 = cc in
-    absurd (omega arith)
 
 is-accepted : (v : Verdict) → isAccepted v ≡ true → v ≡ Accepted
 is-accepted Accepted e = refl
@@ -171,12 +186,12 @@ module _ (n : Memory) (file : List ℕ) (whole : length file ≡ fileLengthOf fo
   module _ (ok : bytesOk form1 n file ≡ true) where
     tests : (contentsOk form1 (length (n .pak)) file ≡ true)
         × ((leb (getD (wordsIn form1 (length (n .pak)) file) 42 0) 2 ≡ true)
-        × (acceptanceOf (stateIn (heldProcessorOf form1 n file)) (heldMemoryOf form1 n file) ≡ Accepted))
+        × (acceptanceIn (heldProcessorOf form1 n file) (heldMemoryOf form1 n file) ≡ Accepted))
     unfolding bytesOk
     tests =
         let a = both-true (contentsOk form1 (length (n .pak)) file) _ ok in
         let b = both-true (leb (getD (wordsIn form1 (length (n .pak)) file) 42 0) 2) _ (a .1) in
-        (a .0, (b .0, is-accepted (acceptanceOf (stateIn (heldProcessorOf form1 n file)) (heldMemoryOf form1 n file)) (b .1)))
+        (a .0, (b .0, is-accepted (acceptanceIn (heldProcessorOf form1 n file) (heldMemoryOf form1 n file)) (b .1)))
 
     words-held : wordsOf (heldProcessorOf form1 n file) ≡ wordsIn form1 (length (n .pak)) file
     unfolding heldProcessorOf

@@ -13,8 +13,7 @@ use Rattle.refusal.specs.declared.Refusal.the-variants.{FileLength, FileBytes}
 use Rattle.refusal.specs.declared.Verdict.{Verdict}
 use Rattle.refusal.specs.declared.Verdict.the-variants.{Accepted, Refused}
 use Rattle.bus.specs.Memory.{Memory, memoryOf, Lengths}
-use Rattle.processor.specs.Record.{stateIn}
-use Rattle.processor.specs.Acceptance.{acceptanceOf, acceptanceAt}
+use Rattle.processor.specs.Acceptance.{acceptanceIn, acceptanceAt}
 use Rattle.processor.specs.declared.Processor.{Processor}
 use Rattle.saved_layout.specs.Layout.{form1, fileLengthOf}
 use Rattle.saved_layout.specs.File.{fileOf, contentsOk, wordsIn, halvesIn, wramIn, vramIn, pakIn}
@@ -23,12 +22,12 @@ use Rattle.saved.specs.Calls.{stateFileOf, heldProcessorOf, heldMemoryOf
 use Rattle.saved.proofs.Lengths.{lengths-of, length-wram-in, length-vram-in, length-pak-in}
 
 module _ (p : Processor) (m : Memory) (room : List ℕ) where
-  pub write-refused : (n : refusal.Refusal) → acceptanceOf (stateIn p) m ≡ Refused n
+  pub write-refused : (n : refusal.Refusal) → acceptanceIn p m ≡ Refused n
       → (Refused n ≡ writeVerdictOf p m room) × (room ≡ writtenOf p m room)
   unfolding writtenOf writeVerdictOf
   write-refused n e = (simp e, simp e)
 
-  module _ (e : acceptanceOf (stateIn p) m ≡ Accepted) where
+  module _ (e : acceptanceIn p m ≡ Accepted) where
     pub write-length : (length room ≡ fileLengthOf form1 (length (m .pak)) → ⊥)
         → (Refused FileLength ≡ writeVerdictOf p m room) × (room ≡ writtenOf p m room)
     unfolding writtenOf writeVerdictOf
@@ -58,7 +57,7 @@ module _ (m : Memory) (file : List ℕ) where
   unfolding bytesOk
   bytes-contents e = rw e
 
-  pub bytes-held : (n : refusal.Refusal) → acceptanceOf (stateIn (heldProcessorOf form1 m file)) (heldMemoryOf form1 m file) ≡ Refused n
+  pub bytes-held : (n : refusal.Refusal) → acceptanceIn (heldProcessorOf form1 m file) (heldMemoryOf form1 m file) ≡ Refused n
       → bytesOk form1 m file ≡ false
   unfolding bytesOk
   bytes-held n e =
@@ -66,7 +65,7 @@ module _ (m : Memory) (file : List ℕ) where
       (both-right (leb (getD (wordsIn form1 (length (m .pak)) file) 42 0) 2) _ (ap isAccepted e))
 
   pub bytes-made : contentsOk form1 (length (m .pak)) file ≡ true → leb (getD (wordsIn form1 (length (m .pak)) file) 42 0) 2 ≡ true
-      → acceptanceOf (stateIn (heldProcessorOf form1 m file)) (heldMemoryOf form1 m file) ≡ Accepted
+      → acceptanceIn (heldProcessorOf form1 m file) (heldMemoryOf form1 m file) ≡ Accepted
       → bytesOk form1 m file ≡ true
   unfolding bytesOk
   bytes-made a b e = rw (a, b) (ap isAccepted e)
@@ -75,8 +74,8 @@ module _ (m : Memory) (file : List ℕ) where
 module _ (q : Processor) (rom wram vram pak regs halves file : List ℕ) (held : Processor) where
   module _ (l : Lengths (length rom) (length wram) (length vram) (length pak)) (whole : length file ≡ fileLengthOf form1 (length pak)) where
     module _ (e : held ≡ processorIn (wordsIn form1 (length pak) file)) (f : halves ≡ halvesIn form1 (length pak) file) where
-      pub held-acceptance : acceptanceOf (stateIn held) (memoryOf rom wram vram pak halves)
-          ≡ acceptanceOf (stateIn (heldProcessorOf form1 (memoryOf rom wram vram pak regs) file)) (heldMemoryOf form1 (memoryOf rom wram vram pak regs) file)
+      pub held-acceptance : acceptanceIn held (memoryOf rom wram vram pak halves)
+          ≡ acceptanceIn (heldProcessorOf form1 (memoryOf rom wram vram pak regs) file) (heldMemoryOf form1 (memoryOf rom wram vram pak regs) file)
       unfolding heldProcessorOf heldMemoryOf
       held-acceptance =
           rw (
@@ -88,11 +87,11 @@ module _ (q : Processor) (rom wram vram pak regs halves file : List ℕ) (held :
           )
 
 module _ (p : Processor) (m : Memory) (file : List ℕ) where
-  pub read-refused : (n : refusal.Refusal) → acceptanceOf (stateIn p) m ≡ Refused n → restoredOf (Refused n) p m ≡ readOf p m file
+  pub read-refused : (n : refusal.Refusal) → acceptanceIn p m ≡ Refused n → restoredOf (Refused n) p m ≡ readOf p m file
   unfolding readOf readVerdictOf
   read-refused n e = simp e
 
-  module _ (e : acceptanceOf (stateIn p) m ≡ Accepted) where
+  module _ (e : acceptanceIn p m ≡ Accepted) where
     pub read-length : (length file ≡ fileLengthOf form1 (length (m .pak)) → ⊥) → restoredOf (Refused FileLength) p m ≡ readOf p m file
     unfolding readOf readVerdictOf
     read-length n = simp (e, ne-eqb _ _ n)

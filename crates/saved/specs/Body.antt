@@ -1,5 +1,6 @@
 -- Kind 1, the processor's 43 words (paper 02, W1): "32 registers, PC, EIPC, EIPSW, FEPC, FEPSW, ECR, PSW, system registers 25 and
--- 29, the value read from 31, mode: 0 running, 1 halted, 2 fatal"; and the record that 43 words stand for.
+-- 29, the value read from 31, mode: 0 running, 1 halted, 2 fatal"; and the record that 43 words stand for. The request lines and
+-- the timer are not among them.
 use Prim.Native.Nat.{ℕ}
 use mathlib.Core.List.{List, [], _∷_, _++_}
 use lib.Dec.{eqb}
@@ -7,6 +8,7 @@ use lib.ListN.{getD, take, drop}
 use Rattle.word.specs.Choose.{pick}
 use Rattle.processor_machine.specs.declared.Mode.{Mode}
 use Rattle.processor_machine.specs.declared.Mode.the-variants.{Running, Halted, Fatal}
+use Rattle.processor.specs.Record.{resetHardware}
 use Rattle.processor.specs.declared.Processor.{Processor}
 
 abbrev pub modeWordOf : Mode → ℕ
@@ -38,7 +40,8 @@ restOf p =
 unfoldable pub wordsOf : Processor → List ℕ
 wordsOf p = p .regs ++ restOf p
 
--- the record of the general registers and the eleven words
+-- the record of the general registers and the eleven words, with lines and timer at reset: paper 02, W6, "W1's files leave
+-- them out and load them at reset"
 unfoldable pub processorOf : List ℕ → List ℕ → Processor
 processorOf regs rest =
     record {
@@ -54,6 +57,7 @@ processorOf regs rest =
       sr29 = getD rest 8 0;
       sr31 = getD rest 9 0;
       mode = modeOf (getD rest 10 0);
+      hardware = resetHardware;
     }
 
 -- the record of 43 words

@@ -10,8 +10,7 @@ use Rattle.refusal.specs.declared.Verdict.{Verdict}
 use Rattle.refusal.specs.declared.Verdict.the-variants.{Accepted, Refused}
 use Rattle.refusal.specs.declared.Refusal.the-variants.{FileLength, FileBytes}
 use Rattle.bus.specs.Memory.{Memory, memoryOf}
-use Rattle.processor.specs.Record.{stateIn}
-use Rattle.processor.specs.Acceptance.{both, thenOf, acceptanceOf}
+use Rattle.processor.specs.Acceptance.{both, thenOf, acceptanceIn}
 use Rattle.processor.specs.declared.Processor.{Processor}
 use Rattle.saved_layout.specs.Layout.{Form, form1, fileLengthOf}
 use Rattle.saved_layout.specs.File.{fileOf, contentsOk, wordsIn, halvesIn, wramIn, vramIn, pakIn}
@@ -43,11 +42,11 @@ unfoldable pub bytesOk : Form → Memory → List ℕ → Bool
 bytesOk form m file =
     both (contentsOk form (length (m .pak)) file)
     (both (leb (getD (wordsIn form (length (m .pak)) file) 42 0) 2)
-    (isAccepted (acceptanceOf (stateIn (heldProcessorOf form m file)) (heldMemoryOf form m file))))
+    (isAccepted (acceptanceIn (heldProcessorOf form m file) (heldMemoryOf form m file))))
 
 -- the writing call's verdict: 1 to 5, 9; and the room afterwards
 unfoldable pub writeVerdictOf : Processor → Memory → List ℕ → Verdict
-writeVerdictOf p m room = thenOf (acceptanceOf (stateIn p) m) (unless (lengthOk form1 m room) FileLength Accepted)
+writeVerdictOf p m room = thenOf (acceptanceIn p m) (unless (lengthOk form1 m room) FileLength Accepted)
 
 abbrev pub whenAccepted : Verdict → List ℕ → List ℕ → List ℕ
 whenAccepted Accepted refused accepted = accepted
@@ -59,7 +58,7 @@ writtenOf p m room = whenAccepted (writeVerdictOf p m room) room (stateFileOf fo
 -- the reading call's verdict: 1 to 5, 9, 10
 unfoldable pub readVerdictOf : Processor → Memory → List ℕ → Verdict
 readVerdictOf p m file =
-    thenOf (acceptanceOf (stateIn p) m)
+    thenOf (acceptanceIn p m)
     (unless (lengthOk form1 m file) FileLength (unless (bytesOk form1 m file) FileBytes Accepted))
 
 -- what it gives: the verdict, the record and the memory afterwards

@@ -1,4 +1,5 @@
 // The records of a machine as the words and halfwords of a file.
+use bus_timer::Hardware;
 use processor::Processor;
 use processor_machine::Mode;
 ghost use mathlib.Core.Bool.{_&&_};
@@ -59,7 +60,7 @@ pub fn rest(p: Processor) -> [u32; 11]
     ]
 }
 
-// The record of the general registers and the eleven words.
+// The record of the general registers and the eleven words, with lines and timer at reset.
 fn processor_of(regs: [u32; 32], rest: [u32; 11]) -> Processor
     ensures { λ r. ⌜ r ≡ processorOf regs rest ⌝ }
 {
@@ -77,6 +78,12 @@ fn processor_of(regs: [u32; 32], rest: [u32; 11]) -> Processor
         sr29: rest[8],
         sr31: rest[9],
         mode,
+        hardware: Hardware {
+            lines: 0,
+            count: 0,
+            reload: 0,
+            control: 0,
+        },
     }
 }
 

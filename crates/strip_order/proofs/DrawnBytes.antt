@@ -10,7 +10,7 @@ use native.Mathlib.Omega.{arith}
 use lib.ListN.{length, getD}
 use lib.Dec.{eqb, ltb}
 use borrow.Author.Tests.{ltb-true, eqb-true, lt-ltb, eq-eqb, ne-eqb}
-use Rattle.bus.specs.Registers.{registersOk}
+use Rattle.bus.specs.Registers.{drawingOk}
 use Rattle.refusal.specs.Number.{unless}
 use Rattle.bus.specs.Refusal.{vramOk}
 use Rattle.refusal.specs.declared.Refusal.{Refusal}
@@ -28,7 +28,7 @@ use Rattle.drawing_laws.proofs.StripBytes.{strip-kept, strip-drawn}
 unfoldable pub pixelsAtOf : List ℕ → List ℕ → ℕ → ℕ
 pixelsAtOf vram regs a = fourPixelsOf vram regs (a / 0x10000) (a % 0x8000 / 64) (8 * (a % 64 / 2) + 4 * (a % 2))
 
-pub pixels-same : (first second regs : List ℕ) (frame a : ℕ) → registersOk regs ≡ true
+pub pixels-same : (first second regs : List ℕ) (frame a : ℕ) → drawingOk regs ≡ true
     → ((b : ℕ) → inImagesOf frame b ≡ false → SameByte first second b)
     → pixelsAtOf second regs a ≡ pixelsAtOf first regs a
 unfolding pixelsAtOf fourPixelsOf
@@ -39,7 +39,7 @@ pixels-same first second regs frame a ok h =
 
 -- whether a call over VRAM of n bytes is accepted
 unfoldable pub acceptsOf : ℕ → List ℕ → ℕ → Call → Bool
-acceptsOf n regs frame call = vramOk n && (registersOk regs && (ltb frame 2 && acceptedOf call))
+acceptsOf n regs frame call = vramOk n && (drawingOk regs && (ltb frame 2 && acceptedOf call))
 
 -- whether it draws the byte at an address
 unfoldable pub drawsByteOf : ℕ → List ℕ → ℕ → Call → ℕ → Bool
@@ -48,7 +48,7 @@ drawsByteOf n regs frame call a = acceptsOf n regs frame call && (inImagesOf fra
 -- what it means that a call draws a byte
 pub record Draws (n : ℕ) (regs : List ℕ) (frame : ℕ) (call : Call) (a : ℕ) : Type 0 where
   pub vram-ok : n ≡ 262144
-  pub registers-ok : registersOk regs ≡ true
+  pub registers-ok : drawingOk regs ≡ true
   pub frame-ok : frame < 2
   pub accepted : acceptedOf call ≡ true
   pub in-image : inImagesOf frame a ≡ true
@@ -83,7 +83,7 @@ unfolding drawsByteOf acceptsOf vramOk
 draws-byte n regs frame call a d =
     simp (eq-eqb n 262144 (d .vram-ok), d .registers-ok, lt-ltb frame 2 (d .frame-ok), d .accepted, d .in-image, d .in-strip)
 
-module _ (vram regs : List ℕ) (frame a : ℕ) (ok : registersOk regs ≡ true) (image : inImagesOf frame a ≡ true) (h : a < length vram)
+module _ (vram regs : List ℕ) (frame a : ℕ) (ok : drawingOk regs ≡ true) (image : inImagesOf frame a ≡ true) (h : a < length vram)
   where
     -- the byte lies in its own strip alone
     own-strip : (s : ℕ) → a % 64 / 2 ≡ s → inStripOf frame s a ≡ true
@@ -145,9 +145,9 @@ refused : (vram regs : List ℕ) (frame : ℕ) (call : Call) → acceptsOf (leng
     → afterOf vram regs frame call ≡ vram
 unfolding afterOf acceptsOf acceptedOf drawFrameOf frameVerdictOf drawStripOf stripVerdictOf
 refused vram regs frame frameCall e =
-    refused-frame _ _ _ (vramOk (length vram)) (registersOk regs) (ltb frame 2) vram (frameOf vram regs frame) e
+    refused-frame _ _ _ (vramOk (length vram)) (drawingOk regs) (ltb frame 2) vram (frameOf vram regs frame) e
 refused vram regs frame (stripCall s) e =
-    refused-strip _ _ _ _ (vramOk (length vram)) (registersOk regs) (ltb frame 2) (ltb s 28) vram (stripOf vram regs frame s) e
+    refused-strip _ _ _ _ (vramOk (length vram)) (drawingOk regs) (ltb frame 2) (ltb s 28) vram (stripOf vram regs frame s) e
 
 -- a byte that a call does not draw, refused or not
 pub byte-left : (vram regs : List ℕ) (frame : ℕ) (call : Call) (a : ℕ)

@@ -32,21 +32,20 @@ fn load(what: &str, base: u32, lent: &Buffers) -> Row {
     let library = vbsys::ReadMemories { rom, wram, vram, pak: &[] };
     let model = model::ReadMemories { rom, wram, vram, pak: &[] };
     let (first, second) = (vbsys::Drawing::default(), model::DrawingRegisters::default());
+    let (timer, model_timer) = (vbsys::Hardware::default(), model::Hardware::default());
     Row {
         what: what.to_string(),
         library: least(|| {
             for call in 0..CALLS {
-                black_box(vbsys::load_word(library, first, black_box(address(base, call))));
+                let at = black_box(address(base, call));
+                black_box(vbsys::load_word(library, first, timer, at));
             }
             u64::from(CALLS)
         }),
         model: least(|| {
             for call in 0..CALLS {
-                let _ = black_box(model::bus::load_word(
-                    &model,
-                    &second,
-                    black_box(address(base, call)),
-                ));
+                let at = black_box(address(base, call));
+                let _ = black_box(model::bus::load_word(&model, &second, &model_timer, at));
             }
             u64::from(CALLS)
         }),
@@ -55,13 +54,13 @@ fn load(what: &str, base: u32, lent: &Buffers) -> Row {
 
 fn store(what: &str, base: u32, lent: &mut Buffers) -> Row {
     let Buffers { rom, wram, vram } = lent;
-    let first = vbsys::Drawing::default();
-    let mut second = model::DrawingRegisters::default();
+    let (first, timer) = (vbsys::Drawing::default(), vbsys::Hardware::default());
+    let (mut second, mut model_timer) = Default::default();
     let library = least(|| {
         let mut memories = vbsys::Memories { rom, wram, vram, pak: &mut [] };
         for call in 0..CALLS {
             let at = black_box(address(base, call));
-            black_box(vbsys::store_word(&mut memories, first, at, call));
+            black_box(vbsys::store_word(&mut memories, first, timer, at, call));
         }
         u64::from(CALLS)
     });
@@ -69,7 +68,8 @@ fn store(what: &str, base: u32, lent: &mut Buffers) -> Row {
         let mut memories = model::Memories { rom, wram, vram, pak: &mut [] };
         for call in 0..CALLS {
             let at = black_box(address(base, call));
-            let _ = black_box(model::bus::store_word(&mut memories, &mut second, at, call));
+            let (second, timer) = (&mut second, &mut model_timer);
+            let _ = black_box(model::bus::store_word(&mut memories, second, timer, at, call));
         }
         u64::from(CALLS)
     });

@@ -1,10 +1,12 @@
 //! One bus access made through the library and in the model, and addresses
 //! that lie where a mistake would show.
 
-use crate::machine::{number_of, to_library, to_model, Buffers};
+use crate::machine::{
+    hardware_to_library, hardware_to_model, number_of, to_library, to_model, Buffers, Registers,
+};
 use crate::random::Random;
 use model::bus;
-use model::{DrawingRegisters, Loaded};
+use model::{DrawingRegisters, Hardware, Loaded};
 
 /// The six bus calls of vb.h.
 #[derive(Clone, Copy, Debug, PartialEq, Eq)]
@@ -28,50 +30,60 @@ pub const CALLS: [Call; 6] = [
     Call::StoreWord,
 ];
 
-/// What a bus call answers. A load gives the drawing registers it was given; a
-/// store reads nothing, so that nothing of it is undefined.
+/// What a bus call answers. A load gives the registers it was given; a store reads
+/// nothing, so that nothing of it is undefined.
 #[derive(Clone, Copy, Debug, PartialEq, Eq)]
 pub struct Answer {
     pub refusal: u32,
     pub value: u32,
     pub undefined: u32,
     pub drawing: DrawingRegisters,
+    pub hardware: Hardware,
+}
+
+impl Answer {
+    pub fn registers(&self) -> Registers {
+        Registers { drawing: self.drawing, hardware: self.hardware }
+    }
 }
 
 /// The access made by the library.
 pub fn by_library(
     call: Call,
     buffers: &mut Buffers,
-    drawing: &DrawingRegisters,
+    registers: impl Into<Registers>,
     address: u32,
     value: u32,
 ) -> Answer {
-    let registers = to_library(drawing);
+    let Registers { drawing, hardware } = registers.into();
+    let (registers, timer) = (to_library(&drawing), hardware_to_library(&hardware));
     let load = |loaded: vbsys::Loaded| Answer {
         refusal: loaded.refusal,
         value: loaded.value,
         undefined: loaded.undefined,
-        drawing: *drawing,
+        drawing,
+        hardware,
     };
     let store = |stored: vbsys::Stored| Answer {
         refusal: stored.refusal,
         value: 0,
         undefined: 0,
         drawing: to_model(&stored.drawing),
+        hardware: hardware_to_model(&stored.hardware),
     };
     let read = buffers.lend_library_to_read();
     match call {
-        Call::LoadByte => load(vbsys::load_byte(read, registers, address)),
-        Call::LoadHalf => load(vbsys::load_half(read, registers, address)),
-        Call::LoadWord => load(vbsys::load_word(read, registers, address)),
+        Call::LoadByte => load(vbsys::load_byte(read, registers, timer, address)),
+        Call::LoadHalf => load(vbsys::load_half(read, registers, timer, address)),
+        Call::LoadWord => load(vbsys::load_word(read, registers, timer, address)),
         Call::StoreByte => {
-            store(vbsys::store_byte(&mut buffers.lend_library(), registers, address, value))
+            store(vbsys::store_byte(&mut buffers.lend_library(), registers, timer, address, value))
         }
         Call::StoreHalf => {
-            store(vbsys::store_half(&mut buffers.lend_library(), registers, address, value))
+            store(vbsys::store_half(&mut buffers.lend_library(), registers, timer, address, value))
         }
         Call::StoreWord => {
-            store(vbsys::store_word(&mut buffers.lend_library(), registers, address, value))
+            store(vbsys::store_word(&mut buffers.lend_library(), registers, timer, address, value))
         }
     }
 }
@@ -80,30 +92,30 @@ pub fn by_library(
 pub fn by_model(
     call: Call,
     buffers: &mut Buffers,
-    drawing: &DrawingRegisters,
+    registers: impl Into<Registers>,
     address: u32,
     value: u32,
 ) -> Answer {
-    let mut after = *drawing;
-    let none = |()| Loaded::default();
+    let Registers { mut drawing, mut hardware } = registers.into();
+    let (d, h) = (&mut drawing, &mut hardware);
     let read = buffers.lend_model_to_read();
     let answer = match call {
-        Call::LoadByte => bus::load_byte(&read, drawing, address),
-        Call::LoadHalf => bus::load_half(&read, drawing, address),
-        Call::LoadWord => bus::load_word(&read, drawing, address),
-        Call::StoreByte => {
-            bus::store_byte(&mut buffers.lend_model(), &mut after, address, value).map(none)
-        }
-        Call::StoreHalf => {
-            bus::store_half(&mut buffers.lend_model(), &mut after, address, value).map(none)
-        }
-        Call::StoreWord => {
-            bus::store_word(&mut buffers.lend_model(), &mut after, address, value).map(none)
+        Call::LoadByte => bus::load_byte(&read, d, h, address),
+        Call::LoadHalf => bus::load_half(&read, d, h, address),
+        Call::LoadWord => bus::load_word(&read, d, h, address),
+        Call::StoreByte | Call::StoreHalf | Call::StoreWord => {
+            let memories = &mut buffers.lend_model();
+            let stored = match call {
+                Call::StoreByte => bus::store_byte(memories, d, h, address, value),
+                Call::StoreHalf => bus::store_half(memories, d, h, address, value),
+                _ => bus::store_word(memories, d, h, address, value),
+            };
+            stored.map(|()| Loaded::default())
         }
     };
     let refusal = number_of(&answer);
     let Loaded { value, undefined } = answer.unwrap_or_default();
-    Answer { refusal, value, undefined, drawing: after }
+    Answer { refusal, value, undefined, drawing, hardware }
 }
 
 /// Edges of the VIP's ranges and of its registers, within 19 bits.
@@ -144,12 +156,24 @@ fn repeating_address(random: &mut Random, length: usize) -> u32 {
     }
 }
 
+/// An address of region 2 at or beside the timer's registers, or as far from them
+/// as a mirror would be.
+pub fn timer_address(random: &mut Random) -> u32 {
+    let low = random.pick(&[0x18, 0x1C, 0x20]) + random.below(4);
+    match random.below(8) {
+        0 => random.below(0x100),
+        1 => low + (0x100 << random.below(16)),
+        _ => low,
+    }
+}
+
 /// An address biased to the edges of every region and range, under random
 /// high bits.
 pub fn biased_address(random: &mut Random, rom: usize, pak: usize) -> u32 {
     let (region, low) = match random.below(16) {
         0 => return random.word(),
         1 => (random.below(8), near(random, 0)),
+        2 if random.one_in(2) => (2, timer_address(random)),
         2 => (1 + random.below(4), random.word()),
         3..=7 => (0, vip_address(random)),
         8 | 9 => (5, repeating_address(random, 65_536)),

@@ -2,7 +2,7 @@
 //! comparison of all that either could have changed.
 
 use crate::random::Random;
-use model::DrawingRegisters;
+use model::{DrawingRegisters, Hardware};
 
 /// Lent memories. Each vector is allocated at exactly the length it lends.
 #[derive(Clone, Debug, PartialEq, Eq)]
@@ -109,6 +109,53 @@ pub fn random_drawing(random: &mut Random) -> model::DrawingRegisters {
         gplt: [0; 4].map(|_: u16| random.half() & 0xFF),
         jplt: [0; 4].map(|_: u16| random.half() & 0xFF),
         bkcol: random.half() & 3,
+    }
+}
+
+/// Lines and timer as the library has them.
+pub fn hardware_to_library(hardware: &Hardware) -> vbsys::Hardware {
+    let Hardware { lines, count, reload, control } = *hardware;
+    vbsys::Hardware { lines, count, reload, control }
+}
+
+/// Lines and timer as the model has them.
+pub fn hardware_to_model(hardware: &vbsys::Hardware) -> Hardware {
+    let vbsys::Hardware { lines, count, reload, control } = *hardware;
+    Hardware { lines, count, reload, control }
+}
+
+/// A timer near a count of 0, at its largest or anywhere, and any lines.
+pub fn random_hardware(random: &mut Random) -> Hardware {
+    let number = |random: &mut Random| match random.below(4) {
+        0 => random.below(4) as u16,
+        1 => random.pick(&[0xFF, 0x100, 0xFFFF]),
+        _ => random.half(),
+    };
+    Hardware {
+        lines: random.half() & 0x1F,
+        count: number(random),
+        reload: number(random),
+        control: random.half() & 0x1B,
+    }
+}
+
+/// The registers that a bus call is given: drawing's, and lines and timer.
+#[derive(Clone, Copy, Debug, Default, PartialEq, Eq)]
+pub struct Registers {
+    pub drawing: DrawingRegisters,
+    pub hardware: Hardware,
+}
+
+impl Registers {
+    pub fn random(random: &mut Random) -> Registers {
+        Registers { drawing: random_drawing(random), hardware: random_hardware(random) }
+    }
+}
+
+/// Drawing registers alone: lines and timer are at reset.
+impl From<&DrawingRegisters> for Registers {
+    fn from(drawing: &DrawingRegisters) -> Registers {
+        Registers { drawing: *drawing, hardware: Hardware::default() }
     }
 }
 

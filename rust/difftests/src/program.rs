@@ -1,10 +1,11 @@
 //! Random programs: mostly legal code that touches every region, with handlers
 //! that return, and states biased to the edges of the arithmetic.
 
-use crate::machine::random_drawing;
+use crate::access::timer_address;
+use crate::machine::{random_drawing, random_hardware};
 use crate::random::Random;
 use crate::twin::Twin;
-use model::{Mode, Processor};
+use model::{Hardware, Mode, Processor};
 
 /// Registers that programs use as addresses.
 const POINTERS: std::ops::RangeInclusive<u32> = 10..=17;
@@ -21,9 +22,15 @@ pub const HALT: u16 = half(0b011010, 0, 0);
 pub const ILLEGAL: u16 = half(0b011011, 0, 0);
 pub const BIT_STRING: u16 = half(0b011111, 0, 0);
 pub const NOP: u16 = 0x9A00;
+pub const CAXI: u16 = half(0b111010, 1, 2);
+pub const CLI: u16 = half(0b010110, 0, 0);
+pub const SEI: u16 = half(0b011110, 0, 0);
 pub const FLOATING: u16 = 0b111110;
 const LDSR: u16 = 0b011100;
 const STSR: u16 = 0b011101;
+/// The system registers EIPSW and PSW.
+const EIPSW: u16 = 1;
+const PSW: u16 = 5;
 
 /// A word at an edge of the arithmetic, or any.
 pub fn biased_word(random: &mut Random) -> u32 {
@@ -61,7 +68,7 @@ pub fn biased_psw(random: &mut Random) -> u32 {
     }
 }
 
-/// A processor that passes refusal 5.
+/// A processor that passes refusal 5. No line is raised.
 pub fn random_processor(random: &mut Random) -> Processor {
     let mut registers = [0; 32].map(|_: u32| biased_word(random));
     registers[0] = 0;
@@ -78,13 +85,14 @@ pub fn random_processor(random: &mut Random) -> Processor {
         system29: random.word(),
         system31: biased_word(random).min(0x8000_0000),
         mode: Mode::Running,
+        hardware: Hardware { lines: 0, ..random_hardware(random) },
     }
 }
 
 /// An address in some region where accesses matter.
 fn region_address(random: &mut Random, code: u32) -> u32 {
     let low = random.word();
-    let address = match random.below(9) {
+    let address = match random.below(10) {
         0 => low & 0x3_FFFF,
         1 => 0x0005_F840 + random.below(0x40),
         2 => 0x0007_8000 + random.below(0x8000),
@@ -93,6 +101,7 @@ fn region_address(random: &mut Random, code: u32) -> u32 {
         5 => 0x0700_0000 | low & 0xFF_FFFF,
         6 => code.wrapping_add(random.below(0x200)),
         7 => random.below(0x10).wrapping_sub(8),
+        8 => 0x0200_0000 + timer_address(random),
         _ => low,
     };
     if random.one_in(4) {
@@ -179,7 +188,7 @@ pub fn instruction(random: &mut Random) -> Vec<u16> {
         50..=57 => near_branch(random),
         58 => system_access(random, target),
         59 => vec![half(FLOATING, target, biased_register(random)), sub_opcode(random)],
-        60 => vec![random.pick(&[half(0x16, 0, 0), half(0x1E, 0, 0)])],
+        60 => vec![random.pick(&[CLI, SEI])],
         61 => vec![half(0b000110, random.below(32) as u16, 10)],
         62 => rare(random),
         _ => vec![half(random.pick(&[8, 9, 10, 11]), target, biased_register(random))],
@@ -220,7 +229,7 @@ fn rare(random: &mut Random) -> Vec<u16> {
         5 => vec![HALT],
         6 => vec![half(LDSR, biased_register(random), 5)],
         7 => vec![half(0b001001, 1, 0)],
-        8 => vec![random.pick(&[BIT_STRING, half(0b111010, 1, 2)])],
+        8 => vec![random.pick(&[BIT_STRING, CAXI])],
         _ => vec![random.half(), random.half()],
     }
 }
@@ -284,4 +293,69 @@ pub fn load_program(random: &mut Random, twin: &mut Twin, length: usize) -> u32 
     aim_pointers(random, &mut twin.processor, code);
     twin.drawing = random_drawing(random);
     code
+}
+
+/// A handler for an interrupt: it returns at once, or masks its line first, or
+/// lowers the timer's, or lets others in, or halts.
+fn interrupt_handler(random: &mut Random) -> Vec<u16> {
+    let store_control = [half(0b110100, 19, 18), 0x0008];
+    match random.below(10) {
+        0 | 1 => vec![RETI],
+        // the interrupted program goes on with ID set
+        2 | 3 => {
+            vec![half(STSR, 20, EIPSW), half(0b101100, 20, 20), 0x1000, half(LDSR, 20, EIPSW), RETI]
+        }
+        // or with a higher I
+        4 | 5 => {
+            vec![half(STSR, 20, EIPSW), half(0b101111, 20, 20), 0x0001, half(LDSR, 20, EIPSW), RETI]
+        }
+        6 => [&store_control[..], &[RETI]].concat(),
+        // EP and ID are cleared inside the handler
+        7 => vec![half(LDSR, 21, PSW), NOP, RETI],
+        8 => vec![HALT, RETI],
+        _ => vec![half(TRAP, 0, random.below(32) as u16), RETI],
+    }
+}
+
+/// One or a few instructions of a program that has to do with interrupts.
+fn interrupt_code(random: &mut Random) -> Vec<u16> {
+    match random.below(12) {
+        0 => vec![HALT],
+        1 | 2 => vec![CLI],
+        3 => vec![SEI],
+        // PSW from one of the registers that hold one
+        4 | 5 => vec![half(LDSR, random.pick(&[21, 22, 23]), PSW)],
+        6 | 7 => {
+            let opcode = random.pick(&[0b110100, 0b110101, 0b110111]);
+            let displacement = random.pick(&[0, 4, 8, 8, 8]);
+            vec![half(opcode, random.pick(&[19, 24, 25]), 18), displacement]
+        }
+        8 => vec![half(0b111000, 26, 18), random.pick(&[0, 4, 8])],
+        9 if random.one_in(4) => vec![random.pick(&[CAXI, BIT_STRING])],
+        9 => vec![RETI],
+        _ => instruction(random),
+    }
+}
+
+/// A machine with such a program, its handlers, and any lines and timer.
+pub fn load_interrupt_program(random: &mut Random, twin: &mut Twin) {
+    let code = load_program(random, twin, 20);
+    let halves: Vec<u16> = (0..60).flat_map(|_| interrupt_code(random)).collect();
+    twin.put_code(code, &halves);
+    for level in 0..5 {
+        let halves = interrupt_handler(random);
+        twin.put_code(0xFFFF_FE00 + 16 * level, &halves);
+    }
+    let psw = |random: &mut Random| random.below(6) << 16 | random.word() & 0x103F;
+    let registers = &mut twin.processor.registers;
+    registers[18] = 0x0200_0018;
+    registers[19] = random.pick(&[0x05, 0x04, 0x01, 0x0D]);
+    registers[24] = random.word();
+    registers[25] = random.pick(&[0x09, 0x19, 0x0D]);
+    registers[21..=23].fill_with(|| psw(random));
+    twin.processor.eipsw = psw(random);
+    twin.processor.psw = psw(random);
+    twin.processor.eipc = code.wrapping_add(2 * random.below(20));
+    twin.processor.hardware = random_hardware(random);
+    twin.processor.mode = random.pick(&[Mode::Running, Mode::Running, Mode::Halted]);
 }

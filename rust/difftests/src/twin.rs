@@ -1,7 +1,8 @@
 //! A whole machine held twice, stepped and run by the library and the model.
 
-use crate::machine::{to_library, Buffers};
+use crate::machine::{hardware_to_library, to_library, Buffers};
 use model::bus::{place_of, Place};
+use model::exception::interrupt_code;
 use model::{DrawingRegisters, Mode, Processor, Refusal, StepAnswer, Stepped, Undefined};
 
 /// Two sets of lent memories, and the records that both sides are given.
@@ -32,6 +33,7 @@ pub fn processor_to_library(processor: &Processor) -> vbsys::Processor {
             Mode::Halted => vbsys::HALTED,
             Mode::Fatal => vbsys::FATAL,
         },
+        hardware: hardware_to_library(&processor.hardware),
     }
 }
 
@@ -41,6 +43,7 @@ fn answer_to_library(stepped: &Result<Stepped, Refusal>) -> (u32, u32) {
         Err(_) | Ok(StepAnswer::Ended) => (vbsys::ENDED, 0),
         Ok(StepAnswer::Trapped(cause)) => (vbsys::TRAPPED, cause.code()),
         Ok(StepAnswer::TurnedFatal(cause)) => (vbsys::TURNED_FATAL, cause.code()),
+        Ok(StepAnswer::Interrupted(level)) => (vbsys::INTERRUPTED, interrupt_code(level)),
         Ok(StepAnswer::WasHalted) => (vbsys::WAS_HALTED, 0),
         Ok(StepAnswer::WasFatal) => (vbsys::WAS_FATAL, 0),
     }

@@ -2,9 +2,9 @@
 //! every legal length of ROM and pak RAM, and every address of the VIP.
 
 use difftests::access::{biased_address, biased_value, by_library, by_model, Call, LOADS, STORES};
-use difftests::machine::{random_drawing, Buffers};
+use difftests::machine::{Buffers, Registers};
 use difftests::random::Random;
-use model::DrawingRegisters;
+use model::{DrawingRegisters, Hardware};
 
 /// Accesses at each pair of lengths; 42 pairs make 2,100,000.
 const ACCESSES: u32 = 50_000;
@@ -17,28 +17,28 @@ const BATCH: u32 = 8_192;
 struct Pair {
     library: Buffers,
     model: Buffers,
-    drawing: DrawingRegisters,
+    registers: Registers,
 }
 
 impl Pair {
     fn random(random: &mut Random, rom: usize, pak: usize) -> Pair {
         let library = Buffers::random(random, rom, pak);
-        Pair { model: library.clone(), library, drawing: random_drawing(random) }
+        Pair { model: library.clone(), library, registers: Registers::random(random) }
     }
 
     /// Makes the access on both sides and compares the answers.
     fn access(&mut self, call: Call, address: u32, value: u32, what: &dyn Fn() -> String) {
-        let library = by_library(call, &mut self.library, &self.drawing, address, value);
-        let model = by_model(call, &mut self.model, &self.drawing, address, value);
+        let library = by_library(call, &mut self.library, self.registers, address, value);
+        let model = by_model(call, &mut self.model, self.registers, address, value);
         if library != model {
             panic!(
                 "{call:?} 0x{address:08X} value 0x{value:08X}, registers {:X?}: the library \
                  answers {library:X?}, the model {model:X?}; {}",
-                self.drawing,
+                self.registers,
                 what()
             );
         }
-        self.drawing = model.drawing;
+        self.registers = model.registers();
     }
 
     fn expect_equal(&self, what: &dyn Fn() -> String) {
@@ -126,11 +126,12 @@ fn every_register_address_stored() {
     let mut random = Random::new(0x0B05_0004);
     let mut pair = Pair::random(&mut random, 1_024, 4);
     let full = DrawingRegisters { spt: [0x3FF; 4], gplt: [0xFF; 4], jplt: [0xFF; 4], bkcol: 3 };
-    for before in [DrawingRegisters::default(), full] {
+    let timer = Hardware { lines: 0x1F, count: 0xFFFF, reload: 0xFFFF, control: 0x1B };
+    for before in [Registers::default(), Registers { drawing: full, hardware: timer }] {
         for address in 0x5F7F0..0x5F880 {
             for call in STORES {
                 for value in [0, 0xFFFF_FFFF, 0xA5A5_5A5A, 0x0000_FF00, 0x00FF_0000] {
-                    pair.drawing = before;
+                    pair.registers = before;
                     let what = || format!("{call:?} 0x{address:X} value 0x{value:X}");
                     pair.access(call, address, value, &what);
                     pair.expect_equal(&what);

@@ -5,9 +5,12 @@
 
 use difftests::access::{biased_address, biased_value};
 use difftests::fence::{Fenced, Side};
-use difftests::machine::{random_drawing, to_library, to_model, Buffers};
+use difftests::machine::{
+    hardware_to_library, hardware_to_model, random_drawing, random_hardware, to_library, to_model,
+    Buffers,
+};
 use difftests::random::Random;
-use model::{bus, DrawingRegisters, Loaded, Memories, ReadMemories, Refusal};
+use model::{bus, DrawingRegisters, Hardware, Loaded, Memories, ReadMemories, Refusal};
 
 /// Four fenced memories; ROM may not be written.
 struct Lent {
@@ -58,10 +61,11 @@ impl Lent {
 const LENGTHS: [(usize, usize); 5] =
     [(1_024, 0), (1_024, 1), (2_048, 2), (1_024, 4), (4_096, 8_192)];
 
-type Load = fn(vbsys::ReadMemories, vbsys::Drawing, u32) -> vbsys::Loaded;
-type ModelLoad = fn(&ReadMemories, &DrawingRegisters, u32) -> Result<Loaded, Refusal>;
-type Store = fn(&mut vbsys::Memories, vbsys::Drawing, u32, u32) -> vbsys::Stored;
-type ModelStore = fn(&mut Memories, &mut DrawingRegisters, u32, u32) -> Result<(), Refusal>;
+type Load = fn(vbsys::ReadMemories, vbsys::Drawing, vbsys::Hardware, u32) -> vbsys::Loaded;
+type ModelLoad = fn(&ReadMemories, &DrawingRegisters, &Hardware, u32) -> Result<Loaded, Refusal>;
+type Store = fn(&mut vbsys::Memories, vbsys::Drawing, vbsys::Hardware, u32, u32) -> vbsys::Stored;
+type ModelStore =
+    fn(&mut Memories, &mut DrawingRegisters, &mut Hardware, u32, u32) -> Result<(), Refusal>;
 
 /// The calls of each width, the library's beside the model's.
 const WIDTHS: [(Load, ModelLoad, Store, ModelStore); 3] = [
@@ -78,20 +82,25 @@ fn loads_and_stores() {
             let mut model = Buffers::random(&mut random, rom, pak);
             let mut lent = Lent::new(&model, side);
             let mut drawing = random_drawing(&mut random);
+            let mut hardware = random_hardware(&mut random);
             for _ in 0..20_000 {
                 let address = biased_address(&mut random, rom, pak);
                 let value = biased_value(&mut random);
                 let registers = to_library(&drawing);
+                let timer = hardware_to_library(&hardware);
                 let (load, model_load, store, model_store) = random.pick(&WIDTHS);
                 if random.one_in(2) {
-                    let loaded = load(lent.read(), registers, address);
-                    let expected = model_load(&model.lend_model_to_read(), &drawing, address);
+                    let loaded = load(lent.read(), registers, timer, address);
+                    let memories = model.lend_model_to_read();
+                    let expected = model_load(&memories, &drawing, &hardware, address);
                     let vbsys::Loaded { value, undefined, .. } = loaded;
                     assert_eq!(Ok(Loaded { value, undefined }), expected);
                 } else {
-                    let stored = store(&mut lent.write(), registers, address, value);
-                    model_store(&mut model.lend_model(), &mut drawing, address, value).unwrap();
+                    let stored = store(&mut lent.write(), registers, timer, address, value);
+                    let memories = &mut model.lend_model();
+                    model_store(memories, &mut drawing, &mut hardware, address, value).unwrap();
                     assert_eq!(to_model(&stored.drawing), drawing);
+                    assert_eq!(hardware_to_model(&stored.hardware), hardware);
                 }
             }
             lent.expect_equal(&model);
@@ -109,7 +118,7 @@ fn refused_lengths() {
         &[0, 1, 262_143, 262_145],
         &[3, 5, 4_095, 4_097],
     ];
-    let registers = vbsys::Drawing::default();
+    let (registers, timer) = (vbsys::Drawing::default(), vbsys::Hardware::default());
     for side in [Side::Start, Side::End] {
         for subject in 0..4 {
             for &length in bad[subject] {
@@ -119,8 +128,8 @@ fn refused_lengths() {
                 let mut lent = Lent::new(&Buffers::zeroed(rom, wram, vram, pak), side);
                 for region in 0..8 {
                     let address = region << 24 | 0xFF_FFFC;
-                    let loaded = vbsys::load_word(lent.read(), registers, address);
-                    let stored = vbsys::store_word(&mut lent.write(), registers, address, 1);
+                    let loaded = vbsys::load_word(lent.read(), registers, timer, address);
+                    let stored = vbsys::store_word(&mut lent.write(), registers, timer, address, 1);
                     let number = subject as u32 + 1;
                     assert_eq!((loaded.refusal, stored.refusal), (number, number));
                 }

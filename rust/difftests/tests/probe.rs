@@ -163,18 +163,18 @@ fn worked_cases() {
 fn a_write_is_a_store() {
     let mut random = Random::new(0x9004_0000);
     let probed = Buffers::random(&mut random, 1_024, 4);
-    let mut registers = model::DrawingRegisters::default();
+    let (mut registers, mut timer) = Default::default();
     let (mut probed, mut stored) = (probed.clone(), probed);
     for number in 0..20_000 {
         let low = random.pick(&[0x1E000, 0x38000, 0x3A000, 0x7E000]) + random.below(8_192);
         let address = random.pick(&MIRRORS) | low;
         let (width, value) = (random.pick(&WIDTHS), random.word());
         assert_eq!(by_library(&mut probed, width, address, value), 0, "0x{address:08X}");
-        let memories = &mut stored.lend_model();
+        let (memories, registers, timer) = (&mut stored.lend_model(), &mut registers, &mut timer);
         let answer = match width {
-            Width::Byte => model::bus::store_byte(memories, &mut registers, address, value),
-            Width::Half => model::bus::store_half(memories, &mut registers, address, value),
-            Width::Word => model::bus::store_word(memories, &mut registers, address, value),
+            Width::Byte => model::bus::store_byte(memories, registers, timer, address, value),
+            Width::Half => model::bus::store_half(memories, registers, timer, address, value),
+            Width::Word => model::bus::store_word(memories, registers, timer, address, value),
         };
         assert_eq!(answer, Ok(()));
         if number % 64 == 0 {

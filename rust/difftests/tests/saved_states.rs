@@ -3,12 +3,12 @@
 
 #![cfg(feature = "processor")]
 
-use difftests::machine::{expect_same_bytes, random_drawing, to_library, Buffers};
+use difftests::machine::{expect_same_bytes, random_drawing, random_hardware, to_library, Buffers};
 use difftests::program::random_processor;
 use difftests::random::Random;
 use difftests::twin::processor_to_library;
 use model::saved::file_length;
-use model::{DrawingRegisters, Mode, Processor, Refusal};
+use model::{DrawingRegisters, Hardware, Mode, Processor, Refusal};
 
 /// A machine to be saved, or to be filled.
 #[derive(Clone, Debug)]
@@ -19,9 +19,11 @@ struct State {
 }
 
 impl State {
+    /// Lines and timer are at reset: this form leaves them out.
     fn random(random: &mut Random, pak: usize) -> State {
         let mut processor = random_processor(random);
         processor.mode = random.pick(&[Mode::Running, Mode::Halted, Mode::Fatal]);
+        processor.hardware = Hardware::default();
         let drawing = random_drawing(random);
         State { buffers: Buffers::random(random, 1_024, pak), processor, drawing }
     }
@@ -237,6 +239,23 @@ fn memories_are_free() {
         let (number, read) = state.read(&file, "memories of one byte");
         assert_eq!(number, 0);
         assert!(read.buffers.pak.iter().all(|&found| found == byte));
+    }
+}
+
+/// W6: the file leaves lines and timer out, and loads them at reset.
+#[test]
+fn lines_and_timer() {
+    let mut random = Random::new(0x100A_0000);
+    for pak in [0, 64] {
+        let state = State::random(&mut random, pak);
+        let file = state.file("at reset");
+        for _ in 0..20 {
+            let mut other = state.clone();
+            other.processor.hardware = random_hardware(&mut random);
+            assert!(other.file("not at reset") == file);
+            let (number, read) = other.read(&file, "lines and timer");
+            assert_eq!((number, read.processor), (0, state.processor));
+        }
     }
 }
 

@@ -12,6 +12,8 @@ pub const ID: u32 = 1 << 12;
 pub const AE: u32 = 1 << 13;
 pub const EP: u32 = 1 << 14;
 pub const NP: u32 = 1 << 15;
+/// The interrupt level, four bits.
+pub const I: u32 = 15 << 16;
 /// The bits that PSW, EIPSW and FEPSW hold.
 pub const PSW_BITS: u32 = 0x000F_F3FF;
 

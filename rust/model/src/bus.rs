@@ -1,9 +1,10 @@
 //! The bus: 01 "Addresses"; 000 "Memory Map", the VIP's memory map and I/O
-//! registers, "Game Pak".
+//! registers, "Game Pak"; W6's registers in region 2.
 //!
 //! Every read is made of single bytes, each at the place its address gives.
 //! Writes differ from that at one kind of place only, the VIP's registers.
 
+use crate::hardware::{timer_register_at, Hardware, TimerRegister};
 use crate::number::field;
 use crate::refusal::{check_drawing, check_pak, check_rom, check_vram, check_wram, Refusal};
 
@@ -125,7 +126,9 @@ pub enum Place {
     Register { register: Register, high: bool },
     /// The VIP's unmapped ranges: read 0 (H), write nothing.
     Unmapped,
-    /// Regions 1 to 4: read 0, write nothing.
+    /// A byte register of the timer (W6).
+    Timer(TimerRegister),
+    /// The rest of regions 1 to 4: read 0, write nothing.
     Absent,
     /// Offset in WRAM.
     Wram(usize),
@@ -140,6 +143,7 @@ pub fn place_of(address: u32, rom_length: usize, pak_length: usize) -> Place {
     let address = field(address, 0, 27);
     match field(address, 24, 3) {
         0 => vip_place(field(address, 0, 19)),
+        2 => timer_register_at(address).map_or(Place::Absent, Place::Timer),
         5 => Place::Wram(address as usize % 65_536),
         6 => Place::Pak((pak_length != 0).then(|| address as usize % pak_length)),
         7 => Place::Rom(address as usize % rom_length),
@@ -226,7 +230,12 @@ pub struct Loaded {
 }
 
 /// One byte as a read sees it. The lengths have been accepted.
-pub(crate) fn byte_at(memories: &ReadMemories, drawing: &DrawingRegisters, address: u32) -> u8 {
+pub(crate) fn byte_at(
+    memories: &ReadMemories,
+    drawing: &DrawingRegisters,
+    hardware: &Hardware,
+    address: u32,
+) -> u8 {
     match place_of(address, memories.rom.len(), memories.pak.len()) {
         Place::Vram(at) => memories.vram[at],
         Place::Wram(at) => memories.wram[at],
@@ -235,27 +244,40 @@ pub(crate) fn byte_at(memories: &ReadMemories, drawing: &DrawingRegisters, addre
         Place::Register { register, high } => {
             drawing.read(register).to_le_bytes()[usize::from(high)]
         }
+        Place::Timer(register) => hardware.read(register),
         Place::Pak(None) | Place::Unmapped | Place::Absent => 0,
     }
 }
 
 /// "Halfword accesses drop bit 0"; little-endian.
-pub(crate) fn half_at(memories: &ReadMemories, drawing: &DrawingRegisters, address: u32) -> u16 {
+pub(crate) fn half_at(
+    memories: &ReadMemories,
+    drawing: &DrawingRegisters,
+    hardware: &Hardware,
+    address: u32,
+) -> u16 {
     let first = address & !1;
-    let byte = |n: u32| byte_at(memories, drawing, first + n);
+    let byte = |n: u32| byte_at(memories, drawing, hardware, first + n);
     u16::from_le_bytes([byte(0), byte(1)])
 }
 
 /// "words bits 0 and 1"; little-endian.
-pub(crate) fn word_at(memories: &ReadMemories, drawing: &DrawingRegisters, address: u32) -> u32 {
+pub(crate) fn word_at(
+    memories: &ReadMemories,
+    drawing: &DrawingRegisters,
+    hardware: &Hardware,
+    address: u32,
+) -> u32 {
     let first = address & !3;
-    let byte = |n: u32| byte_at(memories, drawing, first + n);
+    let byte = |n: u32| byte_at(memories, drawing, hardware, first + n);
     u32::from_le_bytes([byte(0), byte(1), byte(2), byte(3)])
 }
 
-/// Puts one byte where it is memory that can be written.
-fn put_byte(memories: &mut Memories, place: Place, value: u8) {
+/// Puts one byte where it is memory, or a register of a byte, that can be
+/// written.
+fn put_byte(memories: &mut Memories, hardware: &mut Hardware, place: Place, value: u8) {
     match place {
+        Place::Timer(register) => hardware.write(register, value),
         Place::Vram(at) => memories.vram[at] = value,
         Place::Wram(at) => memories.wram[at] = value,
         Place::Pak(Some(at)) => memories.pak[at] = value,
@@ -269,12 +291,13 @@ fn put_byte(memories: &mut Memories, place: Place, value: u8) {
 pub(crate) fn put_low_byte(
     memories: &mut Memories,
     drawing: &mut DrawingRegisters,
+    hardware: &mut Hardware,
     address: u32,
     source: u32,
 ) {
     match place_of(address, memories.rom.len(), memories.pak.len()) {
         Place::Register { register, .. } => drawing.write(register, source as u16),
-        place => put_byte(memories, place, source as u8),
+        place => put_byte(memories, hardware, place, source as u8),
     }
 }
 
@@ -283,6 +306,7 @@ pub(crate) fn put_low_byte(
 pub(crate) fn put_half(
     memories: &mut Memories,
     drawing: &mut DrawingRegisters,
+    hardware: &mut Hardware,
     address: u32,
     value: u16,
 ) {
@@ -292,36 +316,43 @@ pub(crate) fn put_half(
         return drawing.write(register, value);
     }
     let [low, high] = value.to_le_bytes();
-    put_byte(memories, place_of(first, rom, pak), low);
-    put_byte(memories, place_of(first + 1, rom, pak), high);
+    put_byte(memories, hardware, place_of(first, rom, pak), low);
+    put_byte(memories, hardware, place_of(first + 1, rom, pak), high);
 }
 
 /// A word is its two halfwords, the low one first.
 pub(crate) fn put_word(
     memories: &mut Memories,
     drawing: &mut DrawingRegisters,
+    hardware: &mut Hardware,
     address: u32,
     value: u32,
 ) {
     let first = address & !3;
-    put_half(memories, drawing, first, value as u16);
-    put_half(memories, drawing, first + 2, (value >> 16) as u16);
+    put_half(memories, drawing, hardware, first, value as u16);
+    put_half(memories, drawing, hardware, first + 2, (value >> 16) as u16);
 }
 
 /// Refusals 1 to 5 of a bus call.
-pub fn check(memories: &ReadMemories, drawing: &DrawingRegisters) -> Result<(), Refusal> {
+pub fn check(
+    memories: &ReadMemories,
+    drawing: &DrawingRegisters,
+    hardware: &Hardware,
+) -> Result<(), Refusal> {
     memories.check()?;
-    check_drawing(drawing)
+    check_drawing(drawing)?;
+    hardware.check()
 }
 
 /// Reads a byte, zero extended.
 pub fn load_byte(
     memories: &ReadMemories,
     drawing: &DrawingRegisters,
+    hardware: &Hardware,
     address: u32,
 ) -> Result<Loaded, Refusal> {
-    check(memories, drawing)?;
-    let value = u32::from(byte_at(memories, drawing, address));
+    check(memories, drawing, hardware)?;
+    let value = u32::from(byte_at(memories, drawing, hardware, address));
     Ok(Loaded { value, undefined: undefined_bytes(address, 1) })
 }
 
@@ -329,10 +360,11 @@ pub fn load_byte(
 pub fn load_half(
     memories: &ReadMemories,
     drawing: &DrawingRegisters,
+    hardware: &Hardware,
     address: u32,
 ) -> Result<Loaded, Refusal> {
-    check(memories, drawing)?;
-    let value = u32::from(half_at(memories, drawing, address));
+    check(memories, drawing, hardware)?;
+    let value = u32::from(half_at(memories, drawing, hardware, address));
     Ok(Loaded { value, undefined: undefined_bytes(address, 2) })
 }
 
@@ -340,10 +372,11 @@ pub fn load_half(
 pub fn load_word(
     memories: &ReadMemories,
     drawing: &DrawingRegisters,
+    hardware: &Hardware,
     address: u32,
 ) -> Result<Loaded, Refusal> {
-    check(memories, drawing)?;
-    let value = word_at(memories, drawing, address);
+    check(memories, drawing, hardware)?;
+    let value = word_at(memories, drawing, hardware, address);
     Ok(Loaded { value, undefined: undefined_bytes(address, 4) })
 }
 
@@ -351,11 +384,12 @@ pub fn load_word(
 pub fn store_byte(
     memories: &mut Memories,
     drawing: &mut DrawingRegisters,
+    hardware: &mut Hardware,
     address: u32,
     source: u32,
 ) -> Result<(), Refusal> {
-    check(&memories.read(), drawing)?;
-    put_low_byte(memories, drawing, address, source);
+    check(&memories.read(), drawing, hardware)?;
+    put_low_byte(memories, drawing, hardware, address, source);
     Ok(())
 }
 
@@ -363,11 +397,12 @@ pub fn store_byte(
 pub fn store_half(
     memories: &mut Memories,
     drawing: &mut DrawingRegisters,
+    hardware: &mut Hardware,
     address: u32,
     source: u32,
 ) -> Result<(), Refusal> {
-    check(&memories.read(), drawing)?;
-    put_half(memories, drawing, address, source as u16);
+    check(&memories.read(), drawing, hardware)?;
+    put_half(memories, drawing, hardware, address, source as u16);
     Ok(())
 }
 
@@ -375,10 +410,11 @@ pub fn store_half(
 pub fn store_word(
     memories: &mut Memories,
     drawing: &mut DrawingRegisters,
+    hardware: &mut Hardware,
     address: u32,
     source: u32,
 ) -> Result<(), Refusal> {
-    check(&memories.read(), drawing)?;
-    put_word(memories, drawing, address, source);
+    check(&memories.read(), drawing, hardware)?;
+    put_word(memories, drawing, hardware, address, source);
     Ok(())
 }

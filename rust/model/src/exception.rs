@@ -1,8 +1,9 @@
 //! Exceptions: 000 "Exception Processing" and "List of Exceptions"; 01
-//! "Exceptions".
+//! "Exceptions"; interrupts by W6.
 
-use crate::arithmetic::{AE, EP, ID, NP};
+use crate::arithmetic::{AE, EP, I, ID, NP};
 use crate::floating::{Trap, FIV, FOV, FRO, FZD};
+use crate::hardware::LEVELS;
 use crate::processor::{Mode, Processor, StepAnswer};
 
 /// Why an exception is raised.
@@ -84,4 +85,39 @@ pub(crate) fn raise(processor: &mut Processor, cause: Cause) -> StepAnswer {
     }
     processor.psw = (processor.psw | ID) & !AE;
     StepAnswer::Trapped(cause)
+}
+
+/// W6: "codes are 0xFE00 plus 16 times the level".
+pub fn interrupt_code(level: u32) -> u32 {
+    0xFE00 + 16 * level
+}
+
+/// "handlers as in the Scroll".
+pub fn interrupt_handler(level: u32) -> u32 {
+    0xFFFF_FE00 + 16 * level
+}
+
+/// The level of the interrupt that is accepted: "Running or halted, an interrupt
+/// is accepted exactly if some raised line's level is at least I while NP, EP and
+/// ID are all clear; the highest such level wins."
+pub fn accepted_level(processor: &Processor) -> Option<u32> {
+    let masked = processor.psw & (NP | EP | ID) != 0;
+    if processor.mode == Mode::Fatal || masked {
+        return None;
+    }
+    let least = (processor.psw & I) >> 16;
+    (0..LEVELS).filter(|&level| level >= least && processor.hardware.is_raised(level)).max()
+}
+
+/// "It enters as document 01's exceptions do with NP and EP clear, and sets I to
+/// level + 1; a halted machine wakes". The restore PC is the record's PC: HALT has
+/// moved it past itself. Lines stay as they are.
+pub(crate) fn interrupt(processor: &mut Processor, level: u32) -> StepAnswer {
+    processor.ecr = processor.ecr & 0xFFFF_0000 | interrupt_code(level);
+    processor.eipsw = processor.psw;
+    processor.eipc = processor.pc;
+    processor.psw = processor.psw & !(I | AE) | (level + 1) << 16 | EP | ID;
+    processor.pc = interrupt_handler(level);
+    processor.mode = Mode::Running;
+    StepAnswer::Interrupted(level)
 }

@@ -9,7 +9,8 @@
 //! (docs/DECISIONS.md).
 //!
 //! Three layers: [`bus`], [`processor`] over it, and [`drawing`] over lent VRAM.
-//! [`answers`] explains a drawn pixel.
+//! [`hardware`] has the request lines and the timer; [`answers`] explains a drawn
+//! pixel.
 
 pub mod answers;
 pub mod arithmetic;
@@ -21,6 +22,7 @@ pub mod drawing;
 pub mod encoding;
 pub mod exception;
 pub mod floating;
+pub mod hardware;
 pub mod instruction;
 pub mod number;
 pub mod object;
@@ -32,5 +34,6 @@ pub mod world;
 
 pub use bus::{DrawingRegisters, Loaded, Memories, ReadMemories};
 pub use exception::Cause;
+pub use hardware::Hardware;
 pub use processor::{Mode, Processor, Ran, StepAnswer, Stepped, Undefined};
 pub use refusal::Refusal;

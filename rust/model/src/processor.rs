@@ -3,8 +3,9 @@
 
 use crate::arithmetic::{self, ID, NP, PSW_BITS};
 use crate::bus::{self, DrawingRegisters, Memories};
-use crate::exception::{raise, Cause};
+use crate::exception::{accepted_level, interrupt, raise, Cause};
 use crate::floating;
+use crate::hardware::Hardware;
 use crate::instruction::{
     decode, has_second_half, Decoded, Instruction, Operand, RegisterNumber, Width,
 };
@@ -20,7 +21,7 @@ pub enum Mode {
     Fatal,
 }
 
-/// The processor's registers and mode.
+/// The processor's registers and mode; request lines and timer (W6).
 #[derive(Clone, Copy, Debug, Default, PartialEq, Eq)]
 pub struct Processor {
     /// General registers; register 0 is 0.
@@ -38,6 +39,7 @@ pub struct Processor {
     /// The value that system register 31 reads.
     pub system31: u32,
     pub mode: Mode,
+    pub hardware: Hardware,
 }
 
 impl Processor {
@@ -47,7 +49,8 @@ impl Processor {
         let even = [self.pc, self.eipc, self.fepc, self.adtre].iter().all(|value| value % 2 == 0);
         let formats = [self.psw, self.eipsw, self.fepsw].iter().all(|value| value & !PSW_BITS == 0);
         let holds = self.registers[0] == 0 && even && formats && self.system31 <= 0x8000_0000;
-        refuse_unless(holds, Refusal::Register)
+        refuse_unless(holds, Refusal::Register)?;
+        self.hardware.check()
     }
 
     /// "Register 0 reads 0".
@@ -123,6 +126,8 @@ pub enum StepAnswer {
     Trapped(Cause),
     /// It raised an exception with NP set: mode fatal, nothing else changes.
     TurnedFatal(Cause),
+    /// An interrupt of this level was accepted.
+    Interrupted(u32),
     /// Nothing was done.
     WasHalted,
     /// Nothing was done.
@@ -157,20 +162,22 @@ pub struct Ran {
 
 /// Fetches and decodes the instruction at PC. The second halfword of one at
 /// 0xFFFFFFFE comes from address 0.
-fn fetch(memories: &Memories, drawing: &DrawingRegisters, pc: u32) -> Decoded {
+fn fetch(memories: &Memories, processor: &Processor, drawing: &DrawingRegisters) -> Decoded {
     let memories = memories.read();
-    let first = bus::half_at(&memories, drawing, pc);
-    let second = if has_second_half(first) {
-        bus::half_at(&memories, drawing, pc.wrapping_add(2))
-    } else {
-        0
-    };
+    let half = |address| bus::half_at(&memories, drawing, &processor.hardware, address);
+    let first = half(processor.pc);
+    let second = if has_second_half(first) { half(processor.pc.wrapping_add(2)) } else { 0 };
     decode(first, second)
 }
 
 /// The undefined bytes of the halfwords that [`fetch`] reads.
-fn undefined_halfwords(memories: &Memories, drawing: &DrawingRegisters, pc: u32) -> Undefined {
-    let first = bus::half_at(&memories.read(), drawing, pc);
+fn undefined_halfwords(
+    memories: &Memories,
+    processor: &Processor,
+    drawing: &DrawingRegisters,
+) -> Undefined {
+    let pc = processor.pc;
+    let first = bus::half_at(&memories.read(), drawing, &processor.hardware, pc);
     let second =
         if has_second_half(first) { bus::undefined_bytes(pc.wrapping_add(2), 2) } else { 0 };
     Undefined { first: bus::undefined_bytes(pc, 2), second, load: 0 }
@@ -191,15 +198,16 @@ fn undefined_load(processor: &Processor, instruction: Instruction) -> u32 {
 fn load(
     memories: &Memories,
     drawing: &DrawingRegisters,
+    hardware: &Hardware,
     width: Width,
     signed: bool,
     address: u32,
 ) -> u32 {
     let memories = memories.read();
     let (value, bits) = match width {
-        Width::Byte => (u32::from(bus::byte_at(&memories, drawing, address)), 8),
-        Width::Half => (u32::from(bus::half_at(&memories, drawing, address)), 16),
-        Width::Word => (bus::word_at(&memories, drawing, address), 32),
+        Width::Byte => (u32::from(bus::byte_at(&memories, drawing, hardware, address)), 8),
+        Width::Half => (u32::from(bus::half_at(&memories, drawing, hardware, address)), 16),
+        Width::Word => (bus::word_at(&memories, drawing, hardware, address), 32),
     };
     if signed {
         sign_extend(value, bits) as u32
@@ -212,14 +220,15 @@ fn load(
 fn store(
     memories: &mut Memories,
     drawing: &mut DrawingRegisters,
+    hardware: &mut Hardware,
     width: Width,
     address: u32,
     source: u32,
 ) {
     match width {
-        Width::Byte => bus::put_low_byte(memories, drawing, address, source),
-        Width::Half => bus::put_half(memories, drawing, address, source as u16),
-        Width::Word => bus::put_word(memories, drawing, address, source),
+        Width::Byte => bus::put_low_byte(memories, drawing, hardware, address, source),
+        Width::Half => bus::put_half(memories, drawing, hardware, address, source as u16),
+        Width::Word => bus::put_word(memories, drawing, hardware, address, source),
     }
 }
 
@@ -306,12 +315,13 @@ fn execute(
         }
         Instruction::Load { width, signed, reg2, reg1, displacement } => {
             let address = processor.general(reg1).wrapping_add(displacement);
-            let value = load(memories, drawing, width, signed, address);
+            let value = load(memories, drawing, &processor.hardware, width, signed, address);
             processor.set_general(reg2, value);
         }
         Instruction::Store { width, reg2, reg1, displacement } => {
             let address = processor.general(reg1).wrapping_add(displacement);
-            store(memories, drawing, width, address, processor.general(reg2));
+            let source = processor.general(reg2);
+            store(memories, drawing, &mut processor.hardware, width, address, source);
         }
         _ => set_registers(processor, instruction),
     }
@@ -358,20 +368,25 @@ fn set_registers(processor: &mut Processor, instruction: Instruction) {
     }
 }
 
-/// One step of an accepted machine; the only refusal left is 6.
+/// One step of an accepted machine; the only refusal left is 6. W6: "Acceptance
+/// is a step of its own, .. and comes before the next instruction is looked at, so
+/// it meets no refusal 6."
 fn step_accepted(
     memories: &mut Memories,
     processor: &mut Processor,
     drawing: &mut DrawingRegisters,
 ) -> Result<Stepped, Refusal> {
     let nothing_read = |answer| Stepped { answer, undefined: Undefined::default() };
+    if let Some(level) = accepted_level(processor) {
+        return Ok(nothing_read(interrupt(processor, level)));
+    }
     match processor.mode {
         Mode::Halted => return Ok(nothing_read(StepAnswer::WasHalted)),
         Mode::Fatal => return Ok(nothing_read(StepAnswer::WasFatal)),
         Mode::Running => {}
     }
-    let mut undefined = undefined_halfwords(memories, drawing, processor.pc);
-    match fetch(memories, drawing, processor.pc) {
+    let mut undefined = undefined_halfwords(memories, processor, drawing);
+    match fetch(memories, processor, drawing) {
         Decoded::NotModelled => Err(Refusal::NotModelled),
         Decoded::Instruction { instruction, length } => {
             undefined.load = undefined_load(processor, instruction);
@@ -406,7 +421,8 @@ pub fn step(
 }
 
 /// At most `budget` instructions. "HALT itself and a trapped instruction
-/// count; a refused one and the step that turns fatal don't."
+/// count; a refused one and the step that turns fatal don't." An acceptance counts
+/// (W6); "A run stops at halted mode only where nothing is accepted."
 pub fn run(
     memories: &mut Memories,
     processor: &mut Processor,
@@ -419,7 +435,9 @@ pub fn run(
     let mut count = 0;
     while count < budget {
         match step_accepted(memories, processor, drawing).map(|stepped| stepped.answer) {
-            Ok(StepAnswer::Ended | StepAnswer::Trapped(_)) => count += 1,
+            Ok(StepAnswer::Ended | StepAnswer::Trapped(_) | StepAnswer::Interrupted(_)) => {
+                count += 1;
+            }
             Ok(_) => break,
             Err(refusal) => return Ran { count, refusal: Some(refusal) },
         }
@@ -427,7 +445,8 @@ pub fn run(
     Ran { count, refusal: None }
 }
 
-/// 01: "PC 0xFFFFFFF0, ECR 0xFFF0, PSW 0x8000, all else 0 (H), running".
+/// 01: "PC 0xFFFFFFF0, ECR 0xFFF0, PSW 0x8000, all else 0 (H), running"; W6:
+/// "Lines and timer reset to 0 (H)".
 /// No memory is touched.
 pub fn reset() -> (Processor, DrawingRegisters) {
     let processor = Processor { pc: 0xFFFF_FFF0, ecr: 0xFFF0, psw: 0x8000, ..Processor::default() };

@@ -1,6 +1,7 @@
 //! Saved states (W1): a machine into a file of form 1, and back.
 
 use crate::bus::{DrawingRegisters, Memories, ReadMemories};
+use crate::hardware::Hardware;
 use crate::number::half_at;
 use crate::processor::{Mode, Processor};
 use crate::refusal::{check_drawing, refuse_unless, Refusal, VRAM_LENGTH, WRAM_LENGTH};
@@ -67,7 +68,8 @@ fn processor_bytes(processor: &Processor) -> Vec<u8> {
     processor.registers.into_iter().chain(others).flat_map(u32::to_le_bytes).collect()
 }
 
-/// The processor of a body of kind 1; none for a mode that is none.
+/// The processor of a body of kind 1; none for a mode that is none. W6: "W1's
+/// files leave them out and load them at reset", the lines and the timer.
 fn read_processor(body: &[u8]) -> Option<Processor> {
     let word =
         |n: usize| u32::from(half_at(body, 4 * n)) | u32::from(half_at(body, 4 * n + 2)) << 16;
@@ -92,6 +94,7 @@ fn read_processor(body: &[u8]) -> Option<Processor> {
         system29: word(40),
         system31: word(41),
         mode,
+        hardware: Hardware::default(),
     })
 }
 

@@ -4,7 +4,7 @@ use model::bus::{
     is_undefined, load_byte, load_half, load_word, place_of, store_byte, store_half, store_word,
     Place,
 };
-use model::{DrawingRegisters, Loaded, Memories, ReadMemories, Refusal};
+use model::{DrawingRegisters, Hardware, Loaded, Memories, ReadMemories, Refusal};
 
 struct Machine {
     rom: Vec<u8>,
@@ -12,6 +12,7 @@ struct Machine {
     vram: Vec<u8>,
     pak: Vec<u8>,
     drawing: DrawingRegisters,
+    hardware: Hardware,
 }
 
 impl Machine {
@@ -22,6 +23,7 @@ impl Machine {
             vram: vec![0; 262_144],
             pak: vec![0; pak],
             drawing: DrawingRegisters::default(),
+            hardware: Hardware::default(),
         }
     }
 
@@ -30,15 +32,15 @@ impl Machine {
     }
 
     fn byte(&self, address: u32) -> u32 {
-        load_byte(&self.read(), &self.drawing, address).unwrap().value
+        load_byte(&self.read(), &self.drawing, &self.hardware, address).unwrap().value
     }
 
     fn half(&self, address: u32) -> u32 {
-        load_half(&self.read(), &self.drawing, address).unwrap().value
+        load_half(&self.read(), &self.drawing, &self.hardware, address).unwrap().value
     }
 
     fn word(&self, address: u32) -> u32 {
-        load_word(&self.read(), &self.drawing, address).unwrap().value
+        load_word(&self.read(), &self.drawing, &self.hardware, address).unwrap().value
     }
 
     fn store(&mut self, bytes: u32, address: u32, value: u32) {
@@ -53,7 +55,7 @@ impl Machine {
             2 => store_half,
             _ => store_word,
         };
-        call(&mut memories, &mut self.drawing, address, value).unwrap();
+        call(&mut memories, &mut self.drawing, &mut self.hardware, address, value).unwrap();
     }
 }
 
@@ -227,10 +229,10 @@ fn worked_loads() {
             2 => load_half,
             _ => load_word,
         };
-        let loaded = load(&machine.read(), &machine.drawing, address);
+        let loaded = load(&machine.read(), &machine.drawing, &machine.hardware, address);
         assert_eq!(loaded, Ok(Loaded { value, undefined }), "{size} bytes at {address:08X}");
     }
     let short = ReadMemories { wram: &[], ..machine.read() };
-    let refused = load_byte(&short, &machine.drawing, 0x0004_0000);
+    let refused = load_byte(&short, &machine.drawing, &machine.hardware, 0x0004_0000);
     assert_eq!(refused, Err(Refusal::WramLength));
 }

@@ -2,7 +2,7 @@
 
 use model::processor::reset;
 use model::saved::{file_length, read_state, write_state};
-use model::{DrawingRegisters, Memories, Mode, Processor, ReadMemories, Refusal};
+use model::{DrawingRegisters, Hardware, Memories, Mode, Processor, ReadMemories, Refusal};
 
 const ROM: [u8; 1_024] = [0; 1_024];
 
@@ -95,4 +95,15 @@ fn refused_files() {
         changed[at] |= 1 << bit;
         assert_eq!(read(&changed, 0).is_ok(), legal, "bit {bit} of byte {at}");
     }
+}
+
+/// W6: "W1's files leave them out and load them at reset", the lines and the
+/// timer.
+#[test]
+fn lines_and_timer_are_left_out() {
+    let hardware = Hardware { lines: 0x1F, count: 1, reload: 2, control: 0x1B };
+    let (processor, _) = reset();
+    let file = written(&Processor { hardware, ..processor }, &[]);
+    assert!(file == written(&processor, &[]));
+    assert_eq!(read(&file, 0), Ok((processor, vec![])));
 }

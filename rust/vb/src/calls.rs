@@ -2,8 +2,8 @@
 
 use vbsys::{Memories, ReadMemories};
 
-use crate::records::{Drawing, Machine, Mode, Processor};
-use crate::refusal::{fault, Refusal};
+use crate::records::{Drawing, Hardware, Machine, Mode, Processor};
+use crate::refusal::{fault, hardware_fault, Refusal};
 use crate::undefined::{Mask, Read, Undefined};
 
 /// What a step did.
@@ -19,6 +19,8 @@ pub enum Answer {
     WasHalted,
     /// Nothing was done.
     WasFatal,
+    /// An interrupt of this level, 0 to 4, was accepted, and its handler is next.
+    Interrupted(u8),
 }
 
 /// Why an instruction raised an exception.
@@ -28,6 +30,10 @@ pub enum Cause {
     Illegal,
     /// TRAP with its vector, 0 to 31.
     Trap(u8),
+    FloatReserved,
+    FloatInvalid,
+    FloatZeroDivide,
+    FloatOverflow,
 }
 
 impl Cause {
@@ -37,6 +43,10 @@ impl Cause {
             Cause::ZeroDivisor => 0xFF80,
             Cause::Illegal => 0xFF90,
             Cause::Trap(vector) => 0xFFA0 + u32::from(vector),
+            Cause::FloatReserved => 0xFF60,
+            Cause::FloatInvalid => 0xFF70,
+            Cause::FloatZeroDivide => 0xFF68,
+            Cause::FloatOverflow => 0xFF64,
         }
     }
 
@@ -45,6 +55,10 @@ impl Cause {
             0xFF80 => Cause::ZeroDivisor,
             0xFF90 => Cause::Illegal,
             0xFFA0..=0xFFBF => Cause::Trap((code - 0xFFA0) as u8),
+            0xFF60 => Cause::FloatReserved,
+            0xFF70 => Cause::FloatInvalid,
+            0xFF68 => Cause::FloatZeroDivide,
+            0xFF64 => Cause::FloatOverflow,
             _ => unreachable!("no exception has the code 0x{code:X}"),
         }
     }
@@ -53,7 +67,7 @@ impl Cause {
 /// What a run did.
 #[derive(Clone, Debug, PartialEq, Eq)]
 pub struct Ran {
-    /// How many instructions ended.
+    /// How many instructions ended and interrupts were accepted.
     pub count: u64,
     pub stop: Stop,
 }
@@ -75,6 +89,7 @@ pub(crate) struct Given<'a> {
     pub(crate) lengths: [usize; 4],
     pub(crate) processor: Option<&'a Processor>,
     pub(crate) drawing: &'a Drawing,
+    pub(crate) hardware: Option<&'a Hardware>,
 }
 
 impl Given<'_> {
@@ -86,7 +101,7 @@ impl Given<'_> {
             2 => Some(Refusal::WramLength { given: wram }),
             3 => Some(Refusal::VramLength { given: vram }),
             4 => Some(Refusal::PakLength { given: pak }),
-            5 => fault(self.processor, self.drawing),
+            5 => fault(self.processor, self.drawing, self.hardware),
             _ => own.iter().find(|refusal| refusal.number() == number).cloned(),
         };
         told.unwrap_or_else(|| unreachable!("the call has no refusal {number}"))
@@ -121,19 +136,19 @@ impl Machine {
 
     /// The byte at an address, and whether it is undefined.
     pub fn read_byte(&self, memories: &ReadMemories, address: u32) -> Result<Read<u8>, Refusal> {
-        let loaded = vbsys::load_byte(*memories, (&self.drawing).into(), address);
+        let loaded = vbsys::load_byte(*memories, (&self.drawing).into(), self.hardware(), address);
         self.loaded(memories, loaded, |value| value as u8)
     }
 
     /// The halfword at an address, and which of its bytes are undefined.
     pub fn read_half(&self, memories: &ReadMemories, address: u32) -> Result<Read<u16>, Refusal> {
-        let loaded = vbsys::load_half(*memories, (&self.drawing).into(), address);
+        let loaded = vbsys::load_half(*memories, (&self.drawing).into(), self.hardware(), address);
         self.loaded(memories, loaded, |value| value as u16)
     }
 
     /// The word at an address, and which of its bytes are undefined.
     pub fn read_word(&self, memories: &ReadMemories, address: u32) -> Result<Read<u32>, Refusal> {
-        let loaded = vbsys::load_word(*memories, (&self.drawing).into(), address);
+        let loaded = vbsys::load_word(*memories, (&self.drawing).into(), self.hardware(), address);
         self.loaded(memories, loaded, |value| value)
     }
 
@@ -152,7 +167,8 @@ impl Machine {
     }
 
     fn bus_refusal(&self, lengths: [usize; 4], number: u32) -> Refusal {
-        Given { lengths, processor: None, drawing: &self.drawing }.refusal(number, &[])
+        let hardware = Some(&self.processor.hardware);
+        Given { lengths, processor: None, drawing: &self.drawing, hardware }.refusal(number, &[])
     }
 
     /// Stores the low byte of `value`; at a register of the VIP its low halfword.
@@ -162,7 +178,8 @@ impl Machine {
         address: u32,
         value: u32,
     ) -> Result<(), Refusal> {
-        let stored = vbsys::store_byte(memories, (&self.drawing).into(), address, value);
+        let stored =
+            vbsys::store_byte(memories, (&self.drawing).into(), self.hardware(), address, value);
         self.stored(memories, stored)
     }
 
@@ -173,7 +190,8 @@ impl Machine {
         address: u32,
         value: u32,
     ) -> Result<(), Refusal> {
-        let stored = vbsys::store_half(memories, (&self.drawing).into(), address, value);
+        let stored =
+            vbsys::store_half(memories, (&self.drawing).into(), self.hardware(), address, value);
         self.stored(memories, stored)
     }
 
@@ -184,7 +202,8 @@ impl Machine {
         address: u32,
         value: u32,
     ) -> Result<(), Refusal> {
-        let stored = vbsys::store_word(memories, (&self.drawing).into(), address, value);
+        let stored =
+            vbsys::store_word(memories, (&self.drawing).into(), self.hardware(), address, value);
         self.stored(memories, stored)
     }
 
@@ -193,15 +212,31 @@ impl Machine {
             return Err(self.bus_refusal(lengths(memories), stored.refusal));
         }
         self.drawing = (&stored.drawing).into();
+        self.processor.hardware = (&stored.hardware).into();
         Ok(())
     }
 
-    /// Does one instruction.
+    fn hardware(&self) -> vbsys::Hardware {
+        (&self.processor.hardware).into()
+    }
+
+    /// Tells the timer of one tick of its chosen interval.
+    pub fn tick(&mut self) -> Result<(), Refusal> {
+        let ticked = vbsys::tick(self.hardware());
+        if ticked.refusal != 0 {
+            let told = hardware_fault(&self.processor.hardware);
+            return Err(told.expect("a record that is refused has a fault"));
+        }
+        self.processor.hardware = (&ticked.hardware).into();
+        Ok(())
+    }
+
+    /// Accepts an interrupt, or does one instruction.
     pub fn step(&mut self, memories: &mut Memories) -> Result<Answer, Refusal> {
         self.step_watched(memories).map(|(answer, _)| answer)
     }
 
-    /// Does one instruction, and tells which bytes that it read are undefined.
+    /// Accepts an interrupt, or does one instruction, and tells which bytes that it read are undefined.
     pub fn step_watched(
         &mut self,
         memories: &mut Memories,
@@ -218,12 +253,13 @@ impl Machine {
             vbsys::TURNED_FATAL => Answer::TurnedFatal(Cause::of(done.code)),
             vbsys::WAS_HALTED => Answer::WasHalted,
             vbsys::WAS_FATAL => Answer::WasFatal,
+            vbsys::INTERRUPTED => Answer::Interrupted(((done.code - 0xFE00) / 16) as u8),
             answer => unreachable!("vb.h names no answer {answer}"),
         };
         Ok((answer, Undefined::of(done.undefined)))
     }
 
-    /// Does at most `budget` instructions.
+    /// Does at most `budget` instructions and interrupts.
     pub fn run(&mut self, memories: &mut Memories, budget: u64) -> Result<Ran, Refusal> {
         let done = vbsys::run(memories, (&self.processor).into(), (&self.drawing).into(), budget);
         if done.refusal != 0 && done.refusal != 6 {
@@ -243,7 +279,8 @@ impl Machine {
     fn refusal(&self, memories: &Memories, number: u32) -> Refusal {
         let own = if number == 6 { vec![self.not_modelled(memories)] } else { Vec::new() };
         let processor = Some(&self.processor);
-        Given { lengths: lengths(memories), processor, drawing: &self.drawing }
+        let hardware = Some(&self.processor.hardware);
+        Given { lengths: lengths(memories), processor, drawing: &self.drawing, hardware }
             .refusal(number, &own)
     }
 
@@ -277,7 +314,9 @@ impl Drawing {
         if number == 0 {
             return Ok(());
         }
-        Err(Given { lengths: [0, 0, vram, 0], processor: None, drawing: self }.refusal(number, own))
+        let lengths = [0, 0, vram, 0];
+        let given = Given { lengths, processor: None, drawing: self, hardware: None };
+        Err(given.refusal(number, own))
     }
 }
 

@@ -27,7 +27,7 @@ mod undefined;
 pub use brightness::{display, load_column_table, View};
 pub use calls::{character, Answer, Cause, Ran, Stop};
 pub use probe::{Probe, Width};
-pub use records::{Drawing, Machine, Mode, Processor, RecordError};
+pub use records::{Drawing, Hardware, Machine, Mode, Processor, RecordError};
 pub use refusal::{grouped, Refusal};
 pub use undefined::{Mask, Read, Undefined};
 pub use vbsys::{state_bytes, Memories, ProbeMemories, ReadMemories};
@@ -36,8 +36,10 @@ pub use vbsys::{state_bytes, Memories, ProbeMemories, ReadMemories};
 pub const WRAM_LENGTH: usize = 65_536;
 /// Bytes of VRAM.
 pub const VRAM_LENGTH: usize = 262_144;
-/// Bytes of a processor record: 43 little-endian words in vb.h's order.
-pub const PROCESSOR_LENGTH: usize = 172;
+/// Bytes of a processor record: 43 little-endian words and four halfwords in vb.h's order.
+pub const PROCESSOR_LENGTH: usize = 180;
+/// Bytes of its words, which stand in a saved state: the request lines and the timer come after them.
+pub const PROCESSOR_WORDS_LENGTH: usize = 172;
 /// Bytes of a drawing record: 13 little-endian halfwords in vb.h's order.
 pub const DRAWING_LENGTH: usize = 26;
 /// Columns of a picture.

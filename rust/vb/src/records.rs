@@ -2,7 +2,7 @@
 
 use std::fmt;
 
-use crate::{DRAWING_LENGTH, PROCESSOR_LENGTH};
+use crate::{DRAWING_LENGTH, PROCESSOR_LENGTH, PROCESSOR_WORDS_LENGTH};
 
 /// What the processor is doing.
 #[derive(Clone, Copy, Debug, PartialEq, Eq, Hash)]
@@ -42,7 +42,18 @@ impl fmt::Display for Mode {
     }
 }
 
-/// The processor's registers and mode.
+/// The request lines and the timer.
+#[derive(Clone, Copy, Debug, Default, PartialEq, Eq)]
+pub struct Hardware {
+    /// Bit n is the line of level n: 0 pad, 1 timer, 2 game pak, 3 link, 4 VIP.
+    pub lines: u16,
+    pub count: u16,
+    pub reload: u16,
+    /// The timer's control bits at their places in TCR, those of 0x1B.
+    pub control: u16,
+}
+
+/// The processor's registers and mode, the request lines and the timer.
 #[derive(Clone, Copy, Debug, PartialEq, Eq)]
 pub struct Processor {
     pub regs: [u32; 32],
@@ -58,6 +69,7 @@ pub struct Processor {
     pub sr29: u32,
     pub sr31: u32,
     pub mode: Mode,
+    pub hardware: Hardware,
 }
 
 /// The VIP's registers that drawing uses.
@@ -103,9 +115,10 @@ impl fmt::Display for RecordError {
 impl std::error::Error for RecordError {}
 
 impl Processor {
-    /// Reads a record of 172 bytes. Which values a register may hold is left to the calls.
+    /// Reads a record of 180 bytes, or of its first 172, with lines and timer at reset. Which values a register may hold
+    /// is left to the calls.
     pub fn from_bytes(bytes: &[u8]) -> Result<Processor, RecordError> {
-        if bytes.len() != PROCESSOR_LENGTH {
+        if ![PROCESSOR_LENGTH, PROCESSOR_WORDS_LENGTH].contains(&bytes.len()) {
             return Err(RecordError::Length { given: bytes.len(), wanted: PROCESSOR_LENGTH });
         }
         let word = |n: usize| {
@@ -125,6 +138,7 @@ impl Processor {
             sr29: word(40),
             sr31: word(41),
             mode,
+            hardware: Hardware::from_bytes(&bytes[PROCESSOR_WORDS_LENGTH..]),
         })
     }
 
@@ -132,7 +146,9 @@ impl Processor {
         let mut words = self.regs.to_vec();
         words.extend(self.system().map(|(_, value)| value));
         words.push(self.mode.number());
-        words.iter().flat_map(|word| word.to_le_bytes()).collect()
+        let mut bytes: Vec<u8> = words.iter().flat_map(|word| word.to_le_bytes()).collect();
+        bytes.extend(self.hardware.fields().iter().flat_map(|(_, value)| value.to_le_bytes()));
+        bytes
     }
 
     /// PC and the system registers by name, in the record's order.
@@ -148,6 +164,27 @@ impl Processor {
             ("sr25", self.sr25),
             ("sr29", self.sr29),
             ("sr31", self.sr31),
+        ]
+    }
+}
+
+impl Hardware {
+    /// Reads the last eight bytes of a processor record; none are lines and timer at reset.
+    fn from_bytes(bytes: &[u8]) -> Hardware {
+        let half = |n: usize| match bytes.get(2 * n..2 * n + 2) {
+            Some(pair) => u16::from_le_bytes([pair[0], pair[1]]),
+            None => 0,
+        };
+        Hardware { lines: half(0), count: half(1), reload: half(2), control: half(3) }
+    }
+
+    /// Each field's name and value, in the record's order.
+    pub fn fields(&self) -> [(&'static str, u16); 4] {
+        [
+            ("lines", self.lines),
+            ("count", self.count),
+            ("reload", self.reload),
+            ("control", self.control),
         ]
     }
 }
@@ -207,6 +244,7 @@ impl From<&Processor> for vbsys::Processor {
             sr29: p.sr29,
             sr31: p.sr31,
             mode: p.mode.number(),
+            hardware: (&p.hardware).into(),
         }
     }
 }
@@ -227,7 +265,20 @@ impl From<&vbsys::Processor> for Processor {
             sr29: p.sr29,
             sr31: p.sr31,
             mode: Mode::of(p.mode).expect("a mode of vb.h"),
+            hardware: (&p.hardware).into(),
         }
+    }
+}
+
+impl From<&Hardware> for vbsys::Hardware {
+    fn from(h: &Hardware) -> Self {
+        vbsys::Hardware { lines: h.lines, count: h.count, reload: h.reload, control: h.control }
+    }
+}
+
+impl From<&vbsys::Hardware> for Hardware {
+    fn from(h: &vbsys::Hardware) -> Self {
+        Hardware { lines: h.lines, count: h.count, reload: h.reload, control: h.control }
     }
 }
 

@@ -2,7 +2,7 @@
 
 use std::fmt;
 
-use crate::records::{Drawing, Processor};
+use crate::records::{Drawing, Hardware, Processor};
 
 /// Why a call did nothing: the papers' numbers, 8 and 15 told apart by their subject.
 #[derive(Clone, Debug, PartialEq, Eq)]
@@ -144,10 +144,30 @@ pub fn grouped(number: u64) -> String {
     out
 }
 
-/// Which register makes refusal 5, in the order of paper 01's row: the processor's, where a call is given one, then
-/// the drawing registers.
-pub(crate) fn fault(processor: Option<&Processor>, drawing: &Drawing) -> Option<Refusal> {
-    processor.and_then(processor_fault).or_else(|| drawing_fault(drawing))
+/// Which register makes refusal 5, in the order of paper 01's row: the processor's, where a call is given one, the
+/// drawing registers, then the request lines and the timer, where it is given them.
+pub(crate) fn fault(
+    processor: Option<&Processor>,
+    drawing: &Drawing,
+    hardware: Option<&Hardware>,
+) -> Option<Refusal> {
+    processor
+        .and_then(processor_fault)
+        .or_else(|| drawing_fault(drawing))
+        .or_else(|| hardware.and_then(hardware_fault))
+}
+
+pub(crate) fn hardware_fault(hardware: &Hardware) -> Option<Refusal> {
+    let Hardware { lines, control, .. } = *hardware;
+    if lines >= 32 {
+        let allowed = "it must be at most 0x1F (5 lines)";
+        return Some(Refusal::State { register: "lines", given: u32::from(lines), allowed });
+    }
+    if control & !0x1B != 0 {
+        let allowed = "it may have bits of 0x1B only";
+        return Some(Refusal::State { register: "control", given: u32::from(control), allowed });
+    }
+    None
 }
 
 fn processor_fault(p: &Processor) -> Option<Refusal> {

@@ -37,6 +37,7 @@ impl Machine {
         let due = state_bytes(lengths[3]);
         let own = [Refusal::FileLength { given, due }, Refusal::FileBytes];
         let processor = Some(&self.processor);
-        Given { lengths, processor, drawing: &self.drawing }.refusal(number, &own)
+        let hardware = Some(&self.processor.hardware);
+        Given { lengths, processor, drawing: &self.drawing, hardware }.refusal(number, &own)
     }
 }

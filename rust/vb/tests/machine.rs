@@ -1,7 +1,8 @@
 //! The safe crate as a bench uses it: step, run, load, store, draw, look up.
 
 use vb::{
-    Answer, Cause, Drawing, Machine, Memories, Mode, Processor, ReadMemories, RecordError, Stop,
+    Answer, Cause, Drawing, Hardware, Machine, Memories, Mode, Processor, ReadMemories,
+    RecordError, Stop,
 };
 
 /// A ROM of 1,024 bytes whose reset address holds these halfwords.
@@ -149,11 +150,15 @@ fn records_have_the_bytes_of_the_header() {
     let mut processor = Machine::reset().processor;
     processor.regs = std::array::from_fn(|n| 0x0101_0101 * n as u32);
     (processor.sr31, processor.mode) = (0x8000_0000, Mode::Fatal);
+    processor.hardware = Hardware { lines: 0x1F, count: 0x1234, reload: 0x5678, control: 0x1B };
     let bytes = processor.to_bytes();
     assert_eq!(bytes.len(), vb::PROCESSOR_LENGTH);
     assert_eq!((&bytes[8..12], &bytes[128..132]), (&[2; 4][..], &[0xF0, 0xFF, 0xFF, 0xFF][..]));
     assert_eq!((&bytes[152..156], bytes[168]), (&[0, 0x80, 0, 0][..], 2));
+    assert_eq!(bytes[172..], [0x1F, 0, 0x34, 0x12, 0x78, 0x56, 0x1B, 0]);
     assert_eq!(Processor::from_bytes(&bytes), Ok(processor));
+    let at_reset = Processor { hardware: Hardware::default(), ..processor };
+    assert_eq!(Processor::from_bytes(&bytes[..172]), Ok(at_reset));
     let drawing =
         Drawing { spt: [1, 2, 3, 4], gplt: [5, 6, 7, 8], jplt: [9, 10, 11, 12], bkcol: 3 };
     let bytes = drawing.to_bytes();
@@ -164,8 +169,8 @@ fn records_have_the_bytes_of_the_header() {
 #[test]
 fn bytes_that_are_no_record_are_told() {
     let short = Processor::from_bytes(&[0; 171]).unwrap_err();
-    assert_eq!(short, RecordError::Length { given: 171, wanted: 172 });
-    assert_eq!(short.to_string(), "the record has 171 bytes; it must have 172");
+    assert_eq!(short, RecordError::Length { given: 171, wanted: 180 });
+    assert_eq!(short.to_string(), "the record has 171 bytes; it must have 180");
     let mut bytes = [0; 172];
     bytes[168] = 3;
     let told = Processor::from_bytes(&bytes).unwrap_err().to_string();

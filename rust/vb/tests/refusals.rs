@@ -38,7 +38,7 @@ fn lengths() {
 #[test]
 fn registers() {
     type Change = fn(&mut Processor, &mut Drawing);
-    let rows: [(Change, &str); 13] = [
+    let rows: [(Change, &str); 17] = [
         (|p, _| p.regs[0] = 1, "general register 0 is 0x00000001; it must be 0"),
         (|p, _| p.pc = 3, "PC is 0x00000003; it must be even"),
         (|p, _| p.eipc = 1, "EIPC is 0x00000001; it must be even"),
@@ -55,6 +55,10 @@ fn registers() {
         (|_, d| d.gplt[2] = 0x100, "GPLT2 is 0x00000100; it must be at most 0xFF (8 bits)"),
         (|_, d| d.jplt[0] = 0x1FF, "JPLT0 is 0x000001FF; it must be at most 0xFF (8 bits)"),
         (|_, d| d.bkcol = 4, "BKCOL is 0x00000004; it must be at most 3 (2 bits)"),
+        (|p, _| p.hardware.lines = 32, "lines is 0x00000020; it must be at most 0x1F (5 lines)"),
+        (|p, _| p.hardware.control = 0x04, "control is 0x00000004; it may have bits of 0x1B only"),
+        (|p, _| p.hardware.control = 0x20, "control is 0x00000020; it may have bits of 0x1B only"),
+        (|p, _| p.hardware.control = 0x3B, "control is 0x0000003B; it may have bits of 0x1B only"),
     ];
     for (change, text) in rows {
         let mut machine = Machine::reset();

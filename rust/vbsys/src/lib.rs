@@ -5,7 +5,7 @@
 //! then length; the borrow checker keeps the lent buffers apart.
 
 /// `VB_VERSION`: the layouts below are this version's.
-pub const VERSION: u32 = 2;
+pub const VERSION: u32 = 3;
 /// `VB_MISUSE`: a mode above 2.
 pub const MISUSE: u32 = 255;
 
@@ -23,6 +23,30 @@ pub const TRAPPED: u32 = 1;
 pub const TURNED_FATAL: u32 = 2;
 pub const WAS_HALTED: u32 = 3;
 pub const WAS_FATAL: u32 = 4;
+pub const INTERRUPTED: u32 = 5;
+
+/// Bits of [`Hardware::lines`].
+pub const LINE_PAD: u16 = 0x01;
+pub const LINE_TIMER: u16 = 0x02;
+pub const LINE_PAK: u16 = 0x04;
+pub const LINE_LINK: u16 = 0x08;
+pub const LINE_VIP: u16 = 0x10;
+
+/// Bits of [`Hardware::control`].
+pub const T_ENB: u16 = 0x01;
+pub const Z_STAT: u16 = 0x02;
+pub const TIM_Z_INT: u16 = 0x08;
+pub const T_CLK_SEL: u16 = 0x10;
+
+/// `vb_hardware`: the request lines and the timer.
+#[repr(C)]
+#[derive(Clone, Copy, Debug, Default, PartialEq, Eq)]
+pub struct Hardware {
+    pub lines: u16,
+    pub count: u16,
+    pub reload: u16,
+    pub control: u16,
+}
 
 /// `vb_processor`
 #[repr(C)]
@@ -40,6 +64,7 @@ pub struct Processor {
     pub sr29: u32,
     pub sr31: u32,
     pub mode: u32,
+    pub hardware: Hardware,
 }
 
 /// `vb_drawing`
@@ -68,6 +93,15 @@ pub struct Loaded {
 pub struct Stored {
     pub refusal: u32,
     pub drawing: Drawing,
+    pub hardware: Hardware,
+}
+
+/// `vb_ticked`
+#[repr(C)]
+#[derive(Clone, Copy, Debug, Default, PartialEq, Eq)]
+pub struct Ticked {
+    pub refusal: u32,
+    pub hardware: Hardware,
 }
 
 /// `vb_undefined`
@@ -167,13 +201,19 @@ macro_rules! load {
                 pak: *const u8,
                 pak_len: usize,
                 drawing: Drawing,
+                hardware: Hardware,
                 address: u32,
             ) -> Loaded;
         }
 
         #[doc = concat!("`", stringify!($function), "`")]
         #[inline]
-        pub fn $wrapper(memories: ReadMemories, drawing: Drawing, address: u32) -> Loaded {
+        pub fn $wrapper(
+            memories: ReadMemories,
+            drawing: Drawing,
+            hardware: Hardware,
+            address: u32,
+        ) -> Loaded {
             let ReadMemories { rom, wram, vram, pak } = memories;
             // SAFETY: each pointer is lent with its slice's own length.
             unsafe {
@@ -187,6 +227,7 @@ macro_rules! load {
                     pak.as_ptr(),
                     pak.len(),
                     drawing,
+                    hardware,
                     address,
                 )
             }
@@ -238,9 +279,29 @@ macro_rules! on_memories {
     };
 }
 
-on_memories!(store_byte, vb_store_byte(drawing: Drawing, address: u32, value: u32) -> Stored);
-on_memories!(store_half, vb_store_half(drawing: Drawing, address: u32, value: u32) -> Stored);
-on_memories!(store_word, vb_store_word(drawing: Drawing, address: u32, value: u32) -> Stored);
+on_memories!(
+    store_byte,
+    vb_store_byte(drawing: Drawing, hardware: Hardware, address: u32, value: u32) -> Stored
+);
+on_memories!(
+    store_half,
+    vb_store_half(drawing: Drawing, hardware: Hardware, address: u32, value: u32) -> Stored
+);
+on_memories!(
+    store_word,
+    vb_store_word(drawing: Drawing, hardware: Hardware, address: u32, value: u32) -> Stored
+);
+
+extern "C" {
+    fn vb_tick(hardware: Hardware) -> Ticked;
+}
+
+/// `vb_tick`
+#[inline]
+pub fn tick(hardware: Hardware) -> Ticked {
+    // SAFETY: nothing is lent.
+    unsafe { vb_tick(hardware) }
+}
 
 /// The lent memories of a probe's write: VRAM alone can change.
 #[derive(Debug)]

@@ -7,7 +7,10 @@ use std::mem::{align_of, offset_of, size_of};
 use std::path::{Path, PathBuf};
 use std::process::Command;
 
-use vbsys::{Drawing, Loaded, Machine, Part, Processor, Ran, Restored, Stepped, Stored, Undefined};
+use vbsys::{
+    Drawing, Hardware, Loaded, Machine, Part, Processor, Ran, Restored, Stepped, Stored, Ticked,
+    Undefined,
+};
 
 /// One line of the C program: a name, and the expression whose value it has.
 struct Fact {
@@ -50,11 +53,14 @@ fn facts() -> Vec<Fact> {
         sr25,
         sr29,
         sr31,
-        mode
+        mode,
+        hardware
     );
+    fields!(facts, Hardware, "vb_hardware", lines, count, reload, control);
     fields!(facts, Drawing, "vb_drawing", spt, gplt, jplt, bkcol);
     fields!(facts, Loaded, "vb_loaded", refusal, value, undefined);
-    fields!(facts, Stored, "vb_stored", refusal, drawing);
+    fields!(facts, Stored, "vb_stored", refusal, drawing, hardware);
+    fields!(facts, Ticked, "vb_ticked", refusal, hardware);
     fields!(facts, Undefined, "vb_undefined", first, second, load);
     fields!(facts, Stepped, "vb_stepped", refusal, answer, code, undefined, processor, drawing);
     fields!(facts, Ran, "vb_ran", refusal, count, processor, drawing);
@@ -75,6 +81,20 @@ fn facts() -> Vec<Fact> {
     facts.push(constant("VB_TURNED_FATAL", vbsys::TURNED_FATAL));
     facts.push(constant("VB_WAS_HALTED", vbsys::WAS_HALTED));
     facts.push(constant("VB_WAS_FATAL", vbsys::WAS_FATAL));
+    facts.push(constant("VB_INTERRUPTED", vbsys::INTERRUPTED));
+    for (name, here) in [
+        ("VB_LINE_PAD", vbsys::LINE_PAD),
+        ("VB_LINE_TIMER", vbsys::LINE_TIMER),
+        ("VB_LINE_PAK", vbsys::LINE_PAK),
+        ("VB_LINE_LINK", vbsys::LINE_LINK),
+        ("VB_LINE_VIP", vbsys::LINE_VIP),
+        ("VB_T_ENB", vbsys::T_ENB),
+        ("VB_Z_STAT", vbsys::Z_STAT),
+        ("VB_TIM_Z_INT", vbsys::TIM_Z_INT),
+        ("VB_T_CLK_SEL", vbsys::T_CLK_SEL),
+    ] {
+        facts.push(constant(name, u32::from(here)));
+    }
     facts
 }
 
@@ -107,6 +127,14 @@ fn compile_and_run(text: &str) -> String {
 }
 
 #[test]
+fn a_processor_record_has_180_bytes() {
+    assert_eq!((size_of::<Processor>(), size_of::<Hardware>()), (180, 8));
+    assert_eq!(offset_of!(Processor, hardware), 172);
+    assert_eq!(size_of::<Stepped>(), 232);
+    assert_eq!((size_of::<Ran>(), size_of::<Machine>()), (224, 208));
+}
+
+#[test]
 fn layouts_are_those_of_the_header() {
     let facts = facts();
     let printed = compile_and_run(&program(&facts));
@@ -123,7 +151,9 @@ fn layouts_are_those_of_the_header() {
 
 #[test]
 fn layouts_have_no_surprises() {
-    assert_eq!(size_of::<Processor>(), 43 * 4);
+    assert_eq!(size_of::<Processor>(), 43 * 4 + 4 * 2);
+    assert_eq!(size_of::<Stored>(), 40);
+    assert_eq!(size_of::<Ticked>(), 12);
     assert_eq!(size_of::<Drawing>(), 13 * 2);
     assert_eq!(size_of::<Loaded>(), 12);
     assert_eq!(align_of::<Ran>(), 8);

@@ -2,7 +2,7 @@
 
 use std::ptr::{null, null_mut};
 
-use vbsys::{Drawing, Loaded, Stored};
+use vbsys::{Drawing, Hardware, Loaded, Stored};
 
 /// The four memories of a call, for reading.
 type Pointers = [(*const u8, usize); 4];
@@ -18,6 +18,7 @@ extern "C" {
         pak: *const u8,
         pak_len: usize,
         drawing: Drawing,
+        hardware: Hardware,
         address: u32,
     ) -> Loaded;
     fn vb_store_word(
@@ -30,6 +31,7 @@ extern "C" {
         pak: *mut u8,
         pak_len: usize,
         drawing: Drawing,
+        hardware: Hardware,
         address: u32,
         value: u32,
     ) -> Stored;
@@ -49,6 +51,7 @@ fn load(memories: Pointers, address: u32) -> Loaded {
             pak.0,
             pak.1,
             Drawing::default(),
+            Hardware::default(),
             address,
         )
     }
@@ -85,6 +88,7 @@ fn a_store_to_null_pak_ram_writes_nothing() {
             null_mut(),
             0,
             Drawing::default(),
+            Hardware::default(),
             0x0600_0000,
             0x1234_5678,
         )

@@ -1,7 +1,7 @@
 //! Where a saved state has what, by its form and pak RAM's length (paper 02, W1 and W12).
 
 use serde::Serialize;
-use vb::{DRAWING_LENGTH, PROCESSOR_LENGTH, VRAM_LENGTH, WRAM_LENGTH};
+use vb::{DRAWING_LENGTH, PROCESSOR_WORDS_LENGTH, VRAM_LENGTH, WRAM_LENGTH};
 
 pub const PROCESSOR: u16 = 1;
 pub const DRAWING: u16 = 2;
@@ -56,7 +56,7 @@ pub struct Layout {
 impl Layout {
     pub fn of(form: Form, pak: usize) -> Layout {
         let all = [
-            (PROCESSOR, "processor record", PROCESSOR_LENGTH),
+            (PROCESSOR, "processor record", PROCESSOR_WORDS_LENGTH),
             (DRAWING, "drawing record", DRAWING_LENGTH),
             (WRAM, "WRAM", WRAM_LENGTH),
             (VRAM, "VRAM", VRAM_LENGTH),

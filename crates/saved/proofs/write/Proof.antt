@@ -2,7 +2,6 @@
 use native.Mathlib.Omega.{arith}
 use mathlib.Core.Path.{sym, _∙_}
 use Rattle.bus.specs.Memory.{memoryOf}
-use Rattle.processor.specs.Record.{stateIn}
 use Rattle.saved.proofs.Lengths.{lengths-of, pak-small}
 use Rattle.saved.proofs.Verdicts.{write-refused, write-length, write-accepted, file-of-records}
 use borrow.Author.Needs.{needs}
@@ -19,7 +18,7 @@ enum-told : tie.Need-enum-told
 enum-told c = search needs
 
 file-length-requires : tie.Need-file-length-requires
-file-length-requires c κs = pak-small _ (lengths-of (stateIn (c .before .before .before .before .before .before .before .before .args .processor)) (memoryOf (c .before .before .before .before .before .before .before .before .args .rom .now) (c .before .before .before .before .before .before .before .before .args .wram .now) (c .before .before .before .before .before .before .before .before .args .vram .now) (c .before .before .before .before .before .before .before .before .args .pak .now) (c .before .before .before .before .before .before .before .before .args .drawing .regs)) (sym (c .before .before .verdict .ensures) ∙ c .enum-told .given .1) .pak-ok)
+file-length-requires c κs = pak-small _ (lengths-of (c .before .before .before .before .before .before .before .before .args .processor) (memoryOf (c .before .before .before .before .before .before .before .before .args .rom .now) (c .before .before .before .before .before .before .before .before .args .wram .now) (c .before .before .before .before .before .before .before .before .args .vram .now) (c .before .before .before .before .before .before .before .before .args .pak .now) (c .before .before .before .before .before .before .before .before .args .drawing .regs)) (sym (c .before .before .verdict .ensures) ∙ c .enum-told .given .1) .pak-ok)
 
 returns : tie.Need-returns
 returns c = write-length _ _ _ (sym (c .before .before .before .before .verdict .ensures) ∙ c .before .before .enum-told .given .1) (λ e. c .if1 .taken (e ∙ sym (c .before .file-length .ensures)))
@@ -28,8 +27,8 @@ rest-requires : tie.Need-rest-requires
 rest-requires c κs = search needs
 
 write-requires : tie.Need-write-requires
-write-requires c κs = let l = lengths-of (stateIn (c .before .before .before .before .before .before .before .before .before .before .before .before .before .before .before .before .before .args .processor)) (memoryOf (c .before .before .before .before .before .before .before .before .before .before .before .before .before .before .before .before .before .args .rom .now) (c .before .before .before .before .before .before .before .before .before .before .before .before .before .before .before .before .before .args .wram .now) (c .before .before .before .before .before .before .before .before .before .before .before .before .before .before .before .before .before .args .vram .now) (c .before .before .before .before .before .before .before .before .before .before .before .before .before .before .before .before .before .args .pak .now) (c .before .before .before .before .before .before .before .before .before .before .before .before .before .before .before .before .before .args .drawing .regs)) (sym (c .before .before .before .before .before .before .before .before .before .before .before .verdict .ensures) ∙ c .before .before .before .before .before .before .before .before .before .enum-told .given .1) in
-    ((search needs, (search needs, search needs)), ((l .wram-ok, (l .vram-ok, pak-small _ (l .pak-ok))), c .before .before .before .before .before .before .before .if1 .left ∙ c .before .before .before .before .before .before .before .before .file-length .ensures))
+write-requires c κs = let l = lengths-of (c .before .before .before .before .before .before .before .before .before .before .before .before .before .before .before .before .before .args .processor) (memoryOf (c .before .before .before .before .before .before .before .before .before .before .before .before .before .before .before .before .before .args .rom .now) (c .before .before .before .before .before .before .before .before .before .before .before .before .before .before .before .before .before .args .wram .now) (c .before .before .before .before .before .before .before .before .before .before .before .before .before .before .before .before .before .args .vram .now) (c .before .before .before .before .before .before .before .before .before .before .before .before .before .before .before .before .before .args .pak .now) (c .before .before .before .before .before .before .before .before .before .before .before .before .before .before .before .before .before .args .drawing .regs)) (sym (c .before .before .before .before .before .before .before .before .before .before .before .verdict .ensures) ∙ c .before .before .before .before .before .before .before .before .before .enum-told .given .1) in
+    ((search needs, (search needs, search (needs, c .before .before .before .before .before .before .before .before .before .before .before .before .before .before .before .before .before .good .1 .1 .1 .1 .1 .0))), ((l .wram-ok, (l .vram-ok, pak-small _ (l .pak-ok))), c .before .before .before .before .before .before .before .if1 .left ∙ c .before .before .before .before .before .before .before .before .file-length .ensures))
 
 returns-2 : tie.Need-returns-2
 returns-2 c = write-refused _ _ _ _ (sym (c .before .before .before .verdict .ensures) ∙ c .before .n .given .1)

@@ -9,7 +9,7 @@ use denote.Ref.{now}
 use Rattle.bus.specs.Memory.{memoryOf}
 use Rattle.bus.specs.Place.{regionOf}
 use Rattle.bus.proofs.Power.{rom-power, rom-as-pak, power-pos}
-use Rattle.bus.proofs.Accesses.{Quiet, found, missed, wram-byte, rom-byte, nothing-byte}
+use Rattle.bus.proofs.Accesses.{Quiet, found, missed, above, wram-byte, rom-byte, nothing-byte}
 use Rattle.bus.proofs.outside.byte.Statement.{statement}
 use Rattle.bus.proofs.outside.byte.Tie as tie
 
@@ -59,7 +59,7 @@ returns-4 : tie.Need-returns-4
 returns-4 c =
     let b = c .before .before .before .before .before .before in
     let a = b .args in
-    let quiet : Quiet (regionOf (a .address)) = (missed (a .address) 5 (c .before .before .if1 .left), (missed (a .address) 7 (c .before .if2 .left), (missed (a .address) 0 (b .pre .3), missed (a .address) 6 (c .if3 .left)))) in
+    let quiet : Quiet (regionOf (a .address)) = (missed (a .address) 5 (c .before .before .if1 .left), (missed (a .address) 7 (c .before .if2 .left), (above (a .address) 0 (omega arith) (b .pre .3), (missed (a .address) 6 (c .if3 .left), above (a .address) 2 (omega arith) (b .pre .3))))) in
     λ vram regs.
     record {
       means = sym (nothing-byte (memoryOf (now (a .rom)) (now (a .wram)) vram (now (a .pak)) regs) (a .address) quiet);

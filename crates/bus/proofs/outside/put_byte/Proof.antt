@@ -1,11 +1,12 @@
 -- `bus::outside::put_byte` meets its contract: by region, WRAM, pak RAM, or nothing.
 -- Assumes nothing.
 use borrow.Author.Needs.{needs}
+use native.Mathlib.Omega.{arith}
 use mathlib.Core.Path.{_≡_, sym}
 use lib.ListN.{length}
 use denote.Ref.{now}
 use Rattle.bus.specs.Memory.{memoryOf}
-use Rattle.bus.proofs.Accesses.{found, missed, wram-put, nothing-put-byte}
+use Rattle.bus.proofs.Accesses.{found, missed, above, wram-put, nothing-put-byte}
 use Rattle.bus.proofs.outside.put_byte.Statement.{statement}
 use Rattle.bus.proofs.outside.put_byte.Tie as tie
 
@@ -44,7 +45,7 @@ returns-3 : tie.Need-returns-3
 returns-3 c =
     let b = c .before .before .before .before in
     let a = b .args in
-    λ rom vram regs. sym (nothing-put-byte (memoryOf rom (now (a .wram)) vram (now (a .pak)) regs) (a .address) (a .value) (missed (a .address) 5 (c .before .if1 .left), (missed (a .address) 0 (b .pre .2), missed (a .address) 6 (c .if2 .left))))
+    λ rom vram regs. sym (nothing-put-byte (memoryOf rom (now (a .wram)) vram (now (a .pak)) regs) (a .address) (a .value) (missed (a .address) 5 (c .before .if1 .left), (above (a .address) 0 (omega arith) (b .pre .2), (missed (a .address) 6 (c .if2 .left), above (a .address) 2 (omega arith) (b .pre .2)))))
 
 pub put-byte-spec : {M : Type 1} → statement M
 put-byte-spec =

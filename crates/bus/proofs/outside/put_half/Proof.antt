@@ -1,12 +1,13 @@
 -- `bus::outside::put_half` meets its contract: by region, WRAM, pak RAM, or nothing.
 -- Assumes nothing.
 use borrow.Author.Needs.{needs}
+use native.Mathlib.Omega.{arith}
 use mathlib.Core.Path.{_≡_, sym}
 use lib.ListN.{length}
 use denote.Ref.{now}
 use Rattle.bus.specs.Memory.{memoryOf}
 use Rattle.bus.proofs.Spans.{half-wram, wram-span-half}
-use Rattle.bus.proofs.Accesses.{found, missed, nothing-put-half}
+use Rattle.bus.proofs.Accesses.{found, missed, above, nothing-put-half}
 use Rattle.bus.proofs.outside.put_half.Statement.{statement}
 use Rattle.bus.proofs.outside.put_half.Tie as tie
 
@@ -47,7 +48,7 @@ returns-3 : tie.Need-returns-3
 returns-3 c =
     let b = c .before .before .before .before in
     let a = b .args in
-    λ rom vram regs. sym (nothing-put-half (memoryOf rom (now (a .wram)) vram (now (a .pak)) regs) (a .address) (a .value) (missed (a .address) 5 (c .before .if1 .left), (missed (a .address) 0 (b .pre .2), missed (a .address) 6 (c .if2 .left))))
+    λ rom vram regs. sym (nothing-put-half (memoryOf rom (now (a .wram)) vram (now (a .pak)) regs) (a .address) (a .value) (missed (a .address) 5 (c .before .if1 .left), (above (a .address) 0 (omega arith) (b .pre .2), (missed (a .address) 6 (c .if2 .left), above (a .address) 2 (omega arith) (b .pre .2)))))
 
 pub put-half-spec : {M : Type 1} → statement M
 put-half-spec =

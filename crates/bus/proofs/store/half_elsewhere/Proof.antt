@@ -33,11 +33,28 @@ returns-2 c =
     let a = c .before .before .before .before .before .before .before .before .args in
     λ rom wram. c .before .before .put-half2 .ensures rom wram (now (a .vram)) (now (a .regs))
 
+put-half-requires-3 : tie.Need-put-half-requires-3
+put-half-requires-3 c κs =
+    let b = c .before .before .before .before .before .before in
+    found (b .args .address) 2 (c .before .if3 .taken)
+
 returns-3 : tie.Need-returns-3
 returns-3 c =
-    let b = c .before .before .before .before in
+    let a = c .before .before .before .before .before .before .before .args in
+    λ rom wram. c .put-half3 .ensures rom wram (now (a .vram)) (now (a .pak))
+
+returns-4 : tie.Need-returns-4
+returns-4 c =
+    let b = c .before .before .before .before .before in
     let a = b .args in
-    λ rom wram. sym (nothing-put-half (memoryOf rom wram (now (a .vram)) (now (a .pak)) (now (a .regs))) (a .address) (a .value) (b .pre .2, (missed (a .address) 0 (c .before .if1 .left), missed (a .address) 6 (c .if2 .left))))
+    λ rom wram.
+    sym (nothing-put-half (memoryOf rom wram (now (a .vram)) (now (a .pak)) (now (a .regs))) (a .address) (a .value) (
+      b .pre .2,
+      (
+        missed (a .address) 0 (c .before .before .if1 .left),
+        (missed (a .address) 6 (c .before .if2 .left), missed (a .address) 2 (c .if3 .left)),
+      ),
+    ))
 
 pub half-elsewhere-spec : {M : Type 1} → statement M
 half-elsewhere-spec =
@@ -49,4 +66,6 @@ half-elsewhere-spec =
     put-half-requires-2
     same-length-2
     returns-2
-    returns-3)
+    put-half-requires-3
+    returns-3
+    returns-4)

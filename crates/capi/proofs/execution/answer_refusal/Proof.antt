@@ -2,61 +2,51 @@
 use borrow.Author.Needs.{needs}
 use Rattle.capi.proofs.execution.answer_refusal.Statement.{statement}
 use Rattle.capi.proofs.execution.answer_refusal.Tie as tie
-use Rattle.capi.proofs.execution.answer_refusal.Reads as reads
-use Rattle.capi.proofs.execution.answer_refusal.Lts as lts
-use Rattle.refusal.proofs.number.Reads as number-reads
 
--- src/execution.rt:135:26
 enum-told : tie.Need-enum-told
 enum-told c = search needs
 
--- src/execution.rt:136:31
 enum-told-2 : tie.Need-enum-told-2
 enum-told-2 c = search needs
 
--- src/execution.rt:137:35
 enum-told-3 : tie.Need-enum-told-3
 enum-told-3 c = search needs
 
--- src/execution.rt:138:30
 enum-told-4 : tie.Need-enum-told-4
 enum-told-4 c = search needs
 
--- src/execution.rt:139:29
 enum-told-5 : tie.Need-enum-told-5
 enum-told-5 c = search needs
 
--- src/execution.rt:140:25
+enum-told-6 : tie.Need-enum-told-6
+enum-told-6 c = search needs
+
 enum-known-answer : tie.Need-enum-known-answer
 enum-known-answer c = search needs
 
--- src/execution.rt:140:31
 number-requires : tie.Need-number-requires
 number-requires c κs = search needs
 
--- src/execution.rt:131:1
 returns : tie.Need-returns
 returns c = search needs
 
--- src/execution.rt:131:1
 returns-2 : tie.Need-returns-2
 returns-2 c = search needs
 
--- src/execution.rt:131:1
 returns-3 : tie.Need-returns-3
 returns-3 c = search needs
 
--- src/execution.rt:131:1
 returns-4 : tie.Need-returns-4
 returns-4 c = search needs
 
--- src/execution.rt:131:1
 returns-5 : tie.Need-returns-5
 returns-5 c = search needs
 
--- src/execution.rt:131:1
 returns-6 : tie.Need-returns-6
-returns-6 c = rw (c .before .before .answer .given .1) (c .number .ensures)
+returns-6 c = search needs
+
+returns-7 : tie.Need-returns-7
+returns-7 c = rw (c .before .before .answer .given .1) (c .number .ensures)
 
 pub answer-refusal-spec : {M : Type 1} → statement M
 answer-refusal-spec =
@@ -67,6 +57,7 @@ answer-refusal-spec =
     enum-told-3
     enum-told-4
     enum-told-5
+    enum-told-6
     enum-known-answer
     number-requires
     returns
@@ -74,4 +65,5 @@ answer-refusal-spec =
     returns-3
     returns-4
     returns-5
-    returns-6)
+    returns-6
+    returns-7)

@@ -11,6 +11,9 @@ use Rattle.processor.proofs.calls.step.Tie as tie
 system-requires : tie.Need-system-requires
 system-requires c κs = search needs
 
+device-of-requires : tie.Need-device-of-requires
+device-of-requires c κs = search needs
+
 acceptance-requires : tie.Need-acceptance-requires
 acceptance-requires c κs = search needs
 
@@ -32,9 +35,12 @@ masks-requires c κs = search needs
 joined-requires : tie.Need-joined-requires
 joined-requires c κs = search needs
 
+drawing-in-requires : tie.Need-drawing-in-requires
+drawing-in-requires c κs = search needs
+
 returns : tie.Need-returns
 unfolding checkedStepOf
-returns c = rw (c .none .ensures, ← c .before .before .before .before .before .before .before .before .before .system .ensures, ← c .before .before .before .before .acceptance .ensures, c .before .before .n .given .1)
+returns c = rw (c .none .ensures, ← c .before .before .before .before .before .before .before .before .device-of .ensures, ← c .before .before .before .before .before .before .before .before .before .before .before .system .ensures, ← c .before .before .before .before .acceptance .ensures, c .before .before .n .given .1)
 
 same-length : tie.Need-same-length
 same-length c = search needs
@@ -47,17 +53,18 @@ same-length-3 c = search needs
 
 returns-2 : tie.Need-returns-2
 returns-2 c =
-    let a = c .before .before .before .before .before .before .before .before .before .before .before .before .before .before .before .before .before .before .before .before .before .before .before .before .before .before .before .before .before .before .before .args in
-    let system = c .before .before .before .before .before .before .before .before .before .before .before .before .before .before .before .before .before .before .before .before .before .before .before .before .before .system in
-    let run = c .before .before .before .before .before .before .before .before .before .before .before .run .ensures .1 in
-    rw (c .joined .ensures)
-    (step-accepted (a .processor) _ _ _ (system .ensures) (c .before .before .before .before .before .before .before .before .before .before .before .before .before .before .before .before .before .before .before .before .acceptance .ensures) (c .before .before .before .before .before .before .before .before .before .before .before .before .before .before .before .before .before .before .enum-told .given .1) _ (run .0 refl) _ (run .1 refl) _ (c .before .masks .ensures (system .result) (a .processor .psw) (a .processor .mode) _))
+    let a = c .before .before .before .before .before .before .before .before .before .before .before .before .before .before .before .before .before .before .before .before .before .before .before .before .before .before .before .before .before .before .before .before .before .before .before .before .args in
+    let system = c .before .before .before .before .before .before .before .before .before .before .before .before .before .before .before .before .before .before .before .before .before .before .before .before .before .before .before .before .before .before .system in
+    let run = c .before .before .before .before .before .before .before .before .before .before .before .before .before .before .run .ensures .1 in
+    rw (c .drawing-in .ensures, c .before .before .joined .ensures)
+    (step-accepted (a .processor) _ _ _ _ (system .ensures) (c .before .before .before .before .before .before .before .before .before .before .before .before .before .before .before .before .before .before .before .before .before .before .before .before .before .before .before .device-of .ensures) (c .before .before .before .before .before .before .before .before .before .before .before .before .before .before .before .before .before .before .before .before .before .before .before .acceptance .ensures) (c .before .before .before .before .before .before .before .before .before .before .before .before .before .before .before .before .before .before .before .before .before .enum-told .given .1) _ (run .0 refl) _ (run .1 refl) _ (c .before .before .before .before .masks .ensures (system .result) (a .processor .psw) (a .processor .mode) _))
 
 pub step-spec : {M : Type 1} → statement M
 step-spec =
     tie.close
     (tie.spec
     system-requires
+    device-of-requires
     acceptance-requires
     enum-known-n
     none-requires
@@ -65,6 +72,7 @@ step-spec =
     run-requires
     masks-requires
     joined-requires
+    drawing-in-requires
     returns
     same-length
     same-length-2

@@ -1,20 +1,30 @@
--- `processor_step::step::step`: by the mode.
+-- `processor_step::step::step`: by whether an interrupt is accepted.
+use mathlib.Core.Path.{sym, _∙_}
+use denote.Ref.{now}
 use borrow.Author.Needs.{needs}
-use Rattle.processor_step.specs.Step.{stepOf}
+use Rattle.processor_step.proofs.Choosing.{step-interrupt, fetched-interrupt, step-instruction, fetched-instruction}
 use Rattle.processor_step.proofs.step.step.Statement.{statement}
 use Rattle.processor_step.proofs.step.step.Tie as tie
 
-enum-told : tie.Need-enum-told
-enum-told c = search needs
+element-copy-out-lines : tie.Need-element-copy-out-lines
+element-copy-out-lines c = search needs
 
-running-requires : tie.Need-running-requires
-running-requires c κs = search needs
+accepts-requires : tie.Need-accepts-requires
+accepts-requires c κs = search needs
 
-enum-told-2 : tie.Need-enum-told-2
-enum-told-2 c = search needs
+interrupt-requires : tie.Need-interrupt-requires
+interrupt-requires c κs = search needs
 
-enum-told-3 : tie.Need-enum-told-3
-enum-told-3 c = search needs
+returns : tie.Need-returns
+returns c =
+    let a = c .before .before .before .before .before .before .before .before .before .args in
+    let e = sym (c .before .before .before .accepts .ensures) ∙ c .before .before .if1 .taken in (
+      c .interrupt .ensures .0 (now (a .regs)) (a .mode) _ ∙ sym (step-interrupt _ _ e),
+      c .interrupt .ensures .1 ∙ sym (fetched-interrupt _ _ e),
+    )
+
+instruction-requires : tie.Need-instruction-requires
+instruction-requires c κs = search needs
 
 same-length : tie.Need-same-length
 same-length c = search needs
@@ -25,30 +35,23 @@ same-length-2 c = search needs
 same-length-3 : tie.Need-same-length-3
 same-length-3 c = search needs
 
-returns : tie.Need-returns
-unfolding stepOf
-returns c =
-    (rw (c .before .before .before .before .before .before .before .before .before .before .before .before .before .enum-told .given .1) (c .before .before .before .before .before .before .running .ensures .0), rw (c .before .before .before .before .before .before .before .before .before .before .before .before .before .enum-told .given .1) (c .before .before .before .before .before .before .running .ensures .1))
-
 returns-2 : tie.Need-returns-2
-unfolding stepOf
-returns-2 c = (rw (c .enum-told2 .given .1), rw (c .enum-told2 .given .1))
-
-returns-3 : tie.Need-returns-3
-unfolding stepOf
-returns-3 c = (rw (c .enum-told3 .given .1), rw (c .enum-told3 .given .1))
+returns-2 c =
+    let e = sym (c .before .before .before .before .before .before .before .before .before .before .before .before .before .before .accepts .ensures) ∙ c .before .before .before .before .before .before .before .before .before .before .before .before .before .if1 .left in (
+      c .before .before .before .before .before .before .instruction .ensures .0 ∙ sym (step-instruction _ _ e),
+      c .before .before .before .before .before .before .instruction .ensures .1 ∙ sym (fetched-instruction _ _ e),
+    )
 
 pub step-spec : {M : Type 1} → statement M
 step-spec =
     tie.close
     (tie.spec
-    enum-told
-    running-requires
-    enum-told-2
-    enum-told-3
+    element-copy-out-lines
+    accepts-requires
+    interrupt-requires
+    returns
+    instruction-requires
     same-length
     same-length-2
     same-length-3
-    returns
-    returns-2
-    returns-3)
+    returns-2)

@@ -1,0 +1,126 @@
+-- Region 2: what a byte, a halfword and a word read there, and what a store does. The timer's registers stand at
+-- multiples of four, so an access of any size is that of its first byte. Assumes nothing.
+use Prim.Native.Nat.{ℕ, zero, suc, _+_, _-_, _*_, _/_, _%_, _^_, _<_, _≤_}
+use mathlib.Core.Path.{_≡_, refl, sym, ap, subst, _∙_}
+use native.Mathlib.Omega.{arith}
+use borrow.Author.Tests.{ne-eqb}
+use lib.ListN.{length}
+use Rattle.bus_timer.specs.Ports.{tlr, thr, tcr, hardwareOffsetOf, portByteOf, portWrittenOf}
+use Rattle.bus_timer.specs.declared.Hardware.{Hardware}
+use Rattle.bus.specs.Registers.{hardwareIn, withHardware}
+use Rattle.bus.specs.Place.{regionOf, placeOf}
+use Rattle.bus.specs.Memory.{Memory, byteOf, loadOf, withRegs, putByte, putRegister, putHalfword, storeByteOf, storeHalfOf, storeWordOf, Reads}
+use Rattle.bus.proofs.Devices.{with-same}
+use Rattle.bus.proofs.Places.{place-hardware, region-half, region-half-start, region-word, region-word-start, register-elsewhere}
+use Rattle.bus.proofs.Halfwords.{byte-load, half-load, half-load-start, word-load, word-store}
+
+-- an offset that is no multiple of four has no register
+pub between-read : (h : Hardware) (o : ℕ) → (o % 4 ≡ 0 → ⊥) → portByteOf h o ≡ 0
+unfolding portByteOf
+between-read h o n =
+    let a : o ≡ 0x18 → ⊥ = λ e. n (rw e) in
+    let b : o ≡ 0x1C → ⊥ = λ e. n (rw e) in
+    let d : o ≡ 0x20 → ⊥ = λ e. n (rw e) in
+    simp (ne-eqb o 0x18 a, ne-eqb o 0x1C b, ne-eqb o 0x20 d)
+
+pub between-written : (h : Hardware) (o v : ℕ) → (o % 4 ≡ 0 → ⊥) → portWrittenOf h o v ≡ h
+unfolding portWrittenOf
+between-written h o v n =
+    let a : o ≡ 0x18 → ⊥ = λ e. n (rw e) in
+    let b : o ≡ 0x1C → ⊥ = λ e. n (rw e) in
+    let d : o ≡ 0x20 → ⊥ = λ e. n (rw e) in
+    simp (ne-eqb o 0x18 a, ne-eqb o 0x1C b, ne-eqb o 0x20 d)
+
+offset-four : (a : ℕ) → hardwareOffsetOf a % 4 ≡ a % 4
+unfolding hardwareOffsetOf
+offset-four a = omega arith
+
+module _ (m : Memory) (a : ℕ) (here : regionOf a ≡ 2) where
+  pub port-byte : byteOf m a ≡ portByteOf (hardwareIn (m .regs)) (hardwareOffsetOf a)
+  unfolding byteOf
+  port-byte = rw (place-hardware (length (m .rom)) (length (m .pak)) a here)
+
+  not-vip : regionOf a ≡ 0 → ⊥
+  not-vip e = omega arith
+
+  -- the byte v written at the address
+  pub port-put : (v : ℕ) → putByte m a v ≡ withRegs m (withHardware (m .regs) (portWrittenOf (hardwareIn (m .regs)) (hardwareOffsetOf a) (v % 256)))
+  unfolding putByte
+  port-put v = rw (place-hardware (length (m .rom)) (length (m .pak)) a here)
+
+  pub port-store : (v : ℕ) → storeByteOf m a v ≡ withRegs m (withHardware (m .regs) (portWrittenOf (hardwareIn (m .regs)) (hardwareOffsetOf a) (v % 256)))
+  unfolding storeByteOf
+  port-store v = register-elsewhere _ a v not-vip ∙ port-put v
+
+-- a byte that is no multiple of four reads 0 and takes nothing
+between-byte : (m : Memory) (a : ℕ) → regionOf a ≡ 2 → (a % 4 ≡ 0 → ⊥) → byteOf m a ≡ 0
+between-byte m a here n =
+    port-byte m a here ∙ between-read (hardwareIn (m .regs)) (hardwareOffsetOf a) (λ e. n (sym (offset-four a) ∙ e))
+
+between-put : (m : Memory) (a v : ℕ) → regionOf a ≡ 2 → (a % 4 ≡ 0 → ⊥) → putByte m a v ≡ m
+between-put m a v here n =
+    port-put m a here v
+    ∙ rw (between-written (hardwareIn (m .regs)) (hardwareOffsetOf a) (v % 256) (λ e. n (sym (offset-four a) ∙ e)), with-same (m .regs))
+
+-- a halfword and a word read their first byte
+module _ (m : Memory) (a : ℕ) (here : regionOf a ≡ 2) where
+  pub port-half : loadOf m 2 a ≡ byteOf m (a - a % 2)
+  port-half =
+      let next = between-byte m (a - a % 2 + 1) (region-half a 1 (omega arith) ∙ here) (λ e. omega arith) in
+      half-load m a ∙ rw next (omega arith)
+
+pub port-word : (m : Memory) (a : ℕ) → regionOf a ≡ 2 → loadOf m 4 a ≡ byteOf m (a - a % 4)
+port-word m a here =
+    let s = a - a % 4 in
+    let third = between-byte m (a - a % 4 + 2) (region-word a 2 (omega arith) ∙ here) (λ e. omega arith) in
+    let first : a - a % 4 - (a - a % 4) % 2 ≡ a - a % 4 = omega arith in
+    let second : a - a % 4 + 2 - (a - a % 4 + 2) % 2 ≡ a - a % 4 + 2 = omega arith in
+    word-load m a
+    ∙ (rw (port-half m s (region-word-start a ∙ here), port-half m (s + 2) (region-word a 2 (omega arith) ∙ here), first, second, third) (omega arith))
+
+-- and store it
+port-halfword : (m : Memory) (s v : ℕ) → s % 2 ≡ 0 → regionOf s ≡ 2 → regionOf (s + 1) ≡ 2 → putHalfword m s v ≡ storeByteOf m s v
+unfolding putHalfword storeByteOf
+port-halfword m s v even here next =
+    rw (between-put (putByte m s v) (s + 1) (v / 256) next (λ e. omega arith))
+
+pub port-half-store : (m : Memory) (a v : ℕ) → regionOf a ≡ 2 → storeHalfOf m a v ≡ storeByteOf m (a - a % 2) v
+unfolding storeHalfOf
+port-half-store m a v here =
+    port-halfword m (a - a % 2) v (omega arith) (region-half-start a ∙ here) (region-half a 1 (omega arith) ∙ here)
+
+-- the upper halfword of a word takes nothing
+upper-half : (m : Memory) (s v : ℕ) → s % 4 ≡ 2 → regionOf s ≡ 2 → storeByteOf m s v ≡ m
+unfolding storeByteOf
+upper-half m s v odd here = register-elsewhere _ s v (λ e. omega arith) ∙ between-put m s v here (λ e. omega arith)
+
+pub port-word-store : (m : Memory) (a v : ℕ) → regionOf a ≡ 2 → storeWordOf m a v ≡ storeByteOf m (a - a % 4) v
+port-word-store m a v here =
+    let s = a - a % 4 in
+    let first : a - a % 4 - (a - a % 4) % 2 ≡ a - a % 4 = omega arith in
+    let second : a - a % 4 + 2 - (a - a % 4 + 2) % 2 ≡ a - a % 4 + 2 = omega arith in
+    let low = region-word-start a ∙ here in
+    let high = region-word a 2 (omega arith) ∙ here in
+    word-store m a v
+    ∙ (port-half-store (storeHalfOf m s v) (s + 2) (v / 65536) high
+    ∙ rw (second)
+    (upper-half (storeHalfOf m s v) (s + 2) (v / 65536) (omega arith) high ∙ (port-half-store m s v low ∙ rw first)))
+
+-- what the code reads
+pub port-reads : (m : Memory) (a r : ℕ) → regionOf a ≡ 2 → r ≡ portByteOf (hardwareIn (m .regs)) (hardwareOffsetOf a) → r < 256
+    → Reads m 1 a r
+port-reads m a r here e small = record { means = e ∙ sym (byte-load m a ∙ port-byte m a here); fits = small }
+
+pub port-reads-half : (m : Memory) (a r : ℕ) → regionOf a ≡ 2 → Reads m 1 (a - a % 2) r → Reads m 2 a r
+port-reads-half m a r here p =
+    record {
+      means = p .means ∙ (byte-load m (a - a % 2) ∙ sym (port-half m a here));
+      fits = omega (arith, p .fits);
+    }
+
+pub port-reads-word : (m : Memory) (a r : ℕ) → regionOf a ≡ 2 → Reads m 1 (a - a % 4) r → Reads m 4 a r
+port-reads-word m a r here p =
+    record {
+      means = p .means ∙ (byte-load m (a - a % 4) ∙ sym (port-word m a here));
+      fits = omega (arith, p .fits);
+    }

@@ -1,0 +1,27 @@
+-- `bus::ports::byte` meets its contract: what the timer reads at the offset. Assumes nothing.
+use mathlib.Core.Path.{_≡_, sym, _∙_}
+use denote.Ref.{now}
+use Rattle.bus.specs.Memory.{memoryOf}
+use Rattle.bus_timer.specs.Ports.{hardwareOffsetOf}
+use Rattle.bus.proofs.PortAccess.{port-reads}
+use borrow.Author.Needs.{needs}
+use Rattle.bus.proofs.ports.byte.Statement.{statement}
+use Rattle.bus.proofs.ports.byte.Tie as tie
+
+hardware-in-requires : tie.Need-hardware-in-requires
+hardware-in-requires c κs = search needs
+
+read-requires : tie.Need-read-requires
+read-requires c κs = search needs
+
+returns : tie.Need-returns
+unfolding hardwareOffsetOf
+returns c =
+    let b = c .before .before in
+    let a = b .args in
+    λ rom wram vram pak.
+    port-reads (memoryOf rom wram vram pak (now (a .regs))) (a .address) _ (b .pre)
+    (c .read .ensures .0 ∙ rw (c .before .hardware-in .ensures)) (c .read .ensures .1)
+
+pub byte-spec : {M : Type 1} → statement M
+byte-spec = tie.close (tie.spec hardware-in-requires read-requires returns)

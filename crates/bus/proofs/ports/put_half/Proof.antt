@@ -1,0 +1,26 @@
+-- `bus::ports::put_half` meets its contract: its first byte. Assumes nothing.
+use mathlib.Core.Path.{_≡_, sym, _∙_}
+use denote.Ref.{now}
+use Rattle.bus.specs.Memory.{memoryOf}
+use Rattle.bus.proofs.Places.{region-half-start}
+use Rattle.bus.proofs.PortAccess.{port-half-store}
+use borrow.Author.Needs.{needs}
+use Rattle.bus.proofs.ports.put_half.Statement.{statement}
+use Rattle.bus.proofs.ports.put_half.Tie as tie
+
+sub-put-byte : tie.Need-sub-put-byte
+sub-put-byte c = search needs
+
+put-byte-requires : tie.Need-put-byte-requires
+put-byte-requires c κs = region-half-start (c .before .args .address) ∙ c .before .pre
+
+returns : tie.Need-returns
+returns c =
+    let b = c .before .before in
+    let a = b .args in
+    λ rom wram vram pak.
+    c .put-byte .ensures rom wram vram pak
+    ∙ sym (port-half-store (memoryOf rom wram vram pak (now (a .regs))) (a .address) (a .value) (b .pre))
+
+pub put-half-spec : {M : Type 1} → statement M
+put-half-spec = tie.close (tie.spec sub-put-byte put-byte-requires returns)

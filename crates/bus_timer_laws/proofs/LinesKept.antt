@@ -1,0 +1,107 @@
+-- `lines-kept` and `line-never-rises`: the statements of specs/Writing about the request lines. A store is made of bytes
+-- put and drawing registers written; of these only a byte written to TCR reaches a line. Assumes nothing.
+use Prim.Native.Nat.{ℕ, zero, suc, _+_, _-_, _*_, _/_, _%_, _^_, _≤_, _<_}
+use mathlib.Core.List.{List}
+use mathlib.Core.Path.{_≡_, refl, sym, ap, _∙_}
+use native.Mathlib.Omega.{arith}
+use lib.ListN.{length}
+use Rattle.bus_timer.specs.Ports.{portWrittenOf}
+use Rattle.bus_timer.specs.Lines.{lineOf}
+use Rattle.bus_timer.specs.declared.Hardware.{Hardware}
+use Rattle.bus_timer.proofs.TimerLines.{write-lines, write-keeps-down}
+use Rattle.bus.specs.Registers.{keptOf, hardwareIn}
+use Rattle.bus.specs.Place.{Place, vramAt, wramAt, pakAt, romAt, drawingAt, versionAt, silent, unlisted, unmapped, hardwareAt, soundUnit, nothing, expansion}
+use Rattle.bus.specs.Memory.{Memory, putPlace, putDrawing, placeIn, putByte, putRegister, putHalfword, storeByteOf, storeHalfOf, storeWordOf}
+use Rattle.bus.proofs.Devices.{hardware-with}
+use Rattle.bus.proofs.DrawingPlaces.{Proper, place-proper}
+use Rattle.bus.proofs.Kept.{Shape, set-hardware, byte-shape, register-shape, halfword-shape}
+use Rattle.bus_timer_laws.specs.Writing.{timerIn, Size, byte, half, word, storeOf, LinesKept, LineNeverRises}
+
+-- what a step of a store leaves of the lines
+pub record Lowered (g h : Hardware) : Type 0 where
+  pub others : (n : ℕ) → (n ≡ 1 → ⊥) → lineOf n h ≡ lineOf n g
+  pub down : lineOf 1 h ≤ lineOf 1 g
+
+same : (h : Hardware) → Lowered h h
+same h = record { others = λ n other. refl; down = omega arith }
+
+still : (g h : Hardware) → h ≡ g → Lowered g h
+still g h e = rw e (same g)
+
+both : (g h i : Hardware) → Lowered g h → Lowered h i → Lowered g i
+both g h i p q =
+    record {
+      others = λ n other. q .others n other ∙ p .others n other;
+      down = omega (arith, p .down, q .down);
+    }
+
+written : (h : Hardware) (o v : ℕ) → Lowered h (portWrittenOf h o v)
+written h o v = record { others = λ n other. write-lines n h o v other; down = write-keeps-down h o v }
+
+place-lowered : (m : Memory) (p : Place) (b : ℕ) → length (m .regs) ≡ 17 → Lowered (timerIn m) (timerIn (putPlace m p b))
+place-lowered m (vramAt i) b l = same (timerIn m)
+place-lowered m (wramAt i) b l = same (timerIn m)
+place-lowered m (pakAt i) b l = same (timerIn m)
+place-lowered m (romAt i) b l = same (timerIn m)
+place-lowered m (drawingAt k x) b l = same (timerIn m)
+place-lowered m (versionAt x) b l = same (timerIn m)
+place-lowered m (hardwareAt o) b l =
+    rw (hardware-with (m .regs) (portWrittenOf (timerIn m) o b) l) (written (timerIn m) o b)
+place-lowered m silent b l = same (timerIn m)
+place-lowered m unlisted b l = same (timerIn m)
+place-lowered m unmapped b l = same (timerIn m)
+place-lowered m soundUnit b l = same (timerIn m)
+place-lowered m nothing b l = same (timerIn m)
+place-lowered m expansion b l = same (timerIn m)
+
+drawing-lowered : (m : Memory) (p : Place) (v : ℕ) → Proper p → Lowered (timerIn m) (timerIn (putDrawing m p v))
+drawing-lowered m (vramAt i) v less = same (timerIn m)
+drawing-lowered m (wramAt i) v less = same (timerIn m)
+drawing-lowered m (pakAt i) v less = same (timerIn m)
+drawing-lowered m (romAt i) v less = same (timerIn m)
+drawing-lowered m (drawingAt k x) v less = still (timerIn m) _ (set-hardware (m .regs) k (keptOf k v) less)
+drawing-lowered m (versionAt x) v less = same (timerIn m)
+drawing-lowered m (hardwareAt o) v less = same (timerIn m)
+drawing-lowered m silent v less = same (timerIn m)
+drawing-lowered m unlisted v less = same (timerIn m)
+drawing-lowered m unmapped v less = same (timerIn m)
+drawing-lowered m soundUnit v less = same (timerIn m)
+drawing-lowered m nothing v less = same (timerIn m)
+drawing-lowered m expansion v less = same (timerIn m)
+
+byte-lowered : (m : Memory) (a v : ℕ) → length (m .regs) ≡ 17 → Lowered (timerIn m) (timerIn (putByte m a v))
+unfolding putByte
+byte-lowered m a v l = place-lowered m (placeIn m a) (v % 256) l
+
+register-lowered : (m : Memory) (a v : ℕ) → Lowered (timerIn m) (timerIn (putRegister m a v))
+unfolding putRegister
+register-lowered m a v =
+    drawing-lowered m (placeIn m a) (v % 65536) (place-proper (length (m .rom)) (length (m .pak)) a)
+
+halfword-lowered : (m : Memory) (a v : ℕ) → length (m .regs) ≡ 17 → Lowered (timerIn m) (timerIn (putHalfword m a v))
+unfolding putHalfword
+halfword-lowered m a v l =
+    let n = putByte m a v in
+    let o = putByte n (a + 1) (v / 256) in
+    both (timerIn m) (timerIn o) (timerIn (putRegister o a v))
+    (both (timerIn m) (timerIn n) (timerIn o) (byte-lowered m a v l)
+    (byte-lowered n (a + 1) (v / 256) (byte-shape m a v .same-regs ∙ l)))
+    (register-lowered o a v)
+
+-- a store of any size, at any address
+pub store-lowered : (size : Size) (m : Memory) (a v : ℕ) → length (m .regs) ≡ 17 → Lowered (timerIn m) (timerIn (storeOf size m a v))
+unfolding storeByteOf storeHalfOf storeWordOf
+store-lowered byte m a v l =
+    both (timerIn m) (timerIn (putByte m a v)) _ (byte-lowered m a v l) (register-lowered (putByte m a v) a v)
+store-lowered half m a v l = halfword-lowered m (a - a % 2) v l
+store-lowered word m a v l =
+    let s = a - a % 4 in
+    let n = putHalfword m s v in
+    both (timerIn m) (timerIn n) _ (halfword-lowered m s v l)
+    (halfword-lowered n (s + 2) (v / 65536) (halfword-shape m s v .same-regs ∙ l))
+
+pub lines-kept : LinesKept
+lines-kept size m a v n l other = store-lowered size m a v l .others n other
+
+pub line-never-rises : LineNeverRises
+line-never-rises size m a v l = store-lowered size m a v l .down

@@ -1,0 +1,38 @@
+-- `tlr-reads`, `thr-reads`, `tcr-reads`, `rest-reads`, `half-reads` and `word-reads`: the statements of specs/Reading.
+-- Assumes nothing.
+use Prim.Native.Nat.{ℕ}
+use mathlib.Core.Path.{_≡_, refl, sym, ap, _∙_}
+use borrow.Author.Tests.{ne-eqb}
+use Rattle.bus_timer.specs.Ports.{tlr, thr, tcr, hardwareOffsetOf, portByteOf}
+use Rattle.bus_timer.proofs.Accepting.{ok-fits}
+use Rattle.bus.specs.Registers.{hardwareIn}
+use Rattle.bus.proofs.Kept.{registers-both}
+use Rattle.bus.proofs.PortAccess.{port-byte, port-half, port-word}
+use Rattle.bus_timer_laws.specs.Reading.{TlrReads, ThrReads, TcrReads, RestReads, HalfReads, WordReads}
+
+pub tlr-reads : TlrReads
+unfolding portByteOf
+tlr-reads m a here = port-byte m a (here .0) ∙ rw (here .1)
+
+pub thr-reads : ThrReads
+unfolding portByteOf
+thr-reads m a here = port-byte m a (here .0) ∙ rw (here .1)
+
+pub tcr-reads : TcrReads
+unfolding portByteOf
+tcr-reads m a here ok =
+    port-byte m a (here .0)
+    ∙ rw (here .1, ok-fits (hardwareIn (m .regs)) (registers-both (m .regs) ok .1) .control)
+
+pub rest-reads : RestReads
+unfolding portByteOf
+rest-reads m a here low high control =
+    let o = hardwareOffsetOf a in
+    port-byte m a here
+    ∙ simp (ne-eqb o tlr (λ e. low (here, e)), ne-eqb o thr (λ e. high (here, e)), ne-eqb o tcr (λ e. control (here, e)))
+
+pub half-reads : HalfReads
+half-reads m a here = port-half m a here
+
+pub word-reads : WordReads
+word-reads m a here = port-word m a here

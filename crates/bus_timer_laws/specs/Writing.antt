@@ -1,0 +1,73 @@
+-- What stores do in region 2 and to the request lines (paper 02, W6; docs/DECISIONS.md, T4 to T8, T13, W6.1 to W6.3): the
+-- statements. Their proofs are `tlr-stores`, `thr-stores`, `tcr-stores`, `rest-stores`, `half-stores`, `word-stores` and
+
+-- bus's list of 17.
+use Prim.Native.Nat.{ℕ, _%_, _≤_}
+use mathlib.Core.Path.{_≡_}
+use lib.ListN.{length}
+use Rattle.bus_timer.specs.Ports.{tlr, thr, tcr, lowWrittenOf, highWrittenOf, reloadWrittenOf, tcrWrittenOf}
+use Rattle.bus_timer.specs.Lines.{lineOf}
+use Rattle.bus_timer.specs.declared.Hardware.{Hardware}
+use Rattle.bus.specs.Place.{regionOf}
+use Rattle.bus.specs.Registers.{hardwareIn, withHardware}
+use Rattle.bus.specs.Memory.{Memory, withRegs, alignedOf, storeByteOf, storeHalfOf, storeWordOf}
+use Rattle.bus_timer_laws.specs.Reading.{At}
+
+-- the lines and the timer of a memory
+abbrev pub timerIn : Memory → Hardware
+timerIn m = hardwareIn (m .regs)
+
+-- the memory with other lines and another timer
+abbrev pub timed : Memory → Hardware → Memory
+timed m h = withRegs m (withHardware (m .regs) h)
+
+-- the low 8 bits of the source go to the low or the high byte of reload, and the count becomes reload; to TCR; or nowhere
+abbrev pub TlrStores : Type 0
+TlrStores =
+    (m : Memory) (a v : ℕ) → At tlr a
+    → storeByteOf m a v ≡ timed m (reloadWrittenOf (lowWrittenOf (timerIn m .reload) (v % 256)) (timerIn m))
+
+abbrev pub ThrStores : Type 0
+ThrStores =
+    (m : Memory) (a v : ℕ) → At thr a
+    → storeByteOf m a v ≡ timed m (reloadWrittenOf (highWrittenOf (timerIn m .reload) (v % 256)) (timerIn m))
+
+abbrev pub TcrStores : Type 0
+TcrStores = (m : Memory) (a v : ℕ) → At tcr a → storeByteOf m a v ≡ timed m (tcrWrittenOf (timerIn m) (v % 256))
+
+abbrev pub RestStores : Type 0
+RestStores =
+    (m : Memory) (a v : ℕ) → regionOf a ≡ 2 → (At tlr a → ⊥) → (At thr a → ⊥) → (At tcr a → ⊥) → storeByteOf m a v ≡ m
+
+-- a halfword and a word store the byte that they begin with
+abbrev pub HalfStores : Type 0
+HalfStores = (m : Memory) (a v : ℕ) → regionOf a ≡ 2 → storeHalfOf m a v ≡ storeByteOf m (alignedOf 2 a) v
+
+abbrev pub WordStores : Type 0
+WordStores = (m : Memory) (a v : ℕ) → regionOf a ≡ 2 → storeWordOf m a v ≡ storeByteOf m (alignedOf 4 a) v
+
+-- what a memory with other lines and another timer holds
+abbrev pub TimedHardware : Type 0
+TimedHardware = (m : Memory) (h : Hardware) → length (m .regs) ≡ 17 → timerIn (timed m h) ≡ h
+
+-- a store of each size
+pub data Size : Type 0 where
+  byte : Size
+  half : Size
+  word : Size
+
+abbrev pub storeOf : Size → Memory → ℕ → ℕ → Memory
+storeOf byte m a v = storeByteOf m a v
+storeOf half m a v = storeHalfOf m a v
+storeOf word m a v = storeWordOf m a v
+
+-- no store, at any address, changes a line but the timer's, and none raises that
+abbrev pub LinesKept : Type 0
+LinesKept =
+    (size : Size) (m : Memory) (a v n : ℕ) → length (m .regs) ≡ 17 → (n ≡ 1 → ⊥)
+    → lineOf n (timerIn (storeOf size m a v)) ≡ lineOf n (timerIn m)
+
+abbrev pub LineNeverRises : Type 0
+LineNeverRises =
+    (size : Size) (m : Memory) (a v : ℕ) → length (m .regs) ≡ 17
+    → lineOf 1 (timerIn (storeOf size m a v)) ≤ lineOf 1 (timerIn m)

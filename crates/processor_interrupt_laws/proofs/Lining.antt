@@ -1,0 +1,68 @@
+-- `step-lines` and `run-lines`: the statements of specs/Lines. Assumes nothing.
+use Prim.Native.Nat.{ℕ, zero, suc, _≤_}
+use mathlib.Core.Path.{_≡_, refl, _∙_}
+use native.Mathlib.Omega.{arith}
+use lib.ListN.{length}
+use Rattle.bus_timer_laws.specs.Writing.{Size, byte, half, word, storeOf}
+use Rattle.bus_timer_laws.proofs.LinesKept.{lines-kept, line-never-rises}
+use Rattle.bus.specs.Registers.{hardwareIn}
+use Rattle.bus.specs.Memory.{Memory, storeByteOf, storeHalfOf, storeWordOf}
+use Rattle.bus.proofs.Kept.{store-byte-shape, store-half-shape, store-word-shape}
+use Rattle.processor_decode.specs.declared.Width.{Width}
+use Rattle.processor_decode.specs.declared.Width.the-variants.{Byte, Half, Word}
+use Rattle.processor_machine.specs.State.{State, Stepped}
+use Rattle.processor_execute.specs.Transfer.{storedOf}
+use Rattle.processor_step.specs.Step.{linesIn, stepOf}
+use Rattle.processor.specs.Run.{Run, afterOf, afterStep, runOf}
+use Rattle.processor.specs.declared.After.{After}
+use Rattle.processor.specs.declared.After.the-variants.{Counted, Stopped}
+use Rattle.processor_interrupt_laws.specs.Lines.{KeepsLines, StepLines, RunLines}
+use Rattle.processor_interrupt_laws.proofs.Storing.{step-leaves}
+
+same : (m : Memory) → KeepsLines m m
+same m = record { others = λ level other. refl; timer = omega arith }
+
+both : (m n o : Memory) → KeepsLines m n → KeepsLines n o → KeepsLines m o
+both m n o p q =
+    record {
+      others = λ level other. q .others level other ∙ p .others level other;
+      timer = omega (arith, p .timer, q .timer);
+    }
+
+module _ (m : Memory) (whole : length (m .regs) ≡ 17) where
+  -- the lines, and how many device registers there are
+  abbrev Kept : Memory → Type 0
+  Kept n = KeepsLines m n × (length (n .regs) ≡ 17)
+
+  store-lines : (size : Size) (a v : ℕ) → KeepsLines m (storeOf size m a v)
+  unfolding hardwareIn
+  store-lines size a v =
+      record {
+        others = λ level other. lines-kept size m a v level whole other;
+        timer = line-never-rises size m a v whole;
+      }
+
+  stored-kept : (w : Width) (a v : ℕ) → Kept (storedOf m w a v)
+  stored-kept Byte a v = (store-lines byte a v, store-byte-shape m a v .same-regs ∙ whole)
+  stored-kept Half a v = (store-lines half a v, store-half-shape m a v .same-regs ∙ whole)
+  stored-kept Word a v = (store-lines word a v, store-word-shape m a v .same-regs ∙ whole)
+
+  step-kept : (s : State) → Kept (stepOf s m .memory)
+  step-kept s = step-leaves s m Kept (same m, whole) stored-kept
+
+pub step-lines : StepLines
+step-lines s m whole = step-kept m whole s .0
+
+after-lines : (m : Memory) (a : After) (t : Stepped) (rest : Run) → KeepsLines m (t .memory) → KeepsLines (t .memory) (rest .memory)
+    → KeepsLines m (afterStep a t rest .memory)
+after-lines m Counted t rest p q = both m (t .memory) (rest .memory) p q
+after-lines m (Stopped v) t rest p q = p
+
+pub run-lines : RunLines
+unfolding runOf
+run-lines zero s m whole = same m
+run-lines (suc budget) s m whole =
+    let t = stepOf s m in
+    let kept = step-kept m whole s in
+    after-lines m (afterOf (t .answer)) t (runOf budget (t .state) (t .memory)) (kept .0)
+    (run-lines budget (t .state) (t .memory) (kept .1))

@@ -1,0 +1,115 @@
+-- The memory after a step is that before it, or a store to it: what holds of both holds of it. Assumes nothing.
+use Prim.Native.Nat.{ℕ}
+use lib.Dec.{eqb}
+use Rattle.processor_arithmetic.specs.Flag.{flagOf}
+use Rattle.processor_arithmetic.specs.Condition.{conditionOf}
+use Rattle.processor_arithmetic.specs.Quotient.{divideOf, divideUnsignedOf}
+use Rattle.bus_timer.proofs.Choices.{pick-each}
+use Rattle.bus.specs.Memory.{Memory}
+use Rattle.processor_decode.specs.Format.{twoOf}
+use Rattle.processor_decode.specs.Opcode.{decodeOf}
+use Rattle.processor_decode.specs.declared.Width.{Width}
+use Rattle.processor_decode.specs.declared.Decoded.{Decoded}
+use Rattle.processor_decode.specs.declared.Decoded.the-variants.{Modelled, NotModelled}
+use Rattle.processor_decode.specs.declared.Instruction.{Instruction}
+use Rattle.processor_decode.specs.declared.Instruction.the-variants.{Register, Mul, Div, Mulu, Divu, Jmp, Immediate, Setf, Cli, Sei, Trap, Reti, Halt, Ldsr, Stsr, Bcond, Jr, Jal, Long, Load, In, Store, Out, Illegal, Cmpf, Floating, Nintendo}
+use Rattle.processor_machine.specs.State.{State, Stepped, regOf}
+use Rattle.processor_machine.specs.Exception.{fatalOf, duplexedEntryOf, regularEntryOf, enterOf, raiseOf, codeOf, handlerOf, restoreOf, savedOf}
+use Rattle.processor_machine.specs.declared.Cause as cause
+use Rattle.processor_machine.specs.declared.Mode.{Mode}
+use Rattle.processor_machine.specs.declared.Mode.the-variants.{Running, Halted, Fatal}
+use Rattle.processor_execute.specs.Transfer.{storedOf}
+use Rattle.processor_execute.specs.Execute.{goesOn, pairOf, settlesOf, comparesOf, jumpsOf, plusOf, executeOf}
+use Rattle.processor_execute.specs.Floating.{floatingOf}
+use Rattle.processor_float.specs.Comparison.{comparisonOf}
+use Rattle.processor_float.specs.declared.Compared.{Compared}
+use Rattle.processor_float.specs.declared.FloatOutcome.{FloatOutcome}
+use Rattle.processor_float.specs.declared.FloatOutcome.the-variants.{Number, Word, Reserved, Invalid, ZeroDivide, Overflow}
+use Rattle.processor_step.specs.Step.{firstOf, secondOf, nextOf, performOf, runningStepOf, stepInOf, instructionStepOf, acceptsIn, interruptStepOf, stepOf}
+
+module _ (s : State) (m : Memory) (P : Memory → Type 0) (here : P m) (stored : (w : Width) (a v : ℕ) → P (storedOf m w a v)) where
+  abbrev Leaves : Stepped → Type 0
+  Leaves t = P (t .memory)
+
+  raise-leaves : (c : cause.Cause) (next : ℕ) → Leaves (raiseOf c next s m)
+  unfolding raiseOf enterOf
+  raise-leaves c next =
+      let duplexed = duplexedEntryOf c (codeOf c) (restoreOf c (s .pc) next) (savedOf c (s .psw)) s m in
+      let regular = regularEntryOf c (codeOf c) (handlerOf c) (restoreOf c (s .pc) next) (savedOf c (s .psw)) s m in
+      pick-each Leaves (eqb (flagOf 32768 (s .psw)) 1) (fatalOf c s m) _ here
+      (pick-each Leaves (eqb (flagOf 16384 (s .psw)) 1) duplexed regular here here)
+
+  settles-leaves : (n : ℕ) (o : FloatOutcome) (next : ℕ) → Leaves (settlesOf n o next s m)
+  settles-leaves n (Number v underflowed) next = here
+  settles-leaves n (Word w) next = here
+  settles-leaves n Reserved next = raise-leaves cause.the-variants.FloatReserved next
+  settles-leaves n Invalid next = raise-leaves cause.the-variants.FloatInvalid next
+  settles-leaves n ZeroDivide next = raise-leaves cause.the-variants.FloatZeroDivide next
+  settles-leaves n Overflow next = raise-leaves cause.the-variants.FloatOverflow next
+
+  compares-leaves : (c : Compared) (next : ℕ) → Leaves (comparesOf c next s m)
+  compares-leaves Compared.Lower next = here
+  compares-leaves Compared.Equal next = here
+  compares-leaves Compared.Higher next = here
+  compares-leaves Compared.Reserved next = raise-leaves cause.the-variants.FloatReserved next
+
+  execute-leaves : (i : Instruction) (next : ℕ) → Leaves (executeOf i next s m)
+  unfolding executeOf
+  execute-leaves (Register op reg1 reg2) next = here
+  execute-leaves (Immediate op imm reg2) next = here
+  execute-leaves (Long op imm reg1 reg2) next = here
+  execute-leaves (Mul reg1 reg2) next = here
+  execute-leaves (Mulu reg1 reg2) next = here
+  execute-leaves (Div reg1 reg2) next =
+      pick-each Leaves (eqb (regOf s reg1) 0) (raiseOf cause.the-variants.ZeroDivision next s m)
+      (pairOf reg2 (divideOf (regOf s reg2) (regOf s reg1) (s .psw)) next s m)
+      (raise-leaves cause.the-variants.ZeroDivision next) here
+  execute-leaves (Divu reg1 reg2) next =
+      pick-each Leaves (eqb (regOf s reg1) 0) (raiseOf cause.the-variants.ZeroDivision next s m)
+      (pairOf reg2 (divideUnsignedOf (regOf s reg2) (regOf s reg1) (s .psw)) next s m)
+      (raise-leaves cause.the-variants.ZeroDivision next) here
+  execute-leaves (Setf cond reg2) next = here
+  execute-leaves (Load width disp reg1 reg2) next = here
+  execute-leaves (In width disp reg1 reg2) next = here
+  execute-leaves (Store width disp reg1 reg2) next = stored width (plusOf (regOf s reg1) disp) (regOf s reg2)
+  execute-leaves (Out width disp reg1 reg2) next = stored width (plusOf (regOf s reg1) disp) (regOf s reg2)
+  execute-leaves (Bcond cond disp) next =
+      pick-each Leaves (conditionOf cond (s .psw)) (jumpsOf (plusOf (s .pc) disp) s m) (goesOn (s .regs) next (s .psw) s m)
+      here here
+  execute-leaves (Jmp reg1) next = here
+  execute-leaves (Jr disp) next = here
+  execute-leaves (Jal disp) next = here
+  execute-leaves (Trap vector) next = raise-leaves (cause.the-variants.Trap vector) next
+  execute-leaves Reti next = pick-each Leaves (eqb (flagOf 32768 (s .psw)) 1) _ _ here here
+  execute-leaves Halt next = here
+  execute-leaves (Ldsr reg2 id) next = here
+  execute-leaves (Stsr id reg2) next = here
+  execute-leaves Cli next = here
+  execute-leaves Sei next = here
+  execute-leaves Illegal next = raise-leaves cause.the-variants.Illegal next
+  execute-leaves (Cmpf reg1 reg2) next = compares-leaves (comparisonOf (regOf s reg2) (regOf s reg1)) next
+  execute-leaves (Floating op reg1 reg2) next = settles-leaves reg2 (floatingOf op (regOf s reg2) (regOf s reg1)) next
+  execute-leaves (Nintendo op reg1 reg2) next = here
+
+  perform-leaves : (d : Decoded) (next : ℕ) → Leaves (performOf d next s m)
+  perform-leaves (Modelled i) next = execute-leaves i next
+  perform-leaves NotModelled next = here
+
+  running-leaves : Leaves (runningStepOf s m)
+  unfolding runningStepOf
+  running-leaves =
+      let first = firstOf (s .pc) m in
+      perform-leaves (decodeOf first (secondOf (twoOf first) (s .pc) m)) (nextOf (twoOf first) (s .pc))
+
+  mode-leaves : (mode : Mode) → Leaves (stepInOf mode s m)
+  mode-leaves Running = running-leaves
+  mode-leaves Halted = here
+  mode-leaves Fatal = here
+
+  instruction-leaves : Leaves (instructionStepOf s m)
+  unfolding instructionStepOf
+  instruction-leaves = mode-leaves (s .mode)
+
+  pub step-leaves : P (stepOf s m .memory)
+  unfolding stepOf
+  step-leaves = pick-each Leaves (acceptsIn s m) (interruptStepOf s m) (instructionStepOf s m) here instruction-leaves

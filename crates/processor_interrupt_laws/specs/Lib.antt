@@ -1,0 +1,3 @@
+pub mod Interrupts
+pub mod Instructions
+pub mod Lines
