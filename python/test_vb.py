@@ -100,6 +100,17 @@ class Module(unittest.TestCase):
         self.assertEqual({vb.pixel(vram, 1, eye, x, y) for eye in (0, 1) for x in (0, 383) for y in (0, 223)}, {2})
         self.assertEqual(vb.pixel(vram, 1, 0, 0, 224), 0)
 
+    def test_an_instruction_goes_both_ways(self):
+        jump = vb.vb_instruction(operation=vb.VB_OP_JR, immediate=-4 & 0xFFFFFFFF)
+        encoded = vb.vb_encode(jump)
+        self.assertEqual((encoded.refusal, encoded.halfwords), (0, 2))
+        self.assertEqual((encoded.first, encoded.second), (0xABFF, 0xFFFC))
+        decoded = vb.vb_decode(0xABFF, 0xFFFC)
+        self.assertEqual((decoded.refusal, decoded.halfwords), (0, 2))
+        self.assertEqual(bytes(decoded.instruction), bytes(jump))
+        self.assertEqual(vb.vb_encode(vb.vb_instruction(operation=vb.VB_OP_ILLEGAL)).refusal, 12)
+        self.assertEqual(vb.vb_decode(0x7C00, 0).refusal, 6)
+
 
 if __name__ == "__main__":
     unittest.main()

@@ -9,6 +9,7 @@ mod changes;
 mod commands;
 mod demo;
 mod difference;
+mod disassembly;
 mod explain;
 mod failure;
 mod files;
@@ -17,6 +18,7 @@ mod givers;
 mod interrupt;
 mod json;
 mod judge;
+mod mnemonics;
 mod number;
 mod overlay;
 mod picture;
@@ -67,6 +69,10 @@ enum Command {
     Judge(commands::judge::Options),
     /// Tells which worlds and objects cover a pixel, and the bytes it answers to
     Why(commands::why::Options),
+    /// Assembles a program into a ROM image
+    Asm(commands::asm::Options),
+    /// Disassembles a ROM image into text that assembles to the same bytes
+    Disasm(commands::disasm::Options),
     /// Tells what a saved state holds, or which rule it breaks
     State(commands::state::Options),
     /// Prints completions for a shell
@@ -85,6 +91,8 @@ impl Command {
             Command::Compare(options) => options.json,
             Command::Judge(options) => options.json,
             Command::Why(options) => options.json,
+            Command::Asm(options) => options.json,
+            Command::Disasm(options) => options.json,
             Command::State(options) => options.json(),
         }
     }
@@ -98,6 +106,8 @@ impl Command {
             Command::Compare(options) => commands::compare::run(options),
             Command::Judge(options) => commands::judge::run(options),
             Command::Why(options) => commands::why::run(options),
+            Command::Asm(options) => commands::asm::run(options),
+            Command::Disasm(options) => commands::disasm::run(options),
             Command::State(options) => commands::state::run(options),
             Command::Completions(options) => {
                 Ok(commands::pages::completions(options, Cli::command()))

@@ -4,8 +4,20 @@ mod common;
 
 use common::Folder;
 
-const COMMANDS: [&str; 10] =
-    ["demo", "run", "step", "draw", "compare", "judge", "why", "state", "completions", "man"];
+const COMMANDS: [&str; 12] = [
+    "demo",
+    "run",
+    "step",
+    "draw",
+    "compare",
+    "judge",
+    "why",
+    "asm",
+    "disasm",
+    "state",
+    "completions",
+    "man",
+];
 
 #[test]
 fn deliver_8_completions_know_every_command() {

@@ -113,7 +113,7 @@ fn refusal_6_has_an_answer_and_status_2() {
     let ran = folder.vbmodel("run --rom a.rom --save-processor b.processor");
     assert_eq!(ran.status, 2);
     let start =
-        "answer:       refused: refusal 6: the instruction 0x7C00 at 0xFFFFFFF2 is not modelled;";
+        "answer:       refused: refusal 6: the instruction 0x7C00 (SCH0BSU) at 0xFFFFFFF2 is not modelled;";
     assert!(ran.text.starts_with(start), "{}", ran.text);
     assert!(ran.text.contains("\ninstructions: 1 of"), "{}", ran.text);
     assert_eq!(folder.read("b.processor"), record(&[(1, 1), (32, 0xFFFF_FFF2)]));

@@ -1,4 +1,5 @@
 pub mod Hardware
 pub mod Answers
 pub mod Execution
+pub mod Instructions
 pub mod States

@@ -3,6 +3,7 @@ pub mod accesses;
 pub mod brightness;
 pub mod execution;
 pub mod hardware;
+pub mod instructions;
 pub mod pictures;
 pub mod probes;
 pub mod states;

@@ -1,2 +1,2 @@
-mod Keys
-mod Rows
+pub mod Keys
+pub mod Rows

@@ -9,7 +9,6 @@ use Rattle.word.specs.Extend.{extendOf}
 use Rattle.processor_decode.specs.declared.RegisterOperation.{RegisterOperation}
 use Rattle.processor_decode.specs.declared.ImmediateOperation.{ImmediateOperation}
 use Rattle.processor_decode.specs.declared.LongOperation.{LongOperation}
-use Rattle.processor_decode.specs.declared.LongOperation.the-variants.{Movhi}
 use Rattle.processor_decode.specs.declared.FloatingOperation.{FloatingOperation}
 use Rattle.processor_decode.specs.declared.NintendoOperation.{NintendoOperation}
 use Rattle.processor_decode.specs.declared.Width.{Width}
@@ -70,13 +69,9 @@ long op imm f = Modelled (Long op imm (lowOf f) (reg2Of f))
 abbrev pub longSigned : LongOperation → ℕ → ℕ → Decoded
 longSigned op f s = long op (extendOf 32768 s) f
 
--- Format V, "(zero extend) imm"
+-- Format V, "(zero extend) imm", and MOVHI's, which its execution shifts
 abbrev pub longUnsigned : LongOperation → ℕ → ℕ → Decoded
 longUnsigned op f s = long op s f
-
--- MOVHI, "imm << 16"
-abbrev pub movhi : ℕ → ℕ → Decoded
-movhi f s = long Movhi (s * 65536) f
 
 -- Format VI, "Sign-extended address displacement offset"
 abbrev pub load : Width → ℕ → ℕ → Decoded
@@ -100,6 +95,10 @@ floating op f = Modelled (Floating op (lowOf f) (reg2Of f))
 
 abbrev pub nintendo : NintendoOperation → ℕ → Decoded
 nintendo op f = Modelled (Nintendo op (lowOf f) (reg2Of f))
+
+-- XB and XH name reg2 alone: the bits of reg1 are unused, and reg1 is 0
+abbrev pub exchange : NintendoOperation → ℕ → Decoded
+exchange op f = Modelled (Nintendo op 0 (reg2Of f))
 
 -- Formats IV to VII have two halfwords: opcodes from 101000 up, but for the two illegal ones there
 abbrev pub twoOf : ℕ → Bool

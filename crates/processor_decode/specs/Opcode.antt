@@ -4,7 +4,7 @@
 use Prim.Native.Nat.{ℕ, _/_}
 use mathlib.Core.List.{List, [], _∷_, _++_}
 use lib.ListN.{getD, replicate}
-use Rattle.processor_decode.specs.Format.{lowOf, reg2Of, register, signed, unsigned, setf, ldsr, stsr, branch, jr, jal, longSigned, longUnsigned, movhi, load, input, store, output}
+use Rattle.processor_decode.specs.Format.{lowOf, reg2Of, register, signed, unsigned, setf, ldsr, stsr, branch, jr, jal, longSigned, longUnsigned, load, input, store, output}
 use Rattle.processor_decode.specs.SubOpcode.{extendedOf}
 use Rattle.processor_decode.specs.declared.RegisterOperation.{RegisterOperation}
 use Rattle.processor_decode.specs.declared.ImmediateOperation.{ImmediateOperation}
@@ -105,7 +105,7 @@ longRows f s =
     -- 101110 V XORI
     longUnsigned LongOperation.Xori f s ∷
     -- 101111 V MOVHI
-    movhi f s ∷
+    longUnsigned LongOperation.Movhi f s ∷
     -- 110000 VI LD.B
     load Width.Byte f s ∷
     -- 110001 VI LD.H

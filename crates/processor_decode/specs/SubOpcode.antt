@@ -4,7 +4,7 @@
 use Prim.Native.Nat.{ℕ, _/_}
 use mathlib.Core.List.{List, [], _∷_}
 use lib.ListN.{getD}
-use Rattle.processor_decode.specs.Format.{cmpf, floating, nintendo}
+use Rattle.processor_decode.specs.Format.{cmpf, floating, nintendo, exchange}
 use Rattle.processor_decode.specs.declared.FloatingOperation.{FloatingOperation}
 use Rattle.processor_decode.specs.declared.NintendoOperation.{NintendoOperation}
 use Rattle.processor_decode.specs.declared.Instruction.the-variants.{Illegal}
@@ -30,9 +30,9 @@ subRows f =
     -- 000111 DIVF.S
     floating FloatingOperation.Divf f ∷
     -- 001000 XB
-    nintendo NintendoOperation.Xb f ∷
+    exchange NintendoOperation.Xb f ∷
     -- 001001 XH
-    nintendo NintendoOperation.Xh f ∷
+    exchange NintendoOperation.Xh f ∷
     -- 001010 REV
     nintendo NintendoOperation.Rev f ∷
     -- 001011 TRNC.SW

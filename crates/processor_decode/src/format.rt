@@ -7,7 +7,7 @@ use crate::RegisterOperation;
 use crate::Width;
 ghost use mathlib.Core.Path.{_≡_};
 ghost use Prim.Native.Nat.{_<_};
-ghost use Rattle.processor_decode.specs.Format.{register, signed, unsigned, long, longSigned, longUnsigned, movhi, load, input, store, output, ldsr, stsr, setf, branch, jr, jal, dispOf};
+ghost use Rattle.processor_decode.specs.Format.{register, signed, unsigned, long, longSigned, longUnsigned, load, input, store, output, ldsr, stsr, setf, branch, jr, jal, dispOf};
 
 // Format I: reg1 and reg2.
 pub fn register(op: RegisterOperation, f: u32) -> Decoded
@@ -138,14 +138,6 @@ pub fn long_unsigned(op: LongOperation, f: u32, s: u32) -> Decoded
     ensures { λ r. ⌜ r ≡ longUnsigned op f s ⌝ }
 {
     long(op, s, f)
-}
-
-// MOVHI, whose immediate stands in the upper halfword.
-pub fn movhi(f: u32, s: u32) -> Decoded
-    requires { ⌜ s < 65536 ⌝ }
-    ensures { λ r. ⌜ r ≡ movhi f s ⌝ }
-{
-    long(LongOperation::Movhi, s * 65536, f)
 }
 
 // Format VI: a sixteen-bit displacement, the base register reg1 and the data register reg2.

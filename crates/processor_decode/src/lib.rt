@@ -285,7 +285,7 @@ fn long_form(f: u32, s: u32) -> Decoded
         44 => format::long_unsigned(LongOperation::Ori, f, s),
         45 => format::long_unsigned(LongOperation::Andi, f, s),
         46 => format::long_unsigned(LongOperation::Xori, f, s),
-        47 => format::movhi(f, s),
+        47 => format::long_unsigned(LongOperation::Movhi, f, s),
         48 => format::load(Width::Byte, f, s),
         49 => format::load(Width::Half, f, s),
         50 => Decoded::Modelled(Instruction::Illegal),

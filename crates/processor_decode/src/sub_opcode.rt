@@ -5,7 +5,7 @@ use crate::Instruction;
 use crate::NintendoOperation;
 ghost use mathlib.Core.Path.{_≡_};
 ghost use lib.ListN.{getD};
-ghost use Rattle.processor_decode.specs.Format.{cmpf, floating, nintendo};
+ghost use Rattle.processor_decode.specs.Format.{cmpf, floating, nintendo, exchange};
 ghost use Rattle.processor_decode.specs.SubOpcode.{extendedOf};
 
 fn cmpf(f: u32) -> Decoded
@@ -37,6 +37,17 @@ fn nintendo(op: NintendoOperation, f: u32) -> Decoded
     })
 }
 
+// XB and XH, of which the bits of reg1 are unused.
+fn exchange(op: NintendoOperation, f: u32) -> Decoded
+    ensures { λ r. ⌜ r ≡ exchange op f ⌝ }
+{
+    Decoded::Modelled(Instruction::Nintendo {
+        op,
+        reg1: 0,
+        reg2: f / 32 % 32,
+    })
+}
+
 // The row of the sub-opcode; one that 000 does not list is illegal.
 pub fn extended(f: u32, s: u32) -> Decoded
     ensures { λ r. ⌜ r ≡ extendedOf f s ⌝ }
@@ -50,8 +61,8 @@ pub fn extended(f: u32, s: u32) -> Decoded
         5 => floating(FloatingOperation::Subf, f),
         6 => floating(FloatingOperation::Mulf, f),
         7 => floating(FloatingOperation::Divf, f),
-        8 => nintendo(NintendoOperation::Xb, f),
-        9 => nintendo(NintendoOperation::Xh, f),
+        8 => exchange(NintendoOperation::Xb, f),
+        9 => exchange(NintendoOperation::Xh, f),
         10 => nintendo(NintendoOperation::Rev, f),
         11 => floating(FloatingOperation::TrncSw, f),
         12 => nintendo(NintendoOperation::Mpyhw, f),

@@ -1,5 +1,5 @@
 -- What the instructions of Formats I, II and V compute (document 000, "Register Transfer", "Arithmetic", "Bitwise").
-use Prim.Native.Nat.{ℕ, _+_, _%_, _^_}
+use Prim.Native.Nat.{ℕ, _+_, _*_, _%_, _^_}
 use Rattle.processor_arithmetic.specs.declared.Outcome.{Outcome}
 use Rattle.processor_arithmetic.specs.Sum.{sumOf, differenceOf, compareOf}
 use Rattle.processor_arithmetic.specs.Shift.{shiftLeftOf, shiftRightOf, shiftArithmeticOf}
@@ -35,11 +35,11 @@ immediateOf ImmediateOperation.Shl a b psw = shiftLeftOf a b psw
 immediateOf ImmediateOperation.Shr a b psw = shiftRightOf a b psw
 immediateOf ImmediateOperation.Sar a b psw = shiftArithmeticOf a b psw
 
--- Format V: a is reg1 and b the immediate, for MOVHI in the upper halfword
+-- Format V: a is reg1 and b the immediate; MOVHI is "reg1 + (imm << 16)"
 abbrev pub longOf : LongOperation → ℕ → ℕ → ℕ → Outcome
 longOf LongOperation.Movea a b psw = plain ((a + b) % 2 ^ 32) psw
 longOf LongOperation.Addi a b psw = sumOf a b psw
 longOf LongOperation.Ori a b psw = orOf a b psw
 longOf LongOperation.Andi a b psw = andOf a b psw
 longOf LongOperation.Xori a b psw = xorOf a b psw
-longOf LongOperation.Movhi a b psw = plain ((a + b) % 2 ^ 32) psw
+longOf LongOperation.Movhi a b psw = plain ((a + b * 2 ^ 16) % 2 ^ 32) psw

@@ -46,7 +46,7 @@ pub fn immediate(op: ImmediateOperation, a: u32, b: u32, psw: u32) -> Outcome
     }
 }
 
-// Format V: a is reg1, b the immediate.
+// Format V: a is reg1, b the immediate, which MOVHI shifts to the upper halfword.
 pub fn long(op: LongOperation, a: u32, b: u32, psw: u32) -> Outcome
     ensures { λ r. ⌜ r ≡ longOf op a b psw ⌝ }
 {
@@ -56,6 +56,6 @@ pub fn long(op: LongOperation, a: u32, b: u32, psw: u32) -> Outcome
         LongOperation::Ori => processor_arithmetic::bitwise::or(a, b, psw),
         LongOperation::Andi => processor_arithmetic::bitwise::and(a, b, psw),
         LongOperation::Xori => processor_arithmetic::bitwise::xor(a, b, psw),
-        LongOperation::Movhi => unflagged(std::num::wrapping_add_u32(a, b), psw),
+        LongOperation::Movhi => unflagged(std::num::wrapping_add_u32(a, b % 65536 * 65536), psw),
     }
 }

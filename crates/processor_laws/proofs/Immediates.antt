@@ -83,8 +83,7 @@ module _ (f s : ℕ) (h : s < 65536) where
   long-found =
       let e : extendOf 32768 s < 2 ^ 32 = extended-word 32768 s (omega arith) (omega arith) in
       let p : s < 2 ^ 32 = omega arith in
-      let q : s * 65536 < 2 ^ 32 = omega arith in
-      (e, (e, (tt, (tt, (p, (p, (p, (q, (tt, (tt, (tt, (tt, (tt, (tt, (tt, (tt, (tt, (tt, (tt, (tt, (tt, (tt, (extended-found f s, (tt, tt))))))))))))))))))))))))
+      (e, (e, (tt, (tt, (p, (p, (p, (p, (tt, (tt, (tt, (tt, (tt, (tt, (tt, (tt, (tt, (tt, (tt, (tt, (tt, (tt, (extended-found f s, (tt, tt))))))))))))))))))))))))
 
   pub decoded-found : Found (decodeOf f s)
   unfolding decodeOf

@@ -288,8 +288,8 @@ impl Machine {
         let Memories { rom, wram, vram, pak } = memories;
         let read = ReadMemories { rom, wram, vram, pak };
         let pc = self.processor.pc;
-        let halfword = self.load_half(&read, pc).expect("an accepted machine");
-        Refusal::NotModelled { pc, halfword }
+        let half = |at| self.load_half(&read, at).expect("an accepted machine");
+        Refusal::NotModelled { pc, first: half(pc), second: half(pc.wrapping_add(2)) }
     }
 }
 

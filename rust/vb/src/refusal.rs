@@ -2,6 +2,7 @@
 
 use std::fmt;
 
+use crate::instructions::{left_out, Instruction};
 use crate::records::{Drawing, Hardware, Processor};
 
 /// Why a call did nothing: the papers' numbers, 8 and 15 told apart by their subject.
@@ -17,8 +18,8 @@ pub enum Refusal {
     PakLength { given: usize },
     /// 5: a register holds what it cannot hold.
     State { register: &'static str, given: u32, allowed: &'static str },
-    /// 6: the first halfword of the instruction at PC.
-    NotModelled { pc: u32, halfword: u16 },
+    /// 6: the halfwords at PC; the second counts only where the instruction has two.
+    NotModelled { pc: u32, first: u16, second: u16 },
     /// 7
     Frame { given: u32 },
     /// 8
@@ -29,6 +30,8 @@ pub enum Refusal {
     FileLength { given: usize, due: usize },
     /// 10
     FileBytes,
+    /// 12: fields that are those of no instruction.
+    Encoding { instruction: Instruction },
     /// 15
     Eye { given: u32 },
     /// 15
@@ -53,6 +56,7 @@ impl Refusal {
             Refusal::Strip { .. } | Refusal::Character { .. } => 8,
             Refusal::FileLength { .. } => 9,
             Refusal::FileBytes => 10,
+            Refusal::Encoding { .. } => 12,
             Refusal::Eye { .. } | Refusal::Start { .. } | Refusal::Room { .. } => 15,
             Refusal::ProbeTarget { .. } => 13,
         }
@@ -82,11 +86,21 @@ impl fmt::Display for Refusal {
             Refusal::State { register, given, allowed } => {
                 write!(f, "{register} is 0x{given:08X}; {allowed}")
             }
-            Refusal::NotModelled { pc, halfword } => write!(
+            Refusal::NotModelled { pc, first, second } => write!(
                 f,
-                "the instruction 0x{halfword:04X} at 0x{pc:08X} is not modelled; left out are opcodes 011111 (bit \
-                 strings), 111010 (CAXI) and LDSR or STSR of register 24"
+                "the instruction {} at 0x{pc:08X} is not modelled; left out are opcodes 011111 (bit strings), 111010 \
+                 (CAXI) and LDSR or STSR of register 24",
+                named(*first, *second)
             ),
+            Refusal::Encoding { instruction } => {
+                let Instruction { operation, reg1, reg2, condition, immediate } = instruction;
+                write!(
+                    f,
+                    "operation {operation} with reg1 {reg1}, reg2 {reg2}, condition {condition} and immediate \
+                     0x{immediate:08X} is no instruction; each field must be in its operation's range, one that it \
+                     does not have 0, an offset even, and a system register not 24"
+                )
+            }
             Refusal::Frame { given } => {
                 write!(f, "frame {given} was asked for; frames are 0 and 1")
             }
@@ -130,6 +144,15 @@ impl fmt::Display for Refusal {
 }
 
 impl std::error::Error for Refusal {}
+
+/// Halfwords that are not modelled, with their mnemonic: `0xE841 0x0004 (CAXI)`.
+fn named(first: u16, second: u16) -> String {
+    match left_out(first, second) {
+        Some((name, 2)) => format!("0x{first:04X} 0x{second:04X} ({name})"),
+        Some((name, _)) => format!("0x{first:04X} ({name})"),
+        None => format!("0x{first:04X}"),
+    }
+}
 
 /// A whole number with commas between thousands.
 pub fn grouped(number: u64) -> String {

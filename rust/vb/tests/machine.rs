@@ -108,7 +108,8 @@ fn a_run_that_meets_refusal_6_keeps_what_was_done() {
     let Stop::NotModelled(refusal) = ran.stop else { panic!("{:?}", ran.stop) };
     assert_eq!((ran.count, machine.processor.regs[1], refusal.number()), (1, 1, 6));
     let told = refusal.to_string();
-    let start = "refusal 6: the instruction 0x7C00 at 0xFFFFFFF2 is not modelled; left out are";
+    let start =
+        "refusal 6: the instruction 0x7C00 (SCH0BSU) at 0xFFFFFFF2 is not modelled; left out are";
     assert!(told.starts_with(start), "{told}");
     let before = machine;
     assert_eq!(machine.step(&mut lent.memories()), Err(refusal));

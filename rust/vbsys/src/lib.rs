@@ -575,3 +575,129 @@ mod states {
 
 #[cfg(feature = "processor")]
 pub use states::{read_state, write_state};
+
+/// Operation numbers of [`Instruction`]: the opcode, 32 for Bcond, 64 and the sub-opcode under opcode 111110.
+pub mod op {
+    pub const MOV: u32 = 0;
+    pub const ADD: u32 = 1;
+    pub const SUB: u32 = 2;
+    pub const CMP: u32 = 3;
+    pub const SHL: u32 = 4;
+    pub const SHR: u32 = 5;
+    pub const JMP: u32 = 6;
+    pub const SAR: u32 = 7;
+    pub const MUL: u32 = 8;
+    pub const DIV: u32 = 9;
+    pub const MULU: u32 = 10;
+    pub const DIVU: u32 = 11;
+    pub const OR: u32 = 12;
+    pub const AND: u32 = 13;
+    pub const XOR: u32 = 14;
+    pub const NOT: u32 = 15;
+    pub const MOV_IMM: u32 = 16;
+    pub const ADD_IMM: u32 = 17;
+    pub const SETF: u32 = 18;
+    pub const CMP_IMM: u32 = 19;
+    pub const SHL_IMM: u32 = 20;
+    pub const SHR_IMM: u32 = 21;
+    pub const CLI: u32 = 22;
+    pub const SAR_IMM: u32 = 23;
+    pub const TRAP: u32 = 24;
+    pub const RETI: u32 = 25;
+    pub const HALT: u32 = 26;
+    pub const LDSR: u32 = 28;
+    pub const STSR: u32 = 29;
+    pub const SEI: u32 = 30;
+    pub const BCOND: u32 = 32;
+    pub const MOVEA: u32 = 40;
+    pub const ADDI: u32 = 41;
+    pub const JR: u32 = 42;
+    pub const JAL: u32 = 43;
+    pub const ORI: u32 = 44;
+    pub const ANDI: u32 = 45;
+    pub const XORI: u32 = 46;
+    pub const MOVHI: u32 = 47;
+    pub const LD_B: u32 = 48;
+    pub const LD_H: u32 = 49;
+    pub const LD_W: u32 = 51;
+    pub const ST_B: u32 = 52;
+    pub const ST_H: u32 = 53;
+    pub const ST_W: u32 = 55;
+    pub const IN_B: u32 = 56;
+    pub const IN_H: u32 = 57;
+    pub const IN_W: u32 = 59;
+    pub const OUT_B: u32 = 60;
+    pub const OUT_H: u32 = 61;
+    pub const OUT_W: u32 = 63;
+    pub const CMPF_S: u32 = 64;
+    pub const CVT_WS: u32 = 66;
+    pub const CVT_SW: u32 = 67;
+    pub const ADDF_S: u32 = 68;
+    pub const SUBF_S: u32 = 69;
+    pub const MULF_S: u32 = 70;
+    pub const DIVF_S: u32 = 71;
+    pub const XB: u32 = 72;
+    pub const XH: u32 = 73;
+    pub const REV: u32 = 74;
+    pub const TRNC_SW: u32 = 75;
+    pub const MPYHW: u32 = 76;
+    /// An invalid opcode or sub-opcode: decoding gives it, encoding refuses it.
+    pub const ILLEGAL: u32 = 255;
+}
+
+/// `vb_instruction`
+#[repr(C)]
+#[derive(Clone, Copy, Debug, Default, PartialEq, Eq)]
+pub struct Instruction {
+    pub operation: u32,
+    pub reg1: u32,
+    pub reg2: u32,
+    pub condition: u32,
+    pub immediate: u32,
+}
+
+/// `vb_encoded`
+#[repr(C)]
+#[derive(Clone, Copy, Debug, Default, PartialEq, Eq)]
+pub struct Encoded {
+    pub refusal: u32,
+    pub halfwords: u32,
+    pub first: u16,
+    pub second: u16,
+}
+
+/// `vb_decoded`
+#[repr(C)]
+#[derive(Clone, Copy, Debug, Default, PartialEq, Eq)]
+pub struct Decoded {
+    pub refusal: u32,
+    pub halfwords: u32,
+    pub instruction: Instruction,
+}
+
+#[cfg(feature = "processor")]
+mod instructions {
+    use super::{Decoded, Encoded, Instruction};
+
+    extern "C" {
+        fn vb_encode(instruction: Instruction) -> Encoded;
+        fn vb_decode(first: u16, second: u16) -> Decoded;
+    }
+
+    /// `vb_encode`
+    #[inline]
+    pub fn encode(instruction: Instruction) -> Encoded {
+        // SAFETY: nothing is lent.
+        unsafe { vb_encode(instruction) }
+    }
+
+    /// `vb_decode`
+    #[inline]
+    pub fn decode(first: u16, second: u16) -> Decoded {
+        // SAFETY: nothing is lent.
+        unsafe { vb_decode(first, second) }
+    }
+}
+
+#[cfg(feature = "processor")]
+pub use instructions::{decode, encode};

@@ -34,6 +34,7 @@ fn c_type(rust: &str) -> String {
         "*mut u8" => "uint8_t *".into(),
         "usize" => "size_t".into(),
         "u8" => "uint8_t".into(),
+        "u16" => "uint16_t".into(),
         "u32" => "uint32_t".into(),
         "u64" => "uint64_t".into(),
         name if name.starts_with(char::is_uppercase) => format!("vb_{}", name.to_lowercase()),

@@ -8,8 +8,7 @@ use std::path::{Path, PathBuf};
 use std::process::Command;
 
 use vbsys::{
-    Drawing, Hardware, Loaded, Machine, Part, Processor, Ran, Restored, Stepped, Stored, Ticked,
-    Undefined,
+    op, Decoded, Drawing, Encoded, Hardware, Instruction, Loaded, Machine, Part, Processor, Ran, Restored, Stepped, Stored, Ticked, Undefined,
 };
 
 /// One line of the C program: a name, and the expression whose value it has.
@@ -67,6 +66,10 @@ fn facts() -> Vec<Fact> {
     fields!(facts, Machine, "vb_machine", processor, drawing);
     fields!(facts, Restored, "vb_restored", refusal, processor, drawing);
     fields!(facts, Part, "vb_part", refusal, offset, length);
+    fields!(facts, Instruction, "vb_instruction", operation, reg1, reg2, condition, immediate);
+    fields!(facts, Encoded, "vb_encoded", refusal, halfwords, first, second);
+    fields!(facts, Decoded, "vb_decoded", refusal, halfwords, instruction);
+    operations(&mut facts);
     for pak in [0, 1, 8_192, 16_777_216] {
         let expression = format!("VB_STATE_BYTES({pak})");
         facts.push(Fact { expression, here: vbsys::state_bytes(pak) });
@@ -96,6 +99,22 @@ fn facts() -> Vec<Fact> {
         facts.push(constant(name, u32::from(here)));
     }
     facts
+}
+
+macro_rules! operations {
+    ($facts:ident, $($name:ident),* $(,)?) => {
+        $($facts.push(constant(concat!("VB_OP_", stringify!($name)), op::$name));)*
+    };
+}
+
+fn operations(facts: &mut Vec<Fact>) {
+    operations!(
+        facts, MOV, ADD, SUB, CMP, SHL, SHR, JMP, SAR, MUL, DIV, MULU, DIVU, OR, AND, XOR, NOT,
+        MOV_IMM, ADD_IMM, SETF, CMP_IMM, SHL_IMM, SHR_IMM, CLI, SAR_IMM, TRAP, RETI, HALT, LDSR,
+        STSR, SEI, BCOND, MOVEA, ADDI, JR, JAL, ORI, ANDI, XORI, MOVHI, LD_B, LD_H, LD_W, ST_B,
+        ST_H, ST_W, IN_B, IN_H, IN_W, OUT_B, OUT_H, OUT_W, CMPF_S, CVT_WS, CVT_SW, ADDF_S, SUBF_S,
+        MULF_S, DIVF_S, XB, XH, REV, TRNC_SW, MPYHW, ILLEGAL,
+    );
 }
 
 fn program(facts: &[Fact]) -> String {
@@ -156,5 +175,7 @@ fn layouts_have_no_surprises() {
     assert_eq!(size_of::<Ticked>(), 12);
     assert_eq!(size_of::<Drawing>(), 13 * 2);
     assert_eq!(size_of::<Loaded>(), 12);
+    assert_eq!(size_of::<Instruction>(), 20);
+    assert_eq!((size_of::<Encoded>(), size_of::<Decoded>()), (12, 28));
     assert_eq!(align_of::<Ran>(), 8);
 }

@@ -1,17 +1,16 @@
-//! A small assembler for the processor's integer instructions, in the notation of document 000 ("Assembly Notation"):
-//! destination on the right, `disp[reg]` for memory, a label as the target of branches and jumps.
+//! An assembler for the processor's modelled instructions, in the notation of document 000 ("Assembly Notation"):
+//! destination on the right, `disp[reg]` for memory, a label as the target of branches and jumps. The halfwords are
+//! those of the proved encoder.
 //!
 //! Beside the instructions it knows `LI value, reg` (MOVHI, then MOVEA), labels (`name:`), `.equ name, value`,
-//! `.half`, `.word`, `.space`, `.align`, `.org` (an address) and `.bytes name` (bytes that the caller names).
-
-mod opcodes;
+//! `.origin` (the first byte's address, before all bytes), `.half`, `.word`, `.space`, `.align`, `.org` (an address) and
+//! `.bytes name` (bytes that the caller names).
 
 use std::collections::HashMap;
 
-use opcodes::{
-    condition, immediate_form, load, packed, plain, register_form, store, sub_opcode,
-    three_operands, wrong,
-};
+use vb::{op, Instruction};
+
+use crate::mnemonics::{self, Operands};
 
 /// Where a program goes, and what it may refer to by name.
 pub struct Source<'a> {
@@ -24,6 +23,9 @@ pub struct Source<'a> {
 
 type Symbols = HashMap<String, i64>;
 
+/// Bytes of the largest ROM.
+const LARGEST: usize = 0x100_0000;
+
 /// The program's bytes from the origin on, in two passes: the first places the labels, the second writes.
 pub fn assemble(source: &Source) -> Result<Vec<u8>, String> {
     let mut symbols: Symbols = source.symbols.iter().map(|&(n, v)| (n.to_string(), v)).collect();
@@ -33,9 +35,20 @@ pub fn assemble(source: &Source) -> Result<Vec<u8>, String> {
     let mut bytes = Vec::new();
     for writing in [false, true] {
         bytes.clear();
+        let mut origin = source.origin;
         for (number, line) in source.text.lines().enumerate() {
-            let mut place = Place { source, symbols: &mut symbols, bytes: &mut bytes, writing };
+            let mut place = Place {
+                source,
+                origin: &mut origin,
+                symbols: &mut symbols,
+                bytes: &mut bytes,
+                writing,
+            };
             place.line(line).map_err(|e| format!("line {}: {e}: {}", number + 1, line.trim()))?;
+            if bytes.len() > LARGEST {
+                let rule = format!("the program has over {} bytes", vb::grouped(LARGEST as u64));
+                return Err(format!("line {}: {rule}: {}", number + 1, line.trim()));
+            }
         }
     }
     Ok(bytes)
@@ -44,6 +57,7 @@ pub fn assemble(source: &Source) -> Result<Vec<u8>, String> {
 /// A pass at one line.
 struct Place<'a> {
     source: &'a Source<'a>,
+    origin: &'a mut u32,
     symbols: &'a mut Symbols,
     bytes: &'a mut Vec<u8>,
     writing: bool,
@@ -51,7 +65,7 @@ struct Place<'a> {
 
 impl Place<'_> {
     fn address(&self) -> i64 {
-        i64::from(self.source.origin) + self.bytes.len() as i64
+        i64::from(*self.origin) + self.bytes.len() as i64
     }
 
     fn line(&mut self, line: &str) -> Result<(), String> {
@@ -77,8 +91,17 @@ impl Place<'_> {
 
     fn label(&mut self, name: &str) -> Result<(), String> {
         let address = self.address();
-        if !self.writing && self.symbols.contains_key(name) {
+        let before = self.symbols.get(name);
+        if !is_name(name) {
+            return Err(format!(
+                "`{name}` is no name; letters, digits and `_` are, a letter or `_` first"
+            ));
+        }
+        if !self.writing && before.is_some() {
             return Err(format!("`{name}` is named twice"));
+        }
+        if self.writing && before != Some(&address) {
+            return Err(format!("`{name}` has moved; a size above it uses a name further down"));
         }
         self.symbols.insert(name.to_string(), address);
         Ok(())
@@ -87,8 +110,17 @@ impl Place<'_> {
     fn directive(&mut self, directive: &str, operands: &[&str]) -> Result<(), String> {
         match (directive, operands) {
             ("equ", [name, value]) => {
+                if !is_name(name) {
+                    return Err(format!("`{name}` is no name"));
+                }
                 let value = self.value(value)?;
                 self.symbols.insert(name.to_string(), value);
+            }
+            ("origin", [address]) => {
+                if !self.bytes.is_empty() {
+                    return Err("`.origin` must stand before all bytes".to_string());
+                }
+                *self.origin = within(self.value(address)?, 0, 0xFFFF_FFFF)? as u32;
             }
             ("half", values) => self.numbers(values, 2, -0x8000, 0xFFFF)?,
             ("word", values) => self.numbers(values, 4, -0x8000_0000, 0xFFFF_FFFF)?,
@@ -134,7 +166,7 @@ impl Place<'_> {
 
     /// Sums and differences of numbers and names. A label further down counts 0 in the first pass.
     fn value(&self, text: &str) -> Result<i64, String> {
-        let mut sum = 0;
+        let mut sum = 0i64;
         let mut sign = 1;
         let mut rest = text.trim();
         loop {
@@ -144,7 +176,9 @@ impl Place<'_> {
                 continue;
             }
             let end = rest.find(['+', '-']).unwrap_or(rest.len());
-            sum += sign * self.term(rest[..end].trim())?;
+            let term = self.term(rest[..end].trim())?;
+            let next = sum.checked_add(sign * term).filter(|n| n.abs() < 1 << 40);
+            sum = next.ok_or(format!("`{text}` is too large"))?;
             match rest[end..].chars().next() {
                 None => return Ok(sum),
                 Some(operator) => sign = if operator == '-' { -1 } else { 1 },
@@ -154,16 +188,16 @@ impl Place<'_> {
     }
 
     fn term(&self, text: &str) -> Result<i64, String> {
-        if let Some(digits) = text.strip_prefix("0x") {
-            return i64::from_str_radix(digits, 16)
-                .map_err(|_| format!("`{text}` is not a number"));
-        }
         if text.starts_with(|c: char| c.is_ascii_digit()) {
-            return text.parse().map_err(|_| format!("`{text}` is not a number"));
+            let number = crate::number::whole(text)?;
+            return i64::try_from(number).map_err(|_| format!("`{text}` is too large"));
+        }
+        if text.is_empty() {
+            return Err("a number or a name is missing".to_string());
         }
         match self.symbols.get(text) {
             Some(value) => Ok(*value),
-            None if !self.writing && !text.is_empty() => Ok(0),
+            None if !self.writing => Ok(0),
             None => Err(format!("`{text}` is not named")),
         }
     }
@@ -174,19 +208,28 @@ impl Place<'_> {
         if !self.writing {
             return Ok(0);
         }
-        let ahead = within(target - self.address(), low, high)?;
+        // addresses wrap at 2^32
+        let ahead = within(i64::from((target - self.address()) as i32), low, high)?;
         if ahead % 2 != 0 {
             return Err(format!("`{text}` is odd"));
         }
         Ok(ahead as u32)
     }
 
-    fn immediate(&self, text: &str, low: i64, high: i64) -> Result<u16, String> {
-        Ok(within(self.value(text)?, low, high)? as u16)
+    fn immediate(&self, text: &str, low: i64, high: i64) -> Result<u32, String> {
+        Ok(within(self.value(text)?, low, high)? as u32)
+    }
+
+    /// A system register that is modelled.
+    fn system(&self, text: &str) -> Result<u32, String> {
+        match self.immediate(text, 0, 31)? {
+            24 => Err("system register 24 is not modelled".to_string()),
+            number => Ok(number),
+        }
     }
 
     /// `disp[reg1]`: the displacement and the register.
-    fn memory(&self, text: &str) -> Result<(u16, u16), String> {
+    fn memory(&self, text: &str) -> Result<(u32, u32), String> {
         let (before, after) = text.split_once('[').ok_or(format!("`{text}` is not disp[reg]"))?;
         let base = register(after.strip_suffix(']').ok_or(format!("`{text}` has no `]`"))?)?;
         let disp =
@@ -194,82 +237,121 @@ impl Place<'_> {
         Ok((disp, base))
     }
 
+    /// An instruction's halfwords, as the proved encoder gives them.
     fn instruction(&self, name: &str, operands: &[&str]) -> Result<Vec<u16>, String> {
-        if let Some(condition) = condition(name) {
-            return match (condition, operands) {
-                (13, []) => Ok(vec![0x9A00]),
-                (_, [target]) if condition != 13 => {
-                    let ahead = self.ahead(target, -256, 254)? as u16 & 0x1FF;
-                    Ok(vec![0x8000 | condition << 9 | ahead])
-                }
-                _ => Err(wrong(name)),
-            };
+        if let ("LI", [value, reg]) = (name, operands) {
+            return self.load_constant(value, register(reg)?);
         }
+        let instruction = match mnemonics::condition(name) {
+            Some(condition) => self.branch(name, condition, operands)?,
+            None => {
+                let rows = mnemonics::named(name);
+                // MOV and others take a register or an immediate
+                let by_register = operands.first().is_some_and(|first| register(first).is_ok());
+                let row = rows.iter().find(|row| (row.1 == Operands::Registers) == by_register);
+                let row = row.or(rows.first()).ok_or(wrong(name))?;
+                self.fields(name, *row, operands)?
+            }
+        };
+        encoded(instruction)
+    }
+
+    fn branch(&self, name: &str, condition: u32, operands: &[&str]) -> Result<Instruction, String> {
+        let plain = Instruction { operation: op::BCOND, condition, ..Instruction::default() };
         match operands {
-            [] => plain(name).map(|opcode| vec![opcode << 10]),
-            [one] => self.one_operand(name, one),
-            [first, second] => self.two_operands(name, first, second),
-            [first, second, third] => {
-                let (opcode, low, high) = three_operands(name)?;
-                let immediate = self.immediate(first, low, high)?;
-                Ok(vec![packed(opcode, register(third)?, register(second)?), immediate])
+            [] if name == "NOP" => Ok(plain),
+            [target] if name != "NOP" => {
+                Ok(Instruction { immediate: self.ahead(target, -256, 254)?, ..plain })
             }
             _ => Err(wrong(name)),
         }
     }
 
-    fn one_operand(&self, name: &str, operand: &str) -> Result<Vec<u16>, String> {
-        match name {
-            "JMP" => {
-                let inner = operand.strip_prefix('[').and_then(|o| o.strip_suffix(']'));
-                Ok(vec![packed(0b000110, 0, register(inner.ok_or(wrong(name))?)?)])
+    /// The fields of an instruction whose operands are written in this form.
+    fn fields(
+        &self,
+        name: &str,
+        (operation, form): (u32, Operands),
+        operands: &[&str],
+    ) -> Result<Instruction, String> {
+        let plain = Instruction { operation, ..Instruction::default() };
+        Ok(match (form, operands) {
+            (Operands::Registers, [reg1, reg2]) => {
+                Instruction { reg1: register(reg1)?, reg2: register(reg2)?, ..plain }
             }
-            "TRAP" => Ok(vec![packed(0b011000, 0, self.immediate(operand, 0, 31)?)]),
-            "XB" | "XH" => extended(name, register(operand)?, 0),
-            "JR" | "JAL" => {
-                let opcode = if name == "JR" { 0b101010 } else { 0b101011 };
-                let ahead = self.ahead(operand, -0x200_0000, 0x1FF_FFFE)?;
-                Ok(vec![opcode << 10 | (ahead >> 16) as u16 & 0x3FF, ahead as u16])
+            (Operands::Target, [target]) => {
+                let inner = target.strip_prefix('[').and_then(|o| o.strip_suffix(']'));
+                Instruction { reg1: register(inner.ok_or(wrong(name))?)?, ..plain }
             }
-            _ => Err(wrong(name)),
-        }
-    }
-
-    fn two_operands(&self, name: &str, first: &str, second: &str) -> Result<Vec<u16>, String> {
-        if name == "LI" {
-            return self.load_constant(first, register(second)?);
-        }
-        if name == "LDSR" {
-            return Ok(vec![packed(0b011100, register(first)?, self.immediate(second, 0, 31)?)]);
-        }
-        if name == "STSR" {
-            return Ok(vec![packed(0b011101, register(second)?, self.immediate(first, 0, 31)?)]);
-        }
-        if let Some(opcode) = load(name) {
-            let (disp, base) = self.memory(first)?;
-            return Ok(vec![packed(opcode, register(second)?, base), disp]);
-        }
-        if let Some(opcode) = store(name) {
-            let (disp, base) = self.memory(second)?;
-            return Ok(vec![packed(opcode, register(first)?, base), disp]);
-        }
-        if let Ok(reg1) = register(first) {
-            if sub_opcode(name).is_some() && !matches!(name, "XB" | "XH") {
-                return extended(name, register(second)?, reg1);
+            (Operands::Signed, [value, reg2]) => {
+                let reg2 = register(reg2)?;
+                Instruction { immediate: self.immediate(value, -16, 15)?, reg2, ..plain }
             }
-            return Ok(vec![packed(register_form(name)?, register(second)?, reg1)]);
-        }
-        let (opcode, low, high) = immediate_form(name)?;
-        Ok(vec![packed(opcode, register(second)?, self.immediate(first, low, high)?)])
+            (Operands::Unsigned, [value, reg2]) => {
+                let reg2 = register(reg2)?;
+                Instruction { immediate: self.immediate(value, 0, 31)?, reg2, ..plain }
+            }
+            (Operands::Condition, [value, reg2]) => {
+                let reg2 = register(reg2)?;
+                Instruction { condition: self.immediate(value, 0, 15)?, reg2, ..plain }
+            }
+            (Operands::Vector, [value]) => {
+                Instruction { immediate: self.immediate(value, 0, 31)?, ..plain }
+            }
+            (Operands::None, []) => plain,
+            (Operands::ToSystem, [reg2, system]) => {
+                Instruction { reg2: register(reg2)?, immediate: self.system(system)?, ..plain }
+            }
+            (Operands::FromSystem, [system, reg2]) => {
+                Instruction { reg2: register(reg2)?, immediate: self.system(system)?, ..plain }
+            }
+            (Operands::Jump, [target]) => {
+                Instruction { immediate: self.ahead(target, -0x200_0000, 0x1FF_FFFE)?, ..plain }
+            }
+            (Operands::Long(low, high), [value, reg1, reg2]) => {
+                let value = self.immediate(value, low, high)?;
+                // a number that is taken with and without its sign stands for the same halfword
+                let immediate = if low < 0 { value as i16 as u32 } else { value };
+                Instruction { immediate, reg1: register(reg1)?, reg2: register(reg2)?, ..plain }
+            }
+            (Operands::Load, [memory, reg2]) => {
+                let (immediate, reg1) = self.memory(memory)?;
+                Instruction { immediate, reg1, reg2: register(reg2)?, ..plain }
+            }
+            (Operands::Store, [reg2, memory]) => {
+                let (immediate, reg1) = self.memory(memory)?;
+                Instruction { immediate, reg1, reg2: register(reg2)?, ..plain }
+            }
+            (Operands::Reg2, [reg2]) => Instruction { reg2: register(reg2)?, ..plain },
+            _ => return Err(wrong(name)),
+        })
     }
 
     /// MOVHI, then MOVEA, whose sign extension the upper half makes up for.
-    fn load_constant(&self, value: &str, reg: u16) -> Result<Vec<u16>, String> {
+    fn load_constant(&self, value: &str, reg2: u32) -> Result<Vec<u16>, String> {
         let value = within(self.value(value)?, -0x8000_0000, 0xFFFF_FFFF)? as u32;
-        let low = value as u16;
-        let high = ((value >> 16) as u16).wrapping_add(low >> 15);
-        Ok(vec![packed(0b101111, reg, 0), high, packed(0b101000, reg, reg), low])
+        let low = value as i16 as u32;
+        let high = value.wrapping_sub(low) >> 16;
+        let plain = Instruction { reg2, ..Instruction::default() };
+        let upper = Instruction { operation: op::MOVHI, immediate: high, ..plain };
+        let lower = Instruction { operation: op::MOVEA, reg1: reg2, immediate: low, ..plain };
+        Ok([encoded(upper)?, encoded(lower)?].concat())
     }
+}
+
+/// A name of a label or a constant.
+fn is_name(text: &str) -> bool {
+    let inner = |c: char| c.is_ascii_alphanumeric() || c == '_';
+    text.chars().all(inner) && text.starts_with(|c: char| c.is_ascii_alphabetic() || c == '_')
+}
+
+fn encoded(instruction: Instruction) -> Result<Vec<u16>, String> {
+    let halfwords = vb::encode(instruction).map_err(|refusal| refusal.to_string())?;
+    Ok(halfwords.iter().collect())
+}
+
+fn wrong(name: &str) -> String {
+    format!("`{name}` with these operands is not known")
 }
 
 fn within(value: i64, low: i64, high: i64) -> Result<i64, String> {
@@ -279,14 +361,8 @@ fn within(value: i64, low: i64, high: i64) -> Result<i64, String> {
     Err(format!("{value} is not within {low} to {high}"))
 }
 
-/// Format VII: the sub-opcode stands in the second halfword.
-fn extended(name: &str, reg2: u16, reg1: u16) -> Result<Vec<u16>, String> {
-    let sub = sub_opcode(name).ok_or(wrong(name))?;
-    Ok(vec![packed(0b111110, reg2, reg1), sub << 10])
-}
-
-fn register(text: &str) -> Result<u16, String> {
-    let number = text.trim().strip_prefix('r').and_then(|n| n.parse::<u16>().ok());
+fn register(text: &str) -> Result<u32, String> {
+    let number = text.trim().strip_prefix('r').and_then(|n| n.parse::<u32>().ok());
     number.filter(|n| *n < 32).ok_or(format!("`{text}` is not a register r0 to r31"))
 }
 
@@ -335,7 +411,9 @@ mod tests {
             ("TRNC.SW r1, r2", vec![0xF841, 0x2C00]),
             ("MPYHW r1, r2", vec![0xF841, 0x3000]),
             ("MOVEA -1, r1, r2", vec![0xA041, 0xFFFF]),
+            ("MOVEA 0xFFFF, r1, r2", vec![0xA041, 0xFFFF]),
             ("MOVHI 0x700, r0, r6", vec![0xBCC0, 0x0700]),
+            (".origin 0xFFFFFFF0\nJR 0x00000000", vec![0xA800, 0x0010]),
             ("ORI 0xFFFF, r1, r2", vec![0xB041, 0xFFFF]),
             ("LD.W 4[r1], r2", vec![0xCC41, 0x0004]),
             ("IN.H [r1], r2", vec![0xE441, 0x0000]),
@@ -360,6 +438,15 @@ mod tests {
             ("FLY r1", "line 1: `FLY` with these operands is not known: FLY r1"),
             (".space 2\n.org 0x07000000", "line 2: `.org` lies behind: .org 0x07000000"),
             ("BR a\n.space 300\na: NOP", "line 1: 302 is not within -256 to 254: BR a"),
+            ("LDSR r1, 24", "line 1: system register 24 is not modelled: LDSR r1, 24"),
+            ("SUB r32, r1", "line 1: `r32` is not a register r0 to r31: SUB r32, r1"),
+            ("JR 0x07000003", "line 1: `0x07000003` is odd: JR 0x07000003"),
+            ("MOV , r1", "line 1: `MOV` with these operands is not known: MOV , r1"),
+            (".half 1 +", "line 1: a number or a name is missing: .half 1 +"),
+            ("2a: NOP", "line 1: `2a` is no name; letters, digits and `_` are, a letter or `_` first: 2a: NOP"),
+            (".space later\na: NOP\n.equ later, 4", "line 2: `a` has moved; a size above it uses a name further down: a: NOP"),
+            ("NOP\n.origin 0", "line 2: `.origin` must stand before all bytes: .origin 0"),
+            (".word 0x10000000000", "line 1: `0x10000000000` is too large: .word 0x10000000000"),
         ] {
             assert_eq!(halves(text), Err(expected.to_string()), "{text}");
         }

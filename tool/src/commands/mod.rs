@@ -1,7 +1,9 @@
 //! The commands. Each gives what it prints, and its exit status.
 
+pub mod asm;
 pub mod compare;
 pub mod demo;
+pub mod disasm;
 pub mod draw;
 pub mod judge;
 pub mod pages;

@@ -57,6 +57,33 @@ fn art() -> (Vec<(&'static str, i64)>, Vec<(&'static str, Vec<u8>)>) {
 #[cfg(test)]
 mod tests {
     use super::rom;
+    use vb::Decoded;
+
+    /// Each instruction of the demo's program, which ends at its last `JMP`: the proved encoder and the independent
+    /// model give the halfwords that the assembler wrote.
+    #[test]
+    fn the_encoder_and_the_model_give_the_programs_halfwords() {
+        let rom = rom().unwrap();
+        let halves: Vec<u16> = rom.chunks(2).map(|b| u16::from_le_bytes([b[0], b[1]])).collect();
+        let (mut at, mut count) = (0, 0);
+        while let Decoded::Instruction { instruction, halfwords } =
+            vb::decode(halves[at], halves[at + 1])
+        {
+            let there = &halves[at..at + halfwords as usize];
+            let encoded: Vec<u16> = vb::encode(instruction).unwrap().iter().collect();
+            let (_, fields) = model::encoding::decode(halves[at], halves[at + 1]).unwrap();
+            let model = model::encoding::encode(&fields).unwrap();
+            if encoded != there {
+                break;
+            }
+            assert_eq!((model.count, model.first), (halfwords, there[0]), "{at}");
+            assert!(halfwords == 1 || model.second == there[1], "{at}");
+            at += halfwords as usize;
+            count += 1;
+        }
+        // the program's instructions come first, its data after them
+        assert!(count > 300, "{count}");
+    }
 
     #[test]
     fn the_rom_is_64_kib_and_starts_at_the_reset_address() {

@@ -1,6 +1,5 @@
 //! A program followed instruction by instruction: what each did, and where to stop.
 
-mod disassembly;
 mod place;
 mod told;
 

@@ -3,9 +3,9 @@
 use serde::Serialize;
 use vb::{Machine, Mask, ReadMemories, Refusal, Undefined};
 
-use super::disassembly::{disassemble, Access};
 use super::place::{at, At};
 use crate::commands::ran::exception_name;
+use crate::disassembly::{disassemble, Access};
 use crate::setup::Bench;
 
 /// An instruction and its effects; its members are those of the JSON.

@@ -28,8 +28,8 @@ long-unsigned-requires-2 c κs = search needs
 long-unsigned-requires-3 : tie.Need-long-unsigned-requires-3
 long-unsigned-requires-3 c κs = search needs
 
-movhi-requires : tie.Need-movhi-requires
-movhi-requires c κs = search needs
+long-unsigned-requires-4 : tie.Need-long-unsigned-requires-4
+long-unsigned-requires-4 c κs = search needs
 
 load-requires : tie.Need-load-requires
 load-requires c κs = search needs
@@ -100,7 +100,7 @@ returns-7 c = rw (c .before .match .keys7) (c .long-unsigned3 .ensures)
 
 returns-8 : tie.Need-returns-8
 unfolding longRows
-returns-8 c = rw (c .before .match .keys8) (c .movhi .ensures)
+returns-8 c = rw (c .before .match .keys8) (c .long-unsigned4 .ensures)
 
 returns-9 : tie.Need-returns-9
 unfolding longRows
@@ -182,7 +182,7 @@ long-form-spec =
     long-unsigned-requires
     long-unsigned-requires-2
     long-unsigned-requires-3
-    movhi-requires
+    long-unsigned-requires-4
     load-requires
     load-requires-2
     load-requires-3

@@ -29,20 +29,20 @@ floating-requires-5 c κs = search needs
 floating-requires-6 : tie.Need-floating-requires-6
 floating-requires-6 c κs = search needs
 
+exchange-requires : tie.Need-exchange-requires
+exchange-requires c κs = search needs
+
+exchange-requires-2 : tie.Need-exchange-requires-2
+exchange-requires-2 c κs = search needs
+
 nintendo-requires : tie.Need-nintendo-requires
 nintendo-requires c κs = search needs
-
-nintendo-requires-2 : tie.Need-nintendo-requires-2
-nintendo-requires-2 c κs = search needs
-
-nintendo-requires-3 : tie.Need-nintendo-requires-3
-nintendo-requires-3 c κs = search needs
 
 floating-requires-7 : tie.Need-floating-requires-7
 floating-requires-7 c κs = search needs
 
-nintendo-requires-4 : tie.Need-nintendo-requires-4
-nintendo-requires-4 c κs = search needs
+nintendo-requires-2 : tie.Need-nintendo-requires-2
+nintendo-requires-2 c κs = search needs
 
 returns : tie.Need-returns
 unfolding subRows extendedOf
@@ -78,15 +78,15 @@ returns-8 c = rw (c .before .match .keys8) (c .floating6 .ensures)
 
 returns-9 : tie.Need-returns-9
 unfolding subRows extendedOf
-returns-9 c = rw (c .before .match .keys9) (c .nintendo .ensures)
+returns-9 c = rw (c .before .match .keys9) (c .exchange .ensures)
 
 returns-10 : tie.Need-returns-10
 unfolding subRows extendedOf
-returns-10 c = rw (c .before .match .keys10) (c .nintendo2 .ensures)
+returns-10 c = rw (c .before .match .keys10) (c .exchange2 .ensures)
 
 returns-11 : tie.Need-returns-11
 unfolding subRows extendedOf
-returns-11 c = rw (c .before .match .keys11) (c .nintendo3 .ensures)
+returns-11 c = rw (c .before .match .keys11) (c .nintendo .ensures)
 
 returns-12 : tie.Need-returns-12
 unfolding subRows extendedOf
@@ -94,7 +94,7 @@ returns-12 c = rw (c .before .match .keys12) (c .floating7 .ensures)
 
 returns-13 : tie.Need-returns-13
 unfolding subRows extendedOf
-returns-13 c = rw (c .before .match .keys13) (c .nintendo4 .ensures)
+returns-13 c = rw (c .before .match .keys13) (c .nintendo2 .ensures)
 
 returns-14 : tie.Need-returns-14
 unfolding subRows extendedOf
@@ -111,11 +111,11 @@ extended-spec =
     floating-requires-4
     floating-requires-5
     floating-requires-6
+    exchange-requires
+    exchange-requires-2
     nintendo-requires
-    nintendo-requires-2
-    nintendo-requires-3
     floating-requires-7
-    nintendo-requires-4
+    nintendo-requires-2
     returns
     returns-2
     returns-3

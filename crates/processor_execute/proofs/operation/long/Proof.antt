@@ -1,4 +1,7 @@
 -- `processor_execute::operation::long`: each operation's own definition.
+use Prim.Native.Nat.{_+_, _*_, _%_, _^_}
+use mathlib.Core.Path.{_≡_}
+use native.Mathlib.Omega.{arith}
 use borrow.Author.Needs.{needs}
 use Rattle.processor_execute.proofs.operation.long.Statement.{statement}
 use Rattle.processor_execute.proofs.operation.long.Tie as tie
@@ -39,6 +42,9 @@ xor-requires c κs = search needs
 enum-told-6 : tie.Need-enum-told-6
 enum-told-6 c = search needs
 
+mul-wrapping-add-u32 : tie.Need-mul-wrapping-add-u32
+mul-wrapping-add-u32 c = search needs
+
 wrapping-add-u32-requires-2 : tie.Need-wrapping-add-u32-requires-2
 wrapping-add-u32-requires-2 c κs = search needs
 
@@ -61,7 +67,11 @@ returns-5 : tie.Need-returns-5
 returns-5 c = rw (c .before .enum-told5 .given .1) (c .xor .ensures)
 
 returns-6 : tie.Need-returns-6
-returns-6 c = rw (c .before .before .enum-told6 .given .1, c .unflagged2 .ensures, c .before .wrapping-add-u322 .ensures)
+returns-6 c =
+    let b = c .before .before .before .before .args .b in
+    let a = c .before .before .before .before .args .a in
+    let e : (a + b % 65536 * 65536) % 2 ^ 32 ≡ (a + b * 2 ^ 16) % 2 ^ 32 = omega arith in
+    rw (c .before .before .enum-told6 .given .1, c .unflagged2 .ensures, c .before .wrapping-add-u322 .ensures, e)
 
 pub long-spec : {M : Type 1} → statement M
 long-spec =
@@ -79,6 +89,7 @@ long-spec =
     enum-told-5
     xor-requires
     enum-told-6
+    mul-wrapping-add-u32
     wrapping-add-u32-requires-2
     unflagged-requires-2
     returns

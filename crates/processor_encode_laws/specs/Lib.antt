@@ -1,0 +1,3 @@
+pub mod RoundTrip
+pub mod Clearing
+pub mod Signed
