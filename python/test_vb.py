@@ -3,6 +3,7 @@
 import ctypes
 import os
 import pathlib
+import struct
 import subprocess
 import tempfile
 import unittest
@@ -91,6 +92,17 @@ class Module(unittest.TestCase):
         self.assertEqual(vb.vb_character(bytes(262144), 2048).refusal, 8)
         part = vb.vb_character(bytes(262144), 513)
         self.assertEqual((part.offset, part.length), (0xE010, 16))
+
+    def test_the_bytes_of_a_pixel(self):
+        vram = bytearray(262144)
+        vram[0x3D800 + 31 * 32 + 1] = 0xC0  # world 31 is normal and shown, one column wide
+        vram[0x3D800 + 30 * 32] = 0x40  # END
+        room = bytearray(b"\xFF" * 24)
+        listed = vb.vb_pixel_bytes(vram, vb.vb_drawing(), 0, 0, 0, room)
+        self.assertEqual((listed.refusal, listed.count), (0, 4))
+        self.assertEqual(struct.unpack("<6I", room), (0x20000, 0x20001, 0x6000, 0x6001, 0xFFFFFFFF, 0xFFFFFFFF))
+        self.assertEqual(vb.vb_pixel_bytes(bytes(vram), vb.vb_drawing(), 1, 0, 7, None).count, 4)
+        self.assertEqual(vb.vb_pixel_bytes(bytes(vram), vb.vb_drawing(), 2, 0, 0, None).refusal, vb.VB_MISUSE)
 
     def test_a_frame_is_drawn(self):
         vram = bytearray(262144)

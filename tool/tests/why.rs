@@ -132,3 +132,33 @@ fn deliver_3_compare_groups_differing_pixels_by_what_wins_there() {
     let pixels: u64 = all.iter().map(|share| share["pixels"].as_u64().unwrap()).sum();
     assert!(all.len() > 10 && pixels == 10_307, "{} of {pixels}", all.len());
 }
+
+#[test]
+fn the_list_is_the_proved_librarys_and_the_models_is_the_same() {
+    let folder = Folder::with_demo("why-list");
+    for pixel in ["left 192 120", "right 150 218", "left 75 120", "right 383 223"] {
+        let ran = folder.vbmodel(&format!("why {pixel} {SCENE}"));
+        let json = folder.vbmodel(&format!("why {pixel} {SCENE} --json"));
+        assert_eq!((ran.status, json.status), (0, 0), "{pixel}");
+        let value: Value = serde_json::from_str(&json.text).unwrap();
+        let lists = &value["bytes"];
+        assert_eq!(lists["library"], lists["model"], "{pixel}");
+        let mut listed: Vec<u64> =
+            lists["library"].as_array().unwrap().iter().map(|one| one.as_u64().unwrap()).collect();
+        let head = format!(
+            "the bytes it answers to, {}, proved; the independent model's are the same:\n",
+            listed.len()
+        );
+        let (_, told) = ran.text.split_once(&head).unwrap_or_else(|| panic!("{}", ran.text));
+        // two bytes a line, in drawing order
+        let mut printed: Vec<u64> = told
+            .lines()
+            .map_while(|line| line.strip_prefix("  0x"))
+            .map(|line| u64::from_str_radix(&line[..5], 16).unwrap())
+            .flat_map(|address| [address, address + 1])
+            .collect();
+        printed.sort_unstable();
+        listed.sort_unstable();
+        assert_eq!(printed, listed, "{pixel}: {}", ran.text);
+    }
+}

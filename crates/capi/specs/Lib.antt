@@ -1,5 +1,6 @@
 pub mod Hardware
 pub mod Answers
+pub mod PixelBytes
 pub mod Execution
 pub mod Instructions
 pub mod States

@@ -5,6 +5,7 @@ pub mod execution;
 pub mod hardware;
 pub mod instructions;
 pub mod pictures;
+pub mod pixel_bytes;
 pub mod probes;
 pub mod states;
 pub mod ticks;

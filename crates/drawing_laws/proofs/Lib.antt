@@ -7,11 +7,11 @@ pub mod Images
 pub mod ListedAddresses
 pub mod ShortWorlds
 mod BackgroundSame
-mod Choices
+pub mod Choices
 mod CoversDrawn
 mod DrawnCovers
 mod Each
-mod Groups
+pub mod Groups
 mod Halfwords
 mod ListedBytes
 mod ObjectsSame

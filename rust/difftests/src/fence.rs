@@ -64,6 +64,13 @@ impl Fenced {
         // SAFETY: as above, and the buffer is borrowed mutably.
         unsafe { slice::from_raw_parts_mut(self.mapping.add(self.offset), self.length) }
     }
+
+    /// The buffer as words, of which it has a whole number.
+    pub fn words_mut(&mut self) -> &mut [u32] {
+        assert!(self.length.is_multiple_of(4), "{} bytes are no words", self.length);
+        // SAFETY: as above; the usable pages begin and end where a word may.
+        unsafe { slice::from_raw_parts_mut(self.mapping.add(self.offset).cast(), self.length / 4) }
+    }
 }
 
 impl Drop for Fenced {

@@ -189,3 +189,33 @@ fn drawings() {
         }
     }
 }
+
+#[cfg(feature = "drawing")]
+#[test]
+fn pixel_lists() {
+    use difftests::scene::crowded;
+    use model::answers::answers;
+    use model::world::Eye;
+    let mut random = Random::new(0xFE_0004);
+    for side in [Side::Start, Side::End] {
+        for _ in 0..40 {
+            let scene = crowded(&mut random, 24);
+            let mut vram = Fenced::new(&scene.vram, side);
+            vram.forbid_writing();
+            let eye = random.pick(&Eye::BOTH);
+            let (x, y) = (random.below(384), random.below(224));
+            let list = answers(&scene.vram, &scene.drawing, eye, x, y).unwrap().listed();
+            for words in 0..list.len() + 3 {
+                let mut room = Fenced::new(&vec![0xA5; 4 * words], side);
+                let (bytes, drawing) = (vram.bytes(), to_library(&scene.drawing));
+                let listed =
+                    vbsys::pixel_bytes(bytes, drawing, eye.number(), x, y, room.words_mut());
+                assert_eq!((listed.refusal, listed.count), (0, list.len() as u64));
+                for (n, word) in room.words_mut().iter().enumerate() {
+                    let due = list.get(n).map_or(0xA5A5_A5A5, |&address| address as u32);
+                    assert_eq!(*word, due, "word {n} of {words}");
+                }
+            }
+        }
+    }
+}

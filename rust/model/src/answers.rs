@@ -119,6 +119,17 @@ impl Answers {
         self.covering.iter().flat_map(Covering::bytes).collect()
     }
 
+    /// The same addresses in the order of docs/DEMAND3.md: the background
+    /// worlds' from world 31 down, then those of objects 1,023 to 0.
+    pub fn listed(&self) -> Vec<usize> {
+        let mut ordered: Vec<&Covering> = self.covering.iter().collect();
+        ordered.sort_by_key(|covering| match covering.what {
+            Covered::Background { .. } => (0, 0),
+            Covered::Object { number, .. } => (1, u32::MAX - number),
+        });
+        ordered.into_iter().flat_map(Covering::bytes).collect()
+    }
+
     /// The background worlds that cover the pixel.
     pub fn covering_worlds(&self) -> usize {
         self.covering.iter().filter(|covering| !covering.is_object()).count()

@@ -19,6 +19,7 @@
 mod brightness;
 mod calls;
 mod instructions;
+mod pixel_bytes;
 mod probe;
 mod records;
 mod refusal;
@@ -28,6 +29,7 @@ mod undefined;
 pub use brightness::{display, load_column_table, View};
 pub use calls::{character, Answer, Cause, Ran, Stop};
 pub use instructions::{decode, encode, left_out, op, Decoded, Halfwords, Instruction};
+pub use pixel_bytes::NoList;
 pub use probe::{Probe, Width};
 pub use records::{Drawing, Hardware, Machine, Mode, Processor, RecordError};
 pub use refusal::{grouped, Refusal};

@@ -6,7 +6,7 @@
 
 /// `VB_VERSION`: the layouts below are this version's.
 pub const VERSION: u32 = 3;
-/// `VB_MISUSE`: a mode above 2.
+/// `VB_MISUSE`: a mode above 2, or a pixel that no image has.
 pub const MISUSE: u32 = 255;
 
 /// The static library that is linked.
@@ -167,6 +167,14 @@ pub struct Part {
     pub refusal: u32,
     pub offset: u64,
     pub length: u64,
+}
+
+/// `vb_listed`
+#[repr(C)]
+#[derive(Clone, Copy, Debug, Default, PartialEq, Eq)]
+pub struct Listed {
+    pub refusal: u32,
+    pub count: u64,
 }
 
 /// The lent memories of a load.
@@ -382,7 +390,7 @@ pub use processor::{reset, run, step};
 
 #[cfg(feature = "drawing")]
 mod drawing {
-    use super::{Drawing, Part};
+    use super::{Drawing, Listed, Part};
 
     extern "C" {
         fn vb_draw_strip(
@@ -394,6 +402,16 @@ mod drawing {
         ) -> u32;
         fn vb_draw_frame(vram: *mut u8, vram_len: usize, drawing: Drawing, frame: u32) -> u32;
         fn vb_character(vram: *const u8, vram_len: usize, character: u32) -> Part;
+        fn vb_pixel_bytes(
+            vram: *const u8,
+            vram_len: usize,
+            drawing: Drawing,
+            eye: u32,
+            x: u32,
+            y: u32,
+            room: *mut u32,
+            room_len: usize,
+        ) -> Listed;
     }
 
     /// `vb_draw_strip`
@@ -416,10 +434,26 @@ mod drawing {
         // SAFETY: the pointer is lent with its slice's own length.
         unsafe { vb_character(vram.as_ptr(), vram.len(), character) }
     }
+
+    /// `vb_pixel_bytes`
+    #[inline]
+    pub fn pixel_bytes(
+        vram: &[u8],
+        drawing: Drawing,
+        eye: u32,
+        x: u32,
+        y: u32,
+        room: &mut [u32],
+    ) -> Listed {
+        let (words, length) = (room.as_mut_ptr(), room.len());
+        // SAFETY: each pointer is lent with its slice's own length; VRAM is only read, and the
+        // room is borrowed mutably and apart.
+        unsafe { vb_pixel_bytes(vram.as_ptr(), vram.len(), drawing, eye, x, y, words, length) }
+    }
 }
 
 #[cfg(feature = "drawing")]
-pub use drawing::{character, draw_frame, draw_strip};
+pub use drawing::{character, draw_frame, draw_strip, pixel_bytes};
 
 #[cfg(feature = "drawing")]
 mod display {

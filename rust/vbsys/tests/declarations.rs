@@ -32,6 +32,7 @@ fn c_type(rust: &str) -> String {
     match rust {
         "*const u8" => "const uint8_t *".into(),
         "*mut u8" => "uint8_t *".into(),
+        "*mut u32" => "uint32_t *".into(),
         "usize" => "size_t".into(),
         "u8" => "uint8_t".into(),
         "u16" => "uint16_t".into(),

@@ -8,7 +8,7 @@ use std::path::{Path, PathBuf};
 use std::process::Command;
 
 use vbsys::{
-    op, Decoded, Drawing, Encoded, Hardware, Instruction, Loaded, Machine, Part, Processor, Ran, Restored, Stepped, Stored, Ticked, Undefined,
+    op, Decoded, Drawing, Encoded, Hardware, Instruction, Listed, Loaded, Machine, Part, Processor, Ran, Restored, Stepped, Stored, Ticked, Undefined,
 };
 
 /// One line of the C program: a name, and the expression whose value it has.
@@ -70,6 +70,7 @@ fn facts() -> Vec<Fact> {
     fields!(facts, Encoded, "vb_encoded", refusal, halfwords, first, second);
     fields!(facts, Decoded, "vb_decoded", refusal, halfwords, instruction);
     operations(&mut facts);
+    fields!(facts, Listed, "vb_listed", refusal, count);
     for pak in [0, 1, 8_192, 16_777_216] {
         let expression = format!("VB_STATE_BYTES({pak})");
         facts.push(Fact { expression, here: vbsys::state_bytes(pak) });
@@ -178,4 +179,5 @@ fn layouts_have_no_surprises() {
     assert_eq!(size_of::<Instruction>(), 20);
     assert_eq!((size_of::<Encoded>(), size_of::<Decoded>()), (12, 28));
     assert_eq!(align_of::<Ran>(), 8);
+    assert_eq!(size_of::<Listed>(), 16);
 }

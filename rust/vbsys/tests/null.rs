@@ -122,6 +122,34 @@ fn null_vram_of_length_0_is_refused() {
 
 #[cfg(feature = "drawing")]
 #[test]
+fn a_null_room_of_length_0_takes_no_address() {
+    extern "C" {
+        fn vb_pixel_bytes(
+            vram: *const u8,
+            vram_len: usize,
+            drawing: Drawing,
+            eye: u32,
+            x: u32,
+            y: u32,
+            room: *mut u32,
+            room_len: usize,
+        ) -> vbsys::Listed;
+    }
+    let vram = vec![0xFFu8; 262_144];
+    // SAFETY: null is passed with length 0; VRAM is lent with its length.
+    let (none, listed) = unsafe {
+        (
+            vb_pixel_bytes(null(), 0, Drawing::default(), 2, 0, 0, null_mut(), 0),
+            vb_pixel_bytes(vram.as_ptr(), 262_144, Drawing::default(), 1, 0, 0, null_mut(), 0),
+        )
+    };
+    assert_eq!(none, vbsys::Listed { refusal: 3, count: 0 });
+    // every world has END set, so nothing covers the pixel
+    assert_eq!(listed, vbsys::Listed { refusal: 0, count: 0 });
+}
+
+#[cfg(feature = "drawing")]
+#[test]
 fn null_buffers_of_the_display_unit_are_refused() {
     extern "C" {
         fn vb_display(

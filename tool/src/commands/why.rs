@@ -1,4 +1,4 @@
-//! `vbmodel why`: what covers a pixel, and the bytes it answers to, by the independent model.
+//! `vbmodel why`: what covers a pixel, by the independent model, and the bytes it answers to, by the proved library.
 
 use clap::{Args, ValueEnum};
 use model::world::Eye;
@@ -19,9 +19,10 @@ pub const FAULT: i32 = 3;
   vbmodel why left 192 120 --vram out/vram.bin --drawing out/drawing.bin
 
 The answer is computed by the independent model, which shares no code with the proved library; the library's own value
-of the pixel is printed beside it. One memory gives frames 0 and 1 the same pixels, so no frame is named.
-Exit status: 0 answered; 2 refused or bad input; 3 the independent model and the proved library differ, which is a fault
-of one of them and not of a die.")]
+of the pixel is printed beside it. The list of the bytes that the pixel answers to is the library's, and proved; the
+independent model's must be the same. One memory gives frames 0 and 1 the same pixels, so no frame is named.
+Exit status: 0 answered; 2 refused or bad input; 3 the independent model and the proved library differ, in the value or
+in the list, which is a fault of one of them and not of a die.")]
 pub struct Options {
     /// Which eye's picture
     #[arg(value_enum)]

@@ -1,5 +1,6 @@
 //! Why a pixel has its value: every world and object that has a part in it, decoded, by the independent model. The
-//! proved library's value of the pixel stands beside it. What is told as text has the same members as the JSON.
+//! proved library's value of the pixel and its list of the pixel's bytes stand beside it. What is told as text has the
+//! same members as the JSON.
 
 mod covering;
 mod objects;
@@ -36,12 +37,13 @@ pub struct Explanation {
     pub worlds: Vec<WorldTold>,
 }
 
-/// The addresses of the bytes that the pixel answers to.
+/// The addresses of the bytes that the pixel answers to, in the order of docs/DEMAND3.md.
 #[derive(Serialize)]
 pub struct Lists {
-    pub model: Vec<usize>,
-    /// By a call of the proved library, where it has one.
-    pub library: Option<Vec<usize>>,
+    /// By the independent model.
+    pub model: Vec<u32>,
+    /// By the proved library.
+    pub library: Vec<u32>,
 }
 
 /// A world that was looked at, and what became of it.
@@ -85,8 +87,8 @@ pub fn explain(question: &Question) -> Result<Explanation, Failure> {
     let found = answers(vram, &registers(drawing), eye, x, y).map_err(|refusal| {
         Failure::bad(format!("the independent model: {}", refusal.sentence()))
     })?;
-    let lists = Lists { model: found.bytes(), library: library_list(question) };
-    let same_lists = lists.library.as_ref().is_none_or(|list| *list == lists.model);
+    let model = found.listed().into_iter().map(|address| address as u32).collect();
+    let lists = Lists { model, library: library_list(question)? };
     Ok(Explanation {
         computed_by: "independent model",
         eye: eye_name(eye),
@@ -94,7 +96,7 @@ pub fn explain(question: &Question) -> Result<Explanation, Failure> {
         row: y,
         value: found.shade(),
         library_value,
-        agree: found.shade() == library_value && same_lists,
+        agree: found.shade() == library_value && lists.same(),
         bkcol: found.bkcol,
         covering: covering::told(question, &found),
         bytes: lists,
@@ -102,9 +104,11 @@ pub fn explain(question: &Question) -> Result<Explanation, Failure> {
     })
 }
 
-/// The list by the proved library: it has no call for it yet.
-fn library_list(_question: &Question) -> Option<Vec<usize>> {
-    None
+/// The list by the proved library.
+fn library_list(question: &Question) -> Result<Vec<u32>, Failure> {
+    let Question { vram, drawing, eye, x, y, .. } = *question;
+    let listed = drawing.pixel_bytes(vram, eye.number(), x, y);
+    listed.map_err(|none| Failure::bad(none.to_string()))
 }
 
 fn worlds(question: &Question, found: &Answers) -> Vec<WorldTold> {

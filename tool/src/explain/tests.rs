@@ -18,10 +18,15 @@ fn wrong_7_a_disagreement_of_model_and_library_is_said_in_its_own_words() {
 
 #[test]
 fn the_lists_are_held_against_each_other() {
-    let of = |library: Option<Vec<usize>>| Lists { model: vec![1, 2], library }.head();
-    assert!(of(None).ends_with("2, by the independent model:"));
-    assert!(of(Some(vec![1, 2])).ends_with("2, proved; the independent model's are the same:"));
-    assert!(
-        of(Some(vec![1])).contains("the proved library lists 1, the independent model 2: a fault")
-    );
+    let of = |library: &[u32]| Lists { model: vec![1, 2], library: library.to_vec() };
+    assert!(of(&[1, 2]).head().ends_with("2, proved; the independent model's are the same:"));
+    for other in [&[1][..], &[1, 3], &[2, 1], &[1, 2, 2]] {
+        let lists = of(other);
+        assert!(!lists.same());
+        let words = format!(
+            "the proved library lists {}, the independent model 2, and the lists differ: a fault",
+            other.len()
+        );
+        assert!(lists.head().contains(&words), "{}", lists.head());
+    }
 }

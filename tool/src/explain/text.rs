@@ -50,18 +50,21 @@ impl Explanation {
 }
 
 impl Lists {
+    pub(super) fn same(&self) -> bool {
+        self.library == self.model
+    }
+
     pub(super) fn head(&self) -> String {
-        let count = self.model.len();
-        match &self.library {
-            None => format!("the bytes it answers to, {count}, by the independent model:"),
-            Some(list) if *list == self.model => {
-                format!("the bytes it answers to, {count}, proved; the independent model's are the same:")
-            }
-            Some(list) => format!(
-                "the bytes it answers to: the proved library lists {}, the independent model {count}: {FAULT}",
-                list.len()
-            ),
+        let (library, model) = (self.library.len(), self.model.len());
+        if self.same() {
+            return format!(
+                "the bytes it answers to, {library}, proved; the independent model's are the same:"
+            );
         }
+        format!(
+            "the bytes it answers to: the proved library lists {library}, the independent model {model}, and the lists \
+             differ: {FAULT}"
+        )
     }
 }
 

@@ -1,0 +1,90 @@
+-- `drawing_bytes::background::list_background` meets its contract: parameters, then cell and row, where it covers. Assumes nothing.
+use borrow.Author.Needs.{needs}
+use Rattle.drawing_bytes.proofs.background.list_background.Statement.{statement}
+use Rattle.drawing_bytes.proofs.background.list_background.Tie as tie
+use native.Mathlib.Omega.{arith}
+use Prim.Native.Nat.{_+_, _-_, _%_}
+use mathlib.Core.Path.{sym, _∙_}
+use borrow.Author.Tests.{not-true, not-false}
+use Rattle.drawing_bytes.proofs.Listings.{listing-none, listing-more, listing-as}
+use Rattle.drawing_bytes.proofs.Covering.{world-left, world-top}
+use Rattle.drawing_bytes.proofs.Sources.{background-none, background-there, cell-length}
+
+covers-requires : tie.Need-covers-requires
+covers-requires c κs = search needs
+
+returns : tie.Need-returns
+returns c =
+    (listing-as _ _ _ _ _ _ (background-none (c .before .before .before .before .args .vram .now) (c .before .before .before .before .args .w .now) (c .before .before .before .before .args .eye) (c .before .before .before .before .args .x) (c .before .before .before .before .args .y) (sym (c .before .covers .ensures) ∙ not-true _ (c .if1 .taken))) (listing-none _ _), omega arith)
+
+add-i : tie.Need-add-i
+add-i c = search needs
+
+window-left-requires : tie.Need-window-left-requires
+window-left-requires c κs = search needs
+
+sub-i : tie.Need-sub-i
+sub-i c = omega (arith, world-left (c .before .before .before .before .before .args .w .now) (c .before .before .before .before .before .args .eye) (c .before .before .before .before .before .args .x) (c .before .before .before .before .before .args .y) (sym (c .before .before .covers .ensures) ∙ not-false _ (c .before .if1 .left)), c .window-left .ensures .0)
+
+add-j : tie.Need-add-j
+add-j c = search needs
+
+element-copy-out-wide : tie.Need-element-copy-out-wide
+element-copy-out-wide c = search needs
+
+wide-requires : tie.Need-wide-requires
+wide-requires c κs = search needs
+
+add-j-2 : tie.Need-add-j-2
+add-j-2 c = search needs
+
+sub-j : tie.Need-sub-j
+sub-j c = omega (arith, world-top (c .before .before .before .before .before .before .before .args .w .now) (c .before .before .before .before .before .before .before .args .eye) (c .before .before .before .before .before .before .before .args .x) (c .before .before .before .before .before .before .before .args .y) (sym (c .before .before .before .before .covers .ensures) ∙ not-false _ (c .before .before .before .if1 .left)), c .wide .ensures .0)
+
+list-parameters-requires : tie.Need-list-parameters-requires
+list-parameters-requires c κs = search needs
+
+source-x-requires : tie.Need-source-x-requires
+source-x-requires c κs = search needs
+
+source-y-requires : tie.Need-source-y-requires
+source-y-requires c κs = search needs
+
+list-cell-requires : tie.Need-list-cell-requires
+list-cell-requires c κs = search needs
+
+same-length : tie.Need-same-length
+same-length c = search needs
+
+returns-2 : tie.Need-returns-2
+returns-2 c =
+    let a = c .before .before .before .before .before .before .before .before .before .before .before .before .before .before .before .before .before .args in
+    let i = a .x + 1024 - c .before .before .before .before .before .before .before .before .before .before .before .before .window-left .result in
+    let j = a .y + 32768 - (c .before .before .before .before .before .before .before .before .before .before .wide .result + 32768) % 65536 in
+    let covered = sym (c .before .before .before .before .before .before .before .before .before .before .before .before .before .before .covers .ensures) ∙ not-false _ (c .before .before .before .before .before .before .before .before .before .before .before .before .before .if1 .left) in (
+      listing-as _ _ _ _ _ _
+          (background-there (a .vram .now) (a .w .now) (a .eye) (a .x) (a .y) i j _ _ covered (omega (arith, c .before .before .before .before .before .before .before .before .before .before .before .before .window-left .ensures .0)) (omega (arith, c .before .before .before .before .before .before .before .before .before .before .wide .ensures .0)) (c .before .before .before .before .source-x .ensures) (c .before .before .before .source-y .ensures))
+          (listing-more _ _ _ _ _ _ _ _ (c .before .before .before .before .before .before .before .before .list-parameters .ensures .0) (c .before .before .list-cell .ensures)),
+      omega (arith, c .before .before .list-cell .ensures .count, cell-length (a .vram .now) (a .w .now) (c .before .before .before .before .source-x .result) (c .before .before .before .source-y .result), c .before .before .before .before .before .before .before .before .list-parameters .ensures .1),
+    )
+
+pub list-background-spec : {M : Type 1} → statement M
+list-background-spec =
+    tie.close
+    (tie.spec
+    covers-requires
+    returns
+    add-i
+    window-left-requires
+    sub-i
+    add-j
+    element-copy-out-wide
+    wide-requires
+    add-j-2
+    sub-j
+    list-parameters-requires
+    source-x-requires
+    source-y-requires
+    list-cell-requires
+    same-length
+    returns-2)

@@ -1,0 +1,74 @@
+// The bytes a pixel answers to: how many there are, and their addresses in a lent room.
+mod background;
+mod objects;
+mod room;
+
+use bus::Drawing;
+use bus::DrawingRegisters;
+use bus::refusals;
+use refusal::Refusal;
+ghost use mathlib.Core.Path.{_≡_};
+ghost use Prim.Native.Nat.{ℕ, _<_};
+ghost use lib.ListN.{length};
+ghost use Rattle.bus.specs.Registers.{sptOf};
+ghost use Rattle.drawing_laws.specs.SourceBytes.{sourceBytesOf};
+ghost use Rattle.drawing_bytes.specs.Room.{Lists};
+ghost use Rattle.drawing_bytes.specs.Calls.{listedOf, roomOf};
+
+// How many addresses the list has, why there is none, or that no image has the pixel, which the papers have no
+// number for.
+pub enum Listed {
+    Count(usize),
+    Refused(Refusal),
+    Outside,
+}
+
+// The list of a pixel of an image, the worlds' bytes first.
+fn list(
+    vram: &[u8],
+    registers: &DrawingRegisters,
+    room: &mut [u32],
+    eye: usize,
+    x: usize,
+    y: usize,
+) -> usize
+    requires { ⌜ (length (now vram) ≡ 262144) × ((x < 384) × (y < 224)) ⌝ }
+    requires { ⌜ ((g : ℕ) → g < 4 → sptOf (now registers) g < 1024) ⌝ }
+    ensures { λ r. ⌜ Lists room 0 (sourceBytesOf (now (vram .entry)) (now (registers .entry)) eye x y) r ⌝ }
+{
+    let n = background::list_worlds(vram, room, eye, x, y);
+    let worlds = objects::object_worlds(vram);
+    objects::list_objects(vram, registers, room, n, worlds, eye, x, y)
+}
+
+// The bytes that pixel (x, y) of an eye's image answers to: how many there are, and their addresses in VRAM in the
+// room's first words, as far as it reaches.
+pub fn pixel_bytes(
+    vram: &[u8],
+    drawing: Drawing,
+    eye: u32,
+    x: u32,
+    y: u32,
+    room: &mut [u32],
+) -> Listed
+    ensures answer { λ r. ⌜ r ≡ listedOf (now (vram .entry)) (drawing .regs) eye x y ⌝ }
+    ensures room { λ _. ⌜ now (room .exit) ≡ roomOf (now (vram .entry)) (drawing .regs) eye x y (now (room .entry)) ⌝ }
+{
+    let regs = drawing.regs;
+    if vram.len() != 262144 {
+        return Listed::Refused(Refusal::VramLength);
+    }
+    if !refusals::drawing_ok(&regs) {
+        return Listed::Refused(Refusal::State);
+    }
+    if 1 < eye {
+        return Listed::Outside;
+    }
+    if 383 < x {
+        return Listed::Outside;
+    }
+    if 223 < y {
+        return Listed::Outside;
+    }
+    Listed::Count(list(vram, &regs, room, eye as usize, x as usize, y as usize))
+}
