@@ -1,2 +1,4 @@
 mod Boundary
 mod Saving
+mod Replaying
+mod Listing

@@ -4,3 +4,5 @@ pub mod PixelBytes
 pub mod Execution
 pub mod Instructions
 pub mod States
+pub mod Lists
+pub mod Replays

@@ -2,7 +2,7 @@
 // inside, the registers are lent.
 mod acceptance;
 pub mod calls;
-mod record;
+pub mod record;
 mod stretch;
 
 use bus::Drawing;

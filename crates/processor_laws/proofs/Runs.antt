@@ -38,7 +38,7 @@ use Rattle.processor_laws.specs.Steps.{stepsOf, RunSteps, Counts, RunCou
 use Rattle.processor_laws.proofs.Lists.{pick-each}
 
 -- what a step leaves as it was, by its answer
-abbrev Leaves : Answer → Stepped → State → Memory → Type 0
+abbrev pub Leaves : Answer → Stepped → State → Memory → Type 0
 Leaves Ended t s m = Unit {0}
 Leaves (Trapped c) t s m = Unit {0}
 Leaves (Interrupted level) t s m = Unit {0}
@@ -128,6 +128,10 @@ module _ (s : State) (m : Memory) where
   step-idle : Idle (stepOf s m)
   unfolding stepOf
   step-idle = pick-each Idle (acceptsIn s m) (interruptStepOf s m) (instructionStepOf s m) tt instruction-idle
+
+-- the same, for laws of other crates
+pub step-leaves : (s : State) (m : Memory) → Leaves (stepOf s m .answer) (stepOf s m) s m
+step-leaves s m = step-idle s m
 
 -- a machine that a step leaves as it was
 abbrev Still : State → Memory → Type 0

@@ -19,6 +19,8 @@ pub fn rows() -> Vec<Row> {
         load("word load from a ROM of 1 MiB", 0x0700_0000, &lent),
         store("word store to WRAM", 0x0500_0000, &mut lent),
         store("word store to VRAM", 0x0002_0000, &mut lent),
+        list("word load from WRAM, one of 256 in a list", 0, &mut lent),
+        list("word store to WRAM, one of 256 in a list", 1, &mut lent),
     ]
 }
 
@@ -70,6 +72,49 @@ fn store(what: &str, base: u32, lent: &mut Buffers) -> Row {
             let at = black_box(address(base, call));
             let (second, timer) = (&mut second, &mut model_timer);
             let _ = black_box(model::bus::store_word(&mut memories, second, timer, at, call));
+        }
+        u64::from(CALLS)
+    });
+    Row { what: what.to_string(), library, model }
+}
+
+/// Lists of 256 accesses, 1,024 accesses at a time.
+fn list(what: &str, write: u32, lent: &mut Buffers) -> Row {
+    let Buffers { rom, wram, vram } = lent;
+    let of = |call: u32| vbsys::Access {
+        address: address(0x0500_0000, call),
+        size: 4,
+        write,
+        value: call,
+        undefined: 0,
+    };
+    let mut accesses: Vec<_> = (0..CALLS).map(of).collect();
+    let same = |one: &vbsys::Access| model::access_list::Access {
+        address: one.address,
+        size: one.size,
+        write: one.write,
+        value: one.value,
+        undefined: one.undefined,
+    };
+    let mut models: Vec<_> = accesses.iter().map(same).collect();
+    let (drawing, hardware) = (vbsys::Drawing::default(), vbsys::Hardware::default());
+    let library = least(|| {
+        let mut memories = vbsys::Memories { rom, wram, vram, pak: &mut [] };
+        for part in accesses.chunks_exact_mut(256) {
+            let done = vbsys::access_list(&mut memories, drawing, hardware, black_box(part));
+            assert_eq!(black_box(done).refusal, 0);
+        }
+        u64::from(CALLS)
+    });
+    let mut registers = model::DrawingRegisters::default();
+    let mut timer = model::Hardware::default();
+    let model = least(|| {
+        let mut memories = model::Memories { rom, wram, vram, pak: &mut [] };
+        for part in models.chunks_exact_mut(256) {
+            let part = black_box(part);
+            let done =
+                model::access_list::access_list(&mut memories, &mut registers, &mut timer, part);
+            assert!(black_box(done).is_ok());
         }
         u64::from(CALLS)
     });

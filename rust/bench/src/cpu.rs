@@ -6,9 +6,9 @@ use crate::{least, Row};
 const BUDGET: u64 = 100_000;
 const MODEL_BUDGET: u64 = 20_000;
 
-struct Loop {
-    what: &'static str,
-    code: Vec<u16>,
+pub struct Loop {
+    pub what: &'static str,
+    pub code: Vec<u16>,
 }
 
 /// The first halfword of formats I, II, V and VI.
@@ -25,7 +25,7 @@ const ADD_1_R10: u16 = 0x4541;
 const ALWAYS: u16 = 5;
 const NOT_ZERO: u16 = 10;
 
-fn loops() -> Vec<Loop> {
+pub fn loops() -> Vec<Loop> {
     let add_r10_r13 = packed(0b000001, 13, 10);
     let cmp_r11_r10 = packed(0b000011, 10, 11);
     let load = |disp: u16| [packed(0b110011, 13, 12), disp];
@@ -83,7 +83,7 @@ pub fn rows() -> Vec<Row> {
 }
 
 /// What the loops find in the registers, by number.
-const REGISTERS: [(usize, u32); 4] = [(11, u32::MAX), (12, 0x0500_0100), (15, 12_345), (16, 7)];
+pub const REGISTERS: [(usize, u32); 4] = [(11, u32::MAX), (12, 0x0500_0100), (15, 12_345), (16, 7)];
 
 fn library(rom: &[u8], wram: &mut [u8], pc: u32) -> f64 {
     let mut vram = vec![0; 262_144];

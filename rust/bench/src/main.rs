@@ -2,13 +2,14 @@
 //! the same input, the same buffers, which are not cleared between calls. A
 //! figure is the least of many rounds.
 //!
-//! `cargo run --release --offline --manifest-path rust/Cargo.toml -p bench [-- bus|cpu|draw|rows]`
+//! `cargo run --release --offline --manifest-path rust/Cargo.toml -p bench [-- bus|cpu|replay|draw|rows]`
 
 #![forbid(unsafe_code)]
 
 mod bus;
 mod cpu;
 mod draw;
+mod replay;
 mod rows;
 
 use std::time::{Duration, Instant};
@@ -60,8 +61,8 @@ fn processor() -> String {
 fn main() {
     let asked = std::env::args().nth(1).unwrap_or_else(|| "all".to_string());
     let wants = |part: &str| asked == part || asked == "all";
-    if !["all", "bus", "cpu", "draw", "rows"].contains(&asked.as_str()) {
-        eprintln!("usage: bench [bus|cpu|draw|rows]");
+    if !["all", "bus", "cpu", "replay", "draw", "rows"].contains(&asked.as_str()) {
+        eprintln!("usage: bench [bus|cpu|replay|draw|rows]");
         std::process::exit(2);
     }
     println!("Processor: {}. Release build.", processor());
@@ -73,6 +74,9 @@ fn main() {
     }
     if wants("cpu") {
         print("Processor: one run", "million instructions a second", &cpu::rows());
+    }
+    if wants("replay") {
+        print("Replay: one trace of 100,000 records", "million records a second", &replay::rows());
     }
     if wants("draw") {
         print("Drawing: one frame, both eyes", "µs", &draw::rows());

@@ -12,6 +12,7 @@
 //! [`hardware`] has the request lines and the timer; [`answers`] explains a drawn
 //! pixel.
 
+pub mod access_list;
 pub mod answers;
 pub mod arithmetic;
 pub mod background;
@@ -29,6 +30,7 @@ pub mod object;
 pub mod probe;
 pub mod processor;
 pub mod refusal;
+pub mod replay;
 pub mod saved;
 pub mod world;
 

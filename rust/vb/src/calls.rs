@@ -108,7 +108,7 @@ impl Given<'_> {
     }
 }
 
-fn lengths(memories: &Memories) -> [usize; 4] {
+pub(crate) fn lengths(memories: &Memories) -> [usize; 4] {
     [memories.rom.len(), memories.wram.len(), memories.vram.len(), memories.pak.len()]
 }
 
@@ -166,7 +166,7 @@ impl Machine {
         Err(self.bus_refusal(lengths, loaded.refusal))
     }
 
-    fn bus_refusal(&self, lengths: [usize; 4], number: u32) -> Refusal {
+    pub(crate) fn bus_refusal(&self, lengths: [usize; 4], number: u32) -> Refusal {
         let hardware = Some(&self.processor.hardware);
         Given { lengths, processor: None, drawing: &self.drawing, hardware }.refusal(number, &[])
     }
@@ -276,7 +276,7 @@ impl Machine {
         Ok(Ran { count: done.count, stop })
     }
 
-    fn refusal(&self, memories: &Memories, number: u32) -> Refusal {
+    pub(crate) fn refusal(&self, memories: &Memories, number: u32) -> Refusal {
         let own = if number == 6 { vec![self.not_modelled(memories)] } else { Vec::new() };
         let processor = Some(&self.processor);
         let hardware = Some(&self.processor.hardware);

@@ -20,9 +20,11 @@ mod brightness;
 mod calls;
 mod instructions;
 mod pixel_bytes;
+mod lists;
 mod probe;
 mod records;
 mod refusal;
+mod replays;
 mod states;
 mod undefined;
 
@@ -30,11 +32,13 @@ pub use brightness::{display, load_column_table, View};
 pub use calls::{character, Answer, Cause, Ran, Stop};
 pub use instructions::{decode, encode, left_out, op, Decoded, Halfwords, Instruction};
 pub use pixel_bytes::NoList;
+pub use lists::{read, write};
 pub use probe::{Probe, Width};
 pub use records::{Drawing, Hardware, Machine, Mode, Processor, RecordError};
 pub use refusal::{grouped, Refusal};
+pub use replays::{record, End, Replayed, Word, RECORD_LENGTH};
 pub use undefined::{Mask, Read, Undefined};
-pub use vbsys::{state_bytes, Memories, ProbeMemories, ReadMemories};
+pub use vbsys::{state_bytes, Access, Memories, ProbeMemories, ReadMemories};
 
 /// Bytes of WRAM.
 pub const WRAM_LENGTH: usize = 65_536;

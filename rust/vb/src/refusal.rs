@@ -5,7 +5,7 @@ use std::fmt;
 use crate::instructions::{left_out, Instruction};
 use crate::records::{Drawing, Hardware, Processor};
 
-/// Why a call did nothing: the papers' numbers, 8 and 15 told apart by their subject.
+/// Why a call did nothing: the papers' numbers, 8, 11 and 15 told apart by their subject.
 #[derive(Clone, Debug, PartialEq, Eq)]
 pub enum Refusal {
     /// 1
@@ -40,6 +40,12 @@ pub enum Refusal {
     Room { given: usize },
     /// 13: the address that a probe's write was given.
     ProbeTarget { address: u32 },
+    /// 11
+    TooManyAccesses { given: usize },
+    /// 11: the first access whose size is none.
+    AccessSize { index: usize, given: u32 },
+    /// 14
+    TraceLength { given: usize },
 }
 
 impl Refusal {
@@ -59,6 +65,8 @@ impl Refusal {
             Refusal::Encoding { .. } => 12,
             Refusal::Eye { .. } | Refusal::Start { .. } | Refusal::Room { .. } => 15,
             Refusal::ProbeTarget { .. } => 13,
+            Refusal::TooManyAccesses { .. } | Refusal::AccessSize { .. } => 11,
+            Refusal::TraceLength { .. } => 14,
         }
     }
 }
@@ -138,6 +146,17 @@ impl fmt::Display for Refusal {
                 f,
                 "the probe was to write at 0x{address:08X}; it may write characters 1,536 to 2,047 and background maps \
                  12 and 13, at 0x0001E000 to 0x0001FFFF, 0x00038000 to 0x0003BFFF and their mirrors"
+            ),
+            Refusal::TooManyAccesses { given } => {
+                write!(f, "the list has {} accesses; it may have up to 256", grouped(*given as u64))
+            }
+            Refusal::AccessSize { index, given } => {
+                write!(f, "access {index} has size {given}; sizes are 1, 2 and 4")
+            }
+            Refusal::TraceLength { given } => write!(
+                f,
+                "the trace has {} bytes; its length must be a multiple of 16, a record's",
+                grouped(*given as u64)
             ),
         }
     }

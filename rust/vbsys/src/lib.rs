@@ -735,3 +735,162 @@ mod instructions {
 
 #[cfg(feature = "processor")]
 pub use instructions::{decode, encode};
+
+/// `vb_access`: an access of a list.
+#[repr(C)]
+#[derive(Clone, Copy, Debug, Default, PartialEq, Eq)]
+pub struct Access {
+    pub address: u32,
+    /// 1, 2 or 4.
+    pub size: u32,
+    /// 0 a read, any other number a write.
+    pub write: u32,
+    /// Of a write: the whole source register. A read puts its value here.
+    pub value: u32,
+    /// A read puts the mask of its undefined bytes here.
+    pub undefined: u32,
+}
+
+/// `vb_replayed`
+#[repr(C)]
+#[derive(Clone, Copy, Debug, Default, PartialEq, Eq)]
+pub struct Replayed {
+    pub refusal: u32,
+    pub answer: u32,
+    pub agreed: u64,
+    pub word: u32,
+    pub processor: Processor,
+    pub drawing: Drawing,
+}
+
+/// Values of [`Replayed::answer`].
+pub const REPLAY_REFUSED: u32 = 0;
+pub const REPLAY_AGREED: u32 = 1;
+pub const REPLAY_DIFFERED: u32 = 2;
+pub const REPLAY_WAS_HALTED: u32 = 3;
+pub const REPLAY_WAS_FATAL: u32 = 4;
+pub const REPLAY_TURNED_FATAL: u32 = 5;
+
+#[cfg(feature = "processor")]
+mod lists {
+    use super::{Access, Drawing, Hardware, Memories, Stored};
+
+    extern "C" {
+        fn vb_access_list(
+            rom: *const u8,
+            rom_len: usize,
+            wram: *mut u8,
+            wram_len: usize,
+            vram: *mut u8,
+            vram_len: usize,
+            pak: *mut u8,
+            pak_len: usize,
+            drawing: Drawing,
+            hardware: Hardware,
+            list: *mut u8,
+            list_len: usize,
+        ) -> Stored;
+    }
+
+    /// `vb_access_list` over bytes, 20 an access.
+    #[inline]
+    pub fn access_bytes(
+        memories: &mut Memories,
+        drawing: Drawing,
+        hardware: Hardware,
+        list: &mut [u8],
+    ) -> Stored {
+        let Memories { rom, wram, vram, pak } = memories;
+        // SAFETY: each pointer is lent with its slice's own length; ROM is only read, and the
+        // others are borrowed mutably and apart.
+        unsafe {
+            vb_access_list(
+                rom.as_ptr(),
+                rom.len(),
+                wram.as_mut_ptr(),
+                wram.len(),
+                vram.as_mut_ptr(),
+                vram.len(),
+                pak.as_mut_ptr(),
+                pak.len(),
+                drawing,
+                hardware,
+                list.as_mut_ptr(),
+                list.len(),
+            )
+        }
+    }
+
+    /// `vb_access_list`
+    #[inline]
+    pub fn access_list(
+        memories: &mut Memories,
+        drawing: Drawing,
+        hardware: Hardware,
+        list: &mut [Access],
+    ) -> Stored {
+        let length = std::mem::size_of_val(list);
+        // SAFETY: an access is five words with no room between them, so that the list is that many
+        // bytes, and any bytes are accesses. The library runs on a little-endian processor.
+        let bytes =
+            unsafe { std::slice::from_raw_parts_mut(list.as_mut_ptr().cast::<u8>(), length) };
+        access_bytes(memories, drawing, hardware, bytes)
+    }
+}
+
+#[cfg(feature = "processor")]
+pub use lists::{access_bytes, access_list};
+
+#[cfg(feature = "processor")]
+mod replays {
+    use super::{Drawing, Memories, Processor, Replayed};
+
+    extern "C" {
+        fn vb_replay(
+            rom: *const u8,
+            rom_len: usize,
+            wram: *mut u8,
+            wram_len: usize,
+            vram: *mut u8,
+            vram_len: usize,
+            pak: *mut u8,
+            pak_len: usize,
+            processor: Processor,
+            drawing: Drawing,
+            trace: *const u8,
+            trace_len: usize,
+        ) -> Replayed;
+    }
+
+    /// `vb_replay`
+    #[inline]
+    pub fn replay(
+        memories: &mut Memories,
+        processor: Processor,
+        drawing: Drawing,
+        trace: &[u8],
+    ) -> Replayed {
+        let Memories { rom, wram, vram, pak } = memories;
+        // SAFETY: each pointer is lent with its slice's own length; ROM and the trace are only
+        // read, and the others are borrowed mutably and apart.
+        unsafe {
+            vb_replay(
+                rom.as_ptr(),
+                rom.len(),
+                wram.as_mut_ptr(),
+                wram.len(),
+                vram.as_mut_ptr(),
+                vram.len(),
+                pak.as_mut_ptr(),
+                pak.len(),
+                processor,
+                drawing,
+                trace.as_ptr(),
+                trace.len(),
+            )
+        }
+    }
+}
+
+#[cfg(feature = "processor")]
+pub use replays::replay;

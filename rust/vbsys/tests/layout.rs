@@ -8,7 +8,7 @@ use std::path::{Path, PathBuf};
 use std::process::Command;
 
 use vbsys::{
-    op, Decoded, Drawing, Encoded, Hardware, Instruction, Listed, Loaded, Machine, Part, Processor, Ran, Restored, Stepped, Stored, Ticked, Undefined,
+    op, Access, Decoded, Drawing, Encoded, Hardware, Instruction, Listed, Loaded, Machine, Part, Processor, Ran, Replayed, Restored, Stepped, Stored, Ticked, Undefined,
 };
 
 /// One line of the C program: a name, and the expression whose value it has.
@@ -71,6 +71,8 @@ fn facts() -> Vec<Fact> {
     fields!(facts, Decoded, "vb_decoded", refusal, halfwords, instruction);
     operations(&mut facts);
     fields!(facts, Listed, "vb_listed", refusal, count);
+    fields!(facts, Access, "vb_access", address, size, write, value, undefined);
+    fields!(facts, Replayed, "vb_replayed", refusal, answer, agreed, word, processor, drawing);
     for pak in [0, 1, 8_192, 16_777_216] {
         let expression = format!("VB_STATE_BYTES({pak})");
         facts.push(Fact { expression, here: vbsys::state_bytes(pak) });
@@ -86,6 +88,16 @@ fn facts() -> Vec<Fact> {
     facts.push(constant("VB_WAS_HALTED", vbsys::WAS_HALTED));
     facts.push(constant("VB_WAS_FATAL", vbsys::WAS_FATAL));
     facts.push(constant("VB_INTERRUPTED", vbsys::INTERRUPTED));
+    for (name, here) in [
+        ("VB_REPLAY_REFUSED", vbsys::REPLAY_REFUSED),
+        ("VB_REPLAY_AGREED", vbsys::REPLAY_AGREED),
+        ("VB_REPLAY_DIFFERED", vbsys::REPLAY_DIFFERED),
+        ("VB_REPLAY_WAS_HALTED", vbsys::REPLAY_WAS_HALTED),
+        ("VB_REPLAY_WAS_FATAL", vbsys::REPLAY_WAS_FATAL),
+        ("VB_REPLAY_TURNED_FATAL", vbsys::REPLAY_TURNED_FATAL),
+    ] {
+        facts.push(constant(name, here));
+    }
     for (name, here) in [
         ("VB_LINE_PAD", vbsys::LINE_PAD),
         ("VB_LINE_TIMER", vbsys::LINE_TIMER),
@@ -170,10 +182,17 @@ fn layouts_are_those_of_the_header() {
 }
 
 #[test]
+fn an_access_has_20_bytes() {
+    assert_eq!((size_of::<Access>(), align_of::<Access>()), (20, 4));
+    assert_eq!(offset_of!(Replayed, agreed), 8);
+}
+
+#[test]
 fn layouts_have_no_surprises() {
     assert_eq!(size_of::<Processor>(), 43 * 4 + 4 * 2);
     assert_eq!(size_of::<Stored>(), 40);
     assert_eq!(size_of::<Ticked>(), 12);
+    assert_eq!(size_of::<Processor>(), 43 * 4 + 8);
     assert_eq!(size_of::<Drawing>(), 13 * 2);
     assert_eq!(size_of::<Loaded>(), 12);
     assert_eq!(size_of::<Instruction>(), 20);

@@ -1,0 +1,5 @@
+mod Sizes
+mod InOrder
+mod Registers
+mod Tested
+pub mod Singles

@@ -1,0 +1,4 @@
+mod Sums
+mod Words
+mod Along
+mod Checked

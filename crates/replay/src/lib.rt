@@ -1,0 +1,43 @@
+// Replay of a recorded trace (paper 02, W10): the machine is stepped beside the trace, and the answer says where they
+// part. A record has 16 bytes, four little-endian words: PC before, PC after, PSW after and the sum of the general
+// registers after.
+pub mod calls;
+mod stretch;
+
+use bus::Drawing;
+use processor::Processor;
+use processor_machine::Mode;
+use refusal::Refusal;
+
+// How a replay ended.
+pub enum End {
+    Refused(Refusal),
+    Agreed,
+    Differed(u32),
+    WasHalted,
+    WasFatal,
+    TurnedFatal,
+}
+
+// What a step's answer means to a replay: a record is due, or the replay ends.
+pub enum Told {
+    Completed,
+    Ends(End),
+}
+
+// What a stretch of records leaves beside the lent registers and memories.
+pub struct Finished {
+    pub pc: u32,
+    pub psw: u32,
+    pub mode: Mode,
+    pub end: End,
+    pub agreed: u64,
+}
+
+// How a replay ended, how many records agreed before, and both records afterwards.
+pub struct Replayed {
+    pub end: End,
+    pub agreed: u64,
+    pub processor: Processor,
+    pub drawing: Drawing,
+}

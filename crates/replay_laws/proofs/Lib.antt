@@ -1,0 +1,4 @@
+mod Records
+pub mod Ended
+pub mod Left
+pub mod Counted

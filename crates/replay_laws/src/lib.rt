@@ -1,0 +1,1 @@
+// What a replay comes to in steps and against a run: theorems over the definitions, no code.
