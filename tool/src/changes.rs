@@ -19,7 +19,8 @@ pub struct Changes {
     /// The address of the first instruction
     #[arg(long, value_name = "ADDR", value_parser = number::word)]
     pc: Option<u32>,
-    /// A register's value: r0 to r31, psw, eipc and so on, spt0, gplt0, jplt0, bkcol; may be given again
+    /// A register's value: r0 to r31, psw, eipc and so on, spt0, gplt0, jplt0, bkcol, lines, count, reload, control; may
+    /// be given again
     #[arg(long, value_name = "NAME=VALUE", value_parser = assignment)]
     set: Vec<(String, u32)>,
     /// A file's bytes in memory from an address on, ROM too; may be given again
@@ -117,11 +118,18 @@ fn load(bench: &mut Bench, first: u32, path: &Path) -> Result<(), Failure> {
 /// The registers that `set` knows.
 const KNOWN: &str =
     "r0 to r31, pc, eipc, eipsw, fepc, fepsw, ecr, psw, sr25, sr29, sr31, spt0 to 3, gplt0 to 3, \
-                     jplt0 to 3 and bkcol";
+                     jplt0 to 3, bkcol, lines, count, reload and control";
 
 /// Sets a register by its name.
 fn set(machine: &mut Machine, name: &str, value: u32) -> Result<(), Failure> {
-    if let Some(register) = drawing_register(&mut machine.drawing, name) {
+    let half = match name {
+        "lines" => Some(&mut machine.processor.hardware.lines),
+        "count" => Some(&mut machine.processor.hardware.count),
+        "reload" => Some(&mut machine.processor.hardware.reload),
+        "control" => Some(&mut machine.processor.hardware.control),
+        _ => drawing_register(&mut machine.drawing, name),
+    };
+    if let Some(register) = half {
         *register = u16::try_from(value)
             .map_err(|_| Failure::bad(format!("{name}=0x{value:X}: it must be at most 0xFFFF")))?;
         return Ok(());

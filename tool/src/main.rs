@@ -23,9 +23,12 @@ mod number;
 mod overlay;
 mod picture;
 mod progress;
+mod requests;
 mod scene;
+mod schedule;
 mod setup;
 mod state;
+mod trace;
 mod watch;
 
 use std::ffi::OsString;
@@ -45,8 +48,8 @@ use json::json;
     after_help = "Start with `vbmodel demo`; `vbmodel help COMMAND` has an example for each command.
 Numbers are decimal or, after 0x, hexadecimal; `_` may stand between digits. The file `-` is standard input.
 
-Exit status: 0 done (compare, judge: equal); 1 compare, judge: different; 2 refused or bad input; 3 why, compare --why,
-judge: the independent model and the proved library differ; 130 stopped by Ctrl-C."
+Exit status: 0 done (compare, judge, replay: equal); 1 compare, judge, replay: different; 2 refused or bad input; 3 why,
+compare --why, judge: the independent model and the proved library differ; 130 stopped by Ctrl-C."
 )]
 struct Cli {
     #[command(subcommand)]
@@ -59,6 +62,10 @@ enum Command {
     Demo(commands::demo::Options),
     /// Runs a program from memory images and prints the answer, the count and the registers
     Run(Box<commands::run::Options>),
+    /// Records a trace of a program: four words a completed step
+    Trace(Box<commands::trace::Options>),
+    /// Steps the model beside a die's recorded trace and tells the first record that differs
+    Replay(Box<commands::replay::Options>),
     /// Follows a program: what each instruction does to registers and memory
     Step(Box<commands::step::Options>),
     /// Draws a frame from VRAM and drawing registers and writes PNGs
@@ -87,6 +94,8 @@ impl Command {
             Command::Demo(_) | Command::Completions(_) | Command::Man(_) => false,
             Command::Run(options) => options.json,
             Command::Step(options) => options.json,
+            Command::Trace(options) => options.json,
+            Command::Replay(options) => options.json,
             Command::Draw(options) => options.json,
             Command::Compare(options) => options.json,
             Command::Judge(options) => options.json,
@@ -102,6 +111,8 @@ impl Command {
             Command::Demo(options) => commands::demo::run(options),
             Command::Run(options) => commands::run::run(options),
             Command::Step(options) => commands::step::run(options),
+            Command::Trace(options) => commands::trace::run(options),
+            Command::Replay(options) => commands::replay::run(options),
             Command::Draw(options) => commands::draw::run(options),
             Command::Compare(options) => commands::compare::run(options),
             Command::Judge(options) => commands::judge::run(options),

@@ -50,6 +50,11 @@ pub fn byte(text: &str) -> Result<u8, String> {
     within(text, 0, 255).map(|n| n as u8)
 }
 
+/// How many records are printed.
+pub fn few(text: &str) -> Result<usize, String> {
+    within(text, 0, 1_000).map(|n| n as usize)
+}
+
 /// PNG pixels to a pixel's side.
 pub fn scale(text: &str) -> Result<usize, String> {
     within(text, 1, crate::picture::LARGEST_SCALE as u64).map(|n| n as usize)

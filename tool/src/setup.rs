@@ -8,13 +8,14 @@ use vb::{Machine, Memories, Processor, ReadMemories, Refusal, VRAM_LENGTH, WRAM_
 use crate::changes::Changes;
 use crate::failure::Failure;
 use crate::files::{Input, Outputs};
+use crate::requests::Requests;
 use crate::scene::{drawing_of, DRAWING, VRAM};
-use crate::state::{written, Saved, NOT_STORED, TO_RUN};
+use crate::state::{written, Form, Saved, NOT_STORED, STATE};
 
 const ROM: &str = "a ROM of a power of two from 1,024 to 16,777,216 bytes";
 const WRAM: &str = "WRAM of 65,536 bytes";
 const PAK: &str = "pak RAM of a power of two up to 16,777,216 bytes";
-const PROCESSOR: &str = "a processor record of 172 bytes";
+const PROCESSOR: &str = "a processor record of 180 bytes, or of its first 172";
 
 #[derive(Args)]
 pub struct Setup {
@@ -30,17 +31,20 @@ pub struct Setup {
     /// Pak RAM, a power of two up to 16,777,216 bytes [default: none]
     #[arg(long, value_name = "FILE")]
     pak: Option<PathBuf>,
-    /// The processor record, 172 bytes: 43 little-endian words in vb.h's order [default: reset]
+    /// The processor record, 180 bytes: 43 little-endian words and four halfwords in vb.h's order, or the words alone,
+    /// with request lines and timer at reset [default: reset]
     #[arg(long, value_name = "FILE")]
     processor: Option<PathBuf>,
     /// The drawing record, 26 bytes: 13 little-endian halfwords in vb.h's order [default: reset]
     #[arg(long, value_name = "FILE")]
     drawing: Option<PathBuf>,
-    /// A saved state in place of these five; request lines and timer are not stored in it: they are not modelled yet
+    /// A saved state in place of these five, of form 1, where request lines and timer come back at reset, or form 2
     #[arg(long, value_name = "FILE", conflicts_with_all = ["wram", "vram", "pak", "processor", "drawing"])]
     state: Option<PathBuf>,
     #[command(flatten)]
     changes: Changes,
+    #[command(flatten)]
+    requests: Requests,
 }
 
 /// Where to write what a command leaves.
@@ -61,9 +65,21 @@ pub struct Saves {
     /// Where to write the drawing record afterwards
     #[arg(long, value_name = "FILE")]
     save_drawing: Option<PathBuf>,
-    /// Where to write all five as a saved state, without request lines and timer: they are not modelled yet
+    /// Where to write all five as a saved state
     #[arg(long, value_name = "FILE")]
     save_state: Option<PathBuf>,
+    /// The form of the saved state: 2, with request lines, timer and sums, or 1, without them
+    #[arg(long, value_name = "FORM", default_value = "2", value_parser = form)]
+    state_form: Form,
+}
+
+/// `1` or `2`
+fn form(text: &str) -> Result<Form, String> {
+    match text {
+        "1" => Ok(Form::One),
+        "2" => Ok(Form::Two),
+        _ => Err(format!("`{text}` is no form; 1 and 2 are")),
+    }
 }
 
 /// The files that were named, by what they hold.
@@ -104,9 +120,10 @@ impl Setup {
             inputs,
         };
         if let Some(path) = &self.state {
-            bench.go_on_from(&Input::read(path, TO_RUN)?)?;
+            bench.go_on_from(&Input::read(path, STATE)?)?;
         }
         self.changes.make(&mut bench)?;
+        self.requests.make(&mut bench)?;
         Ok(bench)
     }
 
@@ -142,17 +159,21 @@ impl Inputs {
 impl Bench {
     /// Takes the machine and its memories, ROM aside, from a saved state.
     fn go_on_from(&mut self, state: &Input) -> Result<(), Failure> {
-        let Saved { machine, wram, vram, pak, .. } = Saved::to_run(state)?;
-        self.notes.push(format!("{} is a saved state; {NOT_STORED}", state.name()));
+        let saved = Saved::of(state).map_err(|wrong| wrong.failure)?;
+        let Saved { layout, machine, wram, vram, pak } = saved;
+        self.notes.push(match layout.form {
+            Form::One => format!("{} is a saved state of form 1; {NOT_STORED}", state.name()),
+            Form::Two => format!("{} is a saved state of form 2", state.name()),
+        });
         (self.machine, self.wram, self.vram, self.pak) = (machine, wram, vram, pak);
         Ok(())
     }
 
     /// The machine as a saved state.
-    fn saved(&self) -> Result<Vec<u8>, Failure> {
+    fn saved(&self, form: Form) -> Result<Vec<u8>, Failure> {
         let Bench { machine, rom, wram, vram, pak, .. } = self;
         let memories = ReadMemories { rom, wram, vram, pak };
-        written(machine, &memories).map_err(|refusal| self.failure(&refusal))
+        written(form, machine, &memories).map_err(|refusal| self.failure(&refusal))
     }
 
     /// The machine, and its memories lent.
@@ -183,15 +204,16 @@ impl Bench {
 impl Saves {
     /// The saved state is the last of them.
     fn paths(&self) -> [Option<&Path>; 6] {
-        let Saves { save_wram, save_vram, save_pak, save_processor, save_drawing, save_state } =
-            self;
+        let Saves {
+            save_wram, save_vram, save_pak, save_processor, save_drawing, save_state, ..
+        } = self;
         [save_wram, save_vram, save_pak, save_processor, save_drawing, save_state]
             .map(|path| path.as_deref())
     }
 
     /// What the saved state leaves out, where one is asked for.
     pub fn not_stored(&self) -> Option<&'static str> {
-        self.save_state.as_ref().map(|_| NOT_STORED)
+        self.save_state.as_ref().filter(|_| self.state_form == Form::One).map(|_| NOT_STORED)
     }
 
     /// Whether all of them could be written.
@@ -202,7 +224,8 @@ impl Saves {
     pub fn of(&self, bench: &Bench) -> Result<Outputs, Failure> {
         let Bench { machine, wram, vram, pak, .. } = bench;
         let (processor, drawing) = (machine.processor.to_bytes(), machine.drawing.to_bytes());
-        let state = self.save_state.as_ref().map_or(Ok(Vec::new()), |_| bench.saved())?;
+        let state =
+            self.save_state.as_ref().map_or(Ok(Vec::new()), |_| bench.saved(self.state_form))?;
         let all = [wram.clone(), vram.clone(), pak.clone(), processor, drawing, state];
         let mut outputs = Outputs::default();
         for (path, bytes) in self.paths().into_iter().zip(all) {

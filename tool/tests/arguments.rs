@@ -101,7 +101,7 @@ fn wrong_8_ctrl_c_prints_and_writes_what_was_done() {
     assert_eq!(value["answer"], "interrupted");
     assert!(value["count"].as_u64().unwrap() > 0);
     assert_eq!(value["pc"], 0xFFFF_FFF0u32);
-    assert_eq!(folder.read("p").len(), 172);
+    assert_eq!(folder.read("p").len(), 180);
 }
 
 /// On a terminal of 30 columns, which `script` and `stty` stand in for where they are installed.

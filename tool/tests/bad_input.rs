@@ -39,7 +39,7 @@ const FILES: [Read; 15] = [
         length: 65_536,
         allowed: "a power of two up to 16,777,216",
     },
-    Read { command: "run --rom out/rom.bin", option: "--processor", length: 172, allowed: "172" },
+    Read { command: "run --rom out/rom.bin", option: "--processor", length: 180, allowed: "180" },
     Read { command: "run --rom out/rom.bin", option: "--drawing", length: 26, allowed: "26" },
     Read {
         command: "step",
@@ -66,7 +66,7 @@ const FILES: [Read; 15] = [
         command: "run --rom out/rom.bin",
         option: "--state",
         length: 327_920,
-        allowed: "a saved state of form 1: 327,920 bytes",
+        allowed: "a saved state, form 1 or 2",
     },
     Read { command: "compare SCENE", option: "--left", length: 24_576, allowed: "24,576" },
     Read { command: "compare SCENE", option: "--capture", length: 262_144, allowed: "262,144" },

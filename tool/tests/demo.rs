@@ -5,8 +5,8 @@ mod common;
 use std::path::Path;
 
 use common::{pixel, Folder, Rgb, HEIGHT, WIDTH};
-use model::processor::{reset, run};
-use model::{drawing, Memories, Mode};
+use model::processor::{reset, run, step};
+use model::{drawing, Memories, Mode, StepAnswer};
 
 /// The demo's ROM run and drawn by the independent model alone: values of the left, then the right eye, row by row.
 fn by_the_model(rom: &[u8]) -> Vec<Vec<u8>> {
@@ -15,7 +15,13 @@ fn by_the_model(rom: &[u8]) -> Vec<Vec<u8>> {
     let mut frames = Vec::new();
     for frame in 0..2 {
         let mut memories = Memories { rom, wram: &mut wram, vram: &mut vram, pak: &mut [] };
-        processor.mode = Mode::Running;
+        if frame > 0 {
+            // the VIP's interrupt ends the HALT
+            processor.hardware.lines = 0x10;
+            let stepped = step(&mut memories, &mut processor, &mut registers).unwrap();
+            assert_eq!(stepped.answer, StepAnswer::Interrupted(4));
+            processor.hardware.lines = 0;
+        }
         let ran = run(&mut memories, &mut processor, &mut registers, 5_000_000);
         assert_eq!((ran.refusal, processor.mode), (None, Mode::Halted));
         drawing::draw_frame(&mut vram, &registers, frame).unwrap();
@@ -73,7 +79,7 @@ fn it_says_what_was_run_and_where_the_pictures_are() {
         ("rom.bin", 65_536),
         ("wram.bin", 65_536),
         ("vram.bin", 262_144),
-        ("processor.bin", 172),
+        ("processor.bin", 180),
         ("drawing.bin", 26),
     ] {
         assert_eq!(folder.read(&format!("out/{name}")).len(), length, "{name}");

@@ -64,8 +64,10 @@ fn deliver_1_a_folder_is_judged_by_its_names() {
 
 /// The demo's machine as a saved state of form 1: a count, kind, offset and length of each body, the bodies.
 fn saved_state(folder: &Folder) -> Vec<u8> {
-    let bodies = ["processor", "drawing", "wram", "vram"]
+    let mut bodies = ["processor", "drawing", "wram", "vram"]
         .map(|name| folder.read(&format!("out/{name}.bin")));
+    // lines and timer are left out
+    bodies[0].truncate(172);
     let mut file = 4u16.to_le_bytes().to_vec();
     let mut offset = 2 + 10 * 4;
     for (kind, body) in bodies.iter().enumerate() {

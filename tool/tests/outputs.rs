@@ -64,7 +64,7 @@ fn wrong_2_names_that_are_no_utf_8_are_told_apart() {
         .map(|entry| entry.metadata().unwrap().len())
         .collect();
     lengths.sort_unstable();
-    assert_eq!(lengths, [172, 65_536]);
+    assert_eq!(lengths, [180, 65_536]);
 }
 
 #[test]
@@ -75,12 +75,12 @@ fn wrong_3_a_fifo_and_a_device_are_written_through() {
          --save-vram /dev/null && wait",
     );
     assert_eq!(ran.status, 0, "{}", ran.error);
-    assert_eq!(folder.read("got").len(), 172);
+    assert_eq!(folder.read("got").len(), 180);
     assert!(fs::metadata(folder.path("pipe")).unwrap().file_type().is_fifo());
     assert!(fs::metadata("/dev/null").unwrap().file_type().is_char_device());
     let ran = folder.shell("\"$VB\" run --rom a.rom --save-processor /dev/stdout | wc -c");
     let text = folder.vbmodel("run --rom a.rom --save-processor /dev/null").text;
-    let longer = text.len() + "/dev/stdout".len() - "/dev/null".len() + 172;
+    let longer = text.len() + "/dev/stdout".len() - "/dev/null".len() + 180;
     assert_eq!(ran.text.trim(), longer.to_string());
     // standard output may be a file: what is printed goes on after what was written
     let ran =
@@ -97,7 +97,7 @@ fn wrong_3_a_symlink_is_followed() {
     symlink("real/new", folder.path("dangling")).unwrap();
     let ran = folder.vbmodel("run --rom a.rom --save-processor link --save-drawing dangling");
     assert_eq!(ran.status, 0, "{}", ran.error);
-    for (link, target, length) in [("link", "real/file", 172), ("dangling", "real/new", 26)] {
+    for (link, target, length) in [("link", "real/file", 180), ("dangling", "real/new", 26)] {
         assert!(folder.path(link).is_symlink());
         assert_eq!(folder.read(target).len(), length);
     }

@@ -21,12 +21,13 @@ fn with_rom(name: &str, code: &[u16]) -> Folder {
     folder
 }
 
-/// The processor record at reset, changed at words.
+/// The processor record at reset, changed at words; then lines and timer.
 fn record(changes: &[(usize, u32)]) -> Vec<u8> {
     let mut words = [0u32; 43];
     (words[32], words[37], words[38]) = (0xFFFF_FFF0, 0xFFF0, 0x8000);
     changes.iter().for_each(|&(word, value)| words[word] = value);
-    words.iter().flat_map(|word| word.to_le_bytes()).collect()
+    let bytes = words.iter().flat_map(|word| word.to_le_bytes());
+    bytes.chain([0; 8]).collect()
 }
 
 #[test]
@@ -75,7 +76,7 @@ fn a_run_in_two_parts_is_one_run() {
         assert!(parts == whole, "{kind}");
         assert_eq!(
             whole.len(),
-            [65_536, 262_144, 172, 26]
+            [65_536, 262_144, 180, 26]
                 [["wram", "vram", "processor", "drawing"].iter().position(|k| *k == kind).unwrap()]
         );
     }
@@ -144,7 +145,7 @@ fn each_refusal_names_the_file_its_length_and_the_rule() {
         ("--rom a.rom --wram short.wram --vram long.vram", "short.wram (65,535 bytes): refusal 2: WRAM has 65,535 bytes; it must have 65,536"),
         ("--rom a.rom --vram long.vram --pak three.pak", "long.vram (262,145 bytes): refusal 3: VRAM has 262,145 bytes; it must have 262,144"),
         ("--rom a.rom --pak three.pak --processor odd.processor", "three.pak (3 bytes): refusal 4: pak RAM has 3 bytes; its length must be 0 or a power of two up to 16,777,216"),
-        ("--rom a.rom --processor odd.processor", "odd.processor (172 bytes): refusal 5: PC is 0x00000001; it must be even"),
+        ("--rom a.rom --processor odd.processor", "odd.processor (180 bytes): refusal 5: PC is 0x00000001; it must be even"),
         ("--rom a.rom --drawing wide.drawing", "wide.drawing (26 bytes): refusal 5: GPLT0 is 0x00000100; it must be at most 0xFF (8 bits)"),
     ] {
         let all = format!("run {arguments} --save-wram b.wram --save-processor b.processor");
@@ -170,8 +171,8 @@ fn bad_files_are_told() {
         ("--rom none.rom", "none.rom: No such file or directory; it must be a ROM of a power of two from 1,024 to 16,777,216 bytes"),
         ("--rom folder", "folder: is a folder; it must be a ROM of a power of two from 1,024 to 16,777,216 bytes"),
         ("--rom /dev/zero", "/dev/zero: has over 67,108,864 bytes; it must be a ROM of a power of two from 1,024 to 16,777,216 bytes"),
-        ("--rom a.rom --processor short.processor", "short.processor (171 bytes): the record has 171 bytes; it must have 172"),
-        ("--rom a.rom --processor mode.processor", "mode.processor (172 bytes): the mode is 3; it must be 0 (running), 1 (halted) or 2 (fatal)"),
+        ("--rom a.rom --processor short.processor", "short.processor (171 bytes): the record has 171 bytes; it must have 180"),
+        ("--rom a.rom --processor mode.processor", "mode.processor (180 bytes): the mode is 3; it must be 0 (running), 1 (halted) or 2 (fatal)"),
         ("--rom a.rom --drawing long.drawing", "long.drawing (27 bytes): the record has 27 bytes; it must have 26"),
         ("--rom a.rom --save-wram x --save-vram x", "x: named for two outputs"),
         ("--rom a.rom --save-wram x --save-vram folder", "folder: is a folder; nothing was written"),

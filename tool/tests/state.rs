@@ -1,4 +1,4 @@
-//! Saved states from the command line: `run --state` and `--save-state`, `state show`, and a state in place of VRAM and
+//! Saved states from the command line: `run --state` and `--state-form 1 --save-state`, `state show`, and a state in place of VRAM and
 //! drawing record.
 
 mod common;
@@ -9,7 +9,7 @@ use common::Folder;
 use serde_json::Value;
 use vb::{state_bytes, Drawing, Machine, Processor, ReadMemories};
 
-const NOT_STORED: &str = "request lines and timer are not stored: they are not modelled yet";
+const NOT_STORED: &str = "request lines and timer are not stored: they come back at reset";
 
 /// The state of the files that a run saved apart, written by the library.
 fn by_library(folder: &Folder, name: &str, pak: &[u8]) -> Vec<u8> {
@@ -32,7 +32,7 @@ fn apart(name: &str) -> String {
 fn with_state(name: &str) -> Folder {
     let folder = Folder::with_demo(name);
     let ran = folder.vbmodel(
-        "run --rom out/rom.bin --budget 300_000 --set gplt0=0xE4 --set bkcol=3 --save-state a.state",
+        "run --rom out/rom.bin --budget 300_000 --set gplt0=0xE4 --set bkcol=3 --state-form 1 --save-state a.state",
     );
     assert_eq!((ran.status, ran.error.as_str()), (0, ""));
     folder
@@ -46,19 +46,25 @@ fn state_run_goes_on_from_a_saved_state() {
         [("", 1_000, 2_345), ("--pak a.pak", 5_000, 1), ("", 0, 777), ("", 320_313, 5)]
     {
         let rom = "run --rom out/rom.bin";
-        let one = format!("{rom} {pak} --budget {first} --save-state one.state");
-        let two = format!("{rom} --state one.state --budget {second} --save-state two.state");
-        let all = format!("{rom} {pak} --budget {} --save-state all.state", first + second);
+        let one = format!("{rom} {pak} --budget {first} --state-form 1 --save-state one.state");
+        let two = format!(
+            "{rom} --state one.state --budget {second} --state-form 1 --save-state two.state"
+        );
+        let all = format!(
+            "{rom} {pak} --budget {} --state-form 1 --save-state all.state",
+            first + second
+        );
         let [one, two, all] = [one, two, all].map(|command| folder.vbmodel(&command));
         assert_eq!((one.status, two.status, all.status), (0, 0, 0), "{}", two.error);
         assert!(folder.read("two.state") == folder.read("all.state"), "{first} and {second}");
         let still = folder.read("one.state") == folder.read("all.state");
         assert_eq!(still, first == 320_313, "the demo halts after 320,313");
-        let note = format!("note:         one.state is a saved state; {NOT_STORED}\n");
+        let note = format!("note:         one.state is a saved state of form 1; {NOT_STORED}\n");
         assert!(two.text.starts_with(&note), "{}", two.text);
     }
     // the state may be written over the one that was read, be standard input, and be changed first
-    let ran = folder.vbmodel("run --rom out/rom.bin --state one.state --save-state one.state");
+    let ran = folder
+        .vbmodel("run --rom out/rom.bin --state one.state --state-form 1 --save-state one.state");
     assert_eq!(ran.status, 0, "{}", ran.error);
     assert!(folder.read("one.state") == folder.read("all.state"));
     let fed = "step --rom out/rom.bin --state - --count 0 --set r1=0x1234 --save-processor p";
@@ -74,7 +80,7 @@ fn state_files_are_what_the_library_writes() {
         let bytes: Vec<u8> = (0..pak).map(|n| n as u8).collect();
         folder.write("a.pak", &bytes);
         let run = format!(
-            "run --rom out/rom.bin --pak a.pak --budget 9_999 --save-state a.state {}",
+            "run --rom out/rom.bin --pak a.pak --budget 9_999 --state-form 1 --save-state a.state {}",
             apart("a")
         );
         let ran = folder.vbmodel(&run);
@@ -93,12 +99,13 @@ fn state_files_are_what_the_library_writes() {
             assert!(a == b, "{kind}");
         }
     }
-    let ran = folder.vbmodel("run --rom out/rom.bin --budget 1 --save-state a.state --json");
+    let ran = folder
+        .vbmodel("run --rom out/rom.bin --budget 1 --state-form 1 --save-state a.state --json");
     let value: Value = serde_json::from_str(&ran.text).unwrap();
     assert_eq!(value["written"], serde_json::json!(["a.state"]));
     assert_eq!(value["not_stored"], NOT_STORED);
     let help = folder.vbmodel("help run").text;
-    assert!(help.contains("Request lines and timer are not stored: they are not modelled yet."));
+    assert!(help.contains("Form 2 holds request lines and timer and a sum of each body"), "{help}");
 }
 
 #[test]
@@ -141,7 +148,8 @@ pc    0x{pc:08X}  psw   0x{psw:08X}
 
 fn shows_pak_ram(folder: &Folder) {
     folder.write("a.pak", &[1; 8_192]);
-    let ran = folder.vbmodel("run --rom out/rom.bin --pak a.pak --save-state b.state");
+    let ran =
+        folder.vbmodel("run --rom out/rom.bin --pak a.pak --state-form 1 --save-state b.state");
     assert_eq!(ran.status, 0, "{}", ran.error);
     let shown = folder.vbmodel_fed("state show -", &folder.read("b.state")).text;
     assert!(shown
@@ -158,9 +166,8 @@ type Broken = (&'static [(usize, u8)], usize, &'static str);
 const P: usize = 42;
 const D: usize = 214;
 
-const BROKEN: [Broken; 20] = [
+const BROKEN: [Broken; 19] = [
     (&[(0, 5)], 0, "byte 0 (the count of bodies) is 0x05; it must be 0x04"),
-    (&[(0, 0)], 0, "byte 0 (the count of bodies) is 0x00; it must be 0x04"),
     (&[(2, 2)], 2, "byte 2 (the kind in entry 0, processor record) is 0x02; it must be 0x01"),
     (&[(15, 1)], 15, "byte 15 (the offset in entry 1, drawing record) is 0x01; it must be 0x00"),
     (&[(41, 1)], 41, "byte 41 (the length in entry 3, VRAM) is 0x01; it must be 0x00"),
@@ -217,7 +224,7 @@ fn state_show_tells_the_rule_and_the_byte() {
         folder.refused("state show b.state", &format!("vbmodel: {message}"));
         // every command says the same
         for command in [
-            "run --rom out/rom.bin --save-state c.state",
+            "run --rom out/rom.bin --state-form 1 --save-state c.state",
             "step --rom out/rom.bin",
             "draw --out drawn",
             "why left 0 0",
@@ -256,7 +263,10 @@ fn the_other_side_is_sound(folder: &Folder, sound: &[u8]) {
 fn state_takes_the_place_of_vram_and_drawing() {
     let folder = Folder::with_demo("state-scene");
     let files = ["wram", "vram", "processor", "drawing"].map(|k| format!("--{k} out/{k}.bin"));
-    let run = format!("run --rom out/rom.bin --budget 0 {} --save-state a.state", files.join(" "));
+    let run = format!(
+        "run --rom out/rom.bin --budget 0 {} --state-form 1 --save-state a.state",
+        files.join(" ")
+    );
     assert_eq!(folder.vbmodel(&run).status, 0);
     let scene = "--vram out/vram.bin --drawing out/drawing.bin";
     for (command, status) in [
@@ -286,24 +296,15 @@ fn state_takes_the_place_of_vram_and_drawing() {
 }
 
 /// The whole line about a file that a command does not take.
-fn refusal_of(command: &str, bad: &str, given: &str) -> String {
-    let runs = command.contains("--rom");
-    let lengths = match runs {
-        true => "327,920 bytes without pak RAM, 327,930 and its length with it",
-        false => {
-            "327,920 or 327,962 bytes without pak RAM, 327,930 or 327,976 and its length with it"
-        }
-    };
-    let lengths = format!(": {lengths}, which is a power of two up to 16,777,216");
-    let form = if runs { "a saved state of form 1" } else { "a saved state, form 1 or 2" };
-    let told = if runs { lengths.as_str() } else { "" };
+fn refusal_of(bad: &str, given: &str) -> String {
+    let lengths = "327,920 or 327,962 bytes without pak RAM, 327,930 or 327,976 and its length with it, which is a power \
+                   of two up to 16,777,216";
+    let form = "a saved state, form 1 or 2";
     match bad {
-        "missing" => {
-            format!("vbmodel: missing: No such file or directory; it must be {form}{told}")
-        }
-        "folder" => format!("vbmodel: folder: is a folder; it must be {form}{told}"),
+        "missing" => format!("vbmodel: missing: No such file or directory; it must be {form}"),
+        "folder" => format!("vbmodel: folder: is a folder; it must be {form}"),
         _ => format!(
-            "vbmodel: {bad} ({given} bytes): refusal 9: no saved state has this length; it must be {form}{lengths}"
+            "vbmodel: {bad} ({given} bytes): refusal 9: no saved state has this length; it must be {form}: {lengths}"
         ),
     }
 }
@@ -329,13 +330,13 @@ fn state_bad_files_are_refused() {
     ] {
         for command in [
             "state show",
-            "run --rom out/rom.bin --save-state saved --save-vram also --state",
-            "step --rom out/rom.bin --save-state saved --state",
+            "run --rom out/rom.bin --state-form 1 --save-state saved --save-vram also --state",
+            "step --rom out/rom.bin --state-form 1 --save-state saved --state",
             "draw --out saved --state",
             "why left 0 0 --state",
             "compare --left out/frame0-left.png --out saved --state",
         ] {
-            folder.refused(&format!("{command} {bad}"), &refusal_of(command, bad, given));
+            folder.refused(&format!("{command} {bad}"), &refusal_of(bad, given));
         }
     }
 }
@@ -345,14 +346,15 @@ fn state_outputs_are_tested_first_and_written_all_or_none() {
     let folder = with_state("state-outputs");
     fs::create_dir(folder.path("folder")).unwrap();
     folder.refused(
-        "run --rom out/rom.bin --budget 0xFFFF_FFFF_FFFF --save-vram saved --save-state folder",
+        "run --rom out/rom.bin --budget 0xFFFF_FFFF_FFFF --save-vram saved --state-form 1 --save-state folder",
         "vbmodel: folder: is a folder; nothing was written",
     );
     folder.refused(
-        "run --rom out/rom.bin --save-vram saved --save-state ./saved",
+        "run --rom out/rom.bin --save-vram saved --state-form 1 --save-state ./saved",
         "vbmodel: ./saved: named for two outputs",
     );
-    let full = folder.vbmodel("run --rom out/rom.bin --save-state saved --save-vram /dev/full");
+    let full = folder
+        .vbmodel("run --rom out/rom.bin --state-form 1 --save-state saved --save-vram /dev/full");
     assert_eq!((full.status, folder.path("saved").exists()), (2, false));
     assert!(!full.text.contains("not stored"), "{}", full.text);
     for one in ["wram", "vram", "pak", "processor", "drawing"] {

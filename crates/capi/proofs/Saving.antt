@@ -8,21 +8,22 @@ use Rattle.bus.specs.Memory.{Memory}
 use Rattle.refusal.specs.declared.Verdict.{Verdict}
 use Rattle.processor.specs.Acceptance.{acceptanceIn}
 use Rattle.processor.specs.declared.Processor.{Processor}
+use Rattle.saved_layout.specs.declared.Form.{Form}
 use Rattle.saved.specs.Calls.{writeVerdictOf, writtenOf, Restored, readOf}
 use Rattle.capi.specs.Execution.{processorIn, misuseNumber}
 use Rattle.capi.specs.States.{writeNumberAt, writtenAt, restoredGives, restoredDone, readAt}
 use Rattle.capi.specs.declared.execution.VbProcessor.{VbProcessor}
 
 module _ (p : VbProcessor) (m : Memory) (file : List ℕ) (q : Processor) (e : q ≡ processorIn p) where
-  pub write-misused : (v : Verdict) → v ≡ acceptanceIn q m → 2 < p .mode
-      → (misuseNumber v ≡ writeNumberAt p m file) × (file ≡ writtenAt p m file)
+  pub write-misused : (form : Form) (v : Verdict) → v ≡ acceptanceIn q m → 2 < p .mode
+      → (misuseNumber v ≡ writeNumberAt form p m file) × (file ≡ writtenAt form p m file)
   unfolding writeNumberAt writtenAt
-  write-misused v f h = (rw (f, e) (simp (lt-ltb 2 (p .mode) h)), simp (lt-ltb 2 (p .mode) h))
+  write-misused form v f h = (rw (f, e) (simp (lt-ltb 2 (p .mode) h)), simp (lt-ltb 2 (p .mode) h))
 
-  pub write-done : p .mode ≤ 2 → (v : Verdict) (after : List ℕ) → v ≡ writeVerdictOf q m file → after ≡ writtenOf q m file
-      → (verdictNumber v ≡ writeNumberAt p m file) × (after ≡ writtenAt p m file)
+  pub write-done : (form : Form) → p .mode ≤ 2 → (v : Verdict) (after : List ℕ) → v ≡ writeVerdictOf form q m file → after ≡ writtenOf form q m file
+      → (verdictNumber v ≡ writeNumberAt form p m file) × (after ≡ writtenAt form p m file)
   unfolding writeNumberAt writtenAt
-  write-done h v after f g =
+  write-done form h v after f g =
       (simp (le-ltb 2 (p .mode) h) (ap verdictNumber (rw e at f)), simp (le-ltb 2 (p .mode) h) (rw e at g))
 
   pub read-misused : (v : Verdict) → v ≡ acceptanceIn q m → 2 < p .mode → restoredGives (misuseNumber v) p m ≡ readAt p m file

@@ -5,15 +5,28 @@ use crate::execution::misuse_number;
 use crate::execution::processor_in;
 use crate::execution::processor_out;
 use bus::Drawing;
+use saved_salvage::Salvaged;
 ghost use mathlib.Core.Path.{_≡_};
 ghost use Rattle.bus.specs.Memory.{memoryOf};
-ghost use Rattle.capi.specs.States.{writeNumberAt, writtenAt, restoredGives, readAt};
+ghost use Rattle.refusal.specs.Number.{verdictNumber};
+ghost use Rattle.saved_layout.specs.declared.Form.the-variants.{One, Two};
+ghost use Rattle.saved_move.specs.Move.{moveVerdictOf, movedOf};
+ghost use Rattle.saved_salvage.specs.Salvage.{salvageOf, salvagedRoomOf};
+ghost use Rattle.capi.specs.States.{writeNumberAt, writtenAt, restoredGives, readAt, salvagedAt};
 
 #[repr(C)]
 pub struct VbRestored {
     pub refusal: u32,
     pub processor: VbProcessor,
     pub drawing: VbDrawing,
+}
+
+#[repr(C)]
+pub struct VbSalvaged {
+    pub refusal: u32,
+    pub replaced: u32,
+    pub kinds: [u32; 6],
+    pub contents_differ: u32,
 }
 
 #[no_mangle]
@@ -26,8 +39,8 @@ pub extern "C" fn vb_write_state(
     drawing: VbDrawing,
     room: &mut [u8],
 ) -> u32
-    ensures refusal { λ r. ⌜ r ≡ writeNumberAt processor (memoryOf (now (rom .entry)) (now (wram .entry)) (now (vram .entry)) (now (pak .entry)) (drawing .regs)) (now (room .entry)) ⌝ }
-    ensures room { λ _. ⌜ now (room .exit) ≡ writtenAt processor (memoryOf (now (rom .entry)) (now (wram .entry)) (now (vram .entry)) (now (pak .entry)) (drawing .regs)) (now (room .entry)) ⌝ }
+    ensures refusal { λ r. ⌜ r ≡ writeNumberAt One processor (memoryOf (now (rom .entry)) (now (wram .entry)) (now (vram .entry)) (now (pak .entry)) (drawing .regs)) (now (room .entry)) ⌝ }
+    ensures room { λ _. ⌜ now (room .exit) ≡ writtenAt One processor (memoryOf (now (rom .entry)) (now (wram .entry)) (now (vram .entry)) (now (pak .entry)) (drawing .regs)) (now (room .entry)) ⌝ }
 {
     let regs = drawing.regs;
     let p = processor_in(processor);
@@ -37,6 +50,29 @@ pub extern "C" fn vb_write_state(
         return misuse_number(v);
     }
     refusal::verdict_number(saved::write(rom, wram, vram, pak, p, Drawing { regs }, room))
+}
+
+#[no_mangle]
+pub extern "C" fn vb_write_state_2(
+    rom: &[u8],
+    wram: &[u8],
+    vram: &[u8],
+    pak: &[u8],
+    processor: VbProcessor,
+    drawing: VbDrawing,
+    room: &mut [u8],
+) -> u32
+    ensures refusal { λ r. ⌜ r ≡ writeNumberAt Two processor (memoryOf (now (rom .entry)) (now (wram .entry)) (now (vram .entry)) (now (pak .entry)) (drawing .regs)) (now (room .entry)) ⌝ }
+    ensures room { λ _. ⌜ now (room .exit) ≡ writtenAt Two processor (memoryOf (now (rom .entry)) (now (wram .entry)) (now (vram .entry)) (now (pak .entry)) (drawing .regs)) (now (room .entry)) ⌝ }
+{
+    let regs = drawing.regs;
+    let p = processor_in(processor);
+    let mode = processor.mode;
+    if 2 < mode {
+        let v = processor::calls::verdict(rom, wram, vram, pak, p, Drawing { regs });
+        return misuse_number(v);
+    }
+    refusal::verdict_number(saved::write_2(rom, wram, vram, pak, p, Drawing { regs }, room))
 }
 
 #[no_mangle]
@@ -71,4 +107,44 @@ pub extern "C" fn vb_read_state(
         processor: processor_out(after),
         drawing: VbDrawing { regs: device },
     }
+}
+
+#[no_mangle]
+pub extern "C" fn vb_move_state(file: &[u8], room: &mut [u8]) -> u32
+    ensures refusal { λ r. ⌜ r ≡ verdictNumber (moveVerdictOf (now (file .entry)) (now (room .entry))) ⌝ }
+    ensures room { λ _. ⌜ now (room .exit) ≡ movedOf (now (file .entry)) (now (room .entry)) ⌝ }
+{
+    refusal::verdict_number(saved_move::move_state(file, room))
+}
+
+// What a salvage told, as the boundary has it.
+fn salvaged(told: Salvaged) -> VbSalvaged
+    ensures { λ r. ⌜ r ≡ salvagedAt told ⌝ }
+{
+    let verdict = told.verdict;
+    let list = told.list;
+    let kinds = list.kinds;
+    let refusal = refusal::verdict_number(verdict);
+    if told.differ {
+        return VbSalvaged {
+            refusal,
+            replaced: list.count,
+            kinds,
+            contents_differ: 1,
+        };
+    }
+    VbSalvaged {
+        refusal,
+        replaced: list.count,
+        kinds,
+        contents_differ: 0,
+    }
+}
+
+#[no_mangle]
+pub extern "C" fn vb_salvage_state(file: &[u8], room: &mut [u8]) -> VbSalvaged
+    ensures told { λ r. ⌜ r ≡ salvagedAt (salvageOf (now (file .entry)) (now (room .entry))) ⌝ }
+    ensures room { λ _. ⌜ now (room .exit) ≡ salvagedRoomOf (now (file .entry)) (now (room .entry)) ⌝ }
+{
+    salvaged(saved_salvage::salvage_state(file, room))
 }

@@ -13,7 +13,8 @@ use Rattle.drawing_pixel.specs.World.{worldOf, endOf}
 use Rattle.drawing_pixel.specs.Object.{objectOf, objectShownOf, objectRowOf, objectCoversOf, groupCountOf}
 use Rattle.drawing_pixel.specs.Pixel.{counterAfterOf, drawsObjectsOf, counterOf}
 use Rattle.drawing_laws.specs.Covers.{inGroupOf}
-use Rattle.drawing_laws.specs.SourceBytes.{halfBytesOf, amongOf, worldDrawsOf, worldsDrawOf, objectBytesOf, objectsBytesOf}
+use Rattle.drawing_laws.specs.PixelBytes.{halfBytesOf, amongOf}
+use Rattle.drawing_laws.specs.SourceBytes.{worldDrawsOf, worldsDrawOf, objectBytesOf, objectsBytesOf}
 use Rattle.drawing_laws.proofs.Groups.{in-group-among, among-in-group}
 use Rattle.drawing_bytes.specs.Groups.{reachedObjectWorldsOf, inGroupsOf, objectListOf}
 

@@ -1,7 +1,7 @@
 // Addresses written into the room, one word each, as far as the room reaches.
 ghost use Prim.Native.Nat.{_<_};
 ghost use mathlib.Core.List.{[], _∷_};
-ghost use Rattle.drawing_laws.specs.SourceBytes.{halfBytesOf};
+ghost use Rattle.drawing_laws.specs.PixelBytes.{halfBytesOf};
 ghost use Rattle.drawing_bytes.specs.Room.{Lists};
 
 // An address into word n; answers the number of the next word.

@@ -17,7 +17,7 @@ use Rattle.refusal.specs.declared.Verdict.{Verdict}
 use Rattle.refusal.specs.declared.Verdict.the-variants.{Accepted, Refused}
 use Rattle.drawing.specs.Calls.{whenAccepted, stripVerdictOf, drawStripOf, frameVerdictOf, drawFrameOf}
 use Rattle.drawing_laws.specs.Drawn.{frameCall, stripCall, drawsStripOf, afterOf, inImagesOf, PixelDrawn, ByteKept, LengthKept}
-use Rattle.drawing_laws.proofs.Verdicts.{accepted-given}
+use Rattle.drawing_laws.proofs.Verdicts.{stripTest, accepted-given}
 use Rattle.drawing_laws.proofs.Registers.{bkcol-below}
 use Rattle.drawing_laws.proofs.Images.{pixel-outside-images}
 use Rattle.drawing_laws.proofs.PixelValue.{pixel-below}
@@ -88,7 +88,7 @@ unfolding drawStripOf stripVerdictOf vramOk
 strip-accepted vram regs frame s l ok f a = simp (l, ok, lt-ltb frame 2 f, a)
 
 pub pixel-drawn : PixelDrawn
-unfolding drawsStripOf afterOf frameOf
+unfolding drawsStripOf afterOf frameOf stripTest
 pixel-drawn vram regs frame frameCall eye x y v e c d =
     let g = accepted-given vram regs frame frameCall v in
     rw (frame-accepted vram regs frame (g .bytes) (g .registers) (g .frame-below))

@@ -22,4 +22,4 @@ pub mod StripBytes
 mod StripPixel
 pub mod PixelBytes
 pub mod Lengths
-mod Verdicts
+pub mod Verdicts

@@ -8,26 +8,26 @@ use lib.ListN.{length}
 use lib.Dec.{ltb}
 use borrow.Author.Tests.{ltb-true, eqb-true}
 use Rattle.bus.specs.Refusal.{vramOk}
-use Rattle.bus.specs.Registers.{registersOk}
+use Rattle.bus.specs.Registers.{drawingOk}
 use Rattle.bus.proofs.Accepted.{unless-passed}
 use Rattle.refusal.specs.declared.Verdict.the-variants.{Accepted}
 use Rattle.drawing.specs.Calls.{stripVerdictOf, frameVerdictOf}
 use Rattle.drawing_laws.specs.Drawn.{Call, frameCall, stripCall, callVerdictOf}
 
 -- the strip numbers that are accepted
-abbrev pub stripTest : Call → Bool
+unfoldable pub stripTest : Call → Bool
 stripTest frameCall = true
 stripTest (stripCall s) = ltb s 28
 
 pub record Given (vram regs : List ℕ) (frame : ℕ) (call : Call) : Type 0 where
   pub bytes : length vram ≡ 262144
-  pub registers : registersOk regs ≡ true
+  pub registers : drawingOk regs ≡ true
   pub frame-below : frame < 2
   pub strip : stripTest call ≡ true
 
 pub accepted-given : (vram regs : List ℕ) (frame : ℕ) (call : Call) → callVerdictOf vram regs frame call ≡ Accepted
     → Given vram regs frame call
-unfolding callVerdictOf frameVerdictOf stripVerdictOf vramOk
+unfolding callVerdictOf frameVerdictOf stripVerdictOf vramOk stripTest
 accepted-given vram regs frame frameCall e =
     let a = unless-passed _ _ _ e in
     let b = unless-passed _ _ _ (a .1) in

@@ -1,6 +1,6 @@
 // The processor's public calls: a step, a run, a reset, over the lent memories. Records go in and come back by value;
 // inside, the registers are lent.
-mod acceptance;
+pub mod acceptance;
 pub mod calls;
 pub mod record;
 mod stretch;

@@ -1,7 +1,7 @@
 pub mod Bias
 mod Finite
 mod Carry
-mod Overflow
+pub mod Overflow
 mod Magnitude
 mod Table
 pub mod Bits

@@ -1,7 +1,8 @@
--- `Lengths` has the lengths of accepted memories, `Verdicts` what the calls answer and leave by each test, `Words` the record
--- of 43 words.
-pub mod Lengths
-pub mod Words
-pub mod Verdicts
+-- `Back` has the records and bodies of a machine, both ways; `Accepting` what 1 to 5 say of them; `Verdicts` the cases of the calls; `Made`
+-- and `Moves` the theorems.
 pub mod Back
+pub mod Accepting
+pub mod Verdicts
+pub mod Holding
 pub mod Made
+pub mod Moves

@@ -4,141 +4,115 @@ use Prim.Native.Nat.{ℕ, _+_, _*_, _^_, _<_, _≤_}
 use native.Mathlib.Omega.{arith}
 use native.Mathlib.Decide.{decLt}
 use mathlib.Core.Bool.{Bool, true, false}
-use mathlib.Core.List.{List, _++_}
-use mathlib.Core.Path.{_≡_, refl, sym, ap, subst, _∙_}
+use mathlib.Core.List.{List, [], _∷_, _++_}
+use mathlib.Core.Path.{_≡_, refl, sym, ap, _∙_}
 use borrow.Author.Tests.{le-leb, leb-true}
 use lib.Dec.{leb}
-use lib.ListN.{length, getD, take, length-take, List·getD-eq-default}
-use lib.Seq.{getD-append-add}
-use Rattle.word.specs.Choose.{pick}
+use lib.ListN.{length, getD, take, drop, replicate, List·getD-eq-default}
 use Rattle.word.specs.LittleEndian.{halfAt, wordAt}
-use Rattle.refusal.specs.Number.{unless}
-use Rattle.refusal.specs.declared.Refusal as refusal
-use Rattle.refusal.specs.declared.Verdict.{Verdict}
-use Rattle.refusal.specs.declared.Verdict.the-variants.{Accepted, Refused}
-use Rattle.bus_timer.specs.Ports.{controlBitsOf, hardwareOk}
+use Rattle.refusal.specs.declared.Verdict.the-variants.{Accepted}
 use Rattle.bus_timer.specs.declared.Hardware.{Hardware}
-use Rattle.bus.specs.Registers.{drawingOk, deviceOf, registersOk}
-use Rattle.bus.specs.Memory.{Memory, memoryOf, verdictAt, Lengths}
-use Rattle.bus.proofs.Devices.{device-ok}
-use Rattle.bus.proofs.Accepted.{accepted-registers, lengths-accepted, unless-passed}
-use Rattle.processor.specs.Record.{stateIn, busOf, withHardware, resetHardware}
-use Rattle.processor.specs.Acceptance.{thenOf, stateOk, acceptanceAt, acceptanceIn}
+use Rattle.bus.specs.Registers.{drawingOk}
+use Rattle.bus.specs.Memory.{Memory, memoryOf, Lengths}
+use Rattle.processor.specs.Record.{systemIn}
+use Rattle.processor.specs.Acceptance.{both, stateOk, acceptanceIn}
 use Rattle.processor.specs.declared.Processor.{Processor}
-use Rattle.saved_layout.specs.Numbers.{wordsFrom, halvesFrom}
-use Rattle.saved_layout.specs.Layout.{form1, placeOf, fileLengthOf}
-use Rattle.saved_layout.specs.File.{contentsOk, wordsIn, halvesIn, wramIn, vramIn, pakIn}
-use Rattle.saved_layout.proofs.LittleEndian.{length-words-from, getD-words-from, length-halves-from, getD-halves-from}
-use Rattle.saved_layout.proofs.Reading.{under}
-use Rattle.saved_layout.proofs.Files.{file-length, contents-back, words-kept, halves-kept, wram-kept, vram-kept, pak-kept, file-again}
-use Rattle.saved.specs.Body.{restOf, wordsOf, processorOf, processorIn, modeWordOf}
-use Rattle.saved.specs.Calls.{stateFileOf, heldProcessorOf, heldMemoryOf, isAccepted, bytesOk, restoredOf, readOf}
+use Rattle.saved_bytes.specs.Numbers.{bytesOf, wordsFrom, halvesFrom}
+use Rattle.saved_bytes.proofs.LittleEndian.{length-words-from, getD-words-from, length-halves-from, getD-halves-from}
+use Rattle.saved_bytes.proofs.Reading.{same-self}
+use Rattle.saved_layout.specs.Layout.{placeOf, lastPlaceOf, fileLengthOf}
+use Rattle.saved_layout.specs.File.{Bodies, fileOf, bodiesIn, contentsOk, hardwareIn, hardwareReset, Sized, HeldBy}
+use Rattle.saved_layout.specs.declared.Form.{Form}
+use Rattle.saved_layout.specs.declared.Form.the-variants.{One, Two}
+use Rattle.saved_layout.proofs.Files.{file-length, file-held, contents-back, file-again, length-pak-in, sized-in}
+use Rattle.saved_kinds.specs.Fits.{formOf}
+use Rattle.saved_kinds.specs.Kinds.{generalFrom, restFrom, drawingFrom, hardwareFrom, systemOf, wordsOk, processorBodyOk, drawingBodyOk, hardwareBodyOk, bodiesOk, fileOk}
+use Rattle.saved_move.proofs.Returning.{form-back}
+use Rattle.saved.specs.Body.{restOf, wordsOf, linesOf, machineBodiesOf, processorOf, processorIn, memoryIn, modeWordOf}
+use Rattle.saved.specs.Calls.{stateFileOf, heldBodiesOf, heldProcessorOf, heldMemoryOf, formHolds, restoredOf, readOf}
 use Rattle.saved.specs.Exactly.{Savable, ReadWritten, Exactly, WrittenExactly}
-use Rattle.saved.proofs.Lengths.{lengths-of, pak-small, length-pak-in}
-use Rattle.saved.proofs.Verdicts.{bytes-made, read-accepted}
-use Rattle.saved.proofs.Back.{mode-small, length-rest, length-words, processor-back, words-again}
+use Rattle.saved.proofs.Accepting.{Passed, passed, accepts, small, both-true}
+use Rattle.saved.proofs.Back.{mode-small, general-back, rest-back, drawing-back, lines-back, processor-in-back, memory-in-back, machine-sized, machine-held, bodies-again, words-held, lines-are, part-bytes, zero-bytes}
+use Rattle.saved.proofs.Verdicts.{read-accepted}
 
--- an accepted machine beside another ROM that is accepted
-then-accepted : (v later : Verdict) → thenOf v later ≡ Accepted → (v ≡ Accepted) × (later ≡ Accepted)
-then-accepted Accepted later e = (refl, e)
-then-accepted (Refused n) later e =
-    let z : _≡_ {A = ℕ} 0 1 = cc in
-    absurd (omega arith)
+-- the bodies of an accepted machine can be made
+words-made : (p : Processor) → stateOk (p .regs) (systemIn p) (p .pc) (p .psw) ≡ true → wordsOk (p .regs) (restOf p) ≡ true
+unfolding wordsOk restOf
+words-made p e = simp (le-leb (modeWordOf (p .mode)) 2 (mode-small (p .mode))) e
 
--- two tests that hold
-both-true : (a b : Bool) → pick a b false ≡ true → (a ≡ true) × (b ≡ true)
-both-true true b e = (refl, e)
-both-true false b e =
-    let z : _≡_ {A = ℕ} 0 1 = cc in
-    absurd (omega arith)
-
--- lines and timer at reset pass 5 where the drawing registers do
-reset-ok : (d : List ℕ) (h : Hardware) → registersOk (deviceOf d h) ≡ true → registersOk (deviceOf d resetHardware) ≡ true
-reset-ok d h e =
-    let drawing = both-true (drawingOk d) (hardwareOk h) (sym (device-ok d h) ∙ e) .0 in
-    device-ok d resetHardware ∙ rw drawing zero
-  where
-    zero : hardwareOk resetHardware ≡ true
-    zero = unfold hardwareOk controlBitsOf in refl
-
-module _ (p : Processor) (m : Memory) (rom : List ℕ) where
-  other-rom : acceptanceIn p m ≡ Accepted → (r : Lengths (length rom) (length (m .wram)) (length (m .vram)) (length (m .pak)))
-      → acceptanceIn (withHardware p resetHardware) (memoryOf rom (m .wram) (m .vram) (m .pak) (m .regs)) ≡ Accepted
-  unfolding acceptanceAt
-  other-rom e r =
-      let device = busOf p m .regs in
-      let both = then-accepted (verdictAt (length (m .rom)) (length (m .wram)) (length (m .vram)) (length (m .pak)) device)
-      (unless (stateOk (stateIn p .regs) (stateIn p .sys) (stateIn p .pc) (stateIn p .psw)) refusal.the-variants.State Accepted) e in
-      let v = lengths-accepted (length rom) (length (m .wram)) (length (m .vram)) (length (m .pak)) (deviceOf (m .regs) resetHardware) r
-      (reset-ok (m .regs) (p .hardware)
-      (accepted-registers (length (m .rom)) (length (m .wram)) (length (m .vram)) (length (m .pak)) device (both .0))) in
-      rw v (both .1)
-
--- what is written for an accepted machine
-module _ (p : Processor) (m : Memory) (s : Savable p m) where
-  lengths : Lengths (length (m .rom)) (length (m .wram)) (length (m .vram)) (length (m .pak))
-  lengths = lengths-of p m (s .accepted)
+module _ (form : Form) (p : Processor) (m : Memory) (s : Savable form p m) where
+  known : Passed p m
+  known = passed p m (s .accepted)
 
   few : length (m .pak) ≤ 16777216
-  few = pak-small (length (m .pak)) (lengths .pak-ok)
+  few = small p m (s .accepted)
 
-  due : length (stateFileOf form1 p m) ≡ fileLengthOf form1 (length (m .pak))
+  sized : Sized (machineBodiesOf p m)
+  sized = machine-sized p m (s .general) (s .words) (s .drawing) (s .halves) (s .lines) (known .lengths .wram-ok) (known .lengths .vram-ok)
+
+  held : HeldBy form (machineBodiesOf p m)
+  held = machine-held form p m (s .held)
+
+  made : bodiesOk (machineBodiesOf p m) ≡ true
+  unfolding bodiesOk machineBodiesOf processorBodyOk drawingBodyOk hardwareBodyOk
+  made =
+      rw (
+        general-back p (s .general) (s .words),
+        rest-back p (s .general) (s .words),
+        words-made p (known .state),
+        drawing-back (m .regs) (s .drawing) (s .halves),
+        known .drawing,
+        lines-back (p .hardware) (s .lines),
+        known .hardware,
+      )
+
+  pak-same : length (machineBodiesOf p m .pak) ≡ length (m .pak)
+  unfolding machineBodiesOf
+  pak-same = refl
+
+  form-is : formOf (stateFileOf form p m) ≡ form
   unfolding stateFileOf
-  due = file-length (wordsOf p) (m .regs) (m .wram) (m .vram) (m .pak) (length-words p (s .general)) (s .drawing) (lengths .wram-ok) (lengths .vram-ok) few
+  form-is = form-back form (machineBodiesOf p m)
+
+  due : length (stateFileOf form p m) ≡ fileLengthOf form (length (m .pak))
+  unfolding stateFileOf
+  due = file-length (machineBodiesOf p m) sized form ∙ ap (fileLengthOf form) pak-same
+
+  bodies-back : bodiesIn form (length (m .pak)) (stateFileOf form p m) ≡ machineBodiesOf p m
+  unfolding stateFileOf
+  bodies-back = rw (← pak-same) (file-held (machineBodiesOf p m) sized form held)
+
+  contents-right : contentsOk form (length (m .pak)) (stateFileOf form p m) ≡ true
+  unfolding stateFileOf
+  contents-right = rw (← pak-same) (contents-back (machineBodiesOf p m) sized form (rw pak-same few))
+
+  ok : fileOk form (length (m .pak)) (stateFileOf form p m) ≡ true
+  unfolding fileOk
+  ok = rw (contents-right, bodies-back) made
 
   module _ (n : Memory) (same : length (n .pak) ≡ length (m .pak)) where
-    contents : contentsOk form1 (length (n .pak)) (stateFileOf form1 p m) ≡ true
-    unfolding stateFileOf
-    contents = rw same (contents-back (wordsOf p) (m .regs) (m .wram) (m .vram) (m .pak) (length-words p (s .general)) (s .drawing) (lengths .wram-ok) (lengths .vram-ok) few)
+    held-bodies : heldBodiesOf n (stateFileOf form p m) ≡ machineBodiesOf p m
+    unfolding heldBodiesOf
+    held-bodies = rw (form-is, same) bodies-back
 
-    words : wordsIn form1 (length (n .pak)) (stateFileOf form1 p m) ≡ wordsOf p
-    unfolding stateFileOf
-    words = rw same (words-kept (wordsOf p) (m .regs) (m .wram) (m .vram) (m .pak) (length-words p (s .general)) (s .drawing) (lengths .wram-ok) (lengths .vram-ok) few (under (2 ^ 32) (wordsOf p) (s .words)))
-
-    held-processor : heldProcessorOf form1 n (stateFileOf form1 p m) ≡ withHardware p resetHardware
+    held-processor : heldProcessorOf n (stateFileOf form p m) ≡ p
     unfolding heldProcessorOf
-    held-processor = rw words (processor-back p (s .general))
+    held-processor = rw held-bodies (processor-in-back p m (s .general) (s .words) (s .drawing) (s .halves) (s .lines))
 
-    held-memory : heldMemoryOf form1 n (stateFileOf form1 p m) ≡ memoryOf (n .rom) (m .wram) (m .vram) (m .pak) (m .regs)
-    unfolding heldMemoryOf stateFileOf
-    held-memory =
-        rw (
-          same,
-          wram-kept (wordsOf p) (m .regs) (m .wram) (m .vram) (m .pak) (length-words p (s .general)) (s .drawing) (lengths .wram-ok) (lengths .vram-ok) few,
-          vram-kept (wordsOf p) (m .regs) (m .wram) (m .vram) (m .pak) (length-words p (s .general)) (s .drawing) (lengths .wram-ok) (lengths .vram-ok) few,
-          pak-kept (wordsOf p) (m .regs) (m .wram) (m .vram) (m .pak) (length-words p (s .general)) (s .drawing) (lengths .wram-ok) (lengths .vram-ok) few,
-          halves-kept (wordsOf p) (m .regs) (m .wram) (m .vram) (m .pak) (length-words p (s .general)) (s .drawing) (lengths .wram-ok) (lengths .vram-ok) few (under 65536 (m .regs) (s .halves)),
-        )
+    held-memory : heldMemoryOf n (stateFileOf form p m) ≡ memoryOf (n .rom) (m .wram) (m .vram) (m .pak) (m .regs)
+    unfolding heldMemoryOf
+    held-memory = rw held-bodies (memory-in-back p m (s .general) (s .words) (s .drawing) (s .halves) (s .lines) (n .rom))
 
-    mode : leb (getD (wordsIn form1 (length (n .pak)) (stateFileOf form1 p m)) 42 0) 2 ≡ true
-    unfolding wordsOf restOf
-    mode =
-        let l : 42 ≡ length (p .regs) + 10 = omega (arith, s .general) in
-        let e : getD (wordsOf p) 42 0 ≡ modeWordOf (p .mode) = rw l (getD-append-add (p .regs) (restOf p) 10 0) in
-        le-leb (getD (wordsIn form1 (length (n .pak)) (stateFileOf form1 p m)) 42 0) 2 (rw (words, e) (mode-small (p .mode)))
+    own-ok : fileOk (formOf (stateFileOf form p m)) (length (n .pak)) (stateFileOf form p m) ≡ true
+    own-ok = rw (form-is, same) ok
 
-    -- the test of 10 passes
-    pub made : (q : Processor) → acceptanceIn q n ≡ Accepted → bytesOk form1 n (stateFileOf form1 p m) ≡ true
-    made q accepted =
-        let r : Lengths (length (n .rom)) (length (m .wram)) (length (m .vram)) (length (m .pak))
-        = record {
-          rom-ok = lengths-of q n accepted .rom-ok;
-          wram-ok = lengths .wram-ok;
-          vram-ok = lengths .vram-ok;
-          pak-ok = lengths .pak-ok;
-        } in
-        bytes-made n (stateFileOf form1 p m) contents mode (rw (held-processor, held-memory) (other-rom p m (n .rom) (s .accepted) r))
-
-pub read-written : ReadWritten
-read-written p q m n s accepted same =
-    sym (read-accepted q n (stateFileOf form1 p m) accepted (due p m s ∙ ap (fileLengthOf form1) (sym same)) (made p m s n same q accepted))
-    ∙ rw (held-processor p m s n same, held-memory p m s n same)
-
-is-accepted : (v : Verdict) → isAccepted v ≡ true → v ≡ Accepted
-is-accepted Accepted e = refl
-is-accepted (Refused n) e =
-    let z : _≡_ {A = ℕ} 0 1 = cc in
-    absurd (omega arith)
+pub read-written : (form : Form) → ReadWritten form
+read-written form p q m n s accepted same =
+    sym
+    (read-accepted q n (stateFileOf form p m) accepted
+    (due form p m s ∙ (ap (fileLengthOf form) (sym same) ∙ ap (λ (f : Form). fileLengthOf f (length (n .pak))) (sym (form-is form p m s))))
+    (own-ok form p m s n same))
+    ∙ rw (held-processor form p m s n same, held-memory form p m s n same)
 
 -- numbers read from bytes fit
 module _ (xs : List ℕ) (bytes : (k : ℕ) → getD xs k 0 < 256) where
@@ -154,7 +128,7 @@ module _ (xs : List ℕ) (bytes : (k : ℕ) → getD xs k 0 < 256) where
         | yes h ↦ rw (getD-words-from xs a n k h) (word-fits (a + 4 * k))
         | no h ↦
             let l : length (wordsFrom xs a n) ≤ k = omega (arith, length-words-from xs a n) in
-            rw (List·getD-eq-default (wordsFrom xs a n) 0 l) (omega arith)
+            rw (List·getD-eq-default (wordsFrom xs a n) 0 {n = k} l) (omega arith)
       ]
 
   halves-fit : (a n k : ℕ) → getD (halvesFrom xs a n) k 0 < 65536
@@ -163,78 +137,142 @@ module _ (xs : List ℕ) (bytes : (k : ℕ) → getD xs k 0 < 256) where
         | yes h ↦ rw (getD-halves-from xs a n k h) (half-fits (a + 2 * k))
         | no h ↦
             let l : length (halvesFrom xs a n) ≤ k = omega (arith, length-halves-from xs a n) in
-            rw (List·getD-eq-default (halvesFrom xs a n) 0 l) (omega arith)
+            rw (List·getD-eq-default (halvesFrom xs a n) 0 {n = k} l) (omega arith)
       ]
 
-module _ (n : Memory) (file : List ℕ) (whole : length file ≡ fileLengthOf form1 (length (n .pak))) (bytes : (k : ℕ) → getD file k 0 < 256) where
-  length-words-in : length (wordsIn form1 (length (n .pak)) file) ≡ 43
-  unfolding wordsIn
-  length-words-in = length-words-from file (placeOf form1 (length (n .pak)) 0) 43
+-- what a file of bytes holds
+module _ (form : Form) (p : ℕ) (file : List ℕ) (whole : length file ≡ fileLengthOf form p) (bytes : (k : ℕ) → getD file k 0 < 256) where
+  processor-bytes : (k : ℕ) → getD (bodiesIn form p file .processor) k 0 < 256
+  unfolding bodiesIn
+  processor-bytes k = part-bytes file bytes (placeOf form p 0) 172 k
 
-  length-halves-in : length (halvesIn form1 (length (n .pak)) file) ≡ 13
-  unfolding halvesIn
-  length-halves-in = length-halves-from file (placeOf form1 (length (n .pak)) 1) 13
+  drawing-bytes : (k : ℕ) → getD (bodiesIn form p file .drawing) k 0 < 256
+  unfolding bodiesIn
+  drawing-bytes k = part-bytes file bytes (placeOf form p 1) 26 k
 
-  halves-in-fit : (k : ℕ) → getD (halvesIn form1 (length (n .pak)) file) k 0 < 65536
-  unfolding halvesIn
-  halves-in-fit = halves-fit file bytes (placeOf form1 (length (n .pak)) 1) 13
+  hardware-bytes : (k : ℕ) → getD (bodiesIn form p file .hardware) k 0 < 256
+  unfolding bodiesIn
+  hardware-bytes k = by form k
+    where
+      by : (f : Form) (k : ℕ) → getD (hardwareIn f p file) k 0 < 256
+      by One k = zero-bytes 8 k
+      by Two k = part-bytes file bytes (lastPlaceOf p) 8 k
 
-  words-in-fit : (k : ℕ) → getD (wordsIn form1 (length (n .pak)) file) k 0 < 2 ^ 32
-  unfolding wordsIn
-  words-in-fit = words-fit file bytes (placeOf form1 (length (n .pak)) 0) 43
+  module _ (ok : fileOk form p file ≡ true) where
+    tests : (contentsOk form p file ≡ true) × (bodiesOk (bodiesIn form p file) ≡ true)
+    unfolding fileOk
+    tests = both-true (contentsOk form p file) (bodiesOk (bodiesIn form p file)) ok
 
-  module _ (ok : bytesOk form1 n file ≡ true) where
-    tests : (contentsOk form1 (length (n .pak)) file ≡ true)
-        × ((leb (getD (wordsIn form1 (length (n .pak)) file) 42 0) 2 ≡ true)
-        × (acceptanceIn (heldProcessorOf form1 n file) (heldMemoryOf form1 n file) ≡ Accepted))
-    unfolding bytesOk
-    tests =
-        let a = both-true (contentsOk form1 (length (n .pak)) file) _ ok in
-        let b = both-true (leb (getD (wordsIn form1 (length (n .pak)) file) 42 0) 2) _ (a .1) in
-        (a .0, (b .0, is-accepted (acceptanceIn (heldProcessorOf form1 n file) (heldMemoryOf form1 n file)) (b .1)))
+    three : ((processorBodyOk (bodiesIn form p file .processor) ≡ true) × (drawingBodyOk (bodiesIn form p file .drawing) ≡ true))
+        × (hardwareBodyOk (bodiesIn form p file .hardware) ≡ true)
+    unfolding bodiesOk
+    three =
+        let a = both-true (both (processorBodyOk (bodiesIn form p file .processor)) (drawingBodyOk (bodiesIn form p file .drawing))) (hardwareBodyOk (bodiesIn form p file .hardware)) (tests .1) in
+        (both-true (processorBodyOk (bodiesIn form p file .processor)) (drawingBodyOk (bodiesIn form p file .drawing)) (a .0), a .1)
 
-    words-held : wordsOf (heldProcessorOf form1 n file) ≡ wordsIn form1 (length (n .pak)) file
-    unfolding heldProcessorOf
-    words-held =
-        words-again (wordsIn form1 (length (n .pak)) file) length-words-in
-        (leb-true (getD (wordsIn form1 (length (n .pak)) file) 42 0) 2 (tests .1 .0))
+    words-ok : (getD (restFrom (bodiesIn form p file .processor)) 10 0 ≤ 2)
+        × (stateOk (generalFrom (bodiesIn form p file .processor)) (systemOf (restFrom (bodiesIn form p file .processor))) (getD (restFrom (bodiesIn form p file .processor)) 0 0) (getD (restFrom (bodiesIn form p file .processor)) 6 0) ≡ true)
+    unfolding processorBodyOk wordsOk
+    words-ok =
+        let rest = restFrom (bodiesIn form p file .processor) in
+        let a = both-true (leb (getD (restFrom (bodiesIn form p file .processor)) 10 0) 2) _ (three .0 .0) in
+        (leb-true (getD (restFrom (bodiesIn form p file .processor)) 10 0) 2 (a .0), a .1)
 
-    general-held : length (heldProcessorOf form1 n file .regs) ≡ 32
-    unfolding heldProcessorOf processorIn processorOf
-    general-held = simp length-take (omega (arith, length-words-in))
+    -- its records as bodies again, and the file that is written of them
+    pub bodies-are : (rom : List ℕ) → machineBodiesOf (processorIn (bodiesIn form p file)) (memoryIn rom (bodiesIn form p file)) ≡ bodiesIn form p file
+    bodies-are rom = bodies-again (bodiesIn form p file) rom (sized-in p file form whole) processor-bytes drawing-bytes hardware-bytes (words-ok .0)
 
-    drawing-held : length (heldMemoryOf form1 n file .regs) ≡ 13
-    unfolding heldMemoryOf
-    drawing-held = length-halves-in
+    written-again : (rom : List ℕ) → stateFileOf form (processorIn (bodiesIn form p file)) (memoryIn rom (bodiesIn form p file)) ≡ file
+    unfolding stateFileOf
+    written-again rom = ap (fileOf form) (bodies-are rom) ∙ file-again p file form whole bytes (tests .0)
 
-    halves-held : (k : ℕ) → getD (heldMemoryOf form1 n file .regs) k 0 < 65536
-    unfolding heldMemoryOf
-    halves-held = halves-in-fit
+    held-lines : formHolds form (linesOf (hardwareFrom (bodiesIn form p file .hardware))) ≡ true
+    unfolding formHolds bodiesIn linesOf hardwareFrom
+    held-lines = by form
+      where
+        by : (f : Form) → formHolds f (linesOf (hardwareFrom (hardwareIn f p file))) ≡ true
+        by One = refl
+        by Two = refl
 
-    savable : Savable (heldProcessorOf form1 n file) (heldMemoryOf form1 n file)
-    savable =
-        record {
-          accepted = tests .1 .1;
-          general = general-held;
-          words = λ k. rw words-held (words-in-fit k);
-          drawing = drawing-held;
-          halves = halves-held;
-        }
+    module _ (rom : List ℕ) (l : Lengths (length rom) 65536 262144 p) where
+      lengths : Lengths (length rom) (length (bodiesIn form p file .wram)) (length (bodiesIn form p file .vram)) (length (bodiesIn form p file .pak))
+      lengths =
+          record {
+            rom-ok = l .rom-ok;
+            wram-ok = sized-in p file form whole .wram;
+            vram-ok = sized-in p file form whole .vram;
+            pak-ok = rw (length-pak-in p file form whole) (l .pak-ok);
+          }
 
-    same-pak : length (heldMemoryOf form1 n file .pak) ≡ length (n .pak)
-    unfolding heldMemoryOf
-    same-pak = length-pak-in (length (n .pak)) file whole
+      accepted-held : acceptanceIn (processorIn (bodiesIn form p file)) (memoryIn rom (bodiesIn form p file)) ≡ Accepted
+      unfolding processorIn processorOf memoryIn drawingBodyOk hardwareBodyOk
+      accepted-held =
+          accepts (processorIn (bodiesIn form p file)) (memoryIn rom (bodiesIn form p file))
+          (record { lengths = lengths; state = words-ok .1; drawing = three .0 .1; hardware = three .1 })
 
-    written-again : stateFileOf form1 (heldProcessorOf form1 n file) (heldMemoryOf form1 n file) ≡ file
-    unfolding stateFileOf heldMemoryOf
-    written-again = rw words-held (file-again (length (n .pak)) file bytes whole (tests .0))
+      general-length : length (processorIn (bodiesIn form p file) .regs) ≡ 32
+      unfolding processorIn processorOf generalFrom
+      general-length = length-words-from (bodiesIn form p file .processor) 0 32
+
+      words-small : (k : ℕ) → getD (wordsOf (processorIn (bodiesIn form p file))) k 0 < 2 ^ 32
+      unfolding processorIn
+      words-small k =
+          rw (words-held (bodiesIn form p file .processor) processor-bytes (hardwareFrom (bodiesIn form p file .hardware)) (words-ok .0))
+          (words-fit (bodiesIn form p file .processor) processor-bytes 0 43 k)
+
+      drawing-length : length (memoryIn rom (bodiesIn form p file) .regs) ≡ 13
+      unfolding memoryIn drawingFrom
+      drawing-length = length-halves-from (bodiesIn form p file .drawing) 0 13
+
+      halves-small : (k : ℕ) → getD (memoryIn rom (bodiesIn form p file) .regs) k 0 < 65536
+      unfolding memoryIn drawingFrom
+      halves-small k = halves-fit (bodiesIn form p file .drawing) drawing-bytes 0 13 k
+
+      lines-small : (k : ℕ) → getD (linesOf (processorIn (bodiesIn form p file) .hardware)) k 0 < 65536
+      unfolding processorIn processorOf
+      lines-small k =
+          rw (lines-are (bodiesIn form p file .hardware) hardware-bytes) (halves-fit (bodiesIn form p file .hardware) hardware-bytes 0 4 k)
+
+      lines-held : formHolds form (linesOf (processorIn (bodiesIn form p file) .hardware)) ≡ true
+      unfolding processorIn processorOf
+      lines-held = held-lines
+
+      savable : Savable form (processorIn (bodiesIn form p file)) (memoryIn rom (bodiesIn form p file))
+      savable =
+          record {
+            accepted = accepted-held;
+            held = lines-held;
+            general = general-length;
+            words = words-small;
+            drawing = drawing-length;
+            halves = halves-small;
+            lines = lines-small;
+          }
+
+pak-length : (rom : List ℕ) (b : Bodies) → length (memoryIn rom b .pak) ≡ length (b .pak)
+unfolding memoryIn
+pak-length rom b = refl
 
 pub written-exactly : WrittenExactly
+unfolding heldProcessorOf heldMemoryOf heldBodiesOf
 written-exactly q n file accepted whole bytes =
     record {
-      refused = λ e p m s same f. differs (sym e ∙ (ap (bytesOk form1 n) (sym f) ∙ made p m s n (sym same) q accepted));
-      made = λ ok. (savable n file whole bytes ok, (same-pak n file whole bytes ok, written-again n file whole bytes ok));
+      refused = λ no p m s same e. never no (sym (rw (e, same) at (ok (formOf file) p m s)));
+      made = λ yes. (
+        savable (formOf file) (length (n .pak)) file whole bytes yes (n .rom) lengths-of,
+        (
+          pak-length (n .rom) (bodiesIn (formOf file) (length (n .pak)) file) ∙ length-pak-in (length (n .pak)) file (formOf file) whole,
+          written-again (formOf file) (length (n .pak)) file whole bytes yes (n .rom),
+        ),
+      );
     }
   where
-    differs : false ≡ true → ⊥
-    differs e = let z : _≡_ {A = ℕ} 0 1 = cc in omega arith
+    never : {t : Bool} → t ≡ false → true ≡ t → ⊥
+    never e f =
+        let z : _≡_ {A = ℕ} 0 1 = cc in
+        omega arith
+
+    lengths-of : Lengths (length (n .rom)) 65536 262144 (length (n .pak))
+    lengths-of =
+        let l = passed q n accepted .lengths in
+        record { rom-ok = l .rom-ok; wram-ok = refl; vram-ok = refl; pak-ok = l .pak-ok }

@@ -1,90 +1,57 @@
 -- What writing and reading a state answer and leave, by each test. Assumes nothing.
 use Prim.Native.Nat.{ℕ, _≤_}
-use native.Mathlib.Omega.{arith}
 use mathlib.Core.Bool.{Bool, true, false}
-use mathlib.Core.List.{List, _++_}
+use mathlib.Core.List.{List, [], _++_}
 use mathlib.Core.Path.{_≡_, refl, sym, ap, _∙_}
-use lib.Dec.{leb}
-use lib.ListN.{length, getD}
+use lib.ListN.{length}
 use borrow.Author.Tests.{eq-eqb, ne-eqb}
-use Rattle.word.specs.Choose.{pick}
 use Rattle.refusal.specs.declared.Refusal as refusal
-use Rattle.refusal.specs.declared.Refusal.the-variants.{FileLength, FileBytes}
+use Rattle.refusal.specs.declared.Refusal.the-variants.{FileLength, FileBytes, NotAtReset}
 use Rattle.refusal.specs.declared.Verdict.{Verdict}
 use Rattle.refusal.specs.declared.Verdict.the-variants.{Accepted, Refused}
-use Rattle.bus.specs.Memory.{Memory, memoryOf, Lengths}
-use Rattle.processor.specs.Acceptance.{acceptanceIn, acceptanceAt}
+use Rattle.bus.specs.Memory.{Memory, memoryOf}
+use Rattle.processor.specs.Acceptance.{acceptanceIn}
 use Rattle.processor.specs.declared.Processor.{Processor}
-use Rattle.saved_layout.specs.Layout.{form1, fileLengthOf}
-use Rattle.saved_layout.specs.File.{fileOf, contentsOk, wordsIn, halvesIn, wramIn, vramIn, pakIn}
-use Rattle.saved.specs.Body.{restOf, wordsOf, processorIn}
-use Rattle.saved.specs.Calls.{stateFileOf, heldProcessorOf, heldMemoryOf, isAccepted, bytesOk, writeVerdictOf, writtenOf, readVerdictOf, restoredOf, readOf}
-use Rattle.saved.proofs.Lengths.{lengths-of, length-wram-in, length-vram-in, length-pak-in}
+use Rattle.saved_bytes.specs.Numbers.{bytesOf, halvesOf}
+use Rattle.saved_layout.specs.Layout.{fileLengthOf}
+use Rattle.saved_layout.specs.File.{bodiesOf, fileOf, bodiesIn}
+use Rattle.saved_layout.specs.declared.Form.{Form}
+use Rattle.saved_kinds.specs.Fits.{formOf}
+use Rattle.saved_kinds.specs.Kinds.{drawingFrom, fileOk}
+use Rattle.saved.specs.Body.{restOf, wordsOf, linesOf, machineBodiesOf, processorIn, memoryIn}
+use Rattle.saved.specs.Calls.{stateFileOf, heldBodiesOf, heldProcessorOf, heldMemoryOf, formHolds, writeVerdictOf, writtenOf, readVerdictOf, restoredOf, readOf}
 
-module _ (p : Processor) (m : Memory) (room : List ℕ) where
+module _ (form : Form) (p : Processor) (m : Memory) (room : List ℕ) where
   pub write-refused : (n : refusal.Refusal) → acceptanceIn p m ≡ Refused n
-      → (Refused n ≡ writeVerdictOf p m room) × (room ≡ writtenOf p m room)
+      → (Refused n ≡ writeVerdictOf form p m room) × (room ≡ writtenOf form p m room)
   unfolding writtenOf writeVerdictOf
   write-refused n e = (simp e, simp e)
 
   module _ (e : acceptanceIn p m ≡ Accepted) where
-    pub write-length : (length room ≡ fileLengthOf form1 (length (m .pak)) → ⊥)
-        → (Refused FileLength ≡ writeVerdictOf p m room) × (room ≡ writtenOf p m room)
+    pub write-length : (length room ≡ fileLengthOf form (length (m .pak)) → ⊥)
+        → (Refused FileLength ≡ writeVerdictOf form p m room) × (room ≡ writtenOf form p m room)
     unfolding writtenOf writeVerdictOf
     write-length n = (simp (e, ne-eqb _ _ n), simp (e, ne-eqb _ _ n))
 
-    pub write-accepted : length room ≡ fileLengthOf form1 (length (m .pak))
-        → (Accepted ≡ writeVerdictOf p m room) × (stateFileOf form1 p m ≡ writtenOf p m room)
+    pub write-reset : length room ≡ fileLengthOf form (length (m .pak)) → formHolds form (linesOf (p .hardware)) ≡ false
+        → (Refused NotAtReset ≡ writeVerdictOf form p m room) × (room ≡ writtenOf form p m room)
     unfolding writtenOf writeVerdictOf
-    write-accepted l = (simp (e, eq-eqb _ _ l), simp (e, eq-eqb _ _ l))
+    write-reset l h = (simp (e, eq-eqb _ _ l, h), simp (e, eq-eqb _ _ l, h))
 
-pub file-of-records : (p : Processor) (m : Memory) (rest : List ℕ) → rest ≡ restOf p
-    → fileOf form1 (p .regs ++ rest) (m .regs) (m .wram) (m .vram) (m .pak) ≡ stateFileOf form1 p m
-unfolding stateFileOf wordsOf
-file-of-records p m rest e = rw e
+    pub write-accepted : length room ≡ fileLengthOf form (length (m .pak)) → formHolds form (linesOf (p .hardware)) ≡ true
+        → (Accepted ≡ writeVerdictOf form p m room) × (stateFileOf form p m ≡ writtenOf form p m room)
+    unfolding writtenOf writeVerdictOf
+    write-accepted l h = (simp (e, eq-eqb _ _ l, h), simp (e, eq-eqb _ _ l, h))
 
--- a test of 10 that fails
-both-right : (a b : Bool) → b ≡ false → pick a b false ≡ false
-both-right true b e = e
-both-right false b e = refl
+pub file-of-records : (form : Form) (p : Processor) (m : Memory) (rest lines : List ℕ) → rest ≡ restOf p → lines ≡ linesOf (p .hardware)
+    → fileOf form (bodiesOf (bytesOf (halvesOf (p .regs ++ rest))) (bytesOf (m .regs)) (m .wram) (m .vram) (m .pak) (bytesOf lines)) ≡ stateFileOf form p m
+unfolding stateFileOf machineBodiesOf wordsOf
+file-of-records form p m rest lines e f = rw (e, f)
 
-module _ (m : Memory) (file : List ℕ) where
-  pub bytes-mode : leb (getD (wordsIn form1 (length (m .pak)) file) 42 0) 2 ≡ false → bytesOk form1 m file ≡ false
-  unfolding bytesOk
-  bytes-mode e = both-right (contentsOk form1 (length (m .pak)) file) _ (rw e)
-
-  pub bytes-contents : contentsOk form1 (length (m .pak)) file ≡ false → bytesOk form1 m file ≡ false
-  unfolding bytesOk
-  bytes-contents e = rw e
-
-  pub bytes-held : (n : refusal.Refusal) → acceptanceIn (heldProcessorOf form1 m file) (heldMemoryOf form1 m file) ≡ Refused n
-      → bytesOk form1 m file ≡ false
-  unfolding bytesOk
-  bytes-held n e =
-      both-right (contentsOk form1 (length (m .pak)) file) _
-      (both-right (leb (getD (wordsIn form1 (length (m .pak)) file) 42 0) 2) _ (ap isAccepted e))
-
-  pub bytes-made : contentsOk form1 (length (m .pak)) file ≡ true → leb (getD (wordsIn form1 (length (m .pak)) file) 42 0) 2 ≡ true
-      → acceptanceIn (heldProcessorOf form1 m file) (heldMemoryOf form1 m file) ≡ Accepted
-      → bytesOk form1 m file ≡ true
-  unfolding bytesOk
-  bytes-made a b e = rw (a, b) (ap isAccepted e)
-
--- the machine held, tested beside the lent memories
-module _ (q : Processor) (rom wram vram pak regs halves file : List ℕ) (held : Processor) where
-  module _ (l : Lengths (length rom) (length wram) (length vram) (length pak)) (whole : length file ≡ fileLengthOf form1 (length pak)) where
-    module _ (e : held ≡ processorIn (wordsIn form1 (length pak) file)) (f : halves ≡ halvesIn form1 (length pak) file) where
-      pub held-acceptance : acceptanceIn held (memoryOf rom wram vram pak halves)
-          ≡ acceptanceIn (heldProcessorOf form1 (memoryOf rom wram vram pak regs) file) (heldMemoryOf form1 (memoryOf rom wram vram pak regs) file)
-      unfolding heldProcessorOf heldMemoryOf
-      held-acceptance =
-          rw (
-            ← e,
-            ← f,
-            length-wram-in (length pak) file whole ∙ sym (l .wram-ok),
-            length-vram-in (length pak) file whole ∙ sym (l .vram-ok),
-            length-pak-in (length pak) file whole,
-          )
+-- ROM is not stored
+pub file-beside : (form : Form) (p : Processor) (m : Memory) → stateFileOf form p (memoryOf [] (m .wram) (m .vram) (m .pak) (m .regs)) ≡ stateFileOf form p m
+unfolding stateFileOf machineBodiesOf
+file-beside form p m = refl
 
 module _ (p : Processor) (m : Memory) (file : List ℕ) where
   pub read-refused : (n : refusal.Refusal) → acceptanceIn p m ≡ Refused n → restoredOf (Refused n) p m ≡ readOf p m file
@@ -92,28 +59,38 @@ module _ (p : Processor) (m : Memory) (file : List ℕ) where
   read-refused n e = simp e
 
   module _ (e : acceptanceIn p m ≡ Accepted) where
-    pub read-length : (length file ≡ fileLengthOf form1 (length (m .pak)) → ⊥) → restoredOf (Refused FileLength) p m ≡ readOf p m file
+    pub read-length : (length file ≡ fileLengthOf (formOf file) (length (m .pak)) → ⊥) → restoredOf (Refused FileLength) p m ≡ readOf p m file
     unfolding readOf readVerdictOf
     read-length n = simp (e, ne-eqb _ _ n)
 
-    module _ (l : length file ≡ fileLengthOf form1 (length (m .pak))) where
-      pub read-bytes : bytesOk form1 m file ≡ false → restoredOf (Refused FileBytes) p m ≡ readOf p m file
+    module _ (l : length file ≡ fileLengthOf (formOf file) (length (m .pak))) where
+      pub read-bytes : fileOk (formOf file) (length (m .pak)) file ≡ false → restoredOf (Refused FileBytes) p m ≡ readOf p m file
       unfolding readOf readVerdictOf
-      read-bytes b = simp (e, eq-eqb _ _ l, b)
+      read-bytes n = simp (e, eq-eqb _ _ l, n)
 
-      pub read-accepted : bytesOk form1 m file ≡ true
-          → restoredOf Accepted (heldProcessorOf form1 m file) (heldMemoryOf form1 m file) ≡ readOf p m file
+      pub read-accepted : fileOk (formOf file) (length (m .pak)) file ≡ true
+          → restoredOf Accepted (heldProcessorOf m file) (heldMemoryOf m file) ≡ readOf p m file
       unfolding readOf readVerdictOf
-      read-accepted b = simp (e, eq-eqb _ _ l, b)
+      read-accepted n = simp (e, eq-eqb _ _ l, n)
 
--- what is stored is the machine held
-pub restored-held : (m : Memory) (file : List ℕ) (held : Processor) (wram vram pak halves : List ℕ)
-    → held ≡ processorIn (wordsIn form1 (length (m .pak)) file)
-    → wram ≡ wramIn form1 (length (m .pak)) file
-    → vram ≡ vramIn form1 (length (m .pak)) file
-    → pak ≡ pakIn form1 (length (m .pak)) file
-    → halves ≡ halvesIn form1 (length (m .pak)) file
-    → restoredOf Accepted held (memoryOf (m .rom) wram vram pak halves)
-    ≡ restoredOf Accepted (heldProcessorOf form1 m file) (heldMemoryOf form1 m file)
-unfolding heldProcessorOf heldMemoryOf
-restored-held m file held wram vram pak halves a b c d e = rw (a, b, c, d, e)
+-- what was taken from a file is what it holds
+module _ (m : Memory) (file : List ℕ) (form : Form) (f : form ≡ formOf file) where
+  held-bodies : bodiesIn form (length (m .pak)) file ≡ heldBodiesOf m file
+  unfolding heldBodiesOf
+  held-bodies = ap (λ (g : Form). bodiesIn g (length (m .pak)) file) f
+
+  pub restored-held : (state : Processor) (wram vram pak halves : List ℕ) → state ≡ processorIn (bodiesIn form (length (m .pak)) file)
+      → wram ≡ bodiesIn form (length (m .pak)) file .wram → vram ≡ bodiesIn form (length (m .pak)) file .vram
+      → pak ≡ bodiesIn form (length (m .pak)) file .pak → halves ≡ drawingFrom (bodiesIn form (length (m .pak)) file .drawing)
+      → restoredOf Accepted state (memoryOf (m .rom) wram vram pak halves) ≡ restoredOf Accepted (heldProcessorOf m file) (heldMemoryOf m file)
+  unfolding heldProcessorOf heldMemoryOf memoryIn
+  restored-held state wram vram pak halves e1 e2 e3 e4 e5 = rw (e1, e2, e3, e4, e5, held-bodies)
+
+  pub due-held : (n : ℕ) → n ≡ fileLengthOf form (length (m .pak)) → n ≡ fileLengthOf (formOf file) (length (m .pak))
+  due-held n e = e ∙ ap (λ (g : Form). fileLengthOf g (length (m .pak))) f
+
+  pub due-form : (n : ℕ) → n ≡ fileLengthOf (formOf file) (length (m .pak)) → n ≡ fileLengthOf form (length (m .pak))
+  due-form n e = e ∙ sym (ap (λ (g : Form). fileLengthOf g (length (m .pak))) f)
+
+  pub ok-held : (t s : Bool) → t ≡ fileOk form (length (m .pak)) file → t ≡ s → fileOk (formOf file) (length (m .pak)) file ≡ s
+  ok-held t s e g = sym (ap (λ (h : Form). fileOk h (length (m .pak)) file) f) ∙ (sym e ∙ g)

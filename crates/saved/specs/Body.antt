@@ -1,15 +1,19 @@
--- Kind 1, the processor's 43 words (paper 02, W1): "32 registers, PC, EIPC, EIPSW, FEPC, FEPSW, ECR, PSW, system registers 25 and
--- 29, the value read from 31, mode: 0 running, 1 halted, 2 fatal"; and the record that 43 words stand for. The request lines and
--- the timer are not among them.
+-- A machine's records as bodies, and the records that bodies stand for. Kind 1, 43 words (paper 02, W1): "32 registers, PC, EIPC, EIPSW,
+-- FEPC, FEPSW, ECR, PSW, system registers 25 and 29, the value read from 31, mode: 0 running, 1 halted, 2 fatal"; kind 2, 13 halfwords;
+-- kind 6, four halfwords (W12): "request lines (bit n for level n), timer count, reload, control bits".
 use Prim.Native.Nat.{ℕ}
 use mathlib.Core.List.{List, [], _∷_, _++_}
 use lib.Dec.{eqb}
-use lib.ListN.{getD, take, drop}
+use lib.ListN.{getD}
 use Rattle.word.specs.Choose.{pick}
+use Rattle.bus_timer.specs.declared.Hardware.{Hardware}
+use Rattle.bus.specs.Memory.{Memory, memoryOf}
 use Rattle.processor_machine.specs.declared.Mode.{Mode}
 use Rattle.processor_machine.specs.declared.Mode.the-variants.{Running, Halted, Fatal}
-use Rattle.processor.specs.Record.{resetHardware}
 use Rattle.processor.specs.declared.Processor.{Processor}
+use Rattle.saved_bytes.specs.Numbers.{bytesOf, halvesOf}
+use Rattle.saved_layout.specs.File.{Bodies, bodiesOf}
+use Rattle.saved_kinds.specs.Kinds.{generalFrom, restFrom, drawingFrom, hardwareFrom}
 
 abbrev pub modeWordOf : Mode → ℕ
 modeWordOf Running = 0
@@ -40,10 +44,18 @@ restOf p =
 unfoldable pub wordsOf : Processor → List ℕ
 wordsOf p = p .regs ++ restOf p
 
--- the record of the general registers and the eleven words, with lines and timer at reset: paper 02, W6, "W1's files leave
--- them out and load them at reset"
-unfoldable pub processorOf : List ℕ → List ℕ → Processor
-processorOf regs rest =
+-- kind 6's halfwords
+unfoldable pub linesOf : Hardware → List ℕ
+linesOf h = h .lines ∷ h .count ∷ h .reload ∷ h .control ∷ []
+
+-- the bodies of a machine
+unfoldable pub machineBodiesOf : Processor → Memory → Bodies
+machineBodiesOf p m =
+    bodiesOf (bytesOf (halvesOf (wordsOf p))) (bytesOf (m .regs)) (m .wram) (m .vram) (m .pak) (bytesOf (linesOf (p .hardware)))
+
+-- the record of the general registers, the eleven words, and the lines and the timer
+unfoldable pub processorOf : List ℕ → List ℕ → Hardware → Processor
+processorOf regs rest hardware =
     record {
       regs = regs;
       pc = getD rest 0 0;
@@ -57,9 +69,13 @@ processorOf regs rest =
       sr29 = getD rest 8 0;
       sr31 = getD rest 9 0;
       mode = modeOf (getD rest 10 0);
-      hardware = resetHardware;
+      hardware = hardware;
     }
 
--- the record of 43 words
-unfoldable pub processorIn : List ℕ → Processor
-processorIn words = processorOf (take 32 words) (drop 32 words)
+-- the record that bodies stand for
+unfoldable pub processorIn : Bodies → Processor
+processorIn b = processorOf (generalFrom (b .processor)) (restFrom (b .processor)) (hardwareFrom (b .hardware))
+
+-- the memories and drawing registers that they stand for, beside a ROM
+unfoldable pub memoryIn : List ℕ → Bodies → Memory
+memoryIn rom b = memoryOf rom (b .wram) (b .vram) (b .pak) (drawingFrom (b .drawing))

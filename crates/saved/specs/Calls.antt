@@ -1,65 +1,67 @@
--- What writing and reading a state answer and leave, for every input (paper 02, W1): refusals 1 to 5, then 9 and, reading, 10.
--- A refusal changes nothing. ROM is tested and neither stored nor changed.
+-- What writing and reading a state answer and leave, for every input (paper 02, W1 and W12): refusals 1 to 5, then 9 and, reading, 10;
+-- writing form 1, 16. Reading takes the form from the file. A refusal changes nothing. ROM is tested and neither stored nor changed.
 use Prim.Native.Nat.{ℕ}
-use mathlib.Core.Bool.{Bool, true, false}
+use mathlib.Core.Bool.{Bool, true}
 use mathlib.Core.List.{List}
-use lib.Dec.{eqb, leb}
-use lib.ListN.{length, getD}
+use lib.Dec.{eqb}
+use lib.ListN.{length, replicate}
 use Rattle.refusal.specs.Number.{unless}
 use Rattle.refusal.specs.declared.Verdict.{Verdict}
 use Rattle.refusal.specs.declared.Verdict.the-variants.{Accepted, Refused}
-use Rattle.refusal.specs.declared.Refusal.the-variants.{FileLength, FileBytes}
-use Rattle.bus.specs.Memory.{Memory, memoryOf}
-use Rattle.processor.specs.Acceptance.{both, thenOf, acceptanceIn}
+use Rattle.refusal.specs.declared.Refusal.the-variants.{FileLength, FileBytes, NotAtReset}
+use Rattle.bus_timer.specs.declared.Hardware.{Hardware}
+use Rattle.bus.specs.Memory.{Memory}
+use Rattle.processor.specs.Acceptance.{thenOf, acceptanceIn}
 use Rattle.processor.specs.declared.Processor.{Processor}
-use Rattle.saved_layout.specs.Layout.{Form, form1, fileLengthOf}
-use Rattle.saved_layout.specs.File.{fileOf, contentsOk, wordsIn, halvesIn, wramIn, vramIn, pakIn}
-use Rattle.saved.specs.Body.{wordsOf, processorIn}
+use Rattle.saved_bytes.specs.Numbers.{sameOf}
+use Rattle.saved_layout.specs.Layout.{fileLengthOf}
+use Rattle.saved_layout.specs.File.{Bodies, fileOf, bodiesIn}
+use Rattle.saved_layout.specs.declared.Form.{Form}
+use Rattle.saved_layout.specs.declared.Form.the-variants.{One, Two}
+use Rattle.saved_kinds.specs.Fits.{formOf}
+use Rattle.saved_kinds.specs.Kinds.{fileOk}
+use Rattle.saved_kinds.specs.Room.{whenAccepted}
+use Rattle.saved.specs.Body.{linesOf, machineBodiesOf, processorIn, memoryIn}
 
--- the file of a machine
+-- the file of a machine in a form
 unfoldable pub stateFileOf : Form → Processor → Memory → List ℕ
-stateFileOf form p m = fileOf form (wordsOf p) (m .regs) (m .wram) (m .vram) (m .pak)
+stateFileOf form p m = fileOf form (machineBodiesOf p m)
 
 -- the machine that a file holds, beside a memory whose pak RAM has the due length
-unfoldable pub heldProcessorOf : Form → Memory → List ℕ → Processor
-heldProcessorOf form m file = processorIn (wordsIn form (length (m .pak)) file)
+unfoldable pub heldBodiesOf : Memory → List ℕ → Bodies
+heldBodiesOf m file = bodiesIn (formOf file) (length (m .pak)) file
 
-unfoldable pub heldMemoryOf : Form → Memory → List ℕ → Memory
-heldMemoryOf form m file =
-    memoryOf (m .rom) (wramIn form (length (m .pak)) file) (vramIn form (length (m .pak)) file) (pakIn form (length (m .pak)) file)
-    (halvesIn form (length (m .pak)) file)
+unfoldable pub heldProcessorOf : Memory → List ℕ → Processor
+heldProcessorOf m file = processorIn (heldBodiesOf m file)
 
-abbrev pub isAccepted : Verdict → Bool
-isAccepted Accepted = true
-isAccepted (Refused n) = false
+unfoldable pub heldMemoryOf : Memory → List ℕ → Memory
+heldMemoryOf m file = memoryIn (m .rom) (heldBodiesOf m file)
 
--- 9: whether a room or a file has exactly the length that the lent pak RAM's length calls for
+-- 9: whether a room or a file has exactly the length that the form and the lent pak RAM's length call for
 abbrev pub lengthOk : Form → Memory → List ℕ → Bool
 lengthOk form m file = eqb (length file) (fileLengthOf form (length (m .pak)))
 
--- 10: everything before the first body is right, the mode is one of three, and the machine held passes 1 to 5
-unfoldable pub bytesOk : Form → Memory → List ℕ → Bool
-bytesOk form m file =
-    both (contentsOk form (length (m .pak)) file)
-    (both (leb (getD (wordsIn form (length (m .pak)) file) 42 0) 2)
-    (isAccepted (acceptanceIn (heldProcessorOf form m file) (heldMemoryOf form m file))))
+-- 16: form 2 holds any lines and timer, form 1 only those at reset
+unfoldable pub formHolds : Form → List ℕ → Bool
+formHolds One lines = sameOf lines (replicate 4 0)
+formHolds Two lines = true
 
--- the writing call's verdict: 1 to 5, 9; and the room afterwards
-unfoldable pub writeVerdictOf : Processor → Memory → List ℕ → Verdict
-writeVerdictOf p m room = thenOf (acceptanceIn p m) (unless (lengthOk form1 m room) FileLength Accepted)
+abbrev pub holdsOk : Form → Hardware → Bool
+holdsOk form h = formHolds form (linesOf h)
 
-abbrev pub whenAccepted : Verdict → List ℕ → List ℕ → List ℕ
-whenAccepted Accepted refused accepted = accepted
-whenAccepted (Refused n) refused accepted = refused
+-- a writing call's verdict: 1 to 5, 9, 16; and the room afterwards
+unfoldable pub writeVerdictOf : Form → Processor → Memory → List ℕ → Verdict
+writeVerdictOf form p m room =
+    thenOf (acceptanceIn p m) (unless (lengthOk form m room) FileLength (unless (holdsOk form (p .hardware)) NotAtReset Accepted))
 
-unfoldable pub writtenOf : Processor → Memory → List ℕ → List ℕ
-writtenOf p m room = whenAccepted (writeVerdictOf p m room) room (stateFileOf form1 p m)
+unfoldable pub writtenOf : Form → Processor → Memory → List ℕ → List ℕ
+writtenOf form p m room = whenAccepted (writeVerdictOf form p m room) room (stateFileOf form p m)
 
--- the reading call's verdict: 1 to 5, 9, 10
+-- the reading call's verdict: 1 to 5, 9 by the file's form, 10
 unfoldable pub readVerdictOf : Processor → Memory → List ℕ → Verdict
 readVerdictOf p m file =
     thenOf (acceptanceIn p m)
-    (unless (lengthOk form1 m file) FileLength (unless (bytesOk form1 m file) FileBytes Accepted))
+    (unless (lengthOk (formOf file) m file) FileLength (unless (fileOk (formOf file) (length (m .pak)) file) FileBytes Accepted))
 
 -- what it gives: the verdict, the record and the memory afterwards
 pub record Restored : Type 0 where
@@ -71,7 +73,7 @@ abbrev pub restoredOf : Verdict → Processor → Memory → Restored
 restoredOf verdict p m = record { verdict = verdict; processor = p; memory = m }
 
 abbrev pub restoredWhen : Verdict → Processor → Memory → List ℕ → Restored
-restoredWhen Accepted p m file = restoredOf Accepted (heldProcessorOf form1 m file) (heldMemoryOf form1 m file)
+restoredWhen Accepted p m file = restoredOf Accepted (heldProcessorOf m file) (heldMemoryOf m file)
 restoredWhen (Refused n) p m file = restoredOf (Refused n) p m
 
 unfoldable pub readOf : Processor → Memory → List ℕ → Restored

@@ -1,19 +1,78 @@
-// Saved states: a machine written into a lent room, and read back from a file.
+// Saved states: a machine written into a lent room in either form, and read back from a file of either.
 mod records;
 
 use bus::Drawing;
 use processor::Processor;
 use refusal::Refusal;
 use refusal::Verdict;
+use saved_kinds::bodies;
+use saved_kinds::lengths;
+use saved_layout::Form;
+use saved_layout::places;
+ghost use mathlib.Core.List.{[]};
 ghost use mathlib.Core.Path.{_≡_};
+ghost use Prim.Native.Nat.{_≤_};
+ghost use lib.ListN.{length};
 ghost use Rattle.bus.specs.Memory.{memoryOf};
-ghost use Rattle.saved.specs.Calls.{writeVerdictOf, writtenOf, restoredOf, readOf};
+ghost use Rattle.saved_layout.specs.Layout.{fileLengthOf};
+ghost use Rattle.saved_layout.specs.declared.Form.the-variants.{One, Two};
+ghost use Rattle.saved.specs.Calls.{stateFileOf, writeVerdictOf, writtenOf, restoredOf, readOf};
 
 // Whether a read was refused, and both records afterwards.
 pub struct Restored {
     pub verdict: Verdict,
     pub processor: Processor,
     pub drawing: Drawing,
+}
+
+// The file of a machine into a room of its length.
+fn put(
+    form: Form,
+    wram: &[u8],
+    vram: &[u8],
+    pak: &[u8],
+    processor: Processor,
+    drawing: Drawing,
+    room: &mut [u8],
+)
+    requires { ⌜ (length (now wram) ≡ 65536) × ((length (now vram) ≡ 262144) × (length (now pak) ≤ 16777216)) ⌝ }
+    requires { ⌜ length (now room) ≡ fileLengthOf form (length (now pak)) ⌝ }
+    ensures { λ _. ⌜ now (room .exit) ≡ stateFileOf form processor (memoryOf [] (now (wram .entry)) (now (vram .entry)) (now (pak .entry)) (drawing .regs)) ⌝ }
+{
+    let regs = processor.regs;
+    let rest = records::rest(processor);
+    let halves = drawing.regs;
+    let lines = records::lines(processor.hardware);
+    saved_layout::bodies::write(form, room, &regs, &rest, &halves, wram, vram, pak, &lines);
+}
+
+// A machine into a room.
+fn write_form(
+    form: Form,
+    rom: &[u8],
+    wram: &[u8],
+    vram: &[u8],
+    pak: &[u8],
+    processor: Processor,
+    drawing: Drawing,
+    room: &mut [u8],
+) -> Verdict
+    ensures verdict { λ v. ⌜ v ≡ writeVerdictOf form processor (memoryOf (now (rom .entry)) (now (wram .entry)) (now (vram .entry)) (now (pak .entry)) (drawing .regs)) (now (room .entry)) ⌝ }
+    ensures room { λ _. ⌜ now (room .exit) ≡ writtenOf form processor (memoryOf (now (rom .entry)) (now (wram .entry)) (now (vram .entry)) (now (pak .entry)) (drawing .regs)) (now (room .entry)) ⌝ }
+{
+    match processor::calls::verdict(rom, wram, vram, pak, processor, drawing) {
+        Verdict::Refused(n) => Verdict::Refused(n),
+        Verdict::Accepted => {
+            if room.len() != places::file_length(form, pak.len()) {
+                return Verdict::Refused(Refusal::FileLength);
+            }
+            if !records::holds(form, records::lines(processor.hardware)) {
+                return Verdict::Refused(Refusal::NotAtReset);
+            }
+            put(form, wram, vram, pak, processor, drawing, room);
+            Verdict::Accepted
+        }
+    }
 }
 
 // A machine into a room, in form 1.
@@ -26,25 +85,29 @@ pub fn write(
     drawing: Drawing,
     room: &mut [u8],
 ) -> Verdict
-    ensures verdict { λ v. ⌜ v ≡ writeVerdictOf processor (memoryOf (now (rom .entry)) (now (wram .entry)) (now (vram .entry)) (now (pak .entry)) (drawing .regs)) (now (room .entry)) ⌝ }
-    ensures room { λ _. ⌜ now (room .exit) ≡ writtenOf processor (memoryOf (now (rom .entry)) (now (wram .entry)) (now (vram .entry)) (now (pak .entry)) (drawing .regs)) (now (room .entry)) ⌝ }
+    ensures verdict { λ v. ⌜ v ≡ writeVerdictOf One processor (memoryOf (now (rom .entry)) (now (wram .entry)) (now (vram .entry)) (now (pak .entry)) (drawing .regs)) (now (room .entry)) ⌝ }
+    ensures room { λ _. ⌜ now (room .exit) ≡ writtenOf One processor (memoryOf (now (rom .entry)) (now (wram .entry)) (now (vram .entry)) (now (pak .entry)) (drawing .regs)) (now (room .entry)) ⌝ }
 {
-    match processor::calls::verdict(rom, wram, vram, pak, processor, drawing) {
-        Verdict::Refused(n) => Verdict::Refused(n),
-        Verdict::Accepted => {
-            if room.len() != saved_layout::bodies::file_length(pak.len()) {
-                return Verdict::Refused(Refusal::FileLength);
-            }
-            let regs = processor.regs;
-            let rest = records::rest(processor);
-            let halves = drawing.regs;
-            saved_layout::bodies::write(room, &regs, &rest, &halves, wram, vram, pak);
-            Verdict::Accepted
-        }
-    }
+    write_form(Form::One, rom, wram, vram, pak, processor, drawing, room)
 }
 
-// A machine from a file in form 1: WRAM, VRAM, pak RAM and both records. The whole file is tested before a byte is stored.
+// A machine into a room, in form 2.
+pub fn write_2(
+    rom: &[u8],
+    wram: &[u8],
+    vram: &[u8],
+    pak: &[u8],
+    processor: Processor,
+    drawing: Drawing,
+    room: &mut [u8],
+) -> Verdict
+    ensures verdict { λ v. ⌜ v ≡ writeVerdictOf Two processor (memoryOf (now (rom .entry)) (now (wram .entry)) (now (vram .entry)) (now (pak .entry)) (drawing .regs)) (now (room .entry)) ⌝ }
+    ensures room { λ _. ⌜ now (room .exit) ≡ writtenOf Two processor (memoryOf (now (rom .entry)) (now (wram .entry)) (now (vram .entry)) (now (pak .entry)) (drawing .regs)) (now (room .entry)) ⌝ }
+{
+    write_form(Form::Two, rom, wram, vram, pak, processor, drawing, room)
+}
+
+// A machine from a file of either form: WRAM, VRAM, pak RAM and both records. The whole file is tested before a byte is stored.
 pub fn read(
     rom: &[u8],
     wram: &mut [u8],
@@ -64,45 +127,28 @@ pub fn read(
         },
         Verdict::Accepted => {
             let length = pak.len();
-            if file.len() != saved_layout::bodies::file_length(length) {
+            let form = lengths::form_of(file);
+            if file.len() != places::file_length(form, length) {
                 return Restored {
                     verdict: Verdict::Refused(Refusal::FileLength),
                     processor,
                     drawing,
                 };
             }
-            let held = records::held(file, length);
-            let halves = records::drawing(file, length);
-            let state = held.processor;
-            let mode_ok = held.mode_ok;
-            if !mode_ok {
+            if !bodies::file_ok(form, file, length) {
                 return Restored {
                     verdict: Verdict::Refused(Refusal::FileBytes),
                     processor,
                     drawing,
                 };
             }
-            if !saved_layout::bodies::contents_ok(file, length) {
-                return Restored {
-                    verdict: Verdict::Refused(Refusal::FileBytes),
-                    processor,
-                    drawing,
-                };
-            }
-            match processor::calls::verdict(rom, wram, vram, pak, state, Drawing { regs: halves }) {
-                Verdict::Refused(_) => Restored {
-                    verdict: Verdict::Refused(Refusal::FileBytes),
-                    processor,
-                    drawing,
-                },
-                Verdict::Accepted => {
-                    saved_layout::bodies::take_memories(file, wram, vram, pak);
-                    Restored {
-                        verdict: Verdict::Accepted,
-                        processor: state,
-                        drawing: Drawing { regs: halves },
-                    }
-                }
+            let state = records::held(form, file, length);
+            let halves = records::drawing(form, file, length);
+            saved_layout::bodies::take_memories(form, file, wram, vram, pak);
+            Restored {
+                verdict: Verdict::Accepted,
+                processor: state,
+                drawing: Drawing { regs: halves },
             }
         }
     }

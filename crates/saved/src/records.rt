@@ -2,20 +2,18 @@
 use bus_timer::Hardware;
 use processor::Processor;
 use processor_machine::Mode;
-ghost use mathlib.Core.Bool.{_&&_};
+use saved_bytes::numbers;
+use saved_layout::Form;
+use saved_layout::places;
 ghost use mathlib.Core.Path.{_≡_};
 ghost use Prim.Native.Nat.{_≤_};
-ghost use lib.Dec.{leb};
-ghost use lib.ListN.{length, getD};
-ghost use Rattle.saved_layout.specs.Layout.{form1, fileLengthOf};
-ghost use Rattle.saved_layout.specs.File.{wordsIn, halvesIn};
-ghost use Rattle.saved.specs.Body.{modeWordOf, modeOf, restOf, processorOf, processorIn};
-
-// The record that a file holds, and whether its mode is one of three.
-pub struct Words {
-    pub processor: Processor,
-    pub mode_ok: bool,
-}
+ghost use lib.ListN.{length, replicate};
+ghost use Rattle.saved_bytes.specs.Numbers.{sameOf};
+ghost use Rattle.saved_layout.specs.Layout.{fileLengthOf};
+ghost use Rattle.saved_layout.specs.File.{bodiesIn};
+ghost use Rattle.saved_kinds.specs.Kinds.{generalFrom, restFrom, drawingFrom, hardwareFrom};
+ghost use Rattle.saved.specs.Body.{modeWordOf, modeOf, restOf, linesOf, processorOf, processorIn};
+ghost use Rattle.saved.specs.Calls.{formHolds};
 
 fn mode_word(mode: Mode) -> u32
     ensures { λ r. ⌜ r ≡ modeWordOf mode ⌝ }
@@ -60,9 +58,37 @@ pub fn rest(p: Processor) -> [u32; 11]
     ]
 }
 
-// The record of the general registers and the eleven words, with lines and timer at reset.
-fn processor_of(regs: [u32; 32], rest: [u32; 11]) -> Processor
-    ensures { λ r. ⌜ r ≡ processorOf regs rest ⌝ }
+// The four halfwords of lines and timer.
+pub fn lines(h: Hardware) -> [u16; 4]
+    ensures { λ r. ⌜ r ≡ linesOf h ⌝ }
+{
+    [h.lines, h.count, h.reload, h.control]
+}
+
+// Whether a form holds these four halfwords: form 1 only zeros.
+pub fn holds(form: Form, lines: [u16; 4]) -> bool
+    ensures { λ r. ⌜ r ≡ formHolds form lines ⌝ }
+{
+    match form {
+        Form::Two => true,
+        Form::One => {
+            if lines[0] != 0 {
+                return false;
+            }
+            if lines[1] != 0 {
+                return false;
+            }
+            if lines[2] != 0 {
+                return false;
+            }
+            lines[3] == 0
+        }
+    }
+}
+
+// The record of the general registers, the eleven words, and lines and timer.
+fn processor_of(regs: [u32; 32], rest: [u32; 11], hardware: Hardware) -> Processor
+    ensures { λ r. ⌜ r ≡ processorOf regs rest hardware ⌝ }
 {
     let mode = mode_of(rest[10]);
     Processor {
@@ -78,36 +104,60 @@ fn processor_of(regs: [u32; 32], rest: [u32; 11]) -> Processor
         sr29: rest[8],
         sr31: rest[9],
         mode,
-        hardware: Hardware {
+        hardware,
+    }
+}
+
+// The record of a body of kind 1.
+fn processor(body: &[u8], hardware: Hardware) -> Processor
+    requires { ⌜ length (now body) ≡ 172 ⌝ }
+    ensures { λ r. ⌜ r ≡ processorOf (generalFrom (now (body .entry))) (restFrom (now (body .entry))) hardware ⌝ }
+{
+    let mut regs = [0u32; 32];
+    let mut rest = [0u32; 11];
+    numbers::take_words(body, 0, &mut regs);
+    numbers::take_words(body, 128, &mut rest);
+    processor_of(regs, rest, hardware)
+}
+
+// The lines and the timer that a file holds: at reset in form 1.
+fn hardware(form: Form, file: &[u8], pak: usize) -> Hardware
+    requires { ⌜ (length (now file) ≡ fileLengthOf form pak) × (pak ≤ 16777216) ⌝ }
+    ensures { λ r. ⌜ r ≡ hardwareFrom (bodiesIn form pak (now (file .entry)) .hardware) ⌝ }
+{
+    match form {
+        Form::One => Hardware {
             lines: 0,
             count: 0,
             reload: 0,
             control: 0,
         },
+        Form::Two => {
+            let last = places::first(Form::Two, pak) + 327878 + pak;
+            let end = last + 8;
+            saved_kinds::bodies::hardware(&file[last..end])
+        }
     }
 }
 
 // The record that a file of the due length holds.
-pub fn held(file: &[u8], pak: usize) -> Words
-    requires { ⌜ length (now file) ≡ fileLengthOf form1 pak ⌝ }
-    ensures { λ r. ⌜ (r .processor ≡ processorIn (wordsIn form1 pak (now (file .entry)))) × (r .«mode_ok» ≡ leb (getD (wordsIn form1 pak (now (file .entry))) 42 0) 2) ⌝ }
+pub fn held(form: Form, file: &[u8], pak: usize) -> Processor
+    requires { ⌜ (length (now file) ≡ fileLengthOf form pak) × (pak ≤ 16777216) ⌝ }
+    ensures { λ r. ⌜ r ≡ processorIn (bodiesIn form pak (now (file .entry))) ⌝ }
 {
-    let mut regs = [0u32; 32];
-    let mut rest = [0u32; 11];
-    saved_layout::bodies::take_words(file, pak, &mut regs, &mut rest);
-    let mode_ok = rest[10] <= 2;
-    Words {
-        processor: processor_of(regs, rest),
-        mode_ok,
-    }
+    let at = places::first(form, pak);
+    let end = at + 172;
+    processor(&file[at..end], hardware(form, file, pak))
 }
 
 // The drawing registers that it holds.
-pub fn drawing(file: &[u8], pak: usize) -> [u16; 13]
-    requires { ⌜ length (now file) ≡ fileLengthOf form1 pak ⌝ }
-    ensures { λ r. ⌜ r ≡ halvesIn form1 pak (now (file .entry)) ⌝ }
+pub fn drawing(form: Form, file: &[u8], pak: usize) -> [u16; 13]
+    requires { ⌜ (length (now file) ≡ fileLengthOf form pak) × (pak ≤ 16777216) ⌝ }
+    ensures { λ r. ⌜ r ≡ drawingFrom (bodiesIn form pak (now (file .entry)) .drawing) ⌝ }
 {
+    let at = places::first(form, pak) + 172;
+    let end = at + 26;
     let mut halves = [0u16; 13];
-    saved_layout::bodies::take_halves(file, pak, &mut halves);
+    numbers::take_halves(&file[at..end], 0, &mut halves);
     halves
 }

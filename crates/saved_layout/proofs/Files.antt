@@ -1,161 +1,276 @@
 -- What stands in a file that was written is what it was written from; and a file whose contents are right is what its own bodies
--- are written as. Assumes nothing.
+-- are written as. Both forms at once. Assumes nothing.
 use Prim.Native.Nat.{ℕ, zero, suc, _+_, _*_, _/_, _%_, _^_, _<_, _≤_}
 use native.Mathlib.Omega.{arith}
 use mathlib.Core.Bool.{true}
 use mathlib.Core.Path.{_≡_, refl, sym, ap, subst, _∙_}
-use mathlib.Core.List.{List, [], _∷_, _++_, append-assoc, append-nil}
-use lib.ListN.{length, getD, take, drop, length-append, length-take, length-drop, take-append-drop}
-use lib.Seq.{take-all, take-at, drop-at, drop-drop, take-length}
-use Rattle.saved_layout.specs.Numbers.{bytesOf, halvesOf, halvesFrom, wordsFrom}
-use Rattle.saved_layout.specs.Layout.{form1, contentsOf, placeOf, fileLengthOf}
-use Rattle.saved_layout.specs.File.{fileOf, sameOf, contentsOk, wordsIn, halvesIn, wramIn, vramIn, pakIn}
-use Rattle.saved_layout.proofs.LittleEndian.{length-bytes, length-halves}
-use Rattle.saved_layout.proofs.Places.{first-some, second, third, fourth, fifth, length-is, contents-end, contents-empty, contents-some}
-use Rattle.saved_layout.proofs.Written.{length-contents, length-words}
-use Rattle.saved_layout.proofs.Reading.{Under, halves-back, words-back, same-self, same-equal, halves-again, words-again}
+use mathlib.Core.List.{List, [], _∷_, _++_, append-nil}
+use lib.ListN.{length, getD, take, drop, length-append, length-take, length-drop, length-replicate, take-append-drop, drop-of-length-le}
+use lib.Seq.{take-all, take-at, drop-at, drop-drop}
+use Rattle.saved_bytes.specs.Numbers.{bytesOf, halvesFrom, sameOf}
+use Rattle.saved_bytes.specs.Parts.{putAt, sumOf}
+use Rattle.saved_bytes.proofs.LittleEndian.{length-bytes}
+use Rattle.saved_bytes.proofs.Reading.{Under, halves-back, same-self, same-equal, halves-again}
+use Rattle.saved_bytes.proofs.Putting.{put-first}
+use Rattle.saved_layout.specs.Layout.{contentsOf, placeOf, lastPlaceOf, fileLengthOf}
+use Rattle.saved_layout.specs.File.{Bodies, bodiesOf, sumsOf, lastOf, joinedOf, fileOf, hardwareReset, hardwareIn, bodiesIn, contentsIn, contentsOk, Sized, HeldBy}
+use Rattle.saved_layout.specs.declared.Form.{Form}
+use Rattle.saved_layout.specs.declared.Form.the-variants.{One, Two}
+use Rattle.saved_layout.proofs.Positions.{first-small, second, third, fourth, fifth, last-place, length-is, contents-end, one-empty, one-some, two-empty, two-some}
 
 -- the contents are halfwords
-contents-under-some : (p : ℕ) → p ≤ 16777216
+one-under : (p : ℕ) → p ≤ 16777216
     → Under 65536 (5 ∷ 1 ∷ 52 ∷ 0 ∷ 172 ∷ 0 ∷ 2 ∷ 224 ∷ 0 ∷ 26 ∷ 0 ∷ 3 ∷ 250 ∷ 0 ∷ 0 ∷ 1 ∷ 4 ∷ 250 ∷ 1 ∷ 0 ∷ 4 ∷ 5 ∷ 250 ∷ 5 ∷ p % 65536 ∷ p / 65536 ∷ [])
-contents-under-some p h =
+one-under p h =
     let a : p % 65536 < 65536 = omega arith in
     let b : p / 65536 < 65536 = omega arith in
     (omega arith, (omega arith, (omega arith, (omega arith, (omega arith, (omega arith, (omega arith, (omega arith, (omega arith, (omega arith, (omega arith, (omega arith, (omega arith, (omega arith, (omega arith, (omega arith, (omega arith, (omega arith, (omega arith, (omega arith, (omega arith, (omega arith, (omega arith, (omega arith, (a, (b, tt))))))))))))))))))))))))))
 
-contents-under-none : Under 65536 (4 ∷ 1 ∷ 42 ∷ 0 ∷ 172 ∷ 0 ∷ 2 ∷ 214 ∷ 0 ∷ 26 ∷ 0 ∷ 3 ∷ 240 ∷ 0 ∷ 0 ∷ 1 ∷ 4 ∷ 240 ∷ 1 ∷ 0 ∷ 4 ∷ [])
-contents-under-none =
+one-under-empty : Under 65536 (4 ∷ 1 ∷ 42 ∷ 0 ∷ 172 ∷ 0 ∷ 2 ∷ 214 ∷ 0 ∷ 26 ∷ 0 ∷ 3 ∷ 240 ∷ 0 ∷ 0 ∷ 1 ∷ 4 ∷ 240 ∷ 1 ∷ 0 ∷ 4 ∷ [])
+one-under-empty =
     (omega arith, (omega arith, (omega arith, (omega arith, (omega arith, (omega arith, (omega arith, (omega arith, (omega arith, (omega arith, (omega arith, (omega arith, (omega arith, (omega arith, (omega arith, (omega arith, (omega arith, (omega arith, (omega arith, (omega arith, (omega arith, tt)))))))))))))))))))))
 
-contents-under : (p : ℕ) → p ≤ 16777216 → Under 65536 (contentsOf form1 p)
-contents-under zero h = subst (Under 65536) contents-empty contents-under-none
-contents-under (suc p) h = subst (Under 65536) (contents-some (suc p) (omega arith)) (contents-under-some (suc p) h)
+-- those of form 2, whose sums are words
+module _ (s : List ℕ) (small : (k : ℕ) → getD s k 0 < 2 ^ 32) where
+  two-under-empty : Under 65536 (contentsOf Two 0 s)
+  two-under-empty =
+      let a0 : getD s 0 0 % 65536 < 65536 = omega arith in
+      let b0 : getD s 0 0 / 65536 < 65536 = omega (arith, small 0) in
+      let a1 : getD s 1 0 % 65536 < 65536 = omega arith in
+      let b1 : getD s 1 0 / 65536 < 65536 = omega (arith, small 1) in
+      let a2 : getD s 2 0 % 65536 < 65536 = omega arith in
+      let b2 : getD s 2 0 / 65536 < 65536 = omega (arith, small 2) in
+      let a3 : getD s 3 0 % 65536 < 65536 = omega arith in
+      let b3 : getD s 3 0 / 65536 < 65536 = omega (arith, small 3) in
+      let a5 : getD s 5 0 % 65536 < 65536 = omega arith in
+      let b5 : getD s 5 0 / 65536 < 65536 = omega (arith, small 5) in
+      subst (Under 65536) (two-empty s)
+      (omega arith, (omega arith, (omega arith, (omega arith, (omega arith, (omega arith, (omega arith, (omega arith, (a0, (b0, (omega arith, (omega arith, (omega arith, (omega arith, (omega arith, (a1, (b1, (omega arith, (omega arith, (omega arith, (omega arith, (omega arith, (a2, (b2, (omega arith, (omega arith, (omega arith, (omega arith, (omega arith, (a3, (b3, (omega arith, (omega arith, (omega arith, (omega arith, (omega arith, (a5, (b5, tt))))))))))))))))))))))))))))))))))))))
 
--- lists joined otherwise
-joined-2 : (a b c d : List ℕ) → a ++ (b ++ (c ++ d)) ≡ (a ++ (b ++ c)) ++ d
-joined-2 a b c d = simp append-assoc
+  two-under : (p : ℕ) → 0 < p → p ≤ 16777216 → Under 65536 (contentsOf Two p s)
+  two-under p some h =
+      let a0 : getD s 0 0 % 65536 < 65536 = omega arith in
+      let b0 : getD s 0 0 / 65536 < 65536 = omega (arith, small 0) in
+      let a1 : getD s 1 0 % 65536 < 65536 = omega arith in
+      let b1 : getD s 1 0 / 65536 < 65536 = omega (arith, small 1) in
+      let a2 : getD s 2 0 % 65536 < 65536 = omega arith in
+      let b2 : getD s 2 0 / 65536 < 65536 = omega (arith, small 2) in
+      let a3 : getD s 3 0 % 65536 < 65536 = omega arith in
+      let b3 : getD s 3 0 / 65536 < 65536 = omega (arith, small 3) in
+      let a4 : getD s 4 0 % 65536 < 65536 = omega arith in
+      let b4 : getD s 4 0 / 65536 < 65536 = omega (arith, small 4) in
+      let a5 : getD s 5 0 % 65536 < 65536 = omega arith in
+      let b5 : getD s 5 0 / 65536 < 65536 = omega (arith, small 5) in
+      let m : p % 65536 < 65536 = omega arith in
+      let n : p / 65536 < 65536 = omega arith in
+      let u : (327968 + p) % 65536 < 65536 = omega arith in
+      let v : (327968 + p) / 65536 < 65536 = omega arith in
+      subst (Under 65536) (two-some p some s)
+      (omega arith, (omega arith, (omega arith, (omega arith, (omega arith, (omega arith, (omega arith, (omega arith, (a0, (b0, (omega arith, (omega arith, (omega arith, (omega arith, (omega arith, (a1, (b1, (omega arith, (omega arith, (omega arith, (omega arith, (omega arith, (a2, (b2, (omega arith, (omega arith, (omega arith, (omega arith, (omega arith, (a3, (b3, (omega arith, (omega arith, (omega arith, (m, (n, (a4, (b4, (omega arith, (u, (v, (omega arith, (omega arith, (a5, (b5, tt)))))))))))))))))))))))))))))))))))))))))))))
 
-joined-3 : (a b c d e : List ℕ) → a ++ (b ++ (c ++ (d ++ e))) ≡ (a ++ (b ++ (c ++ d))) ++ e
-joined-3 a b c d e = simp append-assoc
+pub contents-under : (form : Form) (p : ℕ) (s : List ℕ) → p ≤ 16777216 → ((k : ℕ) → getD s k 0 < 2 ^ 32) → Under 65536 (contentsOf form p s)
+contents-under One zero s h small = subst (Under 65536) (one-empty s) one-under-empty
+contents-under One (suc p) s h small = subst (Under 65536) (one-some (suc p) (omega arith) s) (one-under (suc p) h)
+contents-under Two zero s h small = two-under-empty s small
+contents-under Two (suc p) s h small = two-under s small (suc p) (omega arith) h
 
-joined-4 : (a b c d e f : List ℕ) → a ++ (b ++ (c ++ (d ++ (e ++ f)))) ≡ (a ++ (b ++ (c ++ (d ++ e)))) ++ (f ++ [])
-joined-4 a b c d e f = simp (append-assoc, append-nil)
+-- form 1 has no sums
+pub plain-contents : (p : ℕ) (s t : List ℕ) → contentsOf One p s ≡ contentsOf One p t
+plain-contents zero s t = sym (one-empty s) ∙ one-empty t
+plain-contents (suc p) s t = sym (one-some (suc p) (omega arith) s) ∙ one-some (suc p) (omega arith) t
 
--- a part in the middle
-pub middle : (a n : ℕ) (pre xs post : List ℕ) → length pre ≡ a → length xs ≡ n → take n (drop a (pre ++ (xs ++ post))) ≡ xs
-middle a n pre xs post e f = rw (drop-at pre (xs ++ post) a e) (take-at xs post n f)
+sum-small : (xs : List ℕ) → sumOf xs < 2 ^ 32
+unfolding sumOf
+sum-small xs = omega arith
 
-module _ (words halves wram vram pak : List ℕ) where
-  module _ (w : length words ≡ 43) (h : length halves ≡ 13) (m : length wram ≡ 65536) (v : length vram ≡ 262144) (few : length pak ≤ 16777216) where
-    length-c : length (bytesOf (contentsOf form1 (length pak))) ≡ placeOf form1 (length pak) 0
-    length-c = sym (length-contents (length pak))
+pub sums-small : (b : Bodies) (k : ℕ) → getD (sumsOf b) k 0 < 2 ^ 32
+unfolding sumsOf
+sums-small b zero = sum-small (b .processor)
+sums-small b (suc zero) = sum-small (b .drawing)
+sums-small b (suc (suc zero)) = sum-small (b .wram)
+sums-small b (suc (suc (suc zero))) = sum-small (b .vram)
+sums-small b (suc (suc (suc (suc zero)))) = sum-small (b .pak)
+sums-small b (suc (suc (suc (suc (suc zero))))) = sum-small (b .hardware)
+sums-small b (suc (suc (suc (suc (suc (suc k)))))) = omega arith
 
-    length-w : length (bytesOf (halvesOf words)) ≡ 172
-    length-w = omega (arith, length-words words)
+pub length-contents : (form : Form) (p : ℕ) (s : List ℕ) → length (bytesOf (contentsOf form p s)) ≡ placeOf form p 0
+length-contents form p s = length-bytes (contentsOf form p s) ∙ contents-end form p s
 
-    length-h : length (bytesOf halves) ≡ 26
-    length-h = omega (arith, length-bytes halves)
+-- what stands behind a part, and the part
+behind : (a n b : ℕ) (file xs post : List ℕ) → drop a file ≡ xs ++ post → length xs ≡ n → b ≡ a + n → drop b file ≡ post
+behind a n b file xs post e f g =
+    ap (λ (k : ℕ). drop k file) g ∙ (sym (drop-drop n a file) ∙ (ap (drop n) e ∙ drop-at xs post n f))
 
-    pub file-length : length (fileOf form1 words halves wram vram pak) ≡ fileLengthOf form1 (length pak)
-    unfolding fileOf
-    file-length = simp length-append (omega (arith, length-c, length-w, length-h, length-is (length pak)))
+here : (a n : ℕ) (file xs post : List ℕ) → drop a file ≡ xs ++ post → length xs ≡ n → take n (drop a file) ≡ xs
+here a n file xs post e f = ap (take n) e ∙ take-at xs post n f
 
-    pub contents-back : contentsOk form1 (length pak) (fileOf form1 words halves wram vram pak) ≡ true
-    unfolding fileOf contentsOk
-    contents-back =
-        rw (halves-back 0 [] (contentsOf form1 (length pak)) (bytesOf (halvesOf words) ++ (bytesOf halves ++ (wram ++ (vram ++ pak)))) refl (contents-under (length pak) few))
-        (same-self (contentsOf form1 (length pak)))
+here-last : (a n : ℕ) (file xs : List ℕ) → drop a file ≡ xs → length xs ≡ n → take n (drop a file) ≡ xs
+here-last a n file xs e f = ap (take n) e ∙ take-all n xs (omega arith)
 
-    pub words-kept : Under (2 ^ 32) words → wordsIn form1 (length pak) (fileOf form1 words halves wram vram pak) ≡ words
-    unfolding fileOf wordsIn
-    words-kept u =
-        rw (← w) (words-back (placeOf form1 (length pak) 0) (bytesOf (contentsOf form1 (length pak))) words (bytesOf halves ++ (wram ++ (vram ++ pak))) length-c u)
+pub bodies-same : {a1 a2 b1 b2 c1 c2 d1 d2 e1 e2 f1 f2 : List ℕ} → a1 ≡ a2 → b1 ≡ b2 → c1 ≡ c2 → d1 ≡ d2 → e1 ≡ e2 → f1 ≡ f2
+    → bodiesOf a1 b1 c1 d1 e1 f1 ≡ bodiesOf a2 b2 c2 d2 e2 f2
+bodies-same p q r s t u = rw (p, q, r, s, t, u)
 
-    pub halves-kept : Under 65536 halves → halvesIn form1 (length pak) (fileOf form1 words halves wram vram pak) ≡ halves
-    unfolding fileOf halvesIn
-    halves-kept u =
-        let l : length (bytesOf (contentsOf form1 (length pak)) ++ bytesOf (halvesOf words)) ≡ placeOf form1 (length pak) 1
-        = simp length-append (omega (arith, length-c, length-w, second (length pak))) in
-        rw (← append-assoc (bytesOf (contentsOf form1 (length pak))) (bytesOf (halvesOf words)) (bytesOf halves ++ (wram ++ (vram ++ pak))), ← h)
-        (halves-back (placeOf form1 (length pak) 1) (bytesOf (contentsOf form1 (length pak)) ++ bytesOf (halvesOf words)) halves (wram ++ (vram ++ pak)) l u)
+-- bodies that stand one after the other from the first place on are those of the file
+module _ (b : Bodies) (s : Sized b) (file : List ℕ) where
+  module _ (form : Form) (start : drop (placeOf form (length (b .pak)) 0) file ≡ joinedOf form b) where
+    at0 : drop (placeOf form (length (b .pak)) 0) file ≡ b .processor ++ (b .drawing ++ (b .wram ++ (b .vram ++ (b .pak ++ lastOf form (b .hardware)))))
+    unfolding joinedOf
+    at0 = start
 
-    -- the memories stand behind what is before them
-    pub wram-kept : wramIn form1 (length pak) (fileOf form1 words halves wram vram pak) ≡ wram
-    unfolding fileOf wramIn
-    wram-kept =
-        let l : length (bytesOf (contentsOf form1 (length pak)) ++ (bytesOf (halvesOf words) ++ bytesOf halves)) ≡ placeOf form1 (length pak) 2
-        = simp length-append (omega (arith, length-c, length-w, length-h, third (length pak))) in
-        ap (λ (ys : List ℕ). take 65536 (drop (placeOf form1 (length pak) 2) ys)) (joined-2 (bytesOf (contentsOf form1 (length pak))) (bytesOf (halvesOf words)) (bytesOf halves) (wram ++ (vram ++ pak)))
-        ∙ middle (placeOf form1 (length pak) 2) 65536 (bytesOf (contentsOf form1 (length pak)) ++ (bytesOf (halvesOf words) ++ bytesOf halves)) wram (vram ++ pak) l m
+    at1 : drop (placeOf form (length (b .pak)) 1) file ≡ b .drawing ++ (b .wram ++ (b .vram ++ (b .pak ++ lastOf form (b .hardware))))
+    at1 = behind (placeOf form (length (b .pak)) 0) 172 (placeOf form (length (b .pak)) 1) file (b .processor) (b .drawing ++ (b .wram ++ (b .vram ++ (b .pak ++ lastOf form (b .hardware))))) at0 (s .processor) (second form (length (b .pak)))
 
-    pub vram-kept : vramIn form1 (length pak) (fileOf form1 words halves wram vram pak) ≡ vram
-    unfolding fileOf vramIn
-    vram-kept =
-        let l : length (bytesOf (contentsOf form1 (length pak)) ++ (bytesOf (halvesOf words) ++ (bytesOf halves ++ wram))) ≡ placeOf form1 (length pak) 3
-        = simp length-append (omega (arith, length-c, length-w, length-h, fourth (length pak))) in
-        ap (λ (ys : List ℕ). take 262144 (drop (placeOf form1 (length pak) 3) ys)) (joined-3 (bytesOf (contentsOf form1 (length pak))) (bytesOf (halvesOf words)) (bytesOf halves) wram (vram ++ pak))
-        ∙ middle (placeOf form1 (length pak) 3) 262144 (bytesOf (contentsOf form1 (length pak)) ++ (bytesOf (halvesOf words) ++ (bytesOf halves ++ wram))) vram pak l v
+    at2 : drop (placeOf form (length (b .pak)) 2) file ≡ b .wram ++ (b .vram ++ (b .pak ++ lastOf form (b .hardware)))
+    at2 = behind (placeOf form (length (b .pak)) 1) 26 (placeOf form (length (b .pak)) 2) file (b .drawing) (b .wram ++ (b .vram ++ (b .pak ++ lastOf form (b .hardware)))) at1 (s .drawing) (omega (arith, second form (length (b .pak)), third form (length (b .pak))))
 
-    pub pak-kept : pakIn form1 (length pak) (fileOf form1 words halves wram vram pak) ≡ pak
-    unfolding fileOf pakIn
-    pak-kept =
-        let l : length (bytesOf (contentsOf form1 (length pak)) ++ (bytesOf (halvesOf words) ++ (bytesOf halves ++ (wram ++ vram)))) ≡ placeOf form1 (length pak) 4
-        = simp length-append (omega (arith, length-c, length-w, length-h, fifth (length pak))) in
-        ap (λ (ys : List ℕ). take (length pak) (drop (placeOf form1 (length pak) 4) ys)) (joined-4 (bytesOf (contentsOf form1 (length pak))) (bytesOf (halvesOf words)) (bytesOf halves) wram vram pak)
-        ∙ middle (placeOf form1 (length pak) 4) (length pak) (bytesOf (contentsOf form1 (length pak)) ++ (bytesOf (halvesOf words) ++ (bytesOf halves ++ (wram ++ vram)))) pak [] l refl
+    at3 : drop (placeOf form (length (b .pak)) 3) file ≡ b .vram ++ (b .pak ++ lastOf form (b .hardware))
+    at3 = behind (placeOf form (length (b .pak)) 2) 65536 (placeOf form (length (b .pak)) 3) file (b .wram) (b .vram ++ (b .pak ++ lastOf form (b .hardware))) at2 (s .wram) (omega (arith, third form (length (b .pak)), fourth form (length (b .pak))))
+
+    at4 : drop (placeOf form (length (b .pak)) 4) file ≡ b .pak ++ lastOf form (b .hardware)
+    at4 = behind (placeOf form (length (b .pak)) 3) 262144 (placeOf form (length (b .pak)) 4) file (b .vram) (b .pak ++ lastOf form (b .hardware)) at3 (s .vram) (omega (arith, fourth form (length (b .pak)), fifth form (length (b .pak))))
+
+    at5 : (n : ℕ) → n ≡ placeOf form (length (b .pak)) 4 + (length (b .pak)) → drop n file ≡ lastOf form (b .hardware)
+    at5 n e = behind (placeOf form (length (b .pak)) 4) (length (b .pak)) n file (b .pak) (lastOf form (b .hardware)) at4 refl e
+
+    pub held : hardwareIn form (length (b .pak)) file ≡ b .hardware → bodiesIn form (length (b .pak)) file ≡ b
+    unfolding bodiesIn
+    held e =
+        bodies-same
+        (here (placeOf form (length (b .pak)) 0) 172 file (b .processor) (b .drawing ++ (b .wram ++ (b .vram ++ (b .pak ++ lastOf form (b .hardware))))) at0 (s .processor))
+        (here (placeOf form (length (b .pak)) 1) 26 file (b .drawing) (b .wram ++ (b .vram ++ (b .pak ++ lastOf form (b .hardware)))) at1 (s .drawing))
+        (here (placeOf form (length (b .pak)) 2) 65536 file (b .wram) (b .vram ++ (b .pak ++ lastOf form (b .hardware))) at2 (s .wram))
+        (here (placeOf form (length (b .pak)) 3) 262144 file (b .vram) (b .pak ++ lastOf form (b .hardware)) at3 (s .vram))
+        (here (placeOf form (length (b .pak)) 4) (length (b .pak)) file (b .pak) (lastOf form (b .hardware)) at4 refl)
+        e
+
+  last-held : (form : Form) → drop (placeOf form (length (b .pak)) 0) file ≡ joinedOf form b → HeldBy form b
+      → hardwareIn form (length (b .pak)) file ≡ b .hardware
+  last-held One start h = sym h
+  last-held Two start h =
+      here-last (lastPlaceOf (length (b .pak))) 8 file (b .hardware)
+      (at5 Two start (lastPlaceOf (length (b .pak))) (omega (arith, last-place (length (b .pak)), fifth Two (length (b .pak))))) (s .hardware)
+
+  pub bodies-held : (form : Form) → drop (placeOf form (length (b .pak)) 0) file ≡ joinedOf form b → HeldBy form b
+      → bodiesIn form (length (b .pak)) file ≡ b
+  bodies-held form start h = held form start (last-held form start h)
+
+  -- the contents that they ask for
+  pub contents-held : (form : Form) → drop (placeOf form (length (b .pak)) 0) file ≡ joinedOf form b
+      → contentsIn form (length (b .pak)) file ≡ contentsOf form (length (b .pak)) (sumsOf b)
+  unfolding contentsIn
+  contents-held One start = plain-contents (length (b .pak)) (sumsOf (bodiesIn One (length (b .pak)) file)) (sumsOf b)
+  contents-held Two start = ap (λ (c : Bodies). contentsOf Two (length (b .pak)) (sumsOf c)) (bodies-held Two start tt)
+
+  -- and with them put before the bodies, the room is the file
+  pub sealed : (form : Form) → drop (placeOf form (length (b .pak)) 0) file ≡ joinedOf form b
+      → putAt file 0 (bytesOf (contentsIn form (length (b .pak)) file)) ≡ fileOf form b
+  unfolding fileOf
+  sealed form start =
+      rw (contents-held form start)
+      (put-first file (bytesOf (contentsOf form (length (b .pak)) (sumsOf b))) (placeOf form (length (b .pak)) 0) (length-contents form (length (b .pak)) (sumsOf b))
+      ∙ ap (λ (ys : List ℕ). bytesOf (contentsOf form (length (b .pak)) (sumsOf b)) ++ ys) start)
+
+module _ (form : Form) (b : Bodies) where
+  pub file-start : drop (placeOf form (length (b .pak)) 0) (fileOf form b) ≡ joinedOf form b
+  unfolding fileOf
+  file-start =
+      drop-at (bytesOf (contentsOf form (length (b .pak)) (sumsOf b))) (joinedOf form b) (placeOf form (length (b .pak)) 0)
+      (length-contents form (length (b .pak)) (sumsOf b))
+
+module _ (b : Bodies) (s : Sized b) where
+  pub joined-length : (form : Form) → length (joinedOf form b) + placeOf form (length (b .pak)) 0 ≡ fileLengthOf form (length (b .pak))
+  unfolding joinedOf
+  joined-length One = simp length-append (omega (arith, s .processor, s .drawing, s .wram, s .vram, length-is One (length (b .pak))))
+  joined-length Two =
+      simp length-append (omega (arith, s .processor, s .drawing, s .wram, s .vram, s .hardware, length-is Two (length (b .pak))))
+
+  pub file-length : (form : Form) → length (fileOf form b) ≡ fileLengthOf form (length (b .pak))
+  unfolding fileOf
+  file-length form =
+      simp length-append (omega (arith, length-contents form (length (b .pak)) (sumsOf b), joined-length form))
+
+  pub file-held : (form : Form) → HeldBy form b → bodiesIn form (length (b .pak)) (fileOf form b) ≡ b
+  file-held form h = bodies-held b s (fileOf form b) form (file-start form b) h
+
+  front-same : (form : Form) → length (b .pak) ≤ 16777216
+      → sameOf (halvesFrom (fileOf form b) 0 (length (contentsOf form (length (b .pak)) (sumsOf b)))) (contentsOf form (length (b .pak)) (sumsOf b)) ≡ true
+  unfolding fileOf
+  front-same form few =
+      rw (halves-back 0 [] (contentsOf form (length (b .pak)) (sumsOf b)) (joinedOf form b) refl (contents-under form (length (b .pak)) (sumsOf b) few (sums-small b)))
+      (same-self (contentsOf form (length (b .pak)) (sumsOf b)))
+
+  pub contents-back : (form : Form) → length (b .pak) ≤ 16777216 → contentsOk form (length (b .pak)) (fileOf form b) ≡ true
+  unfolding contentsOk
+  contents-back form few = rw (contents-held b s (fileOf form b) form (file-start form b)) (front-same form few)
 
 -- the reverse: a file whose contents are right is what its bodies are written as
-next : (a n : ℕ) (xs : List ℕ) → drop a xs ≡ take n (drop a xs) ++ drop (a + n) xs
-next a n xs = sym (take-append-drop n (drop a xs)) ∙ ap (λ (ys : List ℕ). take n (drop a xs) ++ ys) (drop-drop n a xs)
+next : (a n m : ℕ) (xs : List ℕ) → m ≡ a + n → drop a xs ≡ take n (drop a xs) ++ drop m xs
+next a n m xs e =
+    sym (take-append-drop n (drop a xs))
+    ∙ ap (λ (ys : List ℕ). take n (drop a xs) ++ ys) (drop-drop n a xs ∙ ap (λ (k : ℕ). drop k xs) (sym e))
 
-module _ (p : ℕ) (file : List ℕ) (bytes : (k : ℕ) → getD file k 0 < 256) (whole : length file ≡ fileLengthOf form1 p) where
-  words-part : bytesOf (halvesOf (wordsIn form1 p file)) ≡ take 172 (drop (placeOf form1 p 0) file)
-  unfolding wordsIn
-  words-part =
-      ap bytesOf (words-again file bytes 43 (placeOf form1 p 0))
-      ∙ halves-again file bytes 86 (placeOf form1 p 0) (omega (arith, length-is p))
+module _ (p : ℕ) (file : List ℕ) where
+  last-part : (form : Form) → length file ≡ fileLengthOf form p → (n : ℕ) → n ≡ placeOf form p 4 + p → drop n file ≡ lastOf form (hardwareIn form p file)
+  last-part One whole n e = drop-of-length-le file {i = n} (omega (arith, length-is One p, fifth One p))
+  last-part Two whole n e =
+      let f : n ≡ lastPlaceOf p = omega (arith, last-place p, fifth Two p) in
+      let l : length (drop (lastPlaceOf p) file) ≤ 8 = simp length-drop (omega (arith, length-is Two p, last-place p)) in
+      ap (λ (k : ℕ). drop k file) f ∙ sym (take-all 8 (drop (lastPlaceOf p) file) l)
 
-  halves-part : bytesOf (halvesIn form1 p file) ≡ take 26 (drop (placeOf form1 p 0 + 172) file)
-  unfolding halvesIn
-  halves-part =
-      halves-again file bytes 13 (placeOf form1 p 1) (omega (arith, length-is p, second p)) ∙ ap (λ (a : ℕ). take 26 (drop a file)) (second p)
+  module _ (form : Form) (whole : length file ≡ fileLengthOf form p) where
+    pub joined-again : joinedOf form (bodiesIn form p file) ≡ drop (placeOf form p 0) file
+    unfolding joinedOf bodiesIn
+    joined-again =
+        let f5 = last-part form whole (placeOf form p 4 + p) refl in
+        let f4 = next (placeOf form p 4) p (placeOf form p 4 + p) file refl in
+        let f3 = next (placeOf form p 3) 262144 (placeOf form p 4) file (omega (arith, fourth form p, fifth form p)) in
+        let f2 = next (placeOf form p 2) 65536 (placeOf form p 3) file (omega (arith, third form p, fourth form p)) in
+        let f1 = next (placeOf form p 1) 26 (placeOf form p 2) file (omega (arith, second form p, third form p)) in
+        let f0 = next (placeOf form p 0) 172 (placeOf form p 1) file (second form p) in
+        sym
+        (f0 ∙ ap (λ (ys : List ℕ). take 172 (drop (placeOf form p 0) file) ++ ys)
+        (f1 ∙ ap (λ (ys : List ℕ). take 26 (drop (placeOf form p 1) file) ++ ys)
+        (f2 ∙ ap (λ (ys : List ℕ). take 65536 (drop (placeOf form p 2) file) ++ ys)
+        (f3 ∙ ap (λ (ys : List ℕ). take 262144 (drop (placeOf form p 3) file) ++ ys)
+        (f4 ∙ ap (λ (ys : List ℕ). take p (drop (placeOf form p 4) file) ++ ys) f5)))))
 
-  contents-part : contentsOk form1 p file ≡ true → bytesOf (contentsOf form1 p) ≡ take (placeOf form1 p 0) file
-  unfolding contentsOk
-  contents-part ok =
-      ap bytesOf (sym (same-equal (halvesFrom file 0 (length (contentsOf form1 p))) (contentsOf form1 p) ok))
-      ∙ (halves-again file bytes (length (contentsOf form1 p)) 0 (omega (arith, contents-end p, length-is p))
-      ∙ ap (λ (n : ℕ). take n file) (contents-end p))
+    pub length-pak-in : length (bodiesIn form p file .pak) ≡ p
+    unfolding bodiesIn
+    length-pak-in = simp (length-take, length-drop) (omega (arith, length-is form p, fifth form p))
 
-  pub length-pak-in : length (pakIn form1 p file) ≡ p
-  unfolding pakIn
-  length-pak-in = simp (length-take, length-drop) (omega (arith, length-is p, fifth p))
+    length-hardware-in : length (hardwareIn form p file) ≡ 8
+    length-hardware-in = hardware form whole
+      where
+        hardware : (f : Form) → length file ≡ fileLengthOf f p → length (hardwareIn f p file) ≡ 8
+        hardware One w = length-replicate {A = ℕ} 8 0
+        hardware Two w = simp (length-take, length-drop) (omega (arith, length-is Two p, last-place p))
 
-  all-parts : file
-      ≡ take (placeOf form1 p 0) file
-      ++ (take 172 (drop (placeOf form1 p 0) file)
-      ++ (take 26 (drop (placeOf form1 p 0 + 172) file)
-      ++ (wramIn form1 p file ++ (vramIn form1 p file ++ pakIn form1 p file))))
-  unfolding wramIn vramIn pakIn
-  all-parts =
-      let b : placeOf form1 p 0 + 172 + 26 ≡ placeOf form1 p 0 + 198 = omega arith in
-      let d : placeOf form1 p 0 + 198 + 65536 ≡ placeOf form1 p 0 + 65734 = omega arith in
-      let e : placeOf form1 p 0 + 65734 + 262144 ≡ placeOf form1 p 0 + 327878 = omega arith in
-      let last : length (drop (placeOf form1 p 0 + 327878) file) ≤ p = simp length-drop (omega (arith, length-is p)) in
-      let f5 = sym (take-all p (drop (placeOf form1 p 0 + 327878) file) last) in
-      let f4 = rw e at (next (placeOf form1 p 0 + 65734) 262144 file) in
-      let f3 = rw d at (next (placeOf form1 p 0 + 198) 65536 file) in
-      let f2 = rw b at (next (placeOf form1 p 0 + 172) 26 file) in
-      let f1 = next (placeOf form1 p 0) 172 file in
-      rw (third p, fourth p, fifth p)
-      (sym (take-append-drop (placeOf form1 p 0) file)
-      ∙ ap (λ (ys : List ℕ). take (placeOf form1 p 0) file ++ ys)
-      (f1 ∙ ap (λ (ys : List ℕ). take 172 (drop (placeOf form1 p 0) file) ++ ys)
-      (f2 ∙ ap (λ (ys : List ℕ). take 26 (drop (placeOf form1 p 0 + 172) file) ++ ys)
-      (f3 ∙ ap (λ (ys : List ℕ). take 65536 (drop (placeOf form1 p 0 + 198) file) ++ ys)
-      (f4 ∙ ap (λ (ys : List ℕ). take 262144 (drop (placeOf form1 p 0 + 65734) file) ++ ys) f5)))))
+    pub sized-in : Sized (bodiesIn form p file)
+    unfolding bodiesIn
+    sized-in =
+        record {
+          processor = simp (length-take, length-drop) (omega (arith, length-is form p));
+          drawing = simp (length-take, length-drop) (omega (arith, length-is form p, second form p));
+          wram = simp (length-take, length-drop) (omega (arith, length-is form p, third form p));
+          vram = simp (length-take, length-drop) (omega (arith, length-is form p, fourth form p));
+          hardware = length-hardware-in;
+        }
 
-  pub file-again : contentsOk form1 p file ≡ true
-      → fileOf form1 (wordsIn form1 p file) (halvesIn form1 p file) (wramIn form1 p file) (vramIn form1 p file) (pakIn form1 p file) ≡ file
-  unfolding fileOf
-  file-again ok = rw (length-pak-in, contents-part ok, words-part, halves-part) (sym all-parts)
+    module _ (bytes : (k : ℕ) → getD file k 0 < 256) where
+      contents-part : contentsOk form p file ≡ true → bytesOf (contentsIn form p file) ≡ take (placeOf form p 0) file
+      unfolding contentsOk contentsIn
+      contents-part ok =
+          let c = contentsOf form p (sumsOf (bodiesIn form p file)) in
+          ap bytesOf (sym (same-equal (halvesFrom file 0 (length (contentsOf form p (sumsOf (bodiesIn form p file))))) (contentsOf form p (sumsOf (bodiesIn form p file))) ok))
+          ∙ (halves-again file bytes (length (contentsOf form p (sumsOf (bodiesIn form p file)))) 0 (omega (arith, contents-end form p (sumsOf (bodiesIn form p file)), length-is form p))
+          ∙ ap (λ (n : ℕ). take n file) (contents-end form p (sumsOf (bodiesIn form p file))))
+
+      pub file-again : contentsOk form p file ≡ true → fileOf form (bodiesIn form p file) ≡ file
+      unfolding fileOf contentsIn
+      file-again ok = rw (length-pak-in, contents-part ok, joined-again) (take-append-drop (placeOf form p 0) file)
+
+-- what a file in form 1 holds has lines and timer at reset
+pub held-one : (p : ℕ) (file : List ℕ) → HeldBy One (bodiesIn One p file)
+unfolding bodiesIn
+held-one p file = refl

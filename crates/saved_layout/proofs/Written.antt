@@ -1,40 +1,20 @@
--- A file is written body after body: what begins the room grows by each paste, and in the end it is the whole room. And a file's
--- bodies, taken where they stand. Assumes nothing.
+-- What the functions leave: records and memories put one after the other, and parts of a file taken where they stand. Assumes nothing.
 use Prim.Native.Nat.{ℕ, _+_, _-_, _*_, _≤_}
 use native.Mathlib.Omega.{arith}
 use mathlib.Core.Path.{_≡_, refl, sym, ap, _∙_}
-use mathlib.Core.List.{List, [], _∷_, _++_, append-assoc}
+use mathlib.Core.List.{List, [], _∷_, _++_, append-assoc, append-nil}
 use lib.ListN.{length, take, drop, length-append, length-take, length-drop, drop-of-length-le}
-use mathlib.Core.List.{append-nil}
-use lib.Seq.{paste, take-paste, length-paste, take-all, drop-length, take-length}
-use Rattle.saved_layout.specs.Numbers.{bytesOf, halvesOf, halvesFrom, wordsFrom}
-use Rattle.saved_layout.specs.Layout.{form1, contentsOf, placeOf, fileLengthOf}
-use Rattle.saved_layout.specs.File.{fileOf, wordsIn, halvesIn, wramIn, vramIn, pakIn}
-use Rattle.saved_layout.proofs.LittleEndian.{length-bytes, length-halves, words-from-append}
-use Rattle.saved_layout.proofs.Places.{second, third, fourth, fifth, contents-end, length-is}
-
--- the room begins with xs, and keeps its length
-pub record Begins (n size : ℕ) (xs room : List ℕ) : Type 0 where
-  pub front : take n room ≡ xs
-  pub whole : length room ≡ size
-
-module _ (at n next size : ℕ) (xs s d room : List ℕ) where
-  pub begins-more : Begins at size xs d → room ≡ paste d at s n → n ≡ length s → next ≡ at + n → next ≤ size → Begins next size (xs ++ s) room
-  begins-more b e l f h =
-      record {
-        front =
-            ap (take next) e
-            ∙ (ap (λ (k : ℕ). take k (paste d at s n)) f
-            ∙ (take-paste d at s n (omega (arith, b .whole)) (omega arith)
-            ∙ (ap (λ (ys : List ℕ). ys ++ take n s) (b .front) ∙ ap (λ (ys : List ℕ). xs ++ ys) (take-all n s (omega arith)))));
-        whole = ap length e ∙ (length-paste d at s n (omega (arith, b .whole)) (omega arith) ∙ b .whole);
-      }
-
-pub begins-none : (d : List ℕ) → Begins 0 (length d) [] d
-begins-none d = record { front = refl; whole = refl }
-
-pub begins-all : (size : ℕ) (xs room : List ℕ) → Begins size size xs room → room ≡ xs
-begins-all size xs room b = sym (take-all size room (omega (arith, b .whole))) ∙ b .front
+use lib.Seq.{take-length, take-all, drop-at, length-take-le}
+use Rattle.saved_bytes.specs.Numbers.{bytesOf, halvesOf, halvesFrom, sameOf}
+use Rattle.saved_bytes.specs.Parts.{putAt, sumOf}
+use Rattle.saved_bytes.proofs.LittleEndian.{length-bytes, length-halves}
+use Rattle.saved_bytes.proofs.Putting.{length-put, put-put, put-last}
+use Rattle.saved_layout.specs.Layout.{contentsOf, placeOf, lastPlaceOf, fileLengthOf}
+use Rattle.saved_layout.specs.File.{Bodies, bodiesOf, sumsOf, lastOf, joinedOf, fileOf, bodiesIn, contentsIn, contentsOk, Sized}
+use Rattle.saved_layout.specs.declared.Form.{Form}
+use Rattle.saved_layout.specs.declared.Form.the-variants.{One, Two}
+use Rattle.saved_layout.proofs.Positions.{second, third, fourth, fifth, last-place, length-is, contents-end}
+use Rattle.saved_layout.proofs.Files.{sealed}
 
 -- the bytes of two lists of words
 bytes-append : (a b : List ℕ) → bytesOf (halvesOf (a ++ b)) ≡ bytesOf (halvesOf a) ++ bytesOf (halvesOf b)
@@ -42,53 +22,158 @@ unfolding bytesOf halvesOf
 bytes-append [] b = refl
 bytes-append (w ∷ ws) b = rw (bytes-append ws b)
 
--- the whole of a file
-pub file-joined : (c w x h m v k : List ℕ) → (((((c ++ w) ++ x) ++ h) ++ m) ++ v) ++ k ≡ c ++ ((w ++ x) ++ (h ++ (m ++ (v ++ k))))
-file-joined c w x h m v k = simp append-assoc
-
-module _ (regs rest halves wram vram pak : List ℕ) where
-  pub file-is : ((((((([] ++ bytesOf (contentsOf form1 (length pak))) ++ bytesOf (halvesOf regs)) ++ bytesOf (halvesOf rest)) ++ bytesOf halves) ++ wram) ++ vram) ++ pak)
-      ≡ fileOf form1 (regs ++ rest) halves wram vram pak
-  unfolding fileOf
-  file-is =
-      file-joined (bytesOf (contentsOf form1 (length pak))) (bytesOf (halvesOf regs)) (bytesOf (halvesOf rest)) (bytesOf halves) wram vram pak
-      ∙ ap (λ (ys : List ℕ). bytesOf (contentsOf form1 (length pak)) ++ (ys ++ (bytesOf halves ++ (wram ++ (vram ++ pak))))) (sym (bytes-append regs rest))
-
-pub length-contents : (p : ℕ) → placeOf form1 p 0 ≡ length (bytesOf (contentsOf form1 p))
-length-contents p = sym (length-bytes (contentsOf form1 p) ∙ contents-end p)
-
-pub length-words : (ws : List ℕ) → 4 * length ws ≡ length (bytesOf (halvesOf ws))
+length-words : (ws : List ℕ) → length (bytesOf (halvesOf ws)) ≡ 4 * length ws
 length-words ws = omega (arith, length-bytes (halvesOf ws), length-halves ws)
 
--- what is copied into a memory of its length is all of it
-pub copied : (s d : List ℕ) → length s ≡ length d → take (length s) s ++ drop (length s) d ≡ s
-copied s d e =
-    ap (λ (ys : List ℕ). ys ++ drop (length s) d) (take-length s)
-    ∙ (ap (λ (ys : List ℕ). s ++ ys) (drop-of-length-le d {i = length s} (omega arith)) ∙ append-nil s)
+-- three parts put one behind the other
+pub put-three : (d a b c e f g : List ℕ) (at m n : ℕ) → at + length a + length b + length c ≤ length d
+    → m ≡ at + length a → n ≡ at + length a + length b
+    → e ≡ putAt d at a → f ≡ putAt e m b → g ≡ putAt f n c → g ≡ putAt d at (a ++ (b ++ c))
+put-three d a b c e f g at m n fits hm hn p q r =
+    let l : length (a ++ b) ≡ length a + length b = length-append a b in
+    let two : f ≡ putAt d at (a ++ b) = q ∙ (ap (λ (x : List ℕ). putAt x m b) p ∙ put-put d at a (omega arith) b m hm) in
+    r ∙ (ap (λ (x : List ℕ). putAt x n c) two
+    ∙ (put-put d at (a ++ b) (omega arith) c n (omega arith) ∙ ap (putAt d at) (append-assoc a b c)))
 
+pub records-put : (d regs rest halves e f g : List ℕ) (at : ℕ) → at + 198 ≤ length d
+    → length regs ≡ 32 → length rest ≡ 11 → length halves ≡ 13
+    → e ≡ putAt d at (bytesOf (halvesOf regs)) → f ≡ putAt e (at + 128) (bytesOf (halvesOf rest)) → g ≡ putAt f (at + 172) (bytesOf halves)
+    → g ≡ putAt d at (bytesOf (halvesOf (regs ++ rest)) ++ bytesOf halves)
+records-put d regs rest halves e f g at fits l1 l2 l3 p q r =
+    put-three d (bytesOf (halvesOf regs)) (bytesOf (halvesOf rest)) (bytesOf halves) e f g at (at + 128) (at + 172)
+    (omega (arith, length-words regs, length-words rest, length-bytes halves)) (omega (arith, length-words regs)) (omega (arith, length-words regs, length-words rest)) p q r
+    ∙ ap (putAt d at)
+    (sym (append-assoc (bytesOf (halvesOf regs)) (bytesOf (halvesOf rest)) (bytesOf halves))
+    ∙ ap (λ (x : List ℕ). x ++ bytesOf halves) (sym (bytes-append regs rest)))
+
+-- a room whose bodies were put from the first place on
+module _ (regs rest halves wram vram pak hardware d : List ℕ) where
+  module _ (l1 : length regs ≡ 32) (l2 : length rest ≡ 11) (l3 : length halves ≡ 13) (l4 : length wram ≡ 65536) (l5 : length vram ≡ 262144) (l6 : length hardware ≡ 4) where
+    sized : Sized (bodiesOf (bytesOf (halvesOf (regs ++ rest))) (bytesOf halves) wram vram pak (bytesOf hardware))
+    sized =
+        record {
+          processor = omega (arith, length-words (regs ++ rest), length-append regs rest);
+          drawing = omega (arith, length-bytes halves);
+          wram = l4;
+          vram = l5;
+          hardware = omega (arith, length-bytes hardware);
+        }
+
+    length-records : length (bytesOf (halvesOf (regs ++ rest)) ++ bytesOf halves) ≡ 198
+    length-records = simp length-append (omega (arith, length-words (regs ++ rest), length-append regs rest, length-bytes halves))
+
+    length-memories : length (wram ++ (vram ++ pak)) ≡ 327680 + length pak
+    length-memories = simp length-append (omega arith)
+
+    -- the five bodies of form 1
+    five : (e f : List ℕ) (at : ℕ) → at + 327878 + length pak ≤ length d
+        → e ≡ putAt d at (bytesOf (halvesOf (regs ++ rest)) ++ bytesOf halves) → f ≡ putAt e (at + 198) (wram ++ (vram ++ pak))
+        → f ≡ putAt d at ((bytesOf (halvesOf (regs ++ rest)) ++ bytesOf halves) ++ (wram ++ (vram ++ pak)))
+    five e f at fits p q =
+        q ∙ (ap (λ (x : List ℕ). putAt x (at + 198) (wram ++ (vram ++ pak))) p
+        ∙ put-put d at (bytesOf (halvesOf (regs ++ rest)) ++ bytesOf halves) (omega (arith, length-records)) (wram ++ (vram ++ pak)) (at + 198) (omega (arith, length-records)))
+
+    length-five : length ((bytesOf (halvesOf (regs ++ rest)) ++ bytesOf halves) ++ (wram ++ (vram ++ pak))) ≡ 327878 + length pak
+    length-five = length-append (bytesOf (halvesOf (regs ++ rest)) ++ bytesOf halves) (wram ++ (vram ++ pak)) ∙ (omega (arith, length-records, length-memories))
+
+    joined-one : (a b c d e : List ℕ) → (a ++ b) ++ (c ++ (d ++ e)) ≡ a ++ (b ++ (c ++ (d ++ (e ++ []))))
+    joined-one a b c d e = simp (append-assoc, append-nil)
+
+    joined-two : (a b c d e f : List ℕ) → ((a ++ b) ++ (c ++ (d ++ e))) ++ f ≡ a ++ (b ++ (c ++ (d ++ (e ++ f))))
+    joined-two a b c d e f = simp append-assoc
+
+    ending : (at : ℕ) (xs room : List ℕ) → at + length xs ≡ length d → room ≡ putAt d at xs → drop at room ≡ xs
+    ending at xs room e p =
+        ap (drop at) (p ∙ put-last d at xs e) ∙ drop-at (take at d) xs at (length-take-le at d (omega arith))
+
+    pub wrote-one : (e f g : List ℕ) (at : ℕ) → at ≡ placeOf One (length pak) 0 → length d ≡ fileLengthOf One (length pak)
+        → e ≡ putAt d at (bytesOf (halvesOf (regs ++ rest)) ++ bytesOf halves) → f ≡ putAt e (at + 198) (wram ++ (vram ++ pak))
+        → g ≡ putAt f 0 (bytesOf (contentsIn One (length pak) f))
+        → g ≡ fileOf One (bodiesOf (bytesOf (halvesOf (regs ++ rest))) (bytesOf halves) wram vram pak (bytesOf hardware))
+    unfolding joinedOf
+    wrote-one e f g at first whole p q r =
+        let w : at + (327878 + length pak) ≡ length d = omega (arith, length-is One (length pak)) in
+        r ∙ sealed (bodiesOf (bytesOf (halvesOf (regs ++ rest))) (bytesOf halves) wram vram pak (bytesOf hardware)) sized f One
+        (ap (λ (n : ℕ). drop n f) (sym first)
+        ∙ (ending at ((bytesOf (halvesOf (regs ++ rest)) ++ bytesOf halves) ++ (wram ++ (vram ++ pak))) f (omega (arith, length-five)) (five e f at (omega arith) p q)
+        ∙ joined-one (bytesOf (halvesOf (regs ++ rest))) (bytesOf halves) wram vram pak))
+
+    pub wrote-two : (e f g h : List ℕ) (at : ℕ) → at ≡ placeOf Two (length pak) 0 → length d ≡ fileLengthOf Two (length pak)
+        → e ≡ putAt d at (bytesOf (halvesOf (regs ++ rest)) ++ bytesOf halves) → f ≡ putAt e (at + 198) (wram ++ (vram ++ pak))
+        → g ≡ putAt f (at + 327878 + length pak) (bytesOf hardware)
+        → h ≡ putAt g 0 (bytesOf (contentsIn Two (length pak) g))
+        → h ≡ fileOf Two (bodiesOf (bytesOf (halvesOf (regs ++ rest))) (bytesOf halves) wram vram pak (bytesOf hardware))
+    unfolding joinedOf
+    wrote-two e f g h at first whole p q r t =
+        let w : at + (327878 + length pak) + 8 ≡ length d = omega (arith, length-is Two (length pak)) in
+        let l : length (bytesOf hardware) ≡ 8 = omega (arith, length-bytes hardware) in
+        let six : g ≡ putAt d at (((bytesOf (halvesOf (regs ++ rest)) ++ bytesOf halves) ++ (wram ++ (vram ++ pak))) ++ bytesOf hardware)
+        = r ∙ (ap (λ (x : List ℕ). putAt x (at + 327878 + length pak) (bytesOf hardware)) (five e f at (omega arith) p q)
+        ∙ put-put d at ((bytesOf (halvesOf (regs ++ rest)) ++ bytesOf halves) ++ (wram ++ (vram ++ pak))) (omega (arith, length-five)) (bytesOf hardware) (at + 327878 + length pak) (omega (arith, length-five))) in
+        t ∙ sealed (bodiesOf (bytesOf (halvesOf (regs ++ rest))) (bytesOf halves) wram vram pak (bytesOf hardware)) sized g Two
+        (ap (λ (n : ℕ). drop n g) (sym first)
+        ∙ (ending at (((bytesOf (halvesOf (regs ++ rest)) ++ bytesOf halves) ++ (wram ++ (vram ++ pak))) ++ bytesOf hardware) g
+        (omega (arith, length-append ((bytesOf (halvesOf (regs ++ rest)) ++ bytesOf halves) ++ (wram ++ (vram ++ pak))) (bytesOf hardware), length-five)) six
+        ∙ joined-two (bytesOf (halvesOf (regs ++ rest))) (bytesOf halves) wram vram pak (bytesOf hardware)))
+
+-- parts of a file where they stand
+module _ (form : Form) (p at : ℕ) (file : List ℕ) (e : at ≡ placeOf form p 0) where
+  pub processor-part : (a n : ℕ) → a ≡ at → n ≡ 172 → take n (drop a file) ≡ bodiesIn form p file .processor
+  unfolding bodiesIn
+  processor-part a n f g = let q : placeOf form p 0 ≡ a = omega arith in rw (q, g)
+
+  pub drawing-part : (a n : ℕ) → a ≡ at + 172 → n ≡ 26 → take n (drop a file) ≡ bodiesIn form p file .drawing
+  unfolding bodiesIn
+  drawing-part a n f g = let q : placeOf form p 1 ≡ a = omega (arith, second form p) in rw (q, g)
+
+  pub wram-part : (a n : ℕ) → a ≡ at + 198 → n ≡ 65536 → take n (drop a file) ≡ bodiesIn form p file .wram
+  unfolding bodiesIn
+  wram-part a n f g = let q : placeOf form p 2 ≡ a = omega (arith, third form p) in rw (q, g)
+
+  pub vram-part : (a n : ℕ) → a ≡ at + 65734 → n ≡ 262144 → take n (drop a file) ≡ bodiesIn form p file .vram
+  unfolding bodiesIn
+  vram-part a n f g = let q : placeOf form p 3 ≡ a = omega (arith, fourth form p) in rw (q, g)
+
+  pub pak-part : (a n : ℕ) → a ≡ at + 327878 → n ≡ p → take n (drop a file) ≡ bodiesIn form p file .pak
+  unfolding bodiesIn
+  pak-part a n f g = let q : placeOf form p 4 ≡ a = omega (arith, fifth form p) in rw (q, g)
+
+pub hardware-part : (p at : ℕ) (file : List ℕ) → at ≡ placeOf Two p 0 → (a n : ℕ) → a ≡ at + 327878 + p → n ≡ 8
+    → take n (drop a file) ≡ bodiesIn Two p file .hardware
+unfolding bodiesIn
+hardware-part p at file e a n f g = let q : lastPlaceOf p ≡ a = omega (arith, last-place p) in rw (q, g)
+
+-- what is copied into a memory of its length is all of it
 pub part-copied : (n a : ℕ) (file d e : List ℕ) → a + n ≤ length file → length d ≡ n
     → e ≡ take (length (take n (drop a file))) (take n (drop a file)) ++ drop (length (take n (drop a file))) d → e ≡ take n (drop a file)
-part-copied n a file d e h l f = f ∙ copied (take n (drop a file)) d (simp (length-take, length-drop) (omega arith))
+part-copied n a file d e h l f =
+    let k : length (take n (drop a file)) ≡ length d = simp (length-take, length-drop) (omega arith) in
+    f ∙ (ap (λ (ys : List ℕ). ys ++ drop (length (take n (drop a file))) d) (take-length (take n (drop a file)))
+    ∙ (ap (λ (ys : List ℕ). take n (drop a file) ++ ys) (drop-of-length-le d {i = length (take n (drop a file))} (omega arith)) ∙ append-nil (take n (drop a file))))
 
--- the words and halfwords of a file where they stand
-pub words-taken : (p at : ℕ) (file regs rest : List ℕ) → at ≡ placeOf form1 p 0 → regs ≡ wordsFrom file at 32 → rest ≡ wordsFrom file (at + 128) 11
-    → regs ++ rest ≡ wordsIn form1 p file
-unfolding wordsIn
-words-taken p at file regs rest e f g = rw (f, g, ← e) (sym (words-from-append file at 32 11))
+-- six sums
+pub sums-are : {a1 a2 b1 b2 c1 c2 d1 d2 e1 e2 f1 f2 : List ℕ} → a1 ≡ a2 → b1 ≡ b2 → c1 ≡ c2 → d1 ≡ d2 → e1 ≡ e2 → f1 ≡ f2
+    → sumOf a1 ∷ sumOf b1 ∷ sumOf c1 ∷ sumOf d1 ∷ sumOf e1 ∷ sumOf f1 ∷ [] ≡ sumsOf (bodiesOf a2 b2 c2 d2 e2 f2)
+unfolding sumsOf
+sums-are p q r s t u = rw (p, q, r, s, t, u)
 
-pub halves-taken : (p at : ℕ) (file halves : List ℕ) → at ≡ placeOf form1 p 0 → halves ≡ halvesFrom file (at + 172) 13 → halves ≡ halvesIn form1 p file
-unfolding halvesIn
-halves-taken p at file halves e f = let q : placeOf form1 p 1 ≡ at + 172 = omega (arith, second p) in rw (q, f)
+pub list-same : {a1 a2 b1 b2 c1 c2 d1 d2 e1 e2 f1 f2 : ℕ} → a1 ≡ a2 → b1 ≡ b2 → c1 ≡ c2 → d1 ≡ d2 → e1 ≡ e2 → f1 ≡ f2
+    → a1 ∷ b1 ∷ c1 ∷ d1 ∷ e1 ∷ f1 ∷ [] ≡ a2 ∷ b2 ∷ c2 ∷ d2 ∷ e2 ∷ f2 ∷ []
+list-same p q r s t u = rw (p, q, r, s, t, u)
 
-module _ (p at : ℕ) (file : List ℕ) (e : at ≡ placeOf form1 p 0) where
-  pub wram-part : (a n : ℕ) → a ≡ at + 198 → n ≡ 65536 → take n (drop a file) ≡ wramIn form1 p file
-  unfolding wramIn
-  wram-part a n f g = let q : placeOf form1 p 2 ≡ a = omega (arith, third p) in rw (q, g)
+-- halfwords that are the contents
+module _ (form : Form) (p : ℕ) (file xs sums : List ℕ) (same : xs ≡ contentsOf form p sums) where
+  pub contents-fit : 2 * length xs ≡ placeOf form p 0
+  contents-fit = ap (λ (ys : List ℕ). 2 * length ys) same ∙ contents-end form p sums
 
-  pub vram-part : (a n : ℕ) → a ≡ at + 65734 → n ≡ 262144 → take n (drop a file) ≡ vramIn form1 p file
-  unfolding vramIn
-  vram-part a n f g = let q : placeOf form1 p 3 ≡ a = omega (arith, fourth p) in rw (q, g)
+  module _ (right : contentsOf form p sums ≡ contentsIn form p file) where
+    pub contents-put : (d : List ℕ) → putAt d 0 (bytesOf xs) ≡ putAt d 0 (bytesOf (contentsIn form p file))
+    contents-put d = ap (λ (ys : List ℕ). putAt d 0 (bytesOf ys)) (same ∙ right)
 
-  pub pak-part : (a n : ℕ) → a ≡ at + 327878 → n ≡ p → take n (drop a file) ≡ pakIn form1 p file
-  unfolding pakIn
-  pak-part a n f g = let q : placeOf form1 p 4 ≡ a = omega (arith, fifth p) in rw (q, g)
+    pub contents-same : sameOf (halvesFrom file 0 (length xs)) xs ≡ contentsOk form p file
+    unfolding contentsOk
+    contents-same = ap (λ (ys : List ℕ). sameOf (halvesFrom file 0 (length ys)) ys) (same ∙ right)
+
+pub contents-of : (form : Form) (p : ℕ) (file sums : List ℕ) → sums ≡ sumsOf (bodiesIn form p file) → contentsOf form p sums ≡ contentsIn form p file
+unfolding contentsIn
+contents-of form p file sums e = ap (contentsOf form p) e

@@ -1,42 +1,87 @@
--- A whole file (paper 02, W1), and what stands in one: 43 words of the processor, 13 halfwords of the drawing registers, WRAM,
--- VRAM and pak RAM, each at the place that the form and the pak RAM's length give it.
+-- A whole file (paper 02, W1 and W12), and what stands in one: the bytes of the processor, the drawing registers, WRAM, VRAM, pak RAM
+-- and the request lines with the timer, each at the place that the form and the pak RAM's length give it.
 use Prim.Native.Nat.{ℕ}
-use mathlib.Core.Bool.{Bool, true, false}
+use mathlib.Core.Bool.{Bool}
 use mathlib.Core.List.{List, [], _∷_, _++_}
-use lib.Dec.{eqb}
-use lib.ListN.{length, take, drop}
-use Rattle.word.specs.Choose.{pick}
-use Rattle.saved_layout.specs.Numbers.{bytesOf, halvesOf, halvesFrom, wordsFrom}
-use Rattle.saved_layout.specs.Layout.{Form, contentsOf, placeOf}
+use mathlib.Core.Path.{_≡_}
+use lib.ListN.{length, take, drop, replicate}
+use Rattle.saved_bytes.specs.Numbers.{bytesOf, halvesFrom, sameOf}
+use Rattle.saved_bytes.specs.Parts.{sumOf}
+use Rattle.saved_layout.specs.Layout.{contentsOf, placeOf, lastPlaceOf}
+use Rattle.saved_layout.specs.declared.Form.{Form}
+use Rattle.saved_layout.specs.declared.Form.the-variants.{One, Two}
+
+-- the bodies of kinds 1 to 6, as bytes
+pub record Bodies : Type 0 where
+  pub processor : List ℕ
+  pub drawing : List ℕ
+  pub wram : List ℕ
+  pub vram : List ℕ
+  pub pak : List ℕ
+  pub hardware : List ℕ
+
+abbrev pub bodiesOf : List ℕ → List ℕ → List ℕ → List ℕ → List ℕ → List ℕ → Bodies
+bodiesOf processor drawing wram vram pak hardware =
+    record { processor = processor; drawing = drawing; wram = wram; vram = vram; pak = pak; hardware = hardware }
+
+-- the sums of kinds 1 to 6
+unfoldable pub sumsOf : Bodies → List ℕ
+sumsOf b =
+    sumOf (b .processor)
+    ∷ sumOf (b .drawing)
+    ∷ sumOf (b .wram)
+    ∷ sumOf (b .vram)
+    ∷ sumOf (b .pak)
+    ∷ sumOf (b .hardware)
+    ∷ []
+
+-- kind 6 is left out of form 1
+abbrev pub lastOf : Form → List ℕ → List ℕ
+lastOf One hardware = []
+lastOf Two hardware = hardware
+
+-- the bodies in kind order, no gaps
+unfoldable pub joinedOf : Form → Bodies → List ℕ
+joinedOf form b =
+    b .processor ++ (b .drawing ++ (b .wram ++ (b .vram ++ (b .pak ++ lastOf form (b .hardware)))))
 
 -- the contents, then the bodies
-unfoldable pub fileOf : Form → List ℕ → List ℕ → List ℕ → List ℕ → List ℕ → List ℕ
-fileOf form words halves wram vram pak =
-    bytesOf (contentsOf form (length pak)) ++ (bytesOf (halvesOf words) ++ (bytesOf halves ++ (wram ++ (vram ++ pak))))
+unfoldable pub fileOf : Form → Bodies → List ℕ
+fileOf form b = bytesOf (contentsOf form (length (b .pak)) (sumsOf b)) ++ joinedOf form b
 
--- whether two lists are the same
-abbrev pub sameOf : List ℕ → List ℕ → Bool
-sameOf [] [] = true
-sameOf [] (y ∷ ys) = false
-sameOf (x ∷ xs) [] = false
-sameOf (x ∷ xs) (y ∷ ys) = pick (eqb x y) (sameOf xs ys) false
+-- lines and timer at reset: eight zeros
+abbrev pub hardwareReset : List ℕ
+hardwareReset = replicate 8 0
 
--- whether everything before the first body is what the form and the pak RAM's length make it
+-- kind 6 of a file; a file in form 1 holds lines and timer at reset
+abbrev pub hardwareIn : Form → ℕ → List ℕ → List ℕ
+hardwareIn One pak file = hardwareReset
+hardwareIn Two pak file = take 8 (drop (lastPlaceOf pak) file)
+
+-- what stands in a file, by the form and the pak RAM's length
+unfoldable pub bodiesIn : Form → ℕ → List ℕ → Bodies
+bodiesIn form pak file =
+    bodiesOf (take 172 (drop (placeOf form pak 0) file)) (take 26 (drop (placeOf form pak 1) file))
+    (take 65536 (drop (placeOf form pak 2) file)) (take 262144 (drop (placeOf form pak 3) file))
+    (take pak (drop (placeOf form pak 4) file)) (hardwareIn form pak file)
+
+-- the contents that the bodies of a file ask for
+unfoldable pub contentsIn : Form → ℕ → List ℕ → List ℕ
+contentsIn form pak file = contentsOf form pak (sumsOf (bodiesIn form pak file))
+
+-- whether everything before the first body is what the form, the pak RAM's length and, in form 2, the bodies' sums make it
 unfoldable pub contentsOk : Form → ℕ → List ℕ → Bool
-contentsOk form pak file = sameOf (halvesFrom file 0 (length (contentsOf form pak))) (contentsOf form pak)
+contentsOk form pak file = sameOf (halvesFrom file 0 (length (contentsIn form pak file))) (contentsIn form pak file)
 
--- what stands in a file, by the pak RAM's length
-unfoldable pub wordsIn : Form → ℕ → List ℕ → List ℕ
-wordsIn form pak file = wordsFrom file (placeOf form pak 0) 43
+-- the lengths of the bodies
+pub record Sized (b : Bodies) : Type 0 where
+  pub processor : length (b .processor) ≡ 172
+  pub drawing : length (b .drawing) ≡ 26
+  pub wram : length (b .wram) ≡ 65536
+  pub vram : length (b .vram) ≡ 262144
+  pub hardware : length (b .hardware) ≡ 8
 
-unfoldable pub halvesIn : Form → ℕ → List ℕ → List ℕ
-halvesIn form pak file = halvesFrom file (placeOf form pak 1) 13
-
-unfoldable pub wramIn : Form → ℕ → List ℕ → List ℕ
-wramIn form pak file = take 65536 (drop (placeOf form pak 2) file)
-
-unfoldable pub vramIn : Form → ℕ → List ℕ → List ℕ
-vramIn form pak file = take 262144 (drop (placeOf form pak 3) file)
-
-unfoldable pub pakIn : Form → ℕ → List ℕ → List ℕ
-pakIn form pak file = take pak (drop (placeOf form pak 4) file)
+-- what a form can hold: form 1 has lines and timer at reset
+abbrev pub HeldBy : Form → Bodies → Type 0
+HeldBy One b = b .hardware ≡ hardwareReset
+HeldBy Two b = Unit

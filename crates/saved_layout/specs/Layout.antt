@@ -1,16 +1,20 @@
--- The layout of a saved state (paper 02, W1): "a halfword count, then per body its kind (halfword), offset from the file's start
--- and length in bytes (words), then the bodies in kind order, no gaps". All of it goes by the form and by the pak RAM's length.
--- The contents are halfwords: a form's leading ones, the count, and an entry for each body.
-use Prim.Native.Nat.{ℕ, _+_, _*_}
+-- The layout of a saved state. Paper 02, W1, form 1: "a halfword count, then per body its kind (halfword), offset from the file's
+-- start and length in bytes (words), then the bodies in kind order, no gaps". W12, form 2: it "begins with halfwords 0 and 2, then the
+-- count; each contents entry ends with one word more, the sum of the body's bytes", and kind 6 follows the others.
+-- All of it goes by the form and by the pak RAM's length. The contents are halfwords.
+use Prim.Native.Nat.{ℕ, _+_, _-_, _*_}
 use mathlib.Core.List.{List, [], _∷_, _++_}
 use lib.Dec.{eqb}
-use lib.ListN.{length, take}
+use lib.ListN.{length, getD, take}
 use Rattle.word.specs.Choose.{pick}
-use Rattle.saved_layout.specs.Numbers.{halvesOf}
+use Rattle.saved_bytes.specs.Numbers.{halvesOf}
+use Rattle.saved_layout.specs.declared.Form.{Form}
+use Rattle.saved_layout.specs.declared.Form.the-variants.{One, Two}
 
--- the forms of a file
-pub data Form : Type 0 where
-  form1 : Form
+-- the form that a file is moved to
+abbrev pub otherOf : Form → Form
+otherOf One = Two
+otherOf Two = One
 
 -- what the contents tell of a body
 pub record Part : Type 0 where
@@ -20,36 +24,54 @@ pub record Part : Type 0 where
 abbrev pub partOf : ℕ → ℕ → Part
 partOf kind size = record { kind = kind; size = size }
 
--- the bodies of a form: 1 processor, 2 drawing, 3 WRAM, 4 VRAM, 5 pak RAM, "left out when empty"
+-- kind 6, the request lines and the timer, is form 2's alone
+abbrev pub lastPartsOf : Form → List Part
+lastPartsOf One = []
+lastPartsOf Two = partOf 6 8 ∷ []
+
+-- the bodies of a form: 1 processor, 2 drawing, 3 WRAM, 4 VRAM, 5 pak RAM, "left out when empty", and 6
 abbrev pub partsOf : Form → ℕ → List Part
-partsOf form1 pak =
-    partOf 1 172 ∷ partOf 2 26 ∷ partOf 3 65536 ∷ partOf 4 262144 ∷ pick (eqb pak 0) [] (partOf 5 pak ∷ [])
+partsOf form pak =
+    partOf 1 172
+    ∷ partOf 2 26
+    ∷ partOf 3 65536
+    ∷ partOf 4 262144
+    ∷ (pick (eqb pak 0) [] (partOf 5 pak ∷ []) ++ lastPartsOf form)
 
 -- the halfwords before the count
 abbrev pub leadingOf : Form → List ℕ
-leadingOf form1 = []
+leadingOf One = []
+leadingOf Two = 0 ∷ 2 ∷ []
 
--- the entry of a body that starts at byte `at`: kind, offset, length
-abbrev pub entryOf : Form → Part → ℕ → List ℕ
-entryOf form1 part at = part .kind ∷ halvesOf (at ∷ part .size ∷ [])
+-- the entry of a body that starts at byte `at`: kind, offset, length, and in form 2 the sum of its bytes
+abbrev pub entryOf : Form → Part → ℕ → ℕ → List ℕ
+entryOf One part at sum = part .kind ∷ halvesOf (at ∷ part .size ∷ [])
+entryOf Two part at sum = part .kind ∷ halvesOf (at ∷ part .size ∷ sum ∷ [])
 
 -- how many halfwords an entry has
 abbrev pub entryHalvesOf : Form → ℕ
-entryHalvesOf form1 = 5
+entryHalvesOf One = 5
+entryHalvesOf Two = 7
 
-abbrev pub entriesFrom : Form → ℕ → List Part → List ℕ
-entriesFrom form at [] = []
-entriesFrom form at (part ∷ parts) = entryOf form part at ++ entriesFrom form (at + part .size) parts
+-- the sum of the body of a kind, among those of kinds 1 to 6
+abbrev pub sumAt : List ℕ → ℕ → ℕ
+sumAt sums kind = getD sums (kind - 1) 0
+
+abbrev pub entriesFrom : Form → ℕ → List Part → List ℕ → List ℕ
+entriesFrom form at [] sums = []
+entriesFrom form at (part ∷ parts) sums =
+    entryOf form part at (sumAt sums (part .kind)) ++ entriesFrom form (at + part .size) parts sums
 
 -- where the contents end, and the first body starts, with n bodies
 abbrev pub contentsEndOf : Form → ℕ → ℕ
 contentsEndOf form n = 2 * (length (leadingOf form) + 1 + entryHalvesOf form * n)
 
--- the contents, as halfwords
-unfoldable pub contentsOf : Form → ℕ → List ℕ
-contentsOf form pak =
+-- the contents, as halfwords, by the sums of the bodies of kinds 1 to 6
+unfoldable pub contentsOf : Form → ℕ → List ℕ → List ℕ
+contentsOf form pak sums =
     leadingOf form
-    ++ (length (partsOf form pak) ∷ entriesFrom form (contentsEndOf form (length (partsOf form pak))) (partsOf form pak))
+    ++ (length (partsOf form pak)
+    ∷ entriesFrom form (contentsEndOf form (length (partsOf form pak))) (partsOf form pak) sums)
 
 -- where bodies that start at byte `at` end
 abbrev pub endFrom : ℕ → List Part → ℕ
@@ -59,6 +81,10 @@ endFrom at (part ∷ parts) = endFrom (at + part .size) parts
 -- where body i starts, counted from 0: each where the one before it ends
 unfoldable pub placeOf : Form → ℕ → ℕ → ℕ
 placeOf form pak i = endFrom (contentsEndOf form (length (partsOf form pak))) (take i (partsOf form pak))
+
+-- where kind 6 starts, the last body of form 2
+unfoldable pub lastPlaceOf : ℕ → ℕ
+lastPlaceOf pak = placeOf Two pak (length (partsOf Two pak) - 1)
 
 -- the length of a file
 unfoldable pub fileLengthOf : Form → ℕ → ℕ

@@ -1,16 +1,35 @@
-// The contents of a file in form 1: the count of bodies, and for each its kind, offset and length.
-use crate::numbers;
+// The contents of a file: a form's leading halfwords, the count of bodies, and for each its kind, offset and length, with its sum in
+// form 2.
+use crate::Form;
+use crate::places;
+use saved_bytes::numbers;
+use saved_bytes::parts;
+ghost use mathlib.Core.List.{List};
 ghost use mathlib.Core.Path.{_≡_};
-ghost use Prim.Native.Nat.{_<_, _≤_};
+ghost use Prim.Native.Nat.{ℕ, _/_, _%_, _<_, _≤_};
 ghost use lib.ListN.{length};
-ghost use lib.Seq.{paste};
-ghost use Rattle.saved_layout.specs.Numbers.{bytesOf};
-ghost use Rattle.saved_layout.specs.Layout.{form1, contentsOf, placeOf};
-ghost use Rattle.saved_layout.specs.File.{contentsOk};
+ghost use Rattle.saved_bytes.specs.Numbers.{bytesOf};
+ghost use Rattle.saved_bytes.specs.Parts.{putAt};
+ghost use Rattle.saved_layout.specs.declared.Form.the-variants.{One, Two};
+ghost use Rattle.saved_layout.specs.Layout.{contentsOf, fileLengthOf};
+ghost use Rattle.saved_layout.specs.File.{sumsOf, bodiesIn, contentsIn, contentsOk};
 
-// The contents where pak RAM is empty: four bodies, from byte 42 on.
+// The two halfwords of a word.
+fn low(word: u32) -> u16
+    ensures { λ r. ⌜ r ≡ word % 65536 ⌝ }
+{
+    (word % 65536) as u16
+}
+
+fn high(word: u32) -> u16
+    ensures { λ r. ⌜ r ≡ word / 65536 ⌝ }
+{
+    (word / 65536) as u16
+}
+
+// Form 1 where pak RAM is empty: four bodies, from byte 42 on.
 fn without_pak() -> [u16; 21]
-    ensures { λ r. ⌜ r ≡ contentsOf form1 0 ⌝ }
+    ensures { λ r. ⌜ ((sums : List ℕ) → r ≡ contentsOf One 0 sums) ⌝ }
 {
     [
         4,
@@ -37,13 +56,12 @@ fn without_pak() -> [u16; 21]
     ]
 }
 
-// The contents where it is not: five bodies, from byte 52 on.
+// Form 1 where it is not: five bodies, from byte 52 on.
 fn with_pak(pak: usize) -> [u16; 26]
     requires { ⌜ (0 < pak) × (pak ≤ 16777216) ⌝ }
-    ensures { λ r. ⌜ r ≡ contentsOf form1 pak ⌝ }
+    ensures { λ r. ⌜ ((sums : List ℕ) → r ≡ contentsOf One pak sums) ⌝ }
 {
-    let low = (pak % 65536) as u16;
-    let high = (pak / 65536) as u16;
+    let size = pak as u32;
     [
         5,
         1,
@@ -69,25 +87,139 @@ fn with_pak(pak: usize) -> [u16; 26]
         5,
         250,
         5,
-        low,
-        high,
+        low(size),
+        high(size),
     ]
 }
 
-// Where the first body starts.
-pub fn end(pak: usize) -> usize
-    ensures { λ r. ⌜ (r ≡ placeOf form1 pak 0) × ((42 ≤ r) × (r ≤ 52)) ⌝ }
+// Form 2 where pak RAM is empty: five bodies, from byte 76 on. The sums are those of kinds 1 to 6.
+fn summed_without_pak(sums: [u32; 6]) -> [u16; 38]
+    ensures { λ r. ⌜ r ≡ contentsOf Two 0 sums ⌝ }
 {
-    if pak == 0 {
-        return 42;
-    }
-    52
+    [
+        0,
+        2,
+        5,
+        1,
+        76,
+        0,
+        172,
+        0,
+        low(sums[0]),
+        high(sums[0]),
+        2,
+        248,
+        0,
+        26,
+        0,
+        low(sums[1]),
+        high(sums[1]),
+        3,
+        274,
+        0,
+        0,
+        1,
+        low(sums[2]),
+        high(sums[2]),
+        4,
+        274,
+        1,
+        0,
+        4,
+        low(sums[3]),
+        high(sums[3]),
+        6,
+        274,
+        5,
+        8,
+        0,
+        low(sums[5]),
+        high(sums[5]),
+    ]
 }
 
-// The contents into the room.
-pub fn put(room: &mut [u8], pak: usize)
-    requires { ⌜ (placeOf form1 pak 0 ≤ length (now room)) × (pak ≤ 16777216) ⌝ }
-    ensures { λ _. ⌜ now (room .exit) ≡ paste (now (room .entry)) 0 (bytesOf (contentsOf form1 pak)) (placeOf form1 pak 0) ⌝ }
+// Form 2 where it is not: six bodies, from byte 90 on.
+fn summed_with_pak(pak: usize, sums: [u32; 6]) -> [u16; 45]
+    requires { ⌜ (0 < pak) × (pak ≤ 16777216) ⌝ }
+    ensures { λ r. ⌜ r ≡ contentsOf Two pak sums ⌝ }
+{
+    let size = pak as u32;
+    let last = 327968 + size;
+    [
+        0,
+        2,
+        6,
+        1,
+        90,
+        0,
+        172,
+        0,
+        low(sums[0]),
+        high(sums[0]),
+        2,
+        262,
+        0,
+        26,
+        0,
+        low(sums[1]),
+        high(sums[1]),
+        3,
+        288,
+        0,
+        0,
+        1,
+        low(sums[2]),
+        high(sums[2]),
+        4,
+        288,
+        1,
+        0,
+        4,
+        low(sums[3]),
+        high(sums[3]),
+        5,
+        288,
+        5,
+        low(size),
+        high(size),
+        low(sums[4]),
+        high(sums[4]),
+        6,
+        low(last),
+        high(last),
+        8,
+        0,
+        low(sums[5]),
+        high(sums[5]),
+    ]
+}
+
+// The sums of the bodies that stand in a file or a room of form 2.
+pub fn sums(file: &[u8], pak: usize) -> [u32; 6]
+    requires { ⌜ (length (now file) ≡ fileLengthOf Two pak) × (pak ≤ 16777216) ⌝ }
+    ensures { λ r. ⌜ r ≡ sumsOf (bodiesIn Two pak (now (file .entry))) ⌝ }
+{
+    let processor = places::first(Form::Two, pak);
+    let drawing = processor + 172;
+    let wram = processor + 198;
+    let vram = processor + 65734;
+    let ram = processor + 327878;
+    let hardware = ram + pak;
+    let end = hardware + 8;
+    [
+        parts::sum(&file[processor..drawing]),
+        parts::sum(&file[drawing..wram]),
+        parts::sum(&file[wram..vram]),
+        parts::sum(&file[vram..ram]),
+        parts::sum(&file[ram..hardware]),
+        parts::sum(&file[hardware..end]),
+    ]
+}
+
+// The contents of form 1 into a room.
+fn put_plain(room: &mut [u8], pak: usize)
+    requires { ⌜ (length (now room) ≡ fileLengthOf One pak) × (pak ≤ 16777216) ⌝ }
+    ensures { λ _. ⌜ now (room .exit) ≡ putAt (now (room .entry)) 0 (bytesOf (contentsIn One pak (now (room .entry)))) ⌝ }
 {
     if pak == 0 {
         let contents = without_pak();
@@ -98,10 +230,36 @@ pub fn put(room: &mut [u8], pak: usize)
     numbers::put_halves(room, 0, &contents);
 }
 
-// Whether a file begins with the contents.
-pub fn ok(file: &[u8], pak: usize) -> bool
-    requires { ⌜ (placeOf form1 pak 0 ≤ length (now file)) × (pak ≤ 16777216) ⌝ }
-    ensures { λ r. ⌜ r ≡ contentsOk form1 pak (now (file .entry)) ⌝ }
+// The contents of form 2 into a room whose bodies stand at their places.
+fn put_summed(room: &mut [u8], pak: usize)
+    requires { ⌜ (length (now room) ≡ fileLengthOf Two pak) × (pak ≤ 16777216) ⌝ }
+    ensures { λ _. ⌜ now (room .exit) ≡ putAt (now (room .entry)) 0 (bytesOf (contentsIn Two pak (now (room .entry)))) ⌝ }
+{
+    let six = sums(room, pak);
+    if pak == 0 {
+        let contents = summed_without_pak(six);
+        numbers::put_halves(room, 0, &contents);
+        return;
+    }
+    let contents = summed_with_pak(pak, six);
+    numbers::put_halves(room, 0, &contents);
+}
+
+// The contents into a room whose bodies stand at their places.
+pub fn put(form: Form, room: &mut [u8], pak: usize)
+    requires { ⌜ (length (now room) ≡ fileLengthOf form pak) × (pak ≤ 16777216) ⌝ }
+    ensures { λ _. ⌜ now (room .exit) ≡ putAt (now (room .entry)) 0 (bytesOf (contentsIn form pak (now (room .entry)))) ⌝ }
+{
+    match form {
+        Form::One => put_plain(room, pak),
+        Form::Two => put_summed(room, pak),
+    }
+}
+
+// Whether a file begins with the contents of form 1.
+fn plain_ok(file: &[u8], pak: usize) -> bool
+    requires { ⌜ (length (now file) ≡ fileLengthOf One pak) × (pak ≤ 16777216) ⌝ }
+    ensures { λ r. ⌜ r ≡ contentsOk One pak (now (file .entry)) ⌝ }
 {
     if pak == 0 {
         let contents = without_pak();
@@ -109,4 +267,29 @@ pub fn ok(file: &[u8], pak: usize) -> bool
     }
     let contents = with_pak(pak);
     numbers::same_halves(file, &contents)
+}
+
+// Whether a file begins with the contents of form 2, the sums of its bodies among them.
+fn summed_ok(file: &[u8], pak: usize) -> bool
+    requires { ⌜ (length (now file) ≡ fileLengthOf Two pak) × (pak ≤ 16777216) ⌝ }
+    ensures { λ r. ⌜ r ≡ contentsOk Two pak (now (file .entry)) ⌝ }
+{
+    let six = sums(file, pak);
+    if pak == 0 {
+        let contents = summed_without_pak(six);
+        return numbers::same_halves(file, &contents);
+    }
+    let contents = summed_with_pak(pak, six);
+    numbers::same_halves(file, &contents)
+}
+
+// Whether a file of the due length begins with the contents.
+pub fn ok(form: Form, file: &[u8], pak: usize) -> bool
+    requires { ⌜ (length (now file) ≡ fileLengthOf form pak) × (pak ≤ 16777216) ⌝ }
+    ensures { λ r. ⌜ r ≡ contentsOk form pak (now (file .entry)) ⌝ }
+{
+    match form {
+        Form::One => plain_ok(file, pak),
+        Form::Two => summed_ok(file, pak),
+    }
 }

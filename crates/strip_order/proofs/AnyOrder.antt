@@ -14,7 +14,8 @@ use borrow.Author.Tests.{ltb-true, eqb-true, lt-ltb, eq-eqb}
 use Rattle.word.specs.Choose.{pick, member}
 use Rattle.drawing.specs.Calls.{drawStripOf, drawFrameOf}
 use Rattle.drawing_laws.specs.Demand3.{SameByte}
-use Rattle.drawing_laws.specs.Drawn.{frameCall, stripCall, acceptedOf, drawsStripOf, afterOf, inImagesOf}
+use Rattle.drawing_laws.specs.Drawn.{frameCall, stripCall, drawsStripOf, afterOf, inImagesOf}
+use Rattle.drawing_laws.proofs.Verdicts.{stripTest}
 use Rattle.drawing_laws.proofs.CallDrawn.{byte-kept, length-kept}
 use Rattle.strip_order.specs.Order.{afterStripsOf, NamesEach, AnyOrder}
 use Rattle.strip_order.proofs.DrawnBytes.{pixelsAtOf, pixels-same, drawsByteOf, Draws, draws, draws-byte, byte-drawn, byte-left}
@@ -42,7 +43,7 @@ module _ (regs : List ℕ) (frame : ℕ) where
     -- the strip call of the byte's own strip draws it
     own-draws : (now : List ℕ) (s : ℕ) → length now ≡ length vram → a % 64 / 2 ≡ s
         → Draws (length now) regs frame (stripCall s) a
-    unfolding acceptedOf drawsStripOf
+    unfolding stripTest drawsStripOf
     own-draws now s l q =
         record {
           vram-ok = l ∙ d .vram-ok;
@@ -84,7 +85,7 @@ module _ (regs : List ℕ) (frame : ℕ) where
 
   -- a byte that the frame call does not draw, no strip call draws
   no-strip : (n a : ℕ) → drawsByteOf n regs frame frameCall a ≡ false → (s : ℕ) → drawsByteOf n regs frame (stripCall s) a ≡ false
-  unfolding acceptedOf drawsStripOf
+  unfolding stripTest drawsStripOf
   no-strip n a e s = go (drawsByteOf n regs frame (stripCall s) a) refl
     where
       frame-draws : Draws n regs frame (stripCall s) a → Draws n regs frame frameCall a

@@ -19,7 +19,8 @@ use Rattle.drawing_pixel.specs.Pixel.{pixelOf}
 use Rattle.drawing_pixel.specs.Strip.{inStripOf, fourPixelsOf, stripOf, stripsOf, frameOf}
 use Rattle.drawing.specs.Calls.{whenAccepted, stripVerdictOf, drawStripOf, frameVerdictOf, drawFrameOf}
 use Rattle.drawing_laws.specs.Demand3.{SameByte}
-use Rattle.drawing_laws.specs.Drawn.{Call, frameCall, stripCall, acceptedOf, drawsStripOf, afterOf, inImagesOf}
+use Rattle.drawing_laws.specs.Drawn.{Call, frameCall, stripCall, drawsStripOf, afterOf, inImagesOf}
+use Rattle.drawing_laws.proofs.Verdicts.{stripTest}
 use Rattle.drawing_laws.proofs.CallDrawn.{in-strip-is, outside-strip, strips-length, strips-kept, frame-accepted, strip-accepted, byte-kept}
 use Rattle.drawing_laws.proofs.Images.{pixel-outside-images}
 use Rattle.drawing_laws.proofs.StripBytes.{strip-kept, strip-drawn}
@@ -39,7 +40,7 @@ pixels-same first second regs frame a ok h =
 
 -- whether a call over VRAM of n bytes is accepted
 unfoldable pub acceptsOf : ℕ → List ℕ → ℕ → Call → Bool
-acceptsOf n regs frame call = vramOk n && (drawingOk regs && (ltb frame 2 && acceptedOf call))
+acceptsOf n regs frame call = vramOk n && (drawingOk regs && (ltb frame 2 && stripTest call))
 
 -- whether it draws the byte at an address
 unfoldable pub drawsByteOf : ℕ → List ℕ → ℕ → Call → ℕ → Bool
@@ -50,7 +51,7 @@ pub record Draws (n : ℕ) (regs : List ℕ) (frame : ℕ) (call : Call) (a : �
   pub vram-ok : n ≡ 262144
   pub registers-ok : drawingOk regs ≡ true
   pub frame-ok : frame < 2
-  pub accepted : acceptedOf call ≡ true
+  pub accepted : stripTest call ≡ true
   pub in-image : inImagesOf frame a ≡ true
   pub in-strip : drawsStripOf call (a % 64 / 2) ≡ true
 
@@ -117,7 +118,7 @@ module _ (vram regs : List ℕ) (frame a : ℕ) (ok : drawingOk regs ≡ true) (
 pub byte-drawn : (vram regs : List ℕ) (frame : ℕ) (call : Call) (a : ℕ) → a < length vram
     → Draws (length vram) regs frame call a
     → getD (afterOf vram regs frame call) a 0 ≡ pixelsAtOf vram regs a
-unfolding afterOf drawsStripOf acceptedOf frameOf
+unfolding afterOf drawsStripOf stripTest frameOf
 byte-drawn vram regs frame frameCall a h d =
     rw (frame-accepted vram regs frame (d .vram-ok) (d .registers-ok) (d .frame-ok))
     (strips-drawn vram regs frame a (d .registers-ok) (d .in-image) h 28 (ltb-true (a % 64 / 2) 28 (d .in-strip)))
@@ -143,7 +144,7 @@ refused-strip r t u v true true true true before after e = absurd (true≢false 
 
 refused : (vram regs : List ℕ) (frame : ℕ) (call : Call) → acceptsOf (length vram) regs frame call ≡ false
     → afterOf vram regs frame call ≡ vram
-unfolding afterOf acceptsOf acceptedOf drawFrameOf frameVerdictOf drawStripOf stripVerdictOf
+unfolding afterOf acceptsOf stripTest drawFrameOf frameVerdictOf drawStripOf stripVerdictOf
 refused vram regs frame frameCall e =
     refused-frame _ _ _ (vramOk (length vram)) (drawingOk regs) (ltb frame 2) vram (frameOf vram regs frame) e
 refused vram regs frame (stripCall s) e =

@@ -12,4 +12,6 @@ pub mod random;
 #[cfg(feature = "drawing")]
 pub mod scene;
 #[cfg(feature = "processor")]
+pub mod state;
+#[cfg(feature = "processor")]
 pub mod twin;

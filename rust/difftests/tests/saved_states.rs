@@ -3,92 +3,16 @@
 
 #![cfg(feature = "processor")]
 
-use difftests::machine::{expect_same_bytes, random_drawing, random_hardware, to_library, Buffers};
-use difftests::program::random_processor;
+use difftests::machine::{random_hardware, to_library, Buffers};
 use difftests::random::Random;
+use difftests::state::{pak_lengths, State};
 use difftests::twin::processor_to_library;
-use model::saved::file_length;
-use model::{DrawingRegisters, Hardware, Mode, Processor, Refusal};
+use model::saved::{file_length, Form};
+use model::Hardware;
 
-/// A machine to be saved, or to be filled.
-#[derive(Clone, Debug)]
-struct State {
-    buffers: Buffers,
-    processor: Processor,
-    drawing: DrawingRegisters,
-}
-
-impl State {
-    /// Lines and timer are at reset: this form leaves them out.
-    fn random(random: &mut Random, pak: usize) -> State {
-        let mut processor = random_processor(random);
-        processor.mode = random.pick(&[Mode::Running, Mode::Halted, Mode::Fatal]);
-        processor.hardware = Hardware::default();
-        let drawing = random_drawing(random);
-        State { buffers: Buffers::random(random, 1_024, pak), processor, drawing }
-    }
-
-    /// Writes with the library into room of this length, which is filled before.
-    fn write(&self, room: usize) -> (u32, Box<[u8]>) {
-        let mut bytes = vec![0xA5; room].into_boxed_slice();
-        let number = vbsys::write_state(
-            self.buffers.lend_library_to_read(),
-            processor_to_library(&self.processor),
-            to_library(&self.drawing),
-            &mut bytes,
-        );
-        (number, bytes)
-    }
-
-    /// Writes with the model.
-    fn write_by_model(&self, room: usize) -> (u32, Box<[u8]>) {
-        let mut bytes = vec![0xA5; room].into_boxed_slice();
-        let memories = self.buffers.lend_model_to_read();
-        let answer =
-            model::saved::write_state(&memories, &self.processor, &self.drawing, &mut bytes);
-        (answer.err().map_or(0, Refusal::number), bytes)
-    }
-
-    /// The file of an accepted state, written on both sides.
-    fn file(&self, what: &str) -> Box<[u8]> {
-        let due = file_length(self.buffers.pak.len());
-        let (number, file) = self.write(due);
-        assert_eq!(number, 0, "{what}");
-        expect_same_bytes("the file", &file, &self.write_by_model(due).1, &|| what.into());
-        file
-    }
-
-    /// Reads a file on both sides into this state and compares; gives the number
-    /// and the state afterwards.
-    fn read(&self, file: &[u8], what: &str) -> (u32, State) {
-        let (mut library, mut model) = (self.buffers.clone(), self.clone());
-        let restored = vbsys::read_state(
-            &mut library.lend_library(),
-            processor_to_library(&self.processor),
-            to_library(&self.drawing),
-            file,
-        );
-        let memories = &mut model.buffers.lend_model();
-        let answer =
-            model::saved::read_state(memories, &mut model.processor, &mut model.drawing, file);
-        let expected = vbsys::Restored {
-            refusal: answer.err().map_or(0, Refusal::number),
-            processor: processor_to_library(&model.processor),
-            drawing: to_library(&model.drawing),
-        };
-        assert_eq!(restored, expected, "{what}");
-        library.expect_equal(&model.buffers, &|| what.into());
-        if restored.refusal != 0 {
-            library.expect_equal(&self.buffers, &|| format!("refused: {what}"));
-            assert_eq!(restored.processor, processor_to_library(&self.processor), "{what}");
-        }
-        (restored.refusal, model)
-    }
-}
-
-/// The 26 lengths of pak RAM.
-fn pak_lengths() -> impl Iterator<Item = usize> {
-    std::iter::once(0).chain((0..=24).map(|power| 1 << power))
+/// The file of form 1.
+fn file_of(state: &State, what: &str) -> Box<[u8]> {
+    state.file(Form::One, what)
 }
 
 /// States at every length of pak RAM: the file is the model's, it is read back
@@ -99,19 +23,16 @@ fn every_pak_length() {
         let rounds = if pak > 1 << 20 { 1 } else { 6 };
         for number in 0..rounds {
             let mut random = Random::new(0x1001_0000 + number);
-            let state = State::random(&mut random, pak);
+            let state = State::at_reset(&mut random, pak);
             let what = format!("pak RAM {pak}, round {number}");
-            let file = state.file(&what);
+            let file = file_of(&state, &what);
             assert_eq!(file.len(), if pak == 0 { 327_920 } else { 327_930 + pak });
             let other = State::random(&mut random, pak);
             let (number, read) = other.read(&file, &what);
-            assert_eq!((number, read.processor), (0, state.processor), "{what}");
-            assert_eq!(read.drawing, state.drawing, "{what}");
-            assert!(read.buffers.wram == state.buffers.wram, "{what}");
-            assert!(read.buffers.vram == state.buffers.vram, "{what}");
-            assert!(read.buffers.pak == state.buffers.pak, "{what}");
+            assert_eq!(number, 0, "{what}");
+            read.expect_read(&state, &what);
             assert!(read.buffers.rom == other.buffers.rom, "ROM is not stored; {what}");
-            assert!(read.file(&what) == file, "written again; {what}");
+            assert!(file_of(&read, &what) == file, "written again; {what}");
         }
     }
 }
@@ -136,9 +57,9 @@ fn worked_contents() {
              05 00 FA 00 05 00 00 20 00 00",
         ),
     ] {
-        let state = State::random(&mut Random::new(0x1003_0000), pak);
+        let state = State::at_reset(&mut Random::new(0x1003_0000), pak);
         let contents = bytes(text);
-        assert_eq!(state.file("contents")[..contents.len()], contents, "pak RAM {pak}");
+        assert_eq!(file_of(&state, "contents")[..contents.len()], contents, "pak RAM {pak}");
     }
 }
 
@@ -147,15 +68,15 @@ fn worked_contents() {
 fn lengths_of_room_and_file() {
     let mut random = Random::new(0x1004_0000);
     for pak in [0, 1, 2, 4, 32, 8_192] {
-        let state = State::random(&mut random, pak);
-        let file = state.file("lengths").into_vec();
+        let state = State::at_reset(&mut random, pak);
+        let file = file_of(&state, "lengths").into_vec();
         let due = file.len();
-        let neighbours = [0, 1, pak / 2, 2 * pak].map(file_length);
+        let neighbours = [0, 1, pak / 2, 2 * pak].map(|pak| file_length(Form::One, pak));
         for length in [0, 1, 42, due - 1, due, due + 1].into_iter().chain(neighbours) {
             let number = if length == due { 0 } else { 9 };
-            let (found, room) = state.write(length);
+            let (found, room) = state.write(Form::One, length);
             assert_eq!((found, room.len()), (number, length), "room {length}, pak RAM {pak}");
-            assert_eq!(state.write_by_model(length).0, number);
+            assert_eq!(state.write_by_model(Form::One, length).0, number);
             assert!(number == 0 || room.iter().all(|&byte| byte == 0xA5), "room {length}");
             let mut given = file.clone();
             given.resize(length, 0);
@@ -171,8 +92,8 @@ fn lengths_of_room_and_file() {
 fn every_byte_of_the_contents() {
     let mut random = Random::new(0x1005_0000);
     for (pak, length) in [(0, 42), (4, 52)] {
-        let state = State::random(&mut random, pak);
-        let file = state.file("contents");
+        let state = State::at_reset(&mut random, pak);
+        let file = file_of(&state, "contents");
         for at in 0..length {
             for change in [1u8, 0x10, 0x80, 0xFF, 2] {
                 let mut changed = file.clone();
@@ -194,8 +115,8 @@ const SECOND: usize = 214;
 /// set: whether it is refused by 10 is the papers' condition of that field.
 #[test]
 fn every_bit_of_the_records() {
-    let state = State::random(&mut Random::new(0x1006_0000), 0);
-    let file = state.file("records");
+    let state = State::at_reset(&mut Random::new(0x1006_0000), 0);
+    let file = file_of(&state, "records");
     let expect = |at: usize, value: &[u8], legal: bool, what: &str| {
         let mut changed = file.clone();
         changed[at..at + value.len()].copy_from_slice(value);
@@ -232,9 +153,9 @@ fn every_bit_of_the_records() {
 #[test]
 fn memories_are_free() {
     let mut random = Random::new(0x1007_0000);
-    let state = State::random(&mut random, 64);
+    let state = State::at_reset(&mut random, 64);
     for byte in [0x00, 0xFF] {
-        let mut file = state.file("memories");
+        let mut file = file_of(&state, "memories");
         file[250..].fill(byte);
         let (number, read) = state.read(&file, "memories of one byte");
         assert_eq!(number, 0);
@@ -242,17 +163,19 @@ fn memories_are_free() {
     }
 }
 
-/// W6: the file leaves lines and timer out, and loads them at reset.
+/// Reading loads lines and timer at reset (W6); writing refuses by 16 unless they
+/// are there (W12).
 #[test]
 fn lines_and_timer() {
     let mut random = Random::new(0x100A_0000);
     for pak in [0, 64] {
-        let state = State::random(&mut random, pak);
-        let file = state.file("at reset");
+        let state = State::at_reset(&mut random, pak);
+        let file = file_of(&state, "at reset");
         for _ in 0..20 {
             let mut other = state.clone();
             other.processor.hardware = random_hardware(&mut random);
-            assert!(other.file("not at reset") == file);
+            let number = if other.processor.hardware == Hardware::default() { 0 } else { 16 };
+            assert_eq!(other.write(Form::One, file.len()).0, number);
             let (number, read) = other.read(&file, "lines and timer");
             assert_eq!((number, read.processor), (0, state.processor));
         }
@@ -263,8 +186,8 @@ fn lines_and_timer() {
 #[test]
 fn the_order_of_refusals() {
     let mut random = Random::new(0x1008_0000);
-    let accepted = State::random(&mut random, 8);
-    let file = accepted.file("accepted");
+    let accepted = State::at_reset(&mut random, 8);
+    let file = file_of(&accepted, "accepted");
     for (set, way) in (0..256u32).flat_map(|set| (0..2).map(move |way| (set, way))) {
         let broken = |bit: u32| set >> bit & 1 == 1;
         let length =
@@ -323,8 +246,8 @@ fn between_fences() {
     let mut random = Random::new(0x1009_0000);
     for (side, pak) in [Side::Start, Side::End].into_iter().flat_map(|s| [(s, 0), (s, 1), (s, 64)])
     {
-        let state = State::random(&mut random, pak);
-        let file = state.file("between fences");
+        let state = State::at_reset(&mut random, pak);
+        let file = file_of(&state, "between fences");
         let closed = |bytes: &[u8]| {
             let mut fenced = Fenced::new(bytes, side);
             fenced.forbid_writing();

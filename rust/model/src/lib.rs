@@ -31,6 +31,7 @@ pub mod probe;
 pub mod processor;
 pub mod refusal;
 pub mod replay;
+pub mod salvage;
 pub mod saved;
 pub mod world;
 

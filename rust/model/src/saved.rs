@@ -1,52 +1,131 @@
-//! Saved states (W1): a machine into a file of form 1, and back.
+//! Saved states: a machine into a file of form 1 (W1) or form 2 (W12), and back;
+//! a file moved from one form to the other.
 
 use crate::bus::{DrawingRegisters, Memories, ReadMemories};
 use crate::hardware::Hardware;
 use crate::number::half_at;
-use crate::processor::{Mode, Processor};
-use crate::refusal::{check_drawing, refuse_unless, Refusal, VRAM_LENGTH, WRAM_LENGTH};
+use crate::processor::{self, Mode, Processor};
+use crate::refusal::{
+    check_drawing, refuse_unless, Refusal, PAK_LARGEST, VRAM_LENGTH, WRAM_LENGTH,
+};
 
 /// Kind 1: 43 words.
 const PROCESSOR_LENGTH: usize = 4 * 43;
 /// Kind 2: 13 halfwords.
 const DRAWING_LENGTH: usize = 2 * 13;
-/// A contents entry: kind (halfword), offset and length (words).
-const ENTRY_LENGTH: usize = 10;
+/// Kind 6: four halfwords.
+const HARDWARE_LENGTH: usize = 2 * 4;
 
-/// The kinds and lengths of the bodies with so much pak RAM: "5 pak RAM, left out
-/// when empty".
-fn bodies(pak: usize) -> Vec<(u16, usize)> {
-    let mut bodies =
-        vec![(1, PROCESSOR_LENGTH), (2, DRAWING_LENGTH), (3, WRAM_LENGTH), (4, VRAM_LENGTH)];
-    if pak != 0 {
-        bodies.push((5, pak));
-    }
-    bodies
+/// The form of a file.
+#[derive(Clone, Copy, Debug, PartialEq, Eq)]
+pub enum Form {
+    One,
+    Two,
 }
 
-/// "a halfword count, then per body its kind .., offset from the file's start and
-/// length in bytes".
-fn contents(pak: usize) -> Vec<u8> {
-    let bodies = bodies(pak);
-    let mut bytes = (bodies.len() as u16).to_le_bytes().to_vec();
-    let mut offset = 2 + ENTRY_LENGTH * bodies.len();
-    for (kind, length) in bodies {
-        bytes.extend(kind.to_le_bytes());
-        bytes.extend((offset as u32).to_le_bytes());
-        bytes.extend((length as u32).to_le_bytes());
-        offset += length;
+impl Form {
+    /// "Reading takes a file whose first halfword is 0 for form 2, any other for
+    /// form 1".
+    pub fn of(file: &[u8]) -> Form {
+        if file.starts_with(&[0, 0]) {
+            Form::Two
+        } else {
+            Form::One
+        }
     }
-    bytes
+
+    pub fn other(self) -> Form {
+        match self {
+            Form::One => Form::Two,
+            Form::Two => Form::One,
+        }
+    }
+
+    /// What comes before the count: "Form 2 begins with halfwords 0 and 2".
+    fn leading(self) -> &'static [u16] {
+        match self {
+            Form::One => &[],
+            Form::Two => &[0, 2],
+        }
+    }
+
+    /// A contents entry: kind (halfword), offset and length (words); "each contents
+    /// entry ends with one word more", the sum, in form 2.
+    fn entry_length(self) -> usize {
+        match self {
+            Form::One => 10,
+            Form::Two => 14,
+        }
+    }
+
+    /// The kinds and lengths of the bodies with so much pak RAM: "5 pak RAM, left
+    /// out when empty". Kind 6 is always there in form 2.
+    fn bodies(self, pak: usize) -> Vec<(u16, usize)> {
+        let mut bodies =
+            vec![(1, PROCESSOR_LENGTH), (2, DRAWING_LENGTH), (3, WRAM_LENGTH), (4, VRAM_LENGTH)];
+        if pak != 0 {
+            bodies.push((5, pak));
+        }
+        if self == Form::Two {
+            bodies.push((6, HARDWARE_LENGTH));
+        }
+        bodies
+    }
+
+    /// Where the first body begins.
+    pub(crate) fn contents_length(self, pak: usize) -> usize {
+        2 * (self.leading().len() + 1) + self.entry_length() * self.bodies(pak).len()
+    }
+
+    /// Kind, place and length of each body, in the file's order, without gaps.
+    pub(crate) fn places(self, pak: usize) -> Vec<(u16, usize, usize)> {
+        let mut place = self.contents_length(pak);
+        let mut places = Vec::new();
+        for (kind, length) in self.bodies(pak) {
+            places.push((kind, place, length));
+            place += length;
+        }
+        places
+    }
+
+    /// Where the sum of body `number` stands in a file of form 2: the last word of
+    /// its entry.
+    pub(crate) fn sum_place(number: usize) -> usize {
+        let form = Form::Two;
+        2 * (form.leading().len() + 1) + form.entry_length() * (number + 1) - 4
+    }
+
+    /// The length of pak RAM that a file of this length has.
+    pub(crate) fn pak_of(self, length: usize) -> Option<usize> {
+        pak_lengths().find(|&pak| file_length(self, pak) == length)
+    }
+}
+
+/// The lengths of pak RAM that refusal 4 lets pass.
+fn pak_lengths() -> impl Iterator<Item = usize> {
+    let powers = std::iter::successors(Some(1), |power| Some(2 * power));
+    std::iter::once(0).chain(powers.take_while(|&power| power <= PAK_LARGEST))
 }
 
 /// The length of a file that the lent pak RAM's length calls for.
-pub fn file_length(pak: usize) -> usize {
-    contents(pak).len() + bodies(pak).iter().map(|(_, length)| length).sum::<usize>()
+pub fn file_length(form: Form, pak: usize) -> usize {
+    let bodies = form.bodies(pak).iter().map(|(_, length)| length).sum::<usize>();
+    form.contents_length(pak) + bodies
+}
+
+/// "the sum of the body's bytes mod 2^32".
+pub(crate) fn sum(body: &[u8]) -> u32 {
+    body.iter().fold(0u32, |sum, &byte| sum.wrapping_add(u32::from(byte)))
+}
+
+/// The word at a place of a file.
+pub(crate) fn word_at(file: &[u8], at: usize) -> u32 {
+    u32::from(half_at(file, at)) | u32::from(half_at(file, at + 2)) << 16
 }
 
 /// Kind 1: "32 registers, PC, EIPC, EIPSW, FEPC, FEPSW, ECR, PSW, system registers
 /// 25 and 29, the value read from 31, mode".
-fn processor_bytes(processor: &Processor) -> Vec<u8> {
+pub(crate) fn processor_bytes(processor: &Processor) -> Vec<u8> {
     let mode = match processor.mode {
         Mode::Running => 0,
         Mode::Halted => 1,
@@ -71,8 +150,7 @@ fn processor_bytes(processor: &Processor) -> Vec<u8> {
 /// The processor of a body of kind 1; none for a mode that is none. W6: "W1's
 /// files leave them out and load them at reset", the lines and the timer.
 fn read_processor(body: &[u8]) -> Option<Processor> {
-    let word =
-        |n: usize| u32::from(half_at(body, 4 * n)) | u32::from(half_at(body, 4 * n + 2)) << 16;
+    let word = |n: usize| word_at(body, 4 * n);
     let mode = match word(42) {
         0 => Mode::Running,
         1 => Mode::Halted,
@@ -110,74 +188,185 @@ fn read_drawing(body: &[u8]) -> DrawingRegisters {
     DrawingRegisters { spt: four(0), gplt: four(4), jplt: four(8), bkcol: half_at(body, 24) }
 }
 
-/// What the writer makes for a state.
-fn file_of(memories: &ReadMemories, processor: &Processor, drawing: &DrawingRegisters) -> Vec<u8> {
-    let mut file = contents(memories.pak.len());
-    file.extend(processor_bytes(processor));
-    file.extend(drawing_bytes(drawing));
-    file.extend(memories.wram);
-    file.extend(memories.vram);
-    file.extend(memories.pak);
+/// Kind 6: "request lines (bit n for level n), timer count, reload, control bits at
+/// their places in TCR, all other bits 0".
+fn hardware_bytes(hardware: &Hardware) -> Vec<u8> {
+    let Hardware { lines, count, reload, control } = *hardware;
+    [lines, count, reload, control].into_iter().flat_map(u16::to_le_bytes).collect()
+}
+
+fn read_hardware(body: &[u8]) -> Hardware {
+    let [lines, count, reload, control] = [0, 2, 4, 6].map(|at| half_at(body, at));
+    Hardware { lines, count, reload, control }
+}
+
+/// Whether the writer makes this body "for some accepted state" (W13). Nothing ties
+/// one body to another.
+pub(crate) fn can_be_made(kind: u16, body: &[u8]) -> bool {
+    match kind {
+        1 => read_processor(body).is_some_and(|processor| processor.check().is_ok()),
+        2 => check_drawing(&read_drawing(body)).is_ok(),
+        6 => read_hardware(body).check().is_ok(),
+        _ => true,
+    }
+}
+
+/// The contents before these bodies, each with its kind.
+fn contents(form: Form, bodies: &[(u16, &[u8])]) -> Vec<u8> {
+    let count = bodies.len() as u16;
+    let leading = form.leading().iter().copied().chain([count]);
+    let mut bytes: Vec<u8> = leading.flat_map(u16::to_le_bytes).collect();
+    let mut offset = bytes.len() + form.entry_length() * bodies.len();
+    for (kind, body) in bodies {
+        bytes.extend(kind.to_le_bytes());
+        bytes.extend((offset as u32).to_le_bytes());
+        bytes.extend((body.len() as u32).to_le_bytes());
+        if form == Form::Two {
+            bytes.extend(sum(body).to_le_bytes());
+        }
+        offset += body.len();
+    }
+    bytes
+}
+
+/// A file of these bodies.
+pub(crate) fn file_of_bodies(form: Form, bodies: &[(u16, &[u8])]) -> Vec<u8> {
+    let mut file = contents(form, bodies);
+    bodies.iter().for_each(|(_, body)| file.extend(*body));
     file
 }
 
-/// Refusals 1 to 5, then 9.
+/// What the writer of a form makes for a state.
+fn file_of(
+    form: Form,
+    memories: &ReadMemories,
+    processor: &Processor,
+    drawing: &DrawingRegisters,
+) -> Vec<u8> {
+    let (first, second) = (processor_bytes(processor), drawing_bytes(drawing));
+    let sixth = hardware_bytes(&processor.hardware);
+    let kinds = form.bodies(memories.pak.len());
+    let body = |kind: u16| match kind {
+        1 => &first[..],
+        2 => &second,
+        3 => memories.wram,
+        4 => memories.vram,
+        5 => memories.pak,
+        _ => &sixth,
+    };
+    let bodies: Vec<_> = kinds.into_iter().map(|(kind, _)| (kind, body(kind))).collect();
+    file_of_bodies(form, &bodies)
+}
+
+/// Refusals 1 to 5.
 fn check(
     memories: &ReadMemories,
     processor: &Processor,
     drawing: &DrawingRegisters,
-    length: usize,
 ) -> Result<(), Refusal> {
     memories.check()?;
     processor.check()?;
-    check_drawing(drawing)?;
-    refuse_unless(length == file_length(memories.pak.len()), Refusal::FileLength)
+    check_drawing(drawing)
 }
 
-/// Writes a machine into room of exactly the length due; refusals 1 to 5, 9.
+/// Refusal 9, by the length that the lent pak RAM's length calls for.
+fn check_length(form: Form, memories: &ReadMemories, length: usize) -> Result<(), Refusal> {
+    refuse_unless(length == file_length(form, memories.pak.len()), Refusal::FileLength)
+}
+
+/// Refusal 16: "exactly when kind 6 isn't at reset".
+fn check_at_reset(processor: &Processor) -> Result<(), Refusal> {
+    refuse_unless(processor.hardware == Hardware::default(), Refusal::NotAtReset)
+}
+
+/// Writes form 1 into room of exactly the length due; refusals 1 to 5, 9, 16.
 pub fn write_state(
     memories: &ReadMemories,
     processor: &Processor,
     drawing: &DrawingRegisters,
     room: &mut [u8],
 ) -> Result<(), Refusal> {
-    check(memories, processor, drawing, room.len())?;
-    room.copy_from_slice(&file_of(memories, processor, drawing));
+    check(memories, processor, drawing)?;
+    check_length(Form::One, memories, room.len())?;
+    check_at_reset(processor)?;
+    room.copy_from_slice(&file_of(Form::One, memories, processor, drawing));
     Ok(())
 }
 
-/// The state of a file whose length is due: its records, and the memories as
-/// parts of it. Refusal 10: "the bytes aren't what the writer makes for any state
-/// that passes 2 to 5", so the state is taken out and written again.
-fn state_in(file: &[u8], pak: usize) -> Result<(Processor, DrawingRegisters, &[u8]), Refusal> {
-    let (_, after_contents) = file.split_at(contents(pak).len());
-    let (first, after_processor) = after_contents.split_at(PROCESSOR_LENGTH);
-    let (second, memories) = after_processor.split_at(DRAWING_LENGTH);
-    let processor = read_processor(first).ok_or(Refusal::FileBytes)?;
-    let drawing = read_drawing(second);
-    let accepted = processor.check().is_ok() && check_drawing(&drawing).is_ok();
-    refuse_unless(accepted, Refusal::FileBytes)?;
-    let (wram, after_wram) = memories.split_at(WRAM_LENGTH);
-    let (vram, pak) = after_wram.split_at(VRAM_LENGTH);
-    let written = file_of(&ReadMemories { rom: &[], wram, vram, pak }, &processor, &drawing);
-    refuse_unless(written == file, Refusal::FileBytes)?;
-    Ok((processor, drawing, memories))
+/// Writes form 2 into room of exactly the length due; refusals 1 to 5, 9.
+pub fn write_state_2(
+    memories: &ReadMemories,
+    processor: &Processor,
+    drawing: &DrawingRegisters,
+    room: &mut [u8],
+) -> Result<(), Refusal> {
+    check(memories, processor, drawing)?;
+    check_length(Form::Two, memories, room.len())?;
+    room.copy_from_slice(&file_of(Form::Two, memories, processor, drawing));
+    Ok(())
 }
 
-/// Reads a machine back; refusals 1 to 5, 9, 10. Refused, nothing changes.
+/// The state of a file whose length is due: its records, and the memories as parts
+/// of it.
+struct Held<'a> {
+    processor: Processor,
+    drawing: DrawingRegisters,
+    memories: ReadMemories<'a>,
+}
+
+/// Refusal 10: "the bytes aren't what the writer makes for any state that passes 2
+/// to 5", the writer of the file's own form; so the state is taken out and written
+/// again.
+fn state_in(form: Form, file: &[u8], pak: usize) -> Result<Held<'_>, Refusal> {
+    let places = form.places(pak);
+    let body = |wanted: u16| {
+        let found = places.iter().find(|&&(kind, _, _)| kind == wanted);
+        found.map_or(&[][..], |&(_, place, length)| &file[place..place + length])
+    };
+    let mut processor = read_processor(body(1)).ok_or(Refusal::FileBytes)?;
+    if form == Form::Two {
+        processor.hardware = read_hardware(body(6));
+    }
+    let drawing = read_drawing(body(2));
+    let accepted = processor.check().is_ok() && check_drawing(&drawing).is_ok();
+    refuse_unless(accepted, Refusal::FileBytes)?;
+    let memories = ReadMemories { rom: &[], wram: body(3), vram: body(4), pak: body(5) };
+    let written = file_of(form, &memories, &processor, &drawing);
+    refuse_unless(written == file, Refusal::FileBytes)?;
+    Ok(Held { processor, drawing, memories })
+}
+
+/// Reads a machine back, of either form; refusals 1 to 5, 9, 10. Refused, nothing
+/// changes.
 pub fn read_state(
     memories: &mut Memories,
     processor: &mut Processor,
     drawing: &mut DrawingRegisters,
     file: &[u8],
 ) -> Result<(), Refusal> {
-    check(&memories.read(), processor, drawing, file.len())?;
-    let (read, registers, bytes) = state_in(file, memories.pak.len())?;
-    (*processor, *drawing) = (read, registers);
-    let (wram, after_wram) = bytes.split_at(WRAM_LENGTH);
-    let (vram, pak) = after_wram.split_at(VRAM_LENGTH);
-    memories.wram.copy_from_slice(wram);
-    memories.vram.copy_from_slice(vram);
-    memories.pak.copy_from_slice(pak);
+    processor::check(memories, processor, drawing)?;
+    let form = Form::of(file);
+    check_length(form, &memories.read(), file.len())?;
+    let held = state_in(form, file, memories.pak.len())?;
+    (*processor, *drawing) = (held.processor, held.drawing);
+    memories.wram.copy_from_slice(held.memories.wram);
+    memories.vram.copy_from_slice(held.memories.vram);
+    memories.pak.copy_from_slice(held.memories.pak);
+    Ok(())
+}
+
+/// Moves a file to the other form: "what the other form's writer makes for the
+/// state held". 9 "when its file's length fits no pak RAM size in that form or its
+/// room isn't the length due, then by 10", then 16.
+pub fn move_state(file: &[u8], room: &mut [u8]) -> Result<(), Refusal> {
+    let form = Form::of(file);
+    let other = form.other();
+    let pak = form.pak_of(file.len()).ok_or(Refusal::FileLength)?;
+    refuse_unless(room.len() == file_length(other, pak), Refusal::FileLength)?;
+    let Held { processor, drawing, memories } = state_in(form, file, pak)?;
+    if other == Form::One {
+        check_at_reset(&processor)?;
+    }
+    room.copy_from_slice(&file_of(other, &memories, &processor, &drawing));
     Ok(())
 }

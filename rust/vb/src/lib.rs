@@ -21,6 +21,8 @@ mod calls;
 mod instructions;
 mod pixel_bytes;
 mod lists;
+mod lists;
+mod pixel_bytes;
 mod probe;
 mod records;
 mod refusal;
@@ -33,12 +35,19 @@ pub use calls::{character, Answer, Cause, Ran, Stop};
 pub use instructions::{decode, encode, left_out, op, Decoded, Halfwords, Instruction};
 pub use pixel_bytes::NoList;
 pub use lists::{read, write};
+pub use lists::{read, write};
+pub use pixel_bytes::NoList;
 pub use probe::{Probe, Width};
 pub use records::{Drawing, Hardware, Machine, Mode, Processor, RecordError};
 pub use refusal::{grouped, Refusal};
 pub use replays::{record, End, Replayed, Word, RECORD_LENGTH};
+pub use states::{move_state, salvage_state, Salvaged};
 pub use undefined::{Mask, Read, Undefined};
 pub use vbsys::{state_bytes, Access, Memories, ProbeMemories, ReadMemories};
+pub use states::{move_state, salvage_state, Form, Salvaged};
+pub use undefined::{Mask, Read, Undefined};
+pub use vbsys::{state_2_bytes, state_bytes, Memories, ProbeMemories, ReadMemories};
+pub use vbsys::{state_2_bytes, state_bytes, Access, Memories, ProbeMemories, ReadMemories};
 
 /// Bytes of WRAM.
 pub const WRAM_LENGTH: usize = 65_536;

@@ -46,7 +46,7 @@ impl Drawing {
             vbsys::MISUSE => Err(NoList::Outside { eye, x, y }),
             number => {
                 let lengths = [0, 0, vram.len(), 0];
-                let given = Given { lengths, processor: None, drawing: self };
+                let given = Given { lengths, processor: None, drawing: self, hardware: None };
                 Err(NoList::Refused(given.refusal(number, &[])))
             }
         }

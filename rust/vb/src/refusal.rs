@@ -46,6 +46,12 @@ pub enum Refusal {
     AccessSize { index: usize, given: u32 },
     /// 14
     TraceLength { given: usize },
+    /// 9 of a move.
+    MoveLength { file: usize, room: usize },
+    /// 16: form 1 does not hold request lines and timer.
+    NotAtReset,
+    /// 17
+    NoLayout { given: usize },
 }
 
 impl Refusal {
@@ -67,6 +73,9 @@ impl Refusal {
             Refusal::ProbeTarget { .. } => 13,
             Refusal::TooManyAccesses { .. } | Refusal::AccessSize { .. } => 11,
             Refusal::TraceLength { .. } => 14,
+            Refusal::MoveLength { .. } => 9,
+            Refusal::NotAtReset => 16,
+            Refusal::NoLayout { .. } => 17,
         }
     }
 }
@@ -156,6 +165,22 @@ impl fmt::Display for Refusal {
             Refusal::TraceLength { given } => write!(
                 f,
                 "the trace has {} bytes; its length must be a multiple of 16, a record's",
+                grouped(*given as u64)
+            ),
+            Refusal::MoveLength { file, room } => write!(
+                f,
+                "the file has {} bytes and the room {}; the file's form has no such length, or the other form another",
+                grouped(*file as u64),
+                grouped(*room as u64)
+            ),
+            Refusal::NotAtReset => write!(
+                f,
+                "request lines and timer are not at reset, and a saved state of form 1 does not hold them; form 2 does"
+            ),
+            Refusal::NoLayout { given } => write!(
+                f,
+                "the file has {} bytes; a saved state of form 2 has 327,962 without pak RAM, or 327,976 and its length, \
+                 a power of two up to 16,777,216",
                 grouped(*given as u64)
             ),
         }

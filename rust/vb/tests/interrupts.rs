@@ -132,7 +132,10 @@ fn saved_states_load_lines_and_timer_at_reset() {
     let Bench { rom, wram, vram, machine } = &mut bench;
     let read = vb::ReadMemories { rom, wram, vram, pak: &[] };
     let mut room = vec![0; vb::state_bytes(0)];
+    assert_eq!(machine.write_state(&read, &mut room), Err(vb::Refusal::NotAtReset));
+    let hardware = std::mem::take(&mut machine.processor.hardware);
     machine.write_state(&read, &mut room).expect("not refused");
+    machine.processor.hardware = hardware;
     let (given, written) = (machine.processor, Machine { ..*machine });
     let mut memories = Memories { rom, wram, vram, pak: &mut [] };
     machine.read_state(&mut memories, &room).expect("not refused");

@@ -77,7 +77,7 @@ fn the_first_wrong_word_is_told_and_its_step_stays_made() {
 
 #[test]
 fn the_models_own_end_is_told_first() {
-    let refused = Refusal::NotModelled { pc: 0x0700_0002, halfword: CAXI };
+    let refused = Refusal::NotModelled { pc: 0x0700_0002, first: CAXI, second: 0 };
     for (code, psw, end, mode) in [
         ([0x4541, HALT], 0, End::WasHalted, Mode::Halted),
         ([0x4541, CAXI], 0, End::NotModelled(refused), Mode::Running),

@@ -1,6 +1,9 @@
 //! Saved states through the library: the contents as the papers lay them out, read back, and every refusal.
 
-use vb::{state_bytes, Machine, Memories, Mode, ReadMemories, Refusal};
+use vb::{
+    move_state, salvage_state, state_2_bytes, state_bytes, Hardware, Machine, Memories, Mode,
+    ReadMemories, Refusal, Salvaged,
+};
 
 const WITHOUT_PAK: &str = "04 00 01 00 2A 00 00 00 AC 00 00 00 02 00 D6 00 00 00 1A 00 00 00 \
                            03 00 F0 00 00 00 00 00 01 00 04 00 F0 00 01 00 00 00 04 00";
@@ -106,4 +109,64 @@ fn lengths_are_told() {
     assert_eq!(odd.write_state(&bench.read(), &mut []).unwrap_err().number(), 5);
     bench.pak = vec![0; 3];
     assert_eq!(odd.write_state(&bench.read(), &mut []).unwrap_err().number(), 4);
+}
+
+/// Form 2 holds lines and timer; it moves to form 1 and back where they are at reset.
+#[test]
+fn form_2_is_written_read_and_moved() {
+    for pak in [0, 32, 8_192] {
+        let bench = Bench::of(pak, 7);
+        let mut state = machine();
+        let (mut one, mut two) = (vec![0; state_bytes(pak)], vec![0; state_2_bytes(pak)]);
+        state.write_state(&bench.read(), &mut one).unwrap();
+        state.write_state_2(&bench.read(), &mut two).unwrap();
+        assert_eq!(two[..4], [0, 0, 2, 0]);
+        let (mut there, mut back) = (vec![0; two.len()], vec![0; one.len()]);
+        move_state(&one, &mut there).unwrap();
+        move_state(&there, &mut back).unwrap();
+        assert!(there == two && back == one, "pak RAM {pak}");
+        let wrong = move_state(&one, &mut back).unwrap_err();
+        assert_eq!(wrong, Refusal::MoveLength { file: one.len(), room: one.len() });
+        state.processor.hardware = Hardware { lines: 9, count: 1, reload: 2, control: 0x1B };
+        state.write_state_2(&bench.read(), &mut two).unwrap();
+        let mut other = Bench::of(pak, 100);
+        let mut read = Machine::reset();
+        read.read_state(&mut other.lent(), &two).unwrap();
+        assert_eq!(read, state);
+        assert_eq!(move_state(&two, &mut back), Err(Refusal::NotAtReset));
+        two[300] ^= 1;
+        assert_eq!(move_state(&two, &mut back), Err(Refusal::FileBytes));
+        assert_eq!(read.read_state(&mut other.lent(), &two), Err(Refusal::FileBytes));
+        let told = read.read_state(&mut other.lent(), &two[1..]).unwrap_err();
+        assert_eq!(told.number(), 9);
+    }
+}
+
+#[test]
+fn a_damaged_file_is_salvaged() {
+    let bench = Bench::of(4, 7);
+    let mut file = vec![0; state_2_bytes(4)];
+    machine().write_state_2(&bench.read(), &mut file).unwrap();
+    let mut room = vec![0; file.len()];
+    let sound = Salvaged { replaced: vec![], contents_differ: false };
+    assert_eq!(salvage_state(&file, &mut room), Ok(sound.clone()));
+    assert!(room == file);
+    let mut damaged = file.clone();
+    damaged[300] ^= 1;
+    damaged[8] ^= 1;
+    damaged[100] ^= 1;
+    let found = Salvaged { replaced: vec![1, 3], contents_differ: true };
+    assert_eq!(salvage_state(&damaged, &mut room), Ok(found));
+    let mut again = vec![0; file.len()];
+    assert_eq!(salvage_state(&room, &mut again), Ok(sound));
+    assert!(again == room);
+    let mut other = Bench::of(4, 100);
+    let mut read = Machine::reset();
+    read.read_state(&mut other.lent(), &room).unwrap();
+    assert_eq!(read.processor, Machine::reset().processor);
+    assert_eq!(read.drawing, machine().drawing);
+    assert!(other.wram.iter().all(|&byte| byte == 0) && other.vram == bench.vram);
+    let told = salvage_state(&file, &mut room[1..]).unwrap_err();
+    assert_eq!(told, Refusal::FileLength { given: file.len() - 1, due: file.len() });
+    assert_eq!(salvage_state(&[], &mut []), Err(Refusal::NoLayout { given: 0 }));
 }

@@ -152,7 +152,28 @@ pub struct Restored {
     pub drawing: Drawing,
 }
 
-/// `VB_STATE_BYTES`: the length of a saved state with `pak` bytes of pak RAM.
+/// `vb_salvaged`
+#[repr(C)]
+#[derive(Clone, Copy, Debug, Default, PartialEq, Eq)]
+pub struct Salvaged {
+    pub refusal: u32,
+    /// How many bodies were replaced.
+    pub replaced: u32,
+    /// Their kinds, ascending; 0 after the last.
+    pub kinds: [u32; 6],
+    /// 1 where a byte before the first body differs, sums of replaced bodies aside.
+    pub contents_differ: u32,
+}
+
+/// `VB_STATE_2_BYTES`: the length of a saved state of form 2 with `pak` bytes of pak RAM.
+pub fn state_2_bytes(pak: usize) -> usize {
+    match pak {
+        0 => 327_962,
+        _ => 327_976 + pak,
+    }
+}
+
+/// `VB_STATE_BYTES`: the same of form 1.
 pub fn state_bytes(pak: usize) -> usize {
     match pak {
         0 => 327_920,
@@ -609,6 +630,82 @@ mod states {
 
 #[cfg(feature = "processor")]
 pub use states::{read_state, write_state};
+
+#[cfg(feature = "processor")]
+mod forms {
+    use super::{Drawing, Processor, ReadMemories, Salvaged};
+
+    extern "C" {
+        fn vb_write_state_2(
+            rom: *const u8,
+            rom_len: usize,
+            wram: *const u8,
+            wram_len: usize,
+            vram: *const u8,
+            vram_len: usize,
+            pak: *const u8,
+            pak_len: usize,
+            processor: Processor,
+            drawing: Drawing,
+            room: *mut u8,
+            room_len: usize,
+        ) -> u32;
+        fn vb_move_state(file: *const u8, file_len: usize, room: *mut u8, room_len: usize) -> u32;
+        fn vb_salvage_state(
+            file: *const u8,
+            file_len: usize,
+            room: *mut u8,
+            room_len: usize,
+        ) -> Salvaged;
+    }
+
+    /// `vb_write_state_2`
+    #[inline]
+    pub fn write_state_2(
+        memories: ReadMemories,
+        processor: Processor,
+        drawing: Drawing,
+        room: &mut [u8],
+    ) -> u32 {
+        let ReadMemories { rom, wram, vram, pak } = memories;
+        // SAFETY: each pointer is lent with its slice's own length; the memories are only read,
+        // and the room is borrowed mutably and apart.
+        unsafe {
+            vb_write_state_2(
+                rom.as_ptr(),
+                rom.len(),
+                wram.as_ptr(),
+                wram.len(),
+                vram.as_ptr(),
+                vram.len(),
+                pak.as_ptr(),
+                pak.len(),
+                processor,
+                drawing,
+                room.as_mut_ptr(),
+                room.len(),
+            )
+        }
+    }
+
+    /// `vb_move_state`
+    #[inline]
+    pub fn move_state(file: &[u8], room: &mut [u8]) -> u32 {
+        // SAFETY: each pointer is lent with its slice's own length; the file is only read, and the
+        // room is borrowed mutably and apart.
+        unsafe { vb_move_state(file.as_ptr(), file.len(), room.as_mut_ptr(), room.len()) }
+    }
+
+    /// `vb_salvage_state`
+    #[inline]
+    pub fn salvage_state(file: &[u8], room: &mut [u8]) -> Salvaged {
+        // SAFETY: as for a move.
+        unsafe { vb_salvage_state(file.as_ptr(), file.len(), room.as_mut_ptr(), room.len()) }
+    }
+}
+
+#[cfg(feature = "processor")]
+pub use forms::{move_state, salvage_state, write_state_2};
 
 /// Operation numbers of [`Instruction`]: the opcode, 32 for Bcond, 64 and the sub-opcode under opcode 111110.
 pub mod op {

@@ -8,7 +8,7 @@ use std::path::{Path, PathBuf};
 use std::process::Command;
 
 use vbsys::{
-    op, Access, Decoded, Drawing, Encoded, Hardware, Instruction, Listed, Loaded, Machine, Part, Processor, Ran, Replayed, Restored, Stepped, Stored, Ticked, Undefined,
+    op, Access, Decoded, Drawing, Encoded, Hardware, Instruction, Listed, Loaded, Machine, Part, Processor, Ran, Replayed, Restored, Salvaged, Stepped, Stored, Ticked, Undefined,
 };
 
 /// One line of the C program: a name, and the expression whose value it has.
@@ -65,6 +65,7 @@ fn facts() -> Vec<Fact> {
     fields!(facts, Ran, "vb_ran", refusal, count, processor, drawing);
     fields!(facts, Machine, "vb_machine", processor, drawing);
     fields!(facts, Restored, "vb_restored", refusal, processor, drawing);
+    fields!(facts, Salvaged, "vb_salvaged", refusal, replaced, kinds, contents_differ);
     fields!(facts, Part, "vb_part", refusal, offset, length);
     fields!(facts, Instruction, "vb_instruction", operation, reg1, reg2, condition, immediate);
     fields!(facts, Encoded, "vb_encoded", refusal, halfwords, first, second);
@@ -73,9 +74,12 @@ fn facts() -> Vec<Fact> {
     fields!(facts, Listed, "vb_listed", refusal, count);
     fields!(facts, Access, "vb_access", address, size, write, value, undefined);
     fields!(facts, Replayed, "vb_replayed", refusal, answer, agreed, word, processor, drawing);
+    fields!(facts, Salvaged, "vb_salvaged", refusal, replaced, kinds, contents_differ);
     for pak in [0, 1, 8_192, 16_777_216] {
         let expression = format!("VB_STATE_BYTES({pak})");
         facts.push(Fact { expression, here: vbsys::state_bytes(pak) });
+        let expression = format!("VB_STATE_2_BYTES({pak})");
+        facts.push(Fact { expression, here: vbsys::state_2_bytes(pak) });
     }
     facts.push(constant("VB_VERSION", vbsys::VERSION));
     facts.push(constant("VB_MISUSE", vbsys::MISUSE));

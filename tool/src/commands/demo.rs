@@ -4,7 +4,7 @@ use std::path::{Path, PathBuf};
 use std::time::Instant;
 
 use clap::Args;
-use vb::{grouped, Machine, Memories, Mode, Refusal, Stop, VRAM_LENGTH, WRAM_LENGTH};
+use vb::{grouped, Answer, Machine, Memories, Refusal, Stop, VRAM_LENGTH, WRAM_LENGTH};
 
 use super::draw::{Eyes, Views};
 use super::Report;
@@ -17,10 +17,13 @@ use crate::number;
 /// More instructions than a frame of the demo takes.
 const BUDGET: u64 = 5_000_000;
 
+/// The VIP's request line.
+const VIP: u16 = 1 << 4;
+
 /// The files of memories and records.
 const NAMES: [&str; 5] = ["rom.bin", "wram.bin", "vram.bin", "processor.bin", "drawing.bin"];
 const WOKEN: &str =
-    "  between them the tool sets the halted processor running: no interrupt is modelled";
+    "  between them the bench raises the VIP's line: the interrupt 0xFE40 wakes the halted processor";
 
 #[derive(Args)]
 #[command(after_help = "Example: the pictures in a folder of your choice, three times as large
@@ -47,7 +50,8 @@ pub fn run(options: &Options) -> Result<Report, Failure> {
         vec![format!("ran the demo's program from reset, out of a ROM of {length} bytes")];
     for frame in 0..2 {
         let mut memories = Memories { rom: &rom, wram: &mut wram, vram: &mut vram, pak: &mut [] };
-        let count = to_halt(&mut machine, &mut memories)?;
+        let waits = if frame == 0 { 0 } else { interrupt(&mut machine, &mut memories)? };
+        let count = waits + to_halt(&mut machine, &mut memories)?;
         machine.drawing.draw_frame(&mut vram, frame).map_err(refused)?;
         for (name, png) in Views::of(&vram, frame).files(frame, Eyes::All, options.scale) {
             outputs.add(options.out.join(name), png);
@@ -69,10 +73,20 @@ pub fn run(options: &Options) -> Result<Report, Failure> {
     Ok(Report::new(lines.join("\n") + "\n", &(), 0))
 }
 
-/// Runs to the next HALT. On the console the frame interrupt would end the one before; interrupts are not modelled,
-/// and the machine is set running by hand.
+/// The VIP's interrupt, which ends the HALT: its line is raised until the processor has accepted it. On the console the
+/// handler's write to INTCLR would take it back.
+fn interrupt(machine: &mut Machine, memories: &mut Memories) -> Result<u64, Failure> {
+    machine.processor.hardware.lines |= VIP;
+    let answer = machine.step(memories).map_err(refused)?;
+    machine.processor.hardware.lines &= !VIP;
+    match answer {
+        Answer::Interrupted(4) => Ok(1),
+        answer => Err(Failure::bad(format!("the demo's program did not wait: {answer:?}"))),
+    }
+}
+
+/// Runs to the next HALT.
 fn to_halt(machine: &mut Machine, memories: &mut Memories) -> Result<u64, Failure> {
-    machine.processor.mode = Mode::Running;
     let ran = machine.run(memories, BUDGET).map_err(refused)?;
     match ran.stop {
         Stop::Halted => Ok(ran.count),

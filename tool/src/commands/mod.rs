@@ -8,9 +8,11 @@ pub mod draw;
 pub mod judge;
 pub mod pages;
 pub mod ran;
+pub mod replay;
 pub mod run;
 pub mod state;
 pub mod step;
+pub mod trace;
 pub mod why;
 
 use serde::Serialize;

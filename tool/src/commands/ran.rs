@@ -1,7 +1,7 @@
 //! What a run came to, printed and written.
 
 use serde::Serialize;
-use vb::{grouped, Answer, Memories, Mode};
+use vb::{grouped, Answer, Machine, Memories, Mode};
 
 use super::Report;
 use crate::failure::Failure;
@@ -18,12 +18,25 @@ pub fn finish(
     saves: &Saves,
     was_fatal: bool,
 ) -> Report {
+    finish_traced(bench, ended, budget, saves, was_fatal, None)
+}
+
+/// The same of a run that left a trace.
+pub fn finish_traced(
+    bench: &Bench,
+    ended: &Followed,
+    budget: u64,
+    saves: &Saves,
+    was_fatal: bool,
+    trace: Option<Traced>,
+) -> Report {
     let written = saves.of(bench).and_then(|outputs| outputs.write().map(|()| outputs.paths()));
     let (written, failure) = match written {
         Ok(paths) => (paths, None),
         Err(failure) => (Vec::new(), Some(failure)),
     };
     let mut told = Told::of(bench, ended, budget, written, was_fatal, failure.clone());
+    told.trace = trace;
     told.not_stored = saves.not_stored().filter(|_| failure.is_none());
     let status = match &ended.end {
         _ if failure.is_some() => 2,
@@ -33,6 +46,58 @@ pub fn finish(
         _ => 0,
     };
     Report { failure, ..Report::new(told.text(), &told, status) }
+}
+
+/// A trace that a run left.
+#[derive(Clone, Serialize)]
+pub struct Traced {
+    pub file: String,
+    pub records: u64,
+    pub bytes: u64,
+}
+
+/// Mode and registers of a machine; its members are those of the JSON.
+#[derive(Serialize)]
+pub struct Registers {
+    mode: String,
+    pc: u32,
+    regs: [u32; 32],
+    system: Named<u32>,
+    /// Request lines and timer.
+    hardware: Named<u16>,
+    drawing: Named<u16>,
+}
+
+impl Registers {
+    pub fn of(machine: &Machine) -> Registers {
+        let p = &machine.processor;
+        let system = p.system().into_iter().skip(1).map(|(name, value)| (name.to_string(), value));
+        let hardware = p.hardware.fields().map(|(name, value)| (name.to_string(), value));
+        let drawing = machine.drawing.registers();
+        let drawing = drawing.iter().map(|(name, value, _)| (name.to_lowercase(), *value));
+        Registers {
+            mode: p.mode.to_string(),
+            pc: p.pc,
+            regs: p.regs,
+            system: Named(system.collect()),
+            hardware: Named(hardware.to_vec()),
+            drawing: Named(drawing.collect()),
+        }
+    }
+
+    pub fn lines(&self) -> Vec<String> {
+        let mut lines = vec![format!("mode:         {}", self.mode)];
+        let mut named = vec![format!("pc    0x{:08X}", self.pc)];
+        named.extend(self.system.0.iter().map(|(name, value)| format!("{name:<5} 0x{value:08X}")));
+        lines.extend(named.chunks(4).map(|row| row.join("  ")));
+        let general = self.regs.iter().enumerate();
+        let general: Vec<String> =
+            general.map(|(i, r)| format!("{:<5} 0x{r:08X}", format!("r{i}"))).collect();
+        lines.extend(general.chunks(4).map(|row| row.join("  ")));
+        let timer = self.hardware.0.iter().map(|(name, value)| format!("{name:<7} 0x{value:04X}"));
+        lines.push(timer.collect::<Vec<_>>().join("   "));
+        lines
+    }
 }
 
 /// What is told of a run; its members are those of the JSON.
@@ -52,12 +117,12 @@ struct Told {
     refusal: Option<u32>,
     #[serde(skip_serializing_if = "Option::is_none")]
     error: Option<String>,
-    mode: String,
-    pc: u32,
-    regs: [u32; 32],
-    system: Named<u32>,
-    drawing: Named<u16>,
+    #[serde(flatten)]
+    registers: Registers,
     written: Vec<String>,
+    /// A trace that was recorded.
+    #[serde(skip_serializing_if = "Option::is_none")]
+    trace: Option<Traced>,
     /// What is not in the last file written, where that is a saved state.
     #[serde(skip_serializing_if = "Option::is_none")]
     not_stored: Option<&'static str>,
@@ -73,12 +138,9 @@ impl Told {
         failure: Option<Failure>,
     ) -> Told {
         let exception = if ended.end == End::Fatal { fatal_code(bench) } else { None };
-        let p = &bench.machine.processor;
-        let (answer, sentence) = sentence(ended, exception, p.pc, was_fatal);
+        let pc = bench.machine.processor.pc;
+        let (answer, sentence) = sentence(ended, exception, pc, was_fatal);
         let refused = matches!(ended.end, End::NotModelled(_));
-        let system = p.system().into_iter().skip(1).map(|(name, value)| (name.to_string(), value));
-        let drawing = bench.machine.drawing.registers();
-        let drawing = drawing.iter().map(|(name, value, _)| (name.to_lowercase(), *value));
         Told {
             notes: bench.notes.clone(),
             answer,
@@ -88,12 +150,9 @@ impl Told {
             refusal: refused.then_some(6),
             error: failure.map(|f| f.message).or_else(|| refused.then(|| sentence.clone())),
             sentence,
-            mode: p.mode.to_string(),
-            pc: p.pc,
-            regs: p.regs,
-            system: Named(system.collect()),
-            drawing: Named(drawing.collect()),
+            registers: Registers::of(&bench.machine),
             written,
+            trace: None,
             not_stored: None,
         }
     }
@@ -104,15 +163,12 @@ impl Told {
         lines.extend([
             format!("answer:       {}: {}", self.answer, self.sentence),
             format!("instructions: {} of at most {}", grouped(self.count), grouped(self.budget)),
-            format!("mode:         {}", self.mode),
         ]);
-        let mut named = vec![format!("pc    0x{:08X}", self.pc)];
-        named.extend(self.system.0.iter().map(|(name, value)| format!("{name:<5} 0x{value:08X}")));
-        lines.extend(named.chunks(4).map(|row| row.join("  ")));
-        let general = self.regs.iter().enumerate();
-        let general: Vec<String> =
-            general.map(|(i, r)| format!("{:<5} 0x{r:08X}", format!("r{i}"))).collect();
-        lines.extend(general.chunks(4).map(|row| row.join("  ")));
+        lines.extend(self.registers.lines());
+        lines.extend(self.trace.iter().map(|Traced { file, records, bytes }| {
+            let [records, bytes] = [records, bytes].map(|number| grouped(*number));
+            format!("written:      {file} ({records} records, {bytes} bytes)")
+        }));
         lines.extend(self.written.iter().map(|path| format!("written:      {path}")));
         let not_stored = self.not_stored.map(|what| format!(" ({what})")).unwrap_or_default();
         lines.join("\n") + &not_stored + "\n"
@@ -170,6 +226,11 @@ fn fatal_sentence(code: Option<u32>, pc: u32, was_fatal: bool) -> String {
 /// Document 000's name of an exception, by its code.
 pub fn exception_name(code: u32) -> String {
     match code {
+        0xFE00 => "game pad interrupt".to_string(),
+        0xFE10 => "timer interrupt".to_string(),
+        0xFE20 => "game pak interrupt".to_string(),
+        0xFE30 => "communication interrupt".to_string(),
+        0xFE40 => "VIP interrupt".to_string(),
         0xFF60 => "floating-point reserved operand".to_string(),
         0xFF64 => "floating-point overflow".to_string(),
         0xFF68 => "floating-point zero division".to_string(),

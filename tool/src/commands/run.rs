@@ -1,6 +1,7 @@
 //! `vbmodel run`: memory images and records in, at most a budget of instructions, the answer and what was asked for
 //! out.
 
+use std::path::PathBuf;
 use std::time::Instant;
 
 use clap::Args;
@@ -13,6 +14,7 @@ use crate::follow::{follow, End, Followed, Stops};
 use crate::interrupt;
 use crate::number;
 use crate::progress::Progress;
+use crate::schedule::Schedule;
 use crate::setup::{Bench, Saves, Setup};
 use crate::watch;
 
@@ -30,7 +32,14 @@ Example: save where it stops, and go on from there; `vbmodel state show a.state`
   vbmodel run --rom out/rom.bin --state a.state --budget 1_000 --save-state b.state
 
 A saved state holds WRAM, VRAM, pak RAM and both records, which may be files of their own instead (--wram, --save-wram
-and so on). It does not hold ROM. Request lines and timer are not stored: they are not modelled yet.
+and so on). It does not hold ROM. Form 2 holds request lines and timer and a sum of each body; --state-form 1 leaves them
+out, and they come back at reset. Both forms are read.
+
+Example: a program that waits for the VIP's interrupt, which comes after 10,000 instructions and is taken back when its
+handler has begun; the timer ticks after every 400. Where the machine is halted, the next of these comes at once:
+  printf 'every 400 tick\nat 10_000 raise vip\nat 10_001 lower vip\n' > frame.schedule
+  vbmodel run --rom out/rom.bin --schedule frame.schedule
+By hand: --raise, --lower and --tick change lines and timer before the run, and --save-processor keeps them.
 
 Example: run to an address, then see what the next instructions do (`vbmodel help step`):
   vbmodel run --rom out/rom.bin --until 0x0700_0000 --save-processor a.processor --save-wram a.wram
@@ -50,6 +59,10 @@ pub struct Options {
     /// The largest number of instructions
     #[arg(long, value_name = "N", default_value = "20_000_000", value_parser = number::whole)]
     budget: u64,
+    /// When lines are raised and lowered and ticks told of: lines of `at N EVENT` or `every K EVENT`, N and K in
+    /// instructions; an event is `tick`, `raise LEVEL` or `lower LEVEL`
+    #[arg(long, value_name = "FILE")]
+    schedule: Option<PathBuf>,
     #[command(flatten)]
     stops: Stops,
     #[command(flatten)]
@@ -63,16 +76,22 @@ pub struct Options {
 
 pub fn run(options: &Options) -> Result<Report, Failure> {
     let mut bench = options.setup.bench()?;
+    let schedule = Schedule::given(options.schedule.as_deref())?;
     options.saves.test()?;
     interrupt::watch();
     let was_fatal = bench.machine.processor.mode == Mode::Fatal;
     let mut watch = options.watch.watch();
-    let mut ended = match options.stops.is_empty() && !options.watch.is_on() {
-        true => watched(&mut bench, options.budget)?,
-        false => {
-            follow(&mut bench, options.budget, &options.stops, &mut |told| watch.goes_on(told))?
-        }
-    };
+    let mut told =
+        Watched { begun: Instant::now(), progress: Progress::new(), budget: options.budget };
+    let plain = options.stops.is_empty() && !options.watch.is_on();
+    let (count, end) = schedule.run(&mut bench, options.budget, &mut |bench, length, before| {
+        let part = match plain {
+            true => told.run(bench, length, before),
+            false => follow(bench, length, &options.stops, &mut |told| watch.goes_on(told)),
+        };
+        part.map(Followed::part)
+    })?;
+    let mut ended = Followed { count, end: end.unwrap_or(End::Budget) };
     if let Some(read) = watch.stopped {
         ended.end = End::Undefined(read);
     }
@@ -80,30 +99,47 @@ pub fn run(options: &Options) -> Result<Report, Failure> {
 }
 
 /// Runs in slices, with a line on a terminal that tells how far it is. The sum of the slices is one run.
-fn watched(bench: &mut Bench, budget: u64) -> Result<Followed, Failure> {
-    let begun = Instant::now();
-    let mut progress = Progress::new();
-    let mut count = 0;
-    loop {
-        let (machine, mut memories) = bench.lent();
-        let ran = machine.run(&mut memories, (budget - count).min(SLICE));
-        let ran = ran.map_err(|refusal| bench.failure(&refusal))?;
-        count += ran.count;
-        let end = match ran.stop {
-            Stop::Budget if count < budget && !interrupt::asked() => None,
-            Stop::Budget if count < budget => Some(End::Interrupted),
-            Stop::Budget => Some(End::Budget),
-            Stop::Halted => Some(End::Halted),
-            Stop::Fatal => Some(End::Fatal),
-            Stop::NotModelled(refusal) => Some(End::NotModelled(refusal)),
-        };
-        if let Some(end) = end {
-            progress.clear();
-            return Ok(Followed { count, end });
+struct Watched {
+    begun: Instant,
+    progress: Progress,
+    /// The whole run's.
+    budget: u64,
+}
+
+impl Watched {
+    /// A part of the run, of so many instructions, after so many.
+    fn run(&mut self, bench: &mut Bench, length: u64, before: u64) -> Result<Followed, Failure> {
+        let mut count = 0;
+        loop {
+            let (machine, mut memories) = bench.lent();
+            let ran = machine.run(&mut memories, (length - count).min(SLICE));
+            let ran = ran.map_err(|refusal| bench.failure(&refusal))?;
+            count += ran.count;
+            let end = match ran.stop {
+                Stop::Budget if before + count < self.budget && interrupt::asked() => {
+                    Some(End::Interrupted)
+                }
+                Stop::Budget if count < length => None,
+                Stop::Budget => Some(End::Budget),
+                Stop::Halted => Some(End::Halted),
+                Stop::Fatal => Some(End::Fatal),
+                Stop::NotModelled(refusal) => Some(End::NotModelled(refusal)),
+            };
+            self.tell(before + count);
+            if let Some(end) = end {
+                if end != End::Budget || before + count == self.budget {
+                    self.progress.clear();
+                }
+                return Ok(Followed { count, end });
+            }
         }
+    }
+
+    fn tell(&mut self, count: u64) {
+        let Watched { begun, progress, budget } = self;
         progress.tell(|| {
             let rate = count as f64 / begun.elapsed().as_secs_f64() / 1e6;
-            let (done, all) = (grouped(count), grouped(budget));
+            let (done, all) = (grouped(count), grouped(*budget));
             format!("{done} of at most {all} instructions, {rate:.0} million a second")
         });
     }

@@ -1,6 +1,7 @@
-//! `vbmodel state show`: what a saved state holds, or which rule a file breaks and at which byte.
+//! `vbmodel state`: what a saved state holds, or which rule a file breaks and at which byte; a state moved to the other
+//! form; what a damaged one still holds.
 
-use std::path::PathBuf;
+use std::path::{Path, PathBuf};
 
 use clap::{Args, Subcommand};
 use serde::Serialize;
@@ -8,9 +9,9 @@ use vb::grouped;
 
 use super::Report;
 use crate::failure::Failure;
-use crate::files::Input;
+use crate::files::{Input, Outputs};
 use crate::json::Named;
-use crate::state::{Body, Fault, Form, NoState, Saved, NOT_STORED, STATE};
+use crate::state::{moved, Body, Fault, Form, Layout, NoState, Saved, NOT_STORED, PAK, STATE};
 
 #[derive(Args)]
 #[command(after_help = "Example: what does a run leave?
@@ -18,7 +19,7 @@ use crate::state::{Body, Fault, Form, NoState, Saved, NOT_STORED, STATE};
   vbmodel run --rom out/rom.bin --budget 1_000 --save-state a.state
   vbmodel state show a.state
 
-Exit status: 0 a saved state; 2 none, or bad input.")]
+Exit status: 0 done; 1 state salvage: something was lost or repaired; 2 refused or bad input.")]
 pub struct Options {
     #[command(subcommand)]
     action: Action,
@@ -28,6 +29,10 @@ pub struct Options {
 enum Action {
     /// Tells what a saved state holds, or which rule a file breaks and at which byte
     Show(Show),
+    /// Writes a saved state in the other form
+    Move(Move),
+    /// Writes a right state of what a damaged file of form 2 still holds
+    Salvage(Salvage),
 }
 
 #[derive(Args)]
@@ -38,8 +43,8 @@ enum Action {
 
 It prints the count of bodies, kind, offset and length of each, the mode, PC, PSW and the drawing registers. A file that
 is no saved state breaks one of these rules, and the first that is broken is told: its length (refusal 9); a byte before
-the first body, with what it must be; a register that holds what it cannot hold, with its place (refusal 10).
-Request lines and timer are not stored: they are not modelled yet.
+the first body, with what it must be, a sum among them; a register that holds what it cannot hold, with its place
+(refusal 10). Of form 2 it prints the request lines and the timer; form 1 does not store them: they come back at reset.
 Exit status: 0 a saved state; 2 none, or bad input.")]
 struct Show {
     /// The file; - is standard input
@@ -50,16 +55,74 @@ struct Show {
     json: bool,
 }
 
+#[derive(Args)]
+#[command(after_help = "Example: a state for a tool that reads form 1 alone, and back
+  vbmodel demo
+  vbmodel run --rom out/rom.bin --budget 1_000 --save-state a.state
+  vbmodel state move a.state -o form1.state
+  vbmodel state move form1.state -o form2.state
+
+Form 1 does not hold request lines and timer: a state of form 2 whose lines and timer are not at reset is refused (16).
+From form 1 they come at reset.
+Exit status: 0 moved; 2 refused or bad input, and then nothing is written.")]
+struct Move {
+    /// The file; - is standard input
+    #[arg(value_name = "FILE")]
+    file: PathBuf,
+    /// Where to write it in the other form
+    #[arg(short, long, value_name = "FILE")]
+    out: PathBuf,
+    /// Print JSON
+    #[arg(long)]
+    json: bool,
+}
+
+#[derive(Args)]
+#[command(after_help = "Example: a file with one damaged byte
+  vbmodel demo
+  vbmodel run --rom out/rom.bin --budget 1_000 --save-state a.state
+  printf 'x' | dd of=a.state bs=1 seek=300 conv=notrunc
+  vbmodel state salvage a.state -o b.state
+
+The length of the file tells where each body is. A body is kept where its stored sum is right and an accepted machine can
+have it; every other becomes reset values, memories zeros. The contents are made anew.
+A file of 327,962 bytes may be a sound one of form 1 with 32 bytes of pak RAM: it is salvaged as form 2 only with --force.
+Exit status: 0 undamaged, and the output is the file; 1 repaired; 2 refused or bad input, and then nothing is written.")]
+struct Salvage {
+    /// The file; - is standard input
+    #[arg(value_name = "FILE")]
+    file: PathBuf,
+    /// Where to write the right state
+    #[arg(short, long, value_name = "FILE")]
+    out: PathBuf,
+    /// Salvage a sound file of form 1 as form 2 without pak RAM, which loses what it holds
+    #[arg(long)]
+    force: bool,
+    /// Print JSON
+    #[arg(long)]
+    json: bool,
+}
+
 impl Options {
     pub fn json(&self) -> bool {
-        let Action::Show(show) = &self.action;
-        show.json
+        match &self.action {
+            Action::Show(show) => show.json,
+            Action::Move(moves) => moves.json,
+            Action::Salvage(salvage) => salvage.json,
+        }
     }
 }
 
 pub fn run(options: &Options) -> Result<Report, Failure> {
-    let Action::Show(show) = &options.action;
-    let input = Input::read(&show.file, STATE)?;
+    match &options.action {
+        Action::Show(show) => self::show(show),
+        Action::Move(moves) => self::moves(moves),
+        Action::Salvage(salvage) => self::salvage(salvage),
+    }
+}
+
+fn show(options: &Show) -> Result<Report, Failure> {
+    let input = Input::read(&options.file, STATE)?;
     Ok(match Saved::of(&input) {
         Ok(saved) => {
             let told = Told::of(&input, &saved);
@@ -67,6 +130,115 @@ pub fn run(options: &Options) -> Result<Report, Failure> {
         }
         Err(wrong) => refused(&input, wrong),
     })
+}
+
+/// Writes one file, which may be the one that was read.
+fn write(path: &Path, bytes: Vec<u8>) -> Result<(), Failure> {
+    let mut outputs = Outputs::default();
+    outputs.add(path, bytes);
+    outputs.write()
+}
+
+/// What is told of a move.
+#[derive(Serialize)]
+struct Moved {
+    file: String,
+    from: u16,
+    to: u16,
+    bytes: usize,
+    written: String,
+}
+
+fn moves(options: &Move) -> Result<Report, Failure> {
+    let input = Input::read(&options.file, STATE)?;
+    let (form, bytes) = moved(&input)?;
+    let told = Moved {
+        file: input.name(),
+        from: form.other().number(),
+        to: form.number(),
+        bytes: bytes.len(),
+        written: options.out.display().to_string(),
+    };
+    write(&options.out, bytes)?;
+    let Moved { file, from, to, bytes, written } = &told;
+    let bytes = grouped(*bytes as u64);
+    let text = format!(
+        "{file}: moved from form {from} to form {to}\nwritten: {written} ({bytes} bytes)\n"
+    );
+    Ok(Report::new(text, &told, 0))
+}
+
+/// What is told of a salvage.
+#[derive(Serialize)]
+struct Salvaged {
+    file: String,
+    undamaged: bool,
+    /// The bodies that were lost, and those that were kept.
+    lost: Vec<Body>,
+    kept: Vec<Body>,
+    contents_repaired: bool,
+    written: String,
+}
+
+const SALVAGED: &str = "a saved state of form 2";
+
+fn salvage(options: &Salvage) -> Result<Report, Failure> {
+    let input = Input::read(&options.file, SALVAGED)?;
+    let file = &input.bytes;
+    if !options.force && is_sound_form_1(file) {
+        return Err(Failure::bad(input.wrong(
+            "it is a sound saved state of form 1 with 32 bytes of pak RAM, and would be taken for a damaged one of form 2; \
+             `vbmodel state move` brings it to form 2, and --force salvages it all the same",
+        )));
+    }
+    let mut room = vec![0; file.len()];
+    let found = vb::salvage_state(file, &mut room);
+    let found = found.map_err(|refusal| Failure::refused(&refusal, input.wrong(&refusal)))?;
+    let layout = Layout::of_length(Form::Two, file.len()).expect("the library has salvaged it");
+    let (lost, kept) =
+        layout.bodies.iter().partition(|body| found.replaced.contains(&u32::from(body.kind)));
+    let told = Salvaged {
+        file: input.name(),
+        undamaged: found.replaced.is_empty() && !found.contents_differ,
+        lost,
+        kept,
+        contents_repaired: found.contents_differ,
+        written: options.out.display().to_string(),
+    };
+    write(&options.out, room)?;
+    let status = i32::from(!told.undamaged);
+    Ok(Report::new(told.text(), &told, status))
+}
+
+/// Whether a file of the one length that both forms have is right as form 1.
+fn is_sound_form_1(file: &[u8]) -> bool {
+    let (one, two) =
+        (Layout::of_length(Form::One, file.len()), Layout::of_length(Form::Two, file.len()));
+    let (Some(one), Some(_), Form::One) = (one, two, Form::of(file)) else { return false };
+    let pak = one.body(PAK).map_or(0, |body| body.length);
+    let mut room = vec![0; Layout::of(Form::Two, pak).length()];
+    vb::move_state(file, &mut room).is_ok()
+}
+
+impl Salvaged {
+    fn text(&self) -> String {
+        let Salvaged { file, written, .. } = self;
+        let mut lines = vec![match self.undamaged {
+            true => format!("{file}: undamaged"),
+            false => format!("{file}: damaged, and repaired as far as it could be"),
+        }];
+        let row = |what: &str, body: &Body| format!("{what:<13} kind {}, {}", body.kind, body.name);
+        lines.extend(self.lost.iter().map(|body| {
+            let reset = if (3..=5).contains(&body.kind) { "zeros" } else { "reset values" };
+            format!("{}: now {reset}", row("lost:", body))
+        }));
+        lines.extend(self.kept.iter().map(|body| row("kept:", body)));
+        if self.contents_repaired {
+            lines.push("contents:     damaged, and made anew".to_string());
+        }
+        lines.push(format!("written:      {written}"));
+        lines.join("\n") + "\n"
+    }
 }
 
 /// What is told of a saved state; its members are those of the JSON.
@@ -82,6 +254,9 @@ struct Told {
     pc: u32,
     psw: u32,
     drawing: Named<u16>,
+    /// Request lines and timer, where the form holds them.
+    #[serde(skip_serializing_if = "Option::is_none")]
+    hardware: Option<Named<u16>>,
     #[serde(skip_serializing_if = "Option::is_none")]
     not_stored: Option<&'static str>,
 }
@@ -102,6 +277,10 @@ impl Told {
             pc: machine.processor.pc,
             psw: machine.processor.psw,
             drawing: Named(drawing.collect()),
+            hardware: (layout.form == Form::Two).then(|| {
+                let fields = machine.processor.hardware.fields();
+                Named(fields.map(|(name, value)| (name.to_string(), value)).to_vec())
+            }),
             not_stored: (layout.form == Form::One).then_some(NOT_STORED),
         }
     }
@@ -123,6 +302,10 @@ impl Told {
         let named: Vec<String> =
             named.map(|(name, value)| format!("{name:<5} 0x{value:04X}")).collect();
         lines.extend(named.chunks(4).map(|row| row.join("  ")));
+        lines.extend(self.hardware.iter().map(|Named(fields)| {
+            let fields = fields.iter().map(|(name, value)| format!("{name:<7} 0x{value:04X}"));
+            fields.collect::<Vec<_>>().join("   ")
+        }));
         lines.extend(self.not_stored.map(|what| format!("note:         {what}")));
         lines.join("\n") + "\n"
     }
@@ -154,7 +337,7 @@ fn refused(input: &Input, wrong: NoState) -> Report {
     let NoState { failure, fault } = wrong;
     let (rule, register, expected, found) = match &fault {
         None => (None, None, None, None),
-        Some(Fault::Length) => (Some("length"), None, None, None),
+        Some(Fault::Length | Fault::Form { .. }) => (Some("length"), None, None, None),
         Some(Fault::Contents { expected, found, .. }) => {
             (Some("contents"), None, Some(*expected), Some(u32::from(*found)))
         }

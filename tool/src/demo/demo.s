@@ -1,6 +1,6 @@
 ; The demo: a pier by night. It fills characters, background maps, worlds of all four kinds, their parameters and
 ; objects, then halts for each frame, as a program of this console waits for its frame interrupt.
-; After a HALT it goes on with the next frame: the pier, the sea, the ball and the boat have moved.
+; After the interrupt it goes on with the next frame: the pier, the sea, the ball and the boat have moved.
 
     .equ vram_maps,   0x20000
     .equ sky_map,     0x20000
@@ -23,7 +23,7 @@
     .equ horizon,     112
 
 start:
-    LDSR r0, 5                     ; PSW: leaves the reset's NP state
+    LDSR r0, 5                     ; PSW: leaves the reset's NP state, and lets interrupts in
     JR fill
 
 ; r8 bytes, a multiple of 4, from r6 to r7.
@@ -478,6 +478,11 @@ characters:
 ; The header, the handlers (each stops where it is) and the reset.
     .org 0x0700FDE0
     .bytes header
+; The VIP's interrupt, at 0xFFFFFE40: acknowledged, as a program of this console does; then on after the HALT.
+    .org 0x0700FE40
+    MOVEA 0xFFFF, r0, r26
+    ST.H r26, 4[r24]               ; INTCLR
+    RETI
     .org 0x0700FF80
 zero_divisor:
     BR zero_divisor

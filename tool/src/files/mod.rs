@@ -4,8 +4,8 @@ mod input;
 mod output;
 mod place;
 
-pub use input::Input;
-pub use output::Outputs;
+pub use input::{told, Input};
+pub use output::{Outputs, Stream};
 
 use std::fs::Metadata;
 use std::os::unix::fs::MetadataExt;

@@ -2,7 +2,7 @@
 //! they given their names.
 
 use std::fs::{self, File, Metadata, Permissions};
-use std::io::{self, Write};
+use std::io::{self, BufWriter, Write};
 use std::os::unix::fs::PermissionsExt;
 use std::path::{Path, PathBuf};
 
@@ -119,6 +119,91 @@ impl<'a> Staged<'a> {
             }
         }
         Ok(())
+    }
+}
+
+/// A file that grows while a command runs. It has a passing name until it is finished, and is removed where it never is.
+pub struct Stream {
+    path: PathBuf,
+    sink: Sink,
+    folders: Vec<PathBuf>,
+    finished: bool,
+}
+
+enum Sink {
+    Passing {
+        file: BufWriter<NamedTempFile>,
+        target: PathBuf,
+    },
+    /// A device or a pipe.
+    Through(BufWriter<Box<dyn Write>>),
+}
+
+impl Stream {
+    pub fn new(path: &Path) -> Result<Stream, Failure> {
+        let mut folders = Vec::new();
+        let sink = Stream::sink(path, &mut folders);
+        let sink = sink.map_err(|error| {
+            folders.iter().rev().for_each(|folder| drop(fs::remove_dir(folder)));
+            failed(path, &error)
+        })?;
+        Ok(Stream { path: path.to_path_buf(), sink, folders, finished: false })
+    }
+
+    fn sink(path: &Path, folders: &mut Vec<PathBuf>) -> io::Result<Sink> {
+        Ok(match Place::of(path, &mut |folder| make(folder, folders))? {
+            Place::Through { target, .. } if target == Path::new("/dev/stdout") => {
+                Sink::Through(BufWriter::new(Box::new(io::stdout())))
+            }
+            Place::Through { target, .. } => {
+                let file = File::options().write(true).open(target)?;
+                Sink::Through(BufWriter::new(Box::new(file)))
+            }
+            Place::File { target, now } => {
+                let mut builder = Builder::new();
+                let named = builder.prefix(".vbmodel-").suffix(".part");
+                let passing = named.tempfile_in(folder_of(&target))?;
+                let rights = now.as_ref().map_or_else(of_a_new_file, Metadata::permissions);
+                fs::set_permissions(passing.path(), rights)?;
+                Sink::Passing { file: BufWriter::new(passing), target }
+            }
+        })
+    }
+
+    pub fn write(&mut self, bytes: &[u8]) -> Result<(), Failure> {
+        let written = match &mut self.sink {
+            Sink::Passing { file, .. } => file.write_all(bytes),
+            Sink::Through(file) => file.write_all(bytes),
+        };
+        written.map_err(|error| failed(&self.path, &error))
+    }
+
+    /// Gives the file its name.
+    pub fn finish(mut self) -> Result<(), Failure> {
+        let path = self.path.clone();
+        self.finished = true;
+        let through = Sink::Through(BufWriter::new(Box::new(io::sink())));
+        match std::mem::replace(&mut self.sink, through) {
+            Sink::Through(mut file) => file.flush().map_err(|error| failed(&path, &error)),
+            Sink::Passing { file, target } => {
+                let file = file.into_inner().map_err(|error| failed(&path, error.error()))?;
+                let named = file.persist(target).map_err(|error| failed(&path, &error.error))?;
+                drop(named);
+                Ok(())
+            }
+        }
+    }
+}
+
+impl Drop for Stream {
+    fn drop(&mut self) {
+        if self.finished {
+            return;
+        }
+        self.sink = Sink::Through(BufWriter::new(Box::new(io::sink())));
+        for folder in self.folders.iter().rev() {
+            let _ = fs::remove_dir(folder);
+        }
     }
 }
 

@@ -1,4 +1,4 @@
-//! A program followed instruction by instruction: what each did, and where to stop.
+//! A program followed instruction by instruction: what each did, which interrupts came between, and where to stop.
 
 mod place;
 mod told;
@@ -11,6 +11,7 @@ use vb::{Answer, Mode, Refusal};
 use crate::failure::Failure;
 use crate::interrupt;
 use crate::number;
+use crate::schedule::Part;
 use crate::setup::Bench;
 use place::At;
 pub use told::Told;
@@ -62,6 +63,18 @@ pub struct Followed {
     pub end: End,
 }
 
+impl Followed {
+    /// The same as a part of a run by a schedule.
+    pub fn part(self) -> (u64, Part<End>) {
+        let part = match self.end {
+            End::Budget => Part::Done,
+            End::Halted => Part::Halted(End::Halted),
+            end => Part::Ended(end),
+        };
+        (self.count, part)
+    }
+}
+
 /// Follows a program. `tell` is given each instruction, and answers whether to go on.
 pub fn follow(
     bench: &mut Bench,
@@ -81,7 +94,8 @@ pub fn follow(
             return Ok(Followed { count, end });
         }
         let told = match step(bench) {
-            Ok(told) => told,
+            Ok(Some(told)) => told,
+            Ok(None) => return Ok(Followed { count, end: End::Halted }),
             Err(refusal @ Refusal::NotModelled { .. }) => {
                 return Ok(Followed { count, end: End::NotModelled(refusal) })
             }
@@ -104,7 +118,9 @@ pub fn follow(
 fn before(bench: &Bench, budget: u64, count: u64, stops: &Stops) -> Option<End> {
     let processor = &bench.machine.processor;
     match processor.mode {
-        Mode::Halted => Some(End::Halted),
+        // a halted machine may still accept an interrupt
+        Mode::Halted if count == budget => Some(End::Halted),
+        Mode::Halted => None,
         Mode::Fatal => Some(End::Fatal),
         Mode::Running if stops.breaks.contains(&processor.pc) => Some(End::Reached(processor.pc)),
         Mode::Running if count == budget => Some(End::Budget),
@@ -115,15 +131,17 @@ fn before(bench: &Bench, budget: u64, count: u64, stops: &Stops) -> Option<End> 
     }
 }
 
-/// One instruction done, and what it did.
-fn step(bench: &mut Bench) -> Result<Told, Refusal> {
+/// One instruction done or interrupt accepted, and what it did; none where the machine stays halted.
+pub fn step(bench: &mut Bench) -> Result<Option<Told>, Refusal> {
     let before = Told::before(bench)?;
     let (machine, mut memories) = bench.lent();
     let (answer, undefined) = machine.step_watched(&mut memories)?;
-    let code = match answer {
-        Answer::Trapped(cause) | Answer::TurnedFatal(cause) => Some(cause.code()),
-        _ => None,
+    let told = match answer {
+        Answer::WasHalted | Answer::WasFatal => return Ok(None),
+        Answer::Interrupted(level) => before.interrupted(level).after(bench, None, false),
+        Answer::Ended => before.after(bench, None, false),
+        Answer::Trapped(cause) => before.after(bench, Some(cause.code()), false),
+        Answer::TurnedFatal(cause) => before.after(bench, Some(cause.code()), true),
     };
-    let told = before.after(bench, code, matches!(answer, Answer::TurnedFatal(_)));
-    Ok(told.with_undefined(undefined))
+    Ok(Some(told.with_undefined(undefined)))
 }

@@ -19,6 +19,7 @@ pub fn at(bench: &Bench, address: u32) -> At {
         Place::Vram(offset) => ("VRAM", offset),
         Place::Register { .. } => ("register", low),
         Place::Unmapped => ("unmapped", low),
+        Place::Timer(_) => ("timer", address as usize & 0xFF_FFFF),
         Place::Absent => ("no memory", address as usize & 0x7FF_FFFF),
         Place::Wram(offset) => ("WRAM", offset),
         Place::Pak(Some(offset)) => ("pak RAM", offset),

@@ -23,6 +23,9 @@ pub struct Told {
     pub undefined: Vec<u32>,
     pub exception: Option<u32>,
     pub turned_fatal: bool,
+    /// The level of an interrupt that was accepted before the instruction.
+    #[serde(skip_serializing_if = "Option::is_none")]
+    pub interrupt: Option<u8>,
     /// Where it loads from.
     #[serde(skip)]
     loads: Option<u32>,
@@ -72,6 +75,7 @@ impl Told {
             undefined: Vec::new(),
             exception: None,
             turned_fatal: false,
+            interrupt: None,
             loads: None,
             before: machine,
         };
@@ -95,6 +99,12 @@ impl Told {
         Ok(())
     }
 
+    /// An interrupt that was accepted in place of the instruction, which is not looked at.
+    pub fn interrupted(self, level: u8) -> Told {
+        let (halfwords, instruction) = (Vec::new(), "interrupt".to_string());
+        Told { halfwords, instruction, written: None, loads: None, interrupt: Some(level), ..self }
+    }
+
     /// Takes in what the library says of the bytes that were read.
     pub fn with_undefined(mut self, undefined: Undefined) -> Told {
         let bytes = |from: u32, mask: Mask| mask.bytes().map(move |k| from.wrapping_add(k));
@@ -116,7 +126,11 @@ impl Told {
         let drawing = drawing.map(|((name, old, _), (_, new, _))| {
             (name.to_string(), u32::from(old), u32::from(new))
         });
-        let all = general.chain(system).chain(drawing);
+        let lines = old.processor.hardware.fields().into_iter();
+        let lines = lines
+            .zip(new.processor.hardware.fields())
+            .map(|((name, old), (_, new))| (name.to_string(), u32::from(old), u32::from(new)));
+        let all = general.chain(system).chain(drawing).chain(lines);
         self.changed =
             all.filter(|(_, old, new)| old != new).map(|(name, _, new)| (name, new)).collect();
         if let Some(written) = &mut self.written {
@@ -126,7 +140,8 @@ impl Told {
         let next = self.pc.wrapping_add(2 * self.halfwords.len() as u32);
         // a machine that turns fatal stays where it is
         self.jumped = (new.processor.pc != next && !turned_fatal).then_some(new.processor.pc);
-        (self.exception, self.turned_fatal) = (exception, turned_fatal);
+        let interrupt = self.interrupt.map(|level| 0xFE00 + 16 * u32::from(level));
+        (self.exception, self.turned_fatal) = (exception.or(interrupt), turned_fatal);
         self
     }
 

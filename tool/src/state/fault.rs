@@ -4,7 +4,7 @@ use std::fmt;
 
 use vb::grouped;
 
-use super::layout::{Layout, DRAWING, LINES, PROCESSOR};
+use super::layout::{Form, Layout, DRAWING, LINES, PROCESSOR};
 use super::LENGTHS;
 
 /// The first rule that is broken, in the file's order.
@@ -12,6 +12,8 @@ use super::LENGTHS;
 pub enum Fault {
     /// Refusal 9: no saved state has this length.
     Length,
+    /// Refusal 9: the first halfword is this form's, and the length is the other form's.
+    Form { found: Form, first: u16 },
     /// Refusal 10: a byte before the first body is not the layout's.
     Contents { at: usize, part: String, expected: u8, found: u8 },
     /// Refusal 10: a register holds what it cannot hold.
@@ -41,7 +43,14 @@ impl Fault {
     /// The first fault of a file.
     pub fn of(file: &[u8]) -> Option<Fault> {
         let Some(layout) = Layout::of_file(file) else {
-            return Some(Fault::Length);
+            let found = Form::of(file);
+            return Some(match Layout::of_length(found.other(), file.len()) {
+                Some(other) => {
+                    let first = other.contents(file);
+                    Fault::Form { found, first: u16::from_le_bytes([first[0], first[1]]) }
+                }
+                None => Fault::Length,
+            });
         };
         let contents = layout.contents(file);
         let wrong = contents.iter().zip(file).position(|(expected, found)| expected != found);
@@ -61,7 +70,7 @@ impl Fault {
     /// Paper 02's number.
     pub fn refusal(&self) -> u32 {
         match self {
-            Fault::Length => 9,
+            Fault::Length | Fault::Form { .. } => 9,
             _ => 10,
         }
     }
@@ -70,6 +79,7 @@ impl Fault {
     pub fn byte(&self) -> Option<usize> {
         match self {
             Fault::Length => None,
+            Fault::Form { .. } => Some(0),
             Fault::Contents { at, .. } | Fault::Register { at, .. } => Some(*at),
         }
     }
@@ -81,6 +91,14 @@ impl fmt::Display for Fault {
         match self {
             Fault::Length => {
                 write!(f, "no saved state has this length; it must be a saved state, {LENGTHS}")
+            }
+            Fault::Form { found, first } => {
+                let (form, other) = (found.number(), found.other().number());
+                write!(
+                    f,
+                    "the first halfword is that of form {form}, which has no such length; form {other} has, and begins \
+                     with 0x{first:04X}"
+                )
             }
             Fault::Contents { at, part, expected, found } => {
                 let at = grouped(*at as u64);

@@ -13,15 +13,32 @@ pub const LINES: u16 = 6;
 /// Bytes of the longest pak RAM.
 const LONGEST: usize = 1 << 24;
 
-#[derive(Clone, Copy, Debug, PartialEq, Eq)]
+#[derive(Clone, Copy, Debug, Default, PartialEq, Eq)]
 pub enum Form {
     /// A count, an entry for each body, and the bodies.
     One,
     /// It begins with halfwords 0 and 2, has a sum in each entry, and kind 6.
+    #[default]
     Two,
 }
 
 impl Form {
+    /// The form of a file: form 2 begins with a halfword 0.
+    pub fn of(file: &[u8]) -> Form {
+        if file.starts_with(&[0, 0]) {
+            Form::Two
+        } else {
+            Form::One
+        }
+    }
+
+    pub fn other(self) -> Form {
+        match self {
+            Form::One => Form::Two,
+            Form::Two => Form::One,
+        }
+    }
+
     pub fn number(self) -> u16 {
         match self {
             Form::One => 1,
@@ -73,16 +90,15 @@ impl Layout {
         Layout { form, bodies: bodies.collect() }
     }
 
-    /// The layout of a file. Its length decides; one length is of both forms, and there the first halfword does.
+    /// The layout of a file: its first halfword tells the form, its length pak RAM's.
     pub fn of_file(file: &[u8]) -> Option<Layout> {
-        let first = if file.starts_with(&[0, 0]) { Form::Two } else { Form::One };
-        let second = if first == Form::One { Form::Two } else { Form::One };
-        let of = |form: Form| {
-            let paks = (0..=LONGEST.ilog2()).map(|bit| 1 << bit);
-            let mut all = std::iter::once(0).chain(paks).map(|pak| Layout::of(form, pak));
-            all.find(|layout| layout.length() == file.len())
-        };
-        of(first).or_else(|| of(second))
+        Layout::of_length(Form::of(file), file.len())
+    }
+
+    pub fn of_length(form: Form, length: usize) -> Option<Layout> {
+        let paks = (0..=LONGEST.ilog2()).map(|bit| 1 << bit);
+        let mut all = std::iter::once(0).chain(paks).map(|pak| Layout::of(form, pak));
+        all.find(|layout| layout.length() == length)
     }
 
     pub fn length(&self) -> usize {

@@ -1,5 +1,4 @@
-//! Saved states, read by the library: a machine with WRAM, VRAM and pak RAM (paper 02, W1). Form 2 (W12), which the
-//! library does not read, is taken for its picture alone.
+//! Saved states, read and written by the library: a machine with WRAM, VRAM and pak RAM (paper 02, W1 and W12).
 
 mod fault;
 mod layout;
@@ -8,24 +7,22 @@ mod tests;
 
 use std::path::PathBuf;
 
-use vb::{state_bytes, Drawing, Machine, Memories, Processor, ReadMemories, Refusal};
+use vb::{Machine, Memories, ReadMemories, Refusal};
 
 use crate::failure::Failure;
 use crate::files::Input;
 pub use fault::Fault;
+pub use layout::PAK;
 pub use layout::{Body, Form, Layout};
-use layout::{DRAWING, PAK, PROCESSOR, VRAM, WRAM};
+use layout::{VRAM, WRAM};
 
 /// What the file must be.
 pub const STATE: &str = "a saved state, form 1 or 2";
-/// What it must be for a run.
-pub const TO_RUN: &str = "a saved state of form 1: 327,920 bytes without pak RAM, 327,930 and its length with it, which is \
-                          a power of two up to 16,777,216";
 /// The lengths of both forms.
 const LENGTHS: &str = "form 1 or 2: 327,920 or 327,962 bytes without pak RAM, 327,930 or 327,976 and its length with it, \
                        which is a power of two up to 16,777,216";
-/// What form 1 leaves out.
-pub const NOT_STORED: &str = "request lines and timer are not stored: they are not modelled yet";
+/// What form 1 leaves out; form 2 leaves ROM out alone.
+pub const NOT_STORED: &str = "request lines and timer are not stored: they come back at reset";
 
 /// A state and where its file has it.
 pub struct Saved {
@@ -43,38 +40,13 @@ pub struct NoState {
 }
 
 impl Saved {
-    /// The one reader of saved states. For form 1 the library decides; which rule was broken is found afterwards.
+    /// The one reader of saved states. The library decides; which rule was broken is found afterwards.
     pub fn of(input: &Input) -> Result<Saved, NoState> {
         let file = &input.bytes;
-        let layout = match Layout::of_file(file) {
-            Some(layout) => layout,
-            None => return Err(no_state(input, Some(Fault::Length), None)),
-        };
-        match layout.form {
-            Form::One => restored(file, layout)
+        match Layout::of_file(file) {
+            Some(layout) => restored(file, layout)
                 .map_err(|refusal| no_state(input, Fault::of(file), Some(refusal))),
-            Form::Two => match Fault::of(file) {
-                None => Ok(taken_apart(file, layout)),
-                fault => Err(no_state(input, fault, None)),
-            },
-        }
-    }
-
-    /// A state of form 1, which holds all that a run goes on from.
-    pub fn to_run(input: &Input) -> Result<Saved, Failure> {
-        let saved = Saved::of(input).map_err(|wrong| match wrong.fault {
-            Some(Fault::Length) => {
-                let rule =
-                    format!("refusal 9: no saved state has this length; it must be {TO_RUN}");
-                Failure { message: input.wrong(rule), ..wrong.failure }
-            }
-            _ => wrong.failure,
-        })?;
-        match saved.layout.form {
-            Form::One => Ok(saved),
-            Form::Two => Err(Failure::bad(input.wrong(
-                "it is of form 2, with request lines and timer, which are not modelled yet; a run goes on from form 1",
-            ))),
+            None => Err(no_state(input, Fault::of(file), None)),
         }
     }
 }
@@ -92,10 +64,29 @@ pub fn scene_of(input: &Input) -> Result<(Input, Input), Failure> {
 }
 
 /// The file of a machine with its memories, as the library writes it.
-pub fn written(machine: &Machine, memories: &ReadMemories) -> Result<Vec<u8>, Refusal> {
-    let mut file = vec![0; state_bytes(memories.pak.len())];
-    machine.write_state(memories, &mut file)?;
+pub fn written(form: Form, machine: &Machine, memories: &ReadMemories) -> Result<Vec<u8>, Refusal> {
+    let mut file = vec![0; Layout::of(form, memories.pak.len()).length()];
+    match form {
+        Form::One => machine.write_state(memories, &mut file)?,
+        Form::Two => machine.write_state_2(memories, &mut file)?,
+    }
     Ok(file)
+}
+
+/// The file in the other form, and that form.
+pub fn moved(input: &Input) -> Result<(Form, Vec<u8>), Failure> {
+    let file = &input.bytes;
+    let broken = |refusal: Refusal| match (&refusal, Fault::of(file)) {
+        (Refusal::NotAtReset, _) | (_, None) => {
+            Failure::refused(&refusal, input.wrong(refusal.to_string()))
+        }
+        (_, fault) => no_state(input, fault, Some(refusal)).failure,
+    };
+    let other = Form::of(file).other();
+    let pak = Layout::of_file(file).map_or(0, |layout| layout.length_of(PAK));
+    let mut room = vec![0; Layout::of(other, pak).length()];
+    vb::move_state(file, &mut room).map_err(broken)?;
+    Ok((other, room))
 }
 
 /// Read by the library. ROM is not stored, so any will do here.
@@ -107,15 +98,6 @@ fn restored(file: &[u8], layout: Layout) -> Result<Saved, Refusal> {
         Memories { rom: &[0; 1024], wram: &mut wram, vram: &mut vram, pak: &mut pak };
     machine.read_state(&mut memories, file)?;
     Ok(Saved { layout, machine, wram, vram, pak })
-}
-
-/// Read here, from a file without fault.
-fn taken_apart(file: &[u8], layout: Layout) -> Saved {
-    let body = |kind: u16| layout.bytes(file, kind);
-    let processor = Processor::from_bytes(body(PROCESSOR)).expect("172 bytes, and a mode");
-    let drawing = Drawing::from_bytes(body(DRAWING)).expect("26 bytes");
-    let (wram, vram, pak) = (body(WRAM).to_vec(), body(VRAM).to_vec(), body(PAK).to_vec());
-    Saved { machine: Machine { processor, drawing }, wram, vram, pak, layout }
 }
 
 fn no_state(input: &Input, fault: Option<Fault>, refusal: Option<Refusal>) -> NoState {

@@ -1,3 +1,4 @@
+use super::layout::{DRAWING, PROCESSOR};
 use super::*;
 
 /// The bodies of a machine at reset, each memory filled with its kind, in a file.
@@ -6,7 +7,7 @@ fn state(form: Form, pak: usize) -> Vec<u8> {
     let mut file = vec![0; layout.length()];
     for body in &layout.bodies {
         let bytes = match body.kind {
-            PROCESSOR => Machine::reset().processor.to_bytes(),
+            PROCESSOR => Machine::reset().processor.to_bytes()[..body.length].to_vec(),
             DRAWING => (0..13).flat_map(|n| [n % 4, 0]).collect(),
             WRAM | VRAM | PAK => vec![body.kind as u8; body.length],
             _ => vec![0x1F, 0, 0xFF, 0xFF, 0xFF, 0xFF, 0x1B, 0],
@@ -29,10 +30,10 @@ fn both_forms_give_vram_and_drawing_record() {
         let registers: Vec<u8> = (0..13).flat_map(|n| [n % 4, 0]).collect();
         assert!(vram.bytes == vec![4; 262_144] && drawing.bytes == registers);
         assert_eq!(drawing.name(), "a.state, drawing record");
-        let runs = Saved::to_run(&input(state(form, pak)));
-        assert_eq!(runs.is_ok(), form == Form::One);
-        let told = runs.err().map(|failure| failure.message).unwrap_or_default();
-        assert_eq!(told.contains("it is of form 2"), form == Form::Two, "{told}");
+        let saved = Saved::of(&input(state(form, pak))).ok().expect("a saved state");
+        assert_eq!((saved.layout.form, saved.pak.len()), (form, pak));
+        let lines = saved.machine.processor.hardware.lines;
+        assert_eq!(lines, if form == Form::Two { 0x1F } else { 0 });
     }
 }
 
@@ -59,13 +60,38 @@ fn rules_are_told_exactly_where_the_library_refuses() {
                 let refusal = restored(&changed, layout.clone()).err();
                 let fault = Fault::of(&changed);
                 assert_eq!(fault.is_some(), refusal.is_some(), "byte {at}, bit {bit}");
-                assert!(refusal.is_none_or(|refusal| refusal == Refusal::FileBytes));
+                let numbers = (fault.as_ref().map(Fault::refusal), refusal.map(|r| r.number()));
+                assert_eq!(numbers.0, numbers.1, "byte {at}, bit {bit}");
                 told += usize::from(fault.is_some());
             }
         }
         // contents; register 0, four that are even, three with 18 bits, the mode; then the drawing registers
         let contents = 8 * layout.bodies[0].offset;
         assert_eq!(told, contents + 32 + 4 + 3 * 14 + 30 + 4 * 6 + 8 * 8 + 14);
+    }
+}
+
+/// The same of form 2: each byte before the memories, and of lines and timer, with the sums as they were and right.
+#[test]
+fn rules_of_form_2_are_told_exactly_where_the_library_refuses() {
+    for pak in [0, 2] {
+        let file = state(Form::Two, pak);
+        let layout = Layout::of(Form::Two, pak);
+        let last = layout.length() - 8..layout.length();
+        for at in (0..layout.body(WRAM).unwrap().offset).chain(last) {
+            for bit in 0..8 {
+                let mut changed = file.clone();
+                changed[at] ^= 1 << bit;
+                let mut summed = changed.clone();
+                let contents = layout.contents(&summed);
+                summed[..contents.len()].copy_from_slice(&contents);
+                for file in [changed, summed] {
+                    let fault = Fault::of(&file).map(|fault| fault.refusal());
+                    let refusal = Saved::of(&input(file)).err().and_then(|no| no.failure.refusal);
+                    assert_eq!(fault, refusal, "byte {at}, bit {bit}");
+                }
+            }
+        }
     }
 }
 

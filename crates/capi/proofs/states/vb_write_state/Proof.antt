@@ -1,6 +1,7 @@
 -- `capi::states::vb_write_state`: misused, or what the call gives.
 use mathlib.Core.Path.{_∙_}
 use Rattle.bus.specs.Memory.{memoryOf}
+use Rattle.saved_layout.specs.declared.Form.the-variants.{One}
 use Rattle.capi.proofs.Saving.{write-misused, write-done}
 use borrow.Author.Needs.{needs}
 use Rattle.capi.proofs.states.vb_write_state.Statement.{statement}
@@ -16,7 +17,7 @@ misuse-number-requires : tie.Need-misuse-number-requires
 misuse-number-requires c κs = search needs
 
 returns : tie.Need-returns
-returns c = let w = write-misused (c .before .before .before .before .before .before .before .before .before .before .args .processor) (memoryOf (c .before .before .before .before .before .before .before .before .before .before .args .rom .now) (c .before .before .before .before .before .before .before .before .before .before .args .wram .now) (c .before .before .before .before .before .before .before .before .before .before .args .vram .now) (c .before .before .before .before .before .before .before .before .before .before .args .pak .now) (c .before .before .before .before .before .before .before .before .before .before .args .drawing .regs)) (c .before .before .before .before .before .before .before .before .before .before .args .room .now) _ (c .before .before .before .processor-in .ensures) _ (c .before .verdict .ensures) (c .before .before .if1 .taken) in
+returns c = let w = write-misused (c .before .before .before .before .before .before .before .before .before .before .args .processor) (memoryOf (c .before .before .before .before .before .before .before .before .before .before .args .rom .now) (c .before .before .before .before .before .before .before .before .before .before .args .wram .now) (c .before .before .before .before .before .before .before .before .before .before .args .vram .now) (c .before .before .before .before .before .before .before .before .before .before .args .pak .now) (c .before .before .before .before .before .before .before .before .before .before .args .drawing .regs)) (c .before .before .before .before .before .before .before .before .before .before .args .room .now) _ (c .before .before .before .processor-in .ensures) One _ (c .before .verdict .ensures) (c .before .before .if1 .taken) in
     (c .misuse-number .ensures ∙ w .0, w .1)
 
 write-requires : tie.Need-write-requires
@@ -30,7 +31,7 @@ same-length c = search needs
 
 returns-2 : tie.Need-returns-2
 returns-2 c = let done = c .before .before .before .write .ensures in
-    let w = write-done (c .before .before .before .before .before .before .before .before .before .before .before .before .before .args .processor) (memoryOf (c .before .before .before .before .before .before .before .before .before .before .before .before .before .args .rom .now) (c .before .before .before .before .before .before .before .before .before .before .before .before .before .args .wram .now) (c .before .before .before .before .before .before .before .before .before .before .before .before .before .args .vram .now) (c .before .before .before .before .before .before .before .before .before .before .before .before .before .args .pak .now) (c .before .before .before .before .before .before .before .before .before .before .before .before .before .args .drawing .regs)) (c .before .before .before .before .before .before .before .before .before .before .before .before .before .args .room .now) _ (c .before .before .before .before .before .before .processor-in .ensures) (c .before .before .before .before .before .if1 .left) _ _ (done .0) (done .1) in
+    let w = write-done (c .before .before .before .before .before .before .before .before .before .before .before .before .before .args .processor) (memoryOf (c .before .before .before .before .before .before .before .before .before .before .before .before .before .args .rom .now) (c .before .before .before .before .before .before .before .before .before .before .before .before .before .args .wram .now) (c .before .before .before .before .before .before .before .before .before .before .before .before .before .args .vram .now) (c .before .before .before .before .before .before .before .before .before .before .before .before .before .args .pak .now) (c .before .before .before .before .before .before .before .before .before .before .before .before .before .args .drawing .regs)) (c .before .before .before .before .before .before .before .before .before .before .before .before .before .args .room .now) _ (c .before .before .before .before .before .before .processor-in .ensures) One (c .before .before .before .before .before .if1 .left) _ _ (done .0) (done .1) in
     (c .verdict-number .ensures ∙ w .0, w .1)
 
 pub vb-write-state-spec : {M : Type 1} → statement M

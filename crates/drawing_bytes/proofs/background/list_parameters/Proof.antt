@@ -4,7 +4,7 @@ use Rattle.drawing_bytes.proofs.background.list_parameters.Statement.{s
 use Rattle.drawing_bytes.proofs.background.list_parameters.Tie as tie
 use native.Mathlib.Omega.{arith}
 use mathlib.Core.Path.{_≡_}
-use Rattle.drawing_laws.specs.SourceBytes.{halfBytesOf, parameterBytesOf}
+use Rattle.drawing_laws.specs.PixelBytes.{halfBytesOf, parameterBytesOf}
 use Rattle.drawing_bytes.proofs.Listings.{listing-none, listing-as}
 use Rattle.drawing_bytes.proofs.Sources.{normal-parameters, bias-parameters, affine-parameters, affine-length}
 

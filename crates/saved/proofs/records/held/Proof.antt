@@ -1,27 +1,55 @@
 -- `saved::records::held` meets its contract. Assumes nothing.
-use mathlib.Core.Path.{ap, _∙_}
+use native.Mathlib.Omega.{arith}
+use Prim.Native.Nat.{_+_, _-_}
+use mathlib.Core.List.{List}
 use Prim.Native.Nat.{ℕ}
-use lib.Dec.{leb}
-use Rattle.saved.proofs.Words.{record-split, mode-split}
+use mathlib.Core.Path.{_≡_, refl, ap, _∙_}
+use Rattle.bus_timer.specs.declared.Hardware.{Hardware}
+use Rattle.saved_layout.specs.File.{bodiesIn}
+use Rattle.saved_kinds.specs.Kinds.{generalFrom, restFrom}
+use Rattle.saved_layout.proofs.Positions.{length-is}
+use Rattle.saved_layout.proofs.Written.{processor-part, drawing-part, hardware-part}
+use Rattle.saved.specs.Body.{processorOf, processorIn}
 use borrow.Author.Needs.{needs}
 use Rattle.saved.proofs.records.held.Statement.{statement}
 use Rattle.saved.proofs.records.held.Tie as tie
 
-take-words-requires : tie.Need-take-words-requires
-take-words-requires c κs = search needs
+first-requires : tie.Need-first-requires
+first-requires c κs = search needs
 
-array-read-mode-ok : tie.Need-array-read-mode-ok
-array-read-mode-ok c = search needs
+add-end : tie.Need-add-end
+add-end c = search needs
 
-processor-of-requires : tie.Need-processor-of-requires
-processor-of-requires c κs = search needs
+sub-processor : tie.Need-sub-processor
+sub-processor c = search needs
+
+part-processor-start : tie.Need-part-processor-start
+part-processor-start c = search needs
+
+part-processor-end : tie.Need-part-processor-end
+part-processor-end c = omega (arith, length-is ((c .before .before .args .form)) ((c .before .before .args .pak)))
+
+hardware-requires : tie.Need-hardware-requires
+hardware-requires c κs = search needs
+
+processor-requires : tie.Need-processor-requires
+processor-requires c κs = search needs
 
 returns : tie.Need-returns
-returns c = (
-  c .processor-of .ensures ∙ record-split _ _ _ (c .before .take-words .ensures .1) (c .before .take-words .ensures .0),
-  ap (λ (n : ℕ). leb n 2) (mode-split (c .before .take-words .last .1 .1 .0) (c .before .take-words .last .1 .1 .1 .0) _ (c .before .take-words .ensures .1) (c .before .take-words .ensures .0)),
-)
+unfolding processorIn
+returns c = (c .processor .ensures)
+    ∙ (ap (λ (xs : List ℕ). processorOf (generalFrom xs) (restFrom xs) ((c .before .hardware .result))) (processor-part ((c .before .before .before .before .before .args .form)) ((c .before .before .before .before .before .args .pak)) ((c .before .before .before .first .result)) ((c .before .before .before .before .before .args .file .now)) ((c .before .before .before .first .ensures .0)) ((c .before .before .before .first .result)) (((c .before .before .before .first .result)) + 172 - ((c .before .before .before .first .result))) refl (omega arith))
+    ∙ ap (λ (h : Hardware). processorOf (generalFrom (bodiesIn ((c .before .before .before .before .before .args .form)) ((c .before .before .before .before .before .args .pak)) ((c .before .before .before .before .before .args .file .now)) .processor)) (restFrom (bodiesIn ((c .before .before .before .before .before .args .form)) ((c .before .before .before .before .before .args .pak)) ((c .before .before .before .before .before .args .file .now)) .processor)) h) ((c .before .hardware .ensures)))
 
 pub held-spec : {M : Type 1} → statement M
 held-spec =
-    tie.close (tie.spec take-words-requires array-read-mode-ok processor-of-requires returns)
+    tie.close
+    (tie.spec
+    first-requires
+    add-end
+    sub-processor
+    part-processor-start
+    part-processor-end
+    hardware-requires
+    processor-requires
+    returns)

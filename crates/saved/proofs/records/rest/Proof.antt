@@ -9,7 +9,7 @@ mode-word-requires c κs = search needs
 
 returns : tie.Need-returns
 unfolding restOf
-returns c = rw (c .mode-word .ensures)
+returns c = rw ((c .mode-word .ensures))
 
 pub rest-spec : {M : Type 1} → statement M
 rest-spec = tie.close (tie.spec mode-word-requires returns)

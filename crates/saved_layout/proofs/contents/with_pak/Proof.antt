@@ -1,17 +1,21 @@
 -- `saved_layout::contents::with_pak` meets its contract. Assumes nothing.
-use Rattle.saved_layout.proofs.Places.{contents-some}
+use native.Mathlib.Omega.{arith}
+use Rattle.saved_layout.proofs.Positions.{one-some}
 use borrow.Author.Needs.{needs}
 use Rattle.saved_layout.proofs.contents.with_pak.Statement.{statement}
 use Rattle.saved_layout.proofs.contents.with_pak.Tie as tie
 
-cast-low : tie.Need-cast-low
-cast-low c = search needs
+cast-size : tie.Need-cast-size
+cast-size c = search needs
 
-cast-high : tie.Need-cast-high
-cast-high c = search needs
+low-requires : tie.Need-low-requires
+low-requires c κs = search needs
+
+high-requires : tie.Need-high-requires
+high-requires c κs = search needs
 
 returns : tie.Need-returns
-returns c = contents-some _ (c .pre .0)
+returns c = λ sums. rw ((c .before .low .ensures), (c .high .ensures)) (one-some ((c .before .before .args .pak)) (omega arith) sums)
 
 pub with-pak-spec : {M : Type 1} → statement M
-with-pak-spec = tie.close (tie.spec cast-low cast-high returns)
+with-pak-spec = tie.close (tie.spec cast-size low-requires high-requires returns)

@@ -1,0 +1,5 @@
+pub mod Kept
+mod Products
+mod Quotients
+mod Sums
+mod Tests

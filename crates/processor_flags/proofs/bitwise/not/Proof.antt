@@ -1,0 +1,18 @@
+-- `processor_flags::bitwise::not`: the value with its flags.
+use Rattle.processor_arithmetic.specs.Bitwise.{notOf}
+use borrow.Author.Needs.{needs}
+use Rattle.processor_flags.proofs.bitwise.not.Statement.{statement}
+use Rattle.processor_flags.proofs.bitwise.not.Tie as tie
+
+sub-value : tie.Need-sub-value
+sub-value c = search needs
+
+value-requires : tie.Need-value-requires
+value-requires c κs = search needs
+
+returns : tie.Need-returns
+unfolding notOf
+returns c = c .value .ensures
+
+pub not-spec : {M : Type 1} → statement M
+not-spec = tie.close (tie.spec sub-value value-requires returns)

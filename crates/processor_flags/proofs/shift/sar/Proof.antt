@@ -1,0 +1,28 @@
+-- `processor_flags::shift::sar`: the last bit out stands above the value.
+use Prim.Native.Nat.{_+_, _-_, _*_, _/_, _%_, _^_, _<_}
+use mathlib.Core.Path.{_≡_, refl, sym, ap, _∙_}
+use native.Mathlib.Omega.{arith}
+use Rattle.processor_arithmetic.specs.Shift.{shiftArithmeticOf}
+use Rattle.processor_flags.proofs.Kept.{gives-flags}
+use borrow.Author.Needs.{needs}
+use Rattle.processor_flags.proofs.shift.sar.Statement.{statement}
+use Rattle.processor_flags.proofs.shift.sar.Tie as tie
+
+out-requires : tie.Need-out-requires
+out-requires c κs = search needs
+
+arithmetic-right-requires : tie.Need-arithmetic-right-requires
+arithmetic-right-requires c κs = search needs
+
+joined-requires : tie.Need-joined-requires
+joined-requires c κs = search needs
+
+returns : tie.Need-returns
+unfolding shiftArithmeticOf
+returns c = λ psw g.
+    let o = c .before .before .out .ensures in
+    let v = c .before .arithmetic-right .ensures in
+    gives-flags psw g _ _ _ _ (omega (arith, c .joined .ensures, v)) (omega (arith, c .joined .ensures, o .0, o .1)) refl
+
+pub sar-spec : {M : Type 1} → statement M
+sar-spec = tie.close (tie.spec out-requires arithmetic-right-requires joined-requires returns)

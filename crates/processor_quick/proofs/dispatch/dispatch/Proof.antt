@@ -1,0 +1,685 @@
+-- `processor_quick::dispatch::dispatch`: each arm is the row of its opcode.
+use mathlib.Core.Path.{refl}
+use borrow.Author.Needs.{needs}
+use denote.Ref.{now}
+use Rattle.bus.specs.Memory.{memoryOf}
+use Rattle.processor_decode.specs.Opcode.{decodeOf, shortRows, branchRows, longRows}
+use Rattle.processor_quick.proofs.dispatch.dispatch.Statement.{statement}
+use Rattle.processor_quick.proofs.dispatch.dispatch.Tie as tie
+
+mov-requires : tie.Need-mov-requires
+mov-requires c κs = tt
+
+add-requires : tie.Need-add-requires
+add-requires c κs = tt
+
+sub-requires : tie.Need-sub-requires
+sub-requires c κs = tt
+
+cmp-requires : tie.Need-cmp-requires
+cmp-requires c κs = tt
+
+shl-requires : tie.Need-shl-requires
+shl-requires c κs = tt
+
+shr-requires : tie.Need-shr-requires
+shr-requires c κs = tt
+
+jmp-requires : tie.Need-jmp-requires
+jmp-requires c κs = tt
+
+sar-requires : tie.Need-sar-requires
+sar-requires c κs = tt
+
+mul-requires : tie.Need-mul-requires
+mul-requires c κs = tt
+
+div-requires : tie.Need-div-requires
+div-requires c κs = tt
+
+mulu-requires : tie.Need-mulu-requires
+mulu-requires c κs = tt
+
+divu-requires : tie.Need-divu-requires
+divu-requires c κs = tt
+
+or-requires : tie.Need-or-requires
+or-requires c κs = tt
+
+and-requires : tie.Need-and-requires
+and-requires c κs = tt
+
+xor-requires : tie.Need-xor-requires
+xor-requires c κs = tt
+
+not-requires : tie.Need-not-requires
+not-requires c κs = tt
+
+mov-immediate-requires : tie.Need-mov-immediate-requires
+mov-immediate-requires c κs = tt
+
+add-immediate-requires : tie.Need-add-immediate-requires
+add-immediate-requires c κs = tt
+
+setf-requires : tie.Need-setf-requires
+setf-requires c κs = tt
+
+cmp-immediate-requires : tie.Need-cmp-immediate-requires
+cmp-immediate-requires c κs = tt
+
+shl-immediate-requires : tie.Need-shl-immediate-requires
+shl-immediate-requires c κs = tt
+
+shr-immediate-requires : tie.Need-shr-immediate-requires
+shr-immediate-requires c κs = tt
+
+sar-immediate-requires : tie.Need-sar-immediate-requires
+sar-immediate-requires c κs = tt
+
+overflow-carry-requires : tie.Need-overflow-carry-requires
+overflow-carry-requires c κs = c .match .keys24
+
+zero-not-higher-requires : tie.Need-zero-not-higher-requires
+zero-not-higher-requires c κs = c .match .keys25
+
+negative-always-requires : tie.Need-negative-always-requires
+negative-always-requires c κs = c .match .keys26
+
+less-requires : tie.Need-less-requires
+less-requires c κs = c .match .keys27
+
+no-overflow-no-carry-requires : tie.Need-no-overflow-no-carry-requires
+no-overflow-no-carry-requires c κs = c .match .keys28
+
+not-zero-higher-requires : tie.Need-not-zero-higher-requires
+not-zero-higher-requires c κs = c .match .keys29
+
+positive-never-requires : tie.Need-positive-never-requires
+positive-never-requires c κs = c .match .keys30
+
+greater-requires : tie.Need-greater-requires
+greater-requires c κs = c .match .keys31
+
+movea-requires : tie.Need-movea-requires
+movea-requires c κs = c .before .before .before .before .before .before .pre .2
+
+addi-requires : tie.Need-addi-requires
+addi-requires c κs = c .before .before .before .before .before .before .pre .2
+
+jr-requires : tie.Need-jr-requires
+jr-requires c κs = c .before .before .before .before .before .pre .2
+
+jal-requires : tie.Need-jal-requires
+jal-requires c κs = c .before .before .before .before .before .before .pre .2
+
+ori-requires : tie.Need-ori-requires
+ori-requires c κs = c .before .before .before .before .before .before .pre .2
+
+andi-requires : tie.Need-andi-requires
+andi-requires c κs = c .before .before .before .before .before .before .pre .2
+
+xori-requires : tie.Need-xori-requires
+xori-requires c κs = c .before .before .before .before .before .before .pre .2
+
+movhi-requires : tie.Need-movhi-requires
+movhi-requires c κs = c .before .before .before .before .before .before .pre .2
+
+load-byte-requires : tie.Need-load-byte-requires
+load-byte-requires c κs = (c .before .before .before .before .before .before .before .before .pre .0, c .before .before .before .before .before .before .before .before .pre .2)
+
+load-half-requires : tie.Need-load-half-requires
+load-half-requires c κs = (c .before .before .before .before .before .before .before .before .pre .0, c .before .before .before .before .before .before .before .before .pre .2)
+
+load-word-requires : tie.Need-load-word-requires
+load-word-requires c κs = (c .before .before .before .before .before .before .before .before .pre .0, c .before .before .before .before .before .before .before .before .pre .2)
+
+store-byte-requires : tie.Need-store-byte-requires
+store-byte-requires c κs = (c .before .before .before .before .before .before .before .before .pre .0 .wram-ok, c .before .before .before .before .before .before .before .before .pre .0 .vram-ok, c .before .before .before .before .before .before .before .before .pre .2)
+
+store-half-requires : tie.Need-store-half-requires
+store-half-requires c κs = (c .before .before .before .before .before .before .before .before .pre .0 .wram-ok, c .before .before .before .before .before .before .before .before .pre .0 .vram-ok, c .before .before .before .before .before .before .before .before .pre .2)
+
+store-word-requires : tie.Need-store-word-requires
+store-word-requires c κs = (c .before .before .before .before .before .before .before .before .pre .0 .wram-ok, c .before .before .before .before .before .before .before .before .pre .0 .vram-ok, c .before .before .before .before .before .before .before .before .pre .2)
+
+input-byte-requires : tie.Need-input-byte-requires
+input-byte-requires c κs = (c .before .before .before .before .before .before .before .before .pre .0, c .before .before .before .before .before .before .before .before .pre .2)
+
+input-half-requires : tie.Need-input-half-requires
+input-half-requires c κs = (c .before .before .before .before .before .before .before .before .pre .0, c .before .before .before .before .before .before .before .before .pre .2)
+
+load-word-requires-2 : tie.Need-load-word-requires-2
+load-word-requires-2 c κs = (c .before .before .before .before .before .before .before .before .pre .0, c .before .before .before .before .before .before .before .before .pre .2)
+
+store-byte-requires-2 : tie.Need-store-byte-requires-2
+store-byte-requires-2 c κs = (c .before .before .before .before .before .before .before .before .pre .0 .wram-ok, c .before .before .before .before .before .before .before .before .pre .0 .vram-ok, c .before .before .before .before .before .before .before .before .pre .2)
+
+store-half-requires-2 : tie.Need-store-half-requires-2
+store-half-requires-2 c κs = (c .before .before .before .before .before .before .before .before .pre .0 .wram-ok, c .before .before .before .before .before .before .before .before .pre .0 .vram-ok, c .before .before .before .before .before .before .before .before .pre .2)
+
+extended-requires : tie.Need-extended-requires
+extended-requires c κs = tt
+
+store-word-requires-2 : tie.Need-store-word-requires-2
+store-word-requires-2 c κs = (c .before .before .before .before .before .before .before .before .pre .0 .wram-ok, c .before .before .before .before .before .before .before .before .pre .0 .vram-ok, c .before .before .before .before .before .before .before .before .pre .2)
+
+returns : tie.Need-returns
+unfolding decodeOf shortRows
+returns c =
+    let a = c .before .before .before .before .before .before .before .args in
+    rw (c .before .before .match .keys1) (c .mov .ensures (memoryOf (now (a .rom)) (now (a .wram)) (now (a .vram)) (now (a .pak)) (now (a .device))) (a .base))
+
+returns-2 : tie.Need-returns-2
+unfolding decodeOf shortRows
+returns-2 c =
+    let a = c .before .before .before .before .before .before .before .args in
+    rw (c .before .before .match .keys2) (c .add .ensures (memoryOf (now (a .rom)) (now (a .wram)) (now (a .vram)) (now (a .pak)) (now (a .device))) (a .base))
+
+returns-3 : tie.Need-returns-3
+unfolding decodeOf shortRows
+returns-3 c =
+    let a = c .before .before .before .before .before .before .before .args in
+    rw (c .before .before .match .keys3) (c .sub .ensures (memoryOf (now (a .rom)) (now (a .wram)) (now (a .vram)) (now (a .pak)) (now (a .device))) (a .base))
+
+returns-4 : tie.Need-returns-4
+unfolding decodeOf shortRows
+returns-4 c =
+    let a = c .before .before .before .before .before .before .before .args in
+    rw (c .before .before .match .keys4) (c .cmp .ensures (memoryOf (now (a .rom)) (now (a .wram)) (now (a .vram)) (now (a .pak)) (now (a .device))) (a .base))
+
+returns-5 : tie.Need-returns-5
+unfolding decodeOf shortRows
+returns-5 c =
+    let a = c .before .before .before .before .before .before .before .args in
+    rw (c .before .before .match .keys5) (c .shl .ensures (memoryOf (now (a .rom)) (now (a .wram)) (now (a .vram)) (now (a .pak)) (now (a .device))) (a .base))
+
+returns-6 : tie.Need-returns-6
+unfolding decodeOf shortRows
+returns-6 c =
+    let a = c .before .before .before .before .before .before .before .args in
+    rw (c .before .before .match .keys6) (c .shr .ensures (memoryOf (now (a .rom)) (now (a .wram)) (now (a .vram)) (now (a .pak)) (now (a .device))) (a .base))
+
+returns-7 : tie.Need-returns-7
+unfolding decodeOf shortRows
+returns-7 c =
+    let a = c .before .before .before .before .before .before .before .args in
+    rw (c .before .before .match .keys7) (c .jmp .ensures (memoryOf (now (a .rom)) (now (a .wram)) (now (a .vram)) (now (a .pak)) (now (a .device))))
+
+returns-8 : tie.Need-returns-8
+unfolding decodeOf shortRows
+returns-8 c =
+    let a = c .before .before .before .before .before .before .before .args in
+    rw (c .before .before .match .keys8) (c .sar .ensures (memoryOf (now (a .rom)) (now (a .wram)) (now (a .vram)) (now (a .pak)) (now (a .device))) (a .base))
+
+returns-9 : tie.Need-returns-9
+unfolding decodeOf shortRows
+returns-9 c =
+    let a = c .before .before .before .before .before .before .before .args in
+    rw (c .before .before .match .keys9) (c .mul .ensures (memoryOf (now (a .rom)) (now (a .wram)) (now (a .vram)) (now (a .pak)) (now (a .device))) (a .base))
+
+returns-10 : tie.Need-returns-10
+unfolding decodeOf shortRows
+returns-10 c =
+    let a = c .before .before .before .before .before .before .before .args in
+    rw (c .before .before .match .keys10) (c .div .ensures (memoryOf (now (a .rom)) (now (a .wram)) (now (a .vram)) (now (a .pak)) (now (a .device))) (a .base))
+
+returns-11 : tie.Need-returns-11
+unfolding decodeOf shortRows
+returns-11 c =
+    let a = c .before .before .before .before .before .before .before .args in
+    rw (c .before .before .match .keys11) (c .mulu .ensures (memoryOf (now (a .rom)) (now (a .wram)) (now (a .vram)) (now (a .pak)) (now (a .device))) (a .base))
+
+returns-12 : tie.Need-returns-12
+unfolding decodeOf shortRows
+returns-12 c =
+    let a = c .before .before .before .before .before .before .before .args in
+    rw (c .before .before .match .keys12) (c .divu .ensures (memoryOf (now (a .rom)) (now (a .wram)) (now (a .vram)) (now (a .pak)) (now (a .device))) (a .base))
+
+returns-13 : tie.Need-returns-13
+unfolding decodeOf shortRows
+returns-13 c =
+    let a = c .before .before .before .before .before .before .before .args in
+    rw (c .before .before .match .keys13) (c .or .ensures (memoryOf (now (a .rom)) (now (a .wram)) (now (a .vram)) (now (a .pak)) (now (a .device))) (a .base))
+
+returns-14 : tie.Need-returns-14
+unfolding decodeOf shortRows
+returns-14 c =
+    let a = c .before .before .before .before .before .before .before .args in
+    rw (c .before .before .match .keys14) (c .and .ensures (memoryOf (now (a .rom)) (now (a .wram)) (now (a .vram)) (now (a .pak)) (now (a .device))) (a .base))
+
+returns-15 : tie.Need-returns-15
+unfolding decodeOf shortRows
+returns-15 c =
+    let a = c .before .before .before .before .before .before .before .args in
+    rw (c .before .before .match .keys15) (c .xor .ensures (memoryOf (now (a .rom)) (now (a .wram)) (now (a .vram)) (now (a .pak)) (now (a .device))) (a .base))
+
+returns-16 : tie.Need-returns-16
+unfolding decodeOf shortRows
+returns-16 c =
+    let a = c .before .before .before .before .before .before .before .args in
+    rw (c .before .before .match .keys16) (c .not .ensures (memoryOf (now (a .rom)) (now (a .wram)) (now (a .vram)) (now (a .pak)) (now (a .device))) (a .base))
+
+returns-17 : tie.Need-returns-17
+unfolding decodeOf shortRows
+returns-17 c =
+    let a = c .before .before .before .before .before .before .before .args in
+    rw (c .before .before .match .keys17) (c .mov-immediate .ensures (memoryOf (now (a .rom)) (now (a .wram)) (now (a .vram)) (now (a .pak)) (now (a .device))) (a .base))
+
+returns-18 : tie.Need-returns-18
+unfolding decodeOf shortRows
+returns-18 c =
+    let a = c .before .before .before .before .before .before .before .args in
+    rw (c .before .before .match .keys18) (c .add-immediate .ensures (memoryOf (now (a .rom)) (now (a .wram)) (now (a .vram)) (now (a .pak)) (now (a .device))) (a .base))
+
+returns-19 : tie.Need-returns-19
+unfolding decodeOf shortRows
+returns-19 c =
+    let a = c .before .before .before .before .before .before .before .args in
+    rw (c .before .before .match .keys19) (c .setf .ensures (memoryOf (now (a .rom)) (now (a .wram)) (now (a .vram)) (now (a .pak)) (now (a .device))) (a .base))
+
+returns-20 : tie.Need-returns-20
+unfolding decodeOf shortRows
+returns-20 c =
+    let a = c .before .before .before .before .before .before .before .args in
+    rw (c .before .before .match .keys20) (c .cmp-immediate .ensures (memoryOf (now (a .rom)) (now (a .wram)) (now (a .vram)) (now (a .pak)) (now (a .device))) (a .base))
+
+returns-21 : tie.Need-returns-21
+unfolding decodeOf shortRows
+returns-21 c =
+    let a = c .before .before .before .before .before .before .before .args in
+    rw (c .before .before .match .keys21) (c .shl-immediate .ensures (memoryOf (now (a .rom)) (now (a .wram)) (now (a .vram)) (now (a .pak)) (now (a .device))) (a .base))
+
+returns-22 : tie.Need-returns-22
+unfolding decodeOf shortRows
+returns-22 c =
+    let a = c .before .before .before .before .before .before .before .args in
+    rw (c .before .before .match .keys22) (c .shr-immediate .ensures (memoryOf (now (a .rom)) (now (a .wram)) (now (a .vram)) (now (a .pak)) (now (a .device))) (a .base))
+
+returns-23 : tie.Need-returns-23
+unfolding decodeOf shortRows
+returns-23 c =
+    let a = c .before .before .before .before .before .before .before .args in
+    rw (c .before .before .match .keys23) (c .sar-immediate .ensures (memoryOf (now (a .rom)) (now (a .wram)) (now (a .vram)) (now (a .pak)) (now (a .device))) (a .base))
+
+returns-24 : tie.Need-returns-24
+unfolding decodeOf shortRows branchRows
+returns-24 c =
+    let a = c .before .before .before .before .before .before .args in
+    rw (c .before .match .keys24) (c .overflow-carry .ensures (now (a .regs)) (memoryOf (now (a .rom)) (now (a .wram)) (now (a .vram)) (now (a .pak)) (now (a .device))) (a .base))
+
+returns-25 : tie.Need-returns-25
+unfolding decodeOf shortRows branchRows
+returns-25 c =
+    let a = c .before .before .before .before .before .before .args in
+    rw (c .before .match .keys25) (c .zero-not-higher .ensures (now (a .regs)) (memoryOf (now (a .rom)) (now (a .wram)) (now (a .vram)) (now (a .pak)) (now (a .device))) (a .base))
+
+returns-26 : tie.Need-returns-26
+unfolding decodeOf shortRows branchRows
+returns-26 c =
+    let a = c .before .before .before .before .before .before .args in
+    rw (c .before .match .keys26) (c .negative-always .ensures (now (a .regs)) (memoryOf (now (a .rom)) (now (a .wram)) (now (a .vram)) (now (a .pak)) (now (a .device))) (a .base))
+
+returns-27 : tie.Need-returns-27
+unfolding decodeOf shortRows branchRows
+returns-27 c =
+    let a = c .before .before .before .before .before .before .args in
+    rw (c .before .match .keys27) (c .less .ensures (now (a .regs)) (memoryOf (now (a .rom)) (now (a .wram)) (now (a .vram)) (now (a .pak)) (now (a .device))) (a .base))
+
+returns-28 : tie.Need-returns-28
+unfolding decodeOf shortRows branchRows
+returns-28 c =
+    let a = c .before .before .before .before .before .before .args in
+    rw (c .before .match .keys28) (c .no-overflow-no-carry .ensures (now (a .regs)) (memoryOf (now (a .rom)) (now (a .wram)) (now (a .vram)) (now (a .pak)) (now (a .device))) (a .base))
+
+returns-29 : tie.Need-returns-29
+unfolding decodeOf shortRows branchRows
+returns-29 c =
+    let a = c .before .before .before .before .before .before .args in
+    rw (c .before .match .keys29) (c .not-zero-higher .ensures (now (a .regs)) (memoryOf (now (a .rom)) (now (a .wram)) (now (a .vram)) (now (a .pak)) (now (a .device))) (a .base))
+
+returns-30 : tie.Need-returns-30
+unfolding decodeOf shortRows branchRows
+returns-30 c =
+    let a = c .before .before .before .before .before .before .args in
+    rw (c .before .match .keys30) (c .positive-never .ensures (now (a .regs)) (memoryOf (now (a .rom)) (now (a .wram)) (now (a .vram)) (now (a .pak)) (now (a .device))) (a .base))
+
+returns-31 : tie.Need-returns-31
+unfolding decodeOf shortRows branchRows
+returns-31 c =
+    let a = c .before .before .before .before .before .before .args in
+    rw (c .before .match .keys31) (c .greater .ensures (now (a .regs)) (memoryOf (now (a .rom)) (now (a .wram)) (now (a .vram)) (now (a .pak)) (now (a .device))) (a .base))
+
+returns-32 : tie.Need-returns-32
+unfolding decodeOf shortRows branchRows longRows
+returns-32 c =
+    let a = c .before .before .before .before .before .before .before .args in
+    rw (c .before .before .match .keys32) (c .movea .ensures (memoryOf (now (a .rom)) (now (a .wram)) (now (a .vram)) (now (a .pak)) (now (a .device))) (a .base))
+
+returns-33 : tie.Need-returns-33
+unfolding decodeOf shortRows branchRows longRows
+returns-33 c =
+    let a = c .before .before .before .before .before .before .before .args in
+    rw (c .before .before .match .keys33) (c .addi .ensures (memoryOf (now (a .rom)) (now (a .wram)) (now (a .vram)) (now (a .pak)) (now (a .device))) (a .base))
+
+returns-34 : tie.Need-returns-34
+unfolding decodeOf shortRows branchRows longRows
+returns-34 c =
+    let a = c .before .before .before .before .before .before .args in
+    rw (c .before .match .keys34) (c .jr .ensures (now (a .regs)) (memoryOf (now (a .rom)) (now (a .wram)) (now (a .vram)) (now (a .pak)) (now (a .device))) (a .base))
+
+returns-35 : tie.Need-returns-35
+unfolding decodeOf shortRows branchRows longRows
+returns-35 c =
+    let a = c .before .before .before .before .before .before .before .args in
+    rw (c .before .before .match .keys35) (c .jal .ensures (memoryOf (now (a .rom)) (now (a .wram)) (now (a .vram)) (now (a .pak)) (now (a .device))))
+
+returns-36 : tie.Need-returns-36
+unfolding decodeOf shortRows branchRows longRows
+returns-36 c =
+    let a = c .before .before .before .before .before .before .before .args in
+    rw (c .before .before .match .keys36) (c .ori .ensures (memoryOf (now (a .rom)) (now (a .wram)) (now (a .vram)) (now (a .pak)) (now (a .device))) (a .base))
+
+returns-37 : tie.Need-returns-37
+unfolding decodeOf shortRows branchRows longRows
+returns-37 c =
+    let a = c .before .before .before .before .before .before .before .args in
+    rw (c .before .before .match .keys37) (c .andi .ensures (memoryOf (now (a .rom)) (now (a .wram)) (now (a .vram)) (now (a .pak)) (now (a .device))) (a .base))
+
+returns-38 : tie.Need-returns-38
+unfolding decodeOf shortRows branchRows longRows
+returns-38 c =
+    let a = c .before .before .before .before .before .before .before .args in
+    rw (c .before .before .match .keys38) (c .xori .ensures (memoryOf (now (a .rom)) (now (a .wram)) (now (a .vram)) (now (a .pak)) (now (a .device))) (a .base))
+
+returns-39 : tie.Need-returns-39
+unfolding decodeOf shortRows branchRows longRows
+returns-39 c =
+    let a = c .before .before .before .before .before .before .before .args in
+    rw (c .before .before .match .keys39) (c .movhi .ensures (memoryOf (now (a .rom)) (now (a .wram)) (now (a .vram)) (now (a .pak)) (now (a .device))) (a .base))
+
+same-length : tie.Need-same-length
+same-length c = search needs
+
+same-length-2 : tie.Need-same-length-2
+same-length-2 c = search needs
+
+returns-40 : tie.Need-returns-40
+unfolding decodeOf shortRows branchRows longRows
+returns-40 c =
+    let a = c .before .before .before .before .before .before .before .before .before .args in
+    rw (c .before .before .before .before .match .keys40) (c .load-byte .ensures (a .base))
+
+same-length-3 : tie.Need-same-length-3
+same-length-3 c = search needs
+
+same-length-4 : tie.Need-same-length-4
+same-length-4 c = search needs
+
+returns-41 : tie.Need-returns-41
+unfolding decodeOf shortRows branchRows longRows
+returns-41 c =
+    let a = c .before .before .before .before .before .before .before .before .before .args in
+    rw (c .before .before .before .before .match .keys41) (c .load-half .ensures (a .base))
+
+same-length-5 : tie.Need-same-length-5
+same-length-5 c = search needs
+
+same-length-6 : tie.Need-same-length-6
+same-length-6 c = search needs
+
+returns-42 : tie.Need-returns-42
+unfolding decodeOf shortRows branchRows longRows
+returns-42 c =
+    let a = c .before .before .before .before .before .before .before .before .before .args in
+    rw (c .before .before .before .before .match .keys42) (c .load-word .ensures .0 (a .base))
+
+same-length-7 : tie.Need-same-length-7
+same-length-7 c = search needs
+
+same-length-8 : tie.Need-same-length-8
+same-length-8 c = search needs
+
+returns-43 : tie.Need-returns-43
+unfolding decodeOf shortRows branchRows longRows
+returns-43 c =
+    let a = c .before .before .before .before .before .before .before .before .before .before .before .before .before .args in
+    rw (c .before .before .before .before .before .before .before .before .match .keys43) (c .before .before .before .before .store-byte .ensures .0 (now (a .rom)) (now (a .pak)) (now (a .device)) (a .base))
+
+same-length-9 : tie.Need-same-length-9
+same-length-9 c = search needs
+
+same-length-10 : tie.Need-same-length-10
+same-length-10 c = search needs
+
+returns-44 : tie.Need-returns-44
+unfolding decodeOf shortRows branchRows longRows
+returns-44 c =
+    let a = c .before .before .before .before .before .before .before .before .before .before .before .before .before .args in
+    rw (c .before .before .before .before .before .before .before .before .match .keys44) (c .before .before .before .before .store-half .ensures .0 (now (a .rom)) (now (a .pak)) (now (a .device)) (a .base))
+
+same-length-11 : tie.Need-same-length-11
+same-length-11 c = search needs
+
+same-length-12 : tie.Need-same-length-12
+same-length-12 c = search needs
+
+returns-45 : tie.Need-returns-45
+unfolding decodeOf shortRows branchRows longRows
+returns-45 c =
+    let a = c .before .before .before .before .before .before .before .before .before .before .before .before .before .args in
+    rw (c .before .before .before .before .before .before .before .before .match .keys45) (c .before .before .before .before .store-word .ensures .0 (now (a .rom)) (now (a .pak)) (now (a .device)) (a .base))
+
+same-length-13 : tie.Need-same-length-13
+same-length-13 c = search needs
+
+same-length-14 : tie.Need-same-length-14
+same-length-14 c = search needs
+
+returns-46 : tie.Need-returns-46
+unfolding decodeOf shortRows branchRows longRows
+returns-46 c =
+    let a = c .before .before .before .before .before .before .before .before .before .args in
+    rw (c .before .before .before .before .match .keys46) (c .input-byte .ensures (a .base))
+
+same-length-15 : tie.Need-same-length-15
+same-length-15 c = search needs
+
+same-length-16 : tie.Need-same-length-16
+same-length-16 c = search needs
+
+returns-47 : tie.Need-returns-47
+unfolding decodeOf shortRows branchRows longRows
+returns-47 c =
+    let a = c .before .before .before .before .before .before .before .before .before .args in
+    rw (c .before .before .before .before .match .keys47) (c .input-half .ensures (a .base))
+
+same-length-17 : tie.Need-same-length-17
+same-length-17 c = search needs
+
+same-length-18 : tie.Need-same-length-18
+same-length-18 c = search needs
+
+returns-48 : tie.Need-returns-48
+unfolding decodeOf shortRows branchRows longRows
+returns-48 c =
+    let a = c .before .before .before .before .before .before .before .before .before .args in
+    rw (c .before .before .before .before .match .keys48) (c .load-word2 .ensures .1 (a .base))
+
+same-length-19 : tie.Need-same-length-19
+same-length-19 c = search needs
+
+same-length-20 : tie.Need-same-length-20
+same-length-20 c = search needs
+
+returns-49 : tie.Need-returns-49
+unfolding decodeOf shortRows branchRows longRows
+returns-49 c =
+    let a = c .before .before .before .before .before .before .before .before .before .before .before .before .before .args in
+    rw (c .before .before .before .before .before .before .before .before .match .keys49) (c .before .before .before .before .store-byte2 .ensures .1 (now (a .rom)) (now (a .pak)) (now (a .device)) (a .base))
+
+same-length-21 : tie.Need-same-length-21
+same-length-21 c = search needs
+
+same-length-22 : tie.Need-same-length-22
+same-length-22 c = search needs
+
+returns-50 : tie.Need-returns-50
+unfolding decodeOf shortRows branchRows longRows
+returns-50 c =
+    let a = c .before .before .before .before .before .before .before .before .before .before .before .before .before .args in
+    rw (c .before .before .before .before .before .before .before .before .match .keys50) (c .before .before .before .before .store-half2 .ensures .1 (now (a .rom)) (now (a .pak)) (now (a .device)) (a .base))
+
+returns-51 : tie.Need-returns-51
+unfolding decodeOf shortRows branchRows longRows
+returns-51 c =
+    let a = c .before .before .before .before .before .before .before .args in
+    rw (c .before .before .match .keys51) (c .extended .ensures (memoryOf (now (a .rom)) (now (a .wram)) (now (a .vram)) (now (a .pak)) (now (a .device))) (a .base))
+
+same-length-23 : tie.Need-same-length-23
+same-length-23 c = search needs
+
+same-length-24 : tie.Need-same-length-24
+same-length-24 c = search needs
+
+returns-52 : tie.Need-returns-52
+unfolding decodeOf shortRows branchRows longRows
+returns-52 c =
+    let a = c .before .before .before .before .before .before .before .before .before .before .before .before .before .args in
+    rw (c .before .before .before .before .before .before .before .before .match .keys52) (c .before .before .before .before .store-word2 .ensures .1 (now (a .rom)) (now (a .pak)) (now (a .device)) (a .base))
+
+returns-53 : tie.Need-returns-53
+returns-53 c = λ psw sys even aligned. (refl, refl)
+
+pub dispatch-spec : {M : Type 1} → statement M
+dispatch-spec =
+    tie.close
+    (tie.spec
+    mov-requires
+    add-requires
+    sub-requires
+    cmp-requires
+    shl-requires
+    shr-requires
+    jmp-requires
+    sar-requires
+    mul-requires
+    div-requires
+    mulu-requires
+    divu-requires
+    or-requires
+    and-requires
+    xor-requires
+    not-requires
+    mov-immediate-requires
+    add-immediate-requires
+    setf-requires
+    cmp-immediate-requires
+    shl-immediate-requires
+    shr-immediate-requires
+    sar-immediate-requires
+    overflow-carry-requires
+    zero-not-higher-requires
+    negative-always-requires
+    less-requires
+    no-overflow-no-carry-requires
+    not-zero-higher-requires
+    positive-never-requires
+    greater-requires
+    movea-requires
+    addi-requires
+    jr-requires
+    jal-requires
+    ori-requires
+    andi-requires
+    xori-requires
+    movhi-requires
+    load-byte-requires
+    load-half-requires
+    load-word-requires
+    store-byte-requires
+    store-half-requires
+    store-word-requires
+    input-byte-requires
+    input-half-requires
+    load-word-requires-2
+    store-byte-requires-2
+    store-half-requires-2
+    extended-requires
+    store-word-requires-2
+    returns
+    returns-2
+    returns-3
+    returns-4
+    returns-5
+    returns-6
+    returns-7
+    returns-8
+    returns-9
+    returns-10
+    returns-11
+    returns-12
+    returns-13
+    returns-14
+    returns-15
+    returns-16
+    returns-17
+    returns-18
+    returns-19
+    returns-20
+    returns-21
+    returns-22
+    returns-23
+    returns-24
+    returns-25
+    returns-26
+    returns-27
+    returns-28
+    returns-29
+    returns-30
+    returns-31
+    returns-32
+    returns-33
+    returns-34
+    returns-35
+    returns-36
+    returns-37
+    returns-38
+    returns-39
+    same-length
+    same-length-2
+    returns-40
+    same-length-3
+    same-length-4
+    returns-41
+    same-length-5
+    same-length-6
+    returns-42
+    same-length-7
+    same-length-8
+    returns-43
+    same-length-9
+    same-length-10
+    returns-44
+    same-length-11
+    same-length-12
+    returns-45
+    same-length-13
+    same-length-14
+    returns-46
+    same-length-15
+    same-length-16
+    returns-47
+    same-length-17
+    same-length-18
+    returns-48
+    same-length-19
+    same-length-20
+    returns-49
+    same-length-21
+    same-length-22
+    returns-50
+    returns-51
+    same-length-23
+    same-length-24
+    returns-52
+    returns-53)

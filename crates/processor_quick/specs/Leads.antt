@@ -1,0 +1,34 @@
+-- A stretch of instructions (paper 01, "Instructions"): steps of running mode, each of which ended. The mode, the
+-- devices and PSW above its four flags stay, so that what they decide stays decided.
+use Prim.Native.Nat.{ℕ, suc, _/_, _≤_}
+use mathlib.Core.List.{List}
+use mathlib.Core.Path.{_≡_}
+use Rattle.bus.specs.Memory.{Memory}
+use Rattle.processor_machine.specs.State.{State, stateOf, steppedOf}
+use Rattle.processor_machine.specs.declared.Answer.the-variants.{Ended}
+use Rattle.processor_machine.specs.declared.Mode.the-variants.{Running}
+use Rattle.processor_step.specs.Step.{runningStepOf}
+use Rattle.processor_quick.specs.declared.Progress.{Progress}
+
+-- what stays
+pub record Stays (s₀ : State) (m₀ : Memory) (s : State) (m : Memory) : Type 0 where
+  pub mode : s .mode ≡ Running
+  pub high : s .psw / 16 ≡ s₀ .psw / 16
+  pub sys : s .sys ≡ s₀ .sys
+  pub devices : m .regs ≡ m₀ .regs
+
+-- n instructions lead from the first machine to the last
+pub data Leads (s₀ : State) (m₀ : Memory) : ℕ → State → Memory → Type 0 where
+  none : Leads s₀ m₀ 0 s₀ m₀
+  more : {n : ℕ} {s t : State} {m w : Memory} → Leads s₀ m₀ n s m → Stays s₀ m₀ s m → steppedOf Ended t w ≡ runningStepOf s m → Leads s₀ m₀ (suc n) t w
+
+-- what a stretch of a budget leaves
+pub record Stretched (budget : ℕ) (s₀ : State) (m₀ : Memory) (n : ℕ) (s : State) (m : Memory) : Type 0 where
+  pub within : n ≤ budget
+  pub leads : Leads s₀ m₀ n s m
+  pub stays : Stays s₀ m₀ s m
+
+-- the same put together from the lent registers and memories and what the code returns, for all system registers
+abbrev pub stretchedBy : ℕ → List ℕ → ℕ → ℕ → Memory → List ℕ → Progress → Memory → Type 0
+stretchedBy budget regs₀ pc psw m₀ regs r m =
+    (sys : List ℕ) → Stretched budget (stateOf regs₀ sys pc psw Running) m₀ (r .count) (stateOf regs sys (r .pc) (r .psw) Running) m

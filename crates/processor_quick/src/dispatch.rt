@@ -1,0 +1,87 @@
+// One instruction, by its opcode, where it is one of the common ones.
+use crate::Quick;
+use crate::arithmetic;
+use crate::branch;
+use crate::floating;
+use crate::transfer;
+use bus::Device;
+use processor_flags::Flags;
+ghost use lib.ListN.{length};
+ghost use mathlib.Core.Path.{_≡_};
+ghost use Prim.Native.Nat.{_<_};
+ghost use Rattle.bus.specs.Memory.{memoryOf, Lengths};
+ghost use Rattle.processor_quick.specs.Quick.{Dispatches};
+
+// f and s are the two halfwords of code at index x; the second counts only where the first asks for it.
+pub fn dispatch(
+    rom: &[u8],
+    wram: &mut [u8],
+    vram: &mut [u8],
+    pak: &[u8],
+    device: &Device,
+    regs: &mut [u32; 32],
+    base: u32,
+    f: u32,
+    s: u32,
+    x: u32,
+    flags: Flags,
+) -> Quick
+    requires { ⌜ Lengths (length (now rom)) (length (now wram)) (length (now vram)) (length (now pak)) × (f < 65536) × (s < 65536) ⌝ }
+    ensures { λ r. ⌜ Dispatches base f s r x flags (now (regs .entry)) (memoryOf (now (rom .entry)) (now (wram .entry)) (now (vram .entry)) (now (pak .entry)) (now (device .entry))) (now (regs .exit)) (memoryOf (now (rom .entry)) (now (wram .exit)) (now (vram .exit)) (now (pak .entry)) (now (device .entry))) ⌝ }
+{
+    match f / 1024 {
+        0 => arithmetic::mov(regs, f, x, flags),
+        1 => arithmetic::add(regs, f, x, flags),
+        2 => arithmetic::sub(regs, f, x, flags),
+        3 => arithmetic::cmp(regs, f, x, flags),
+        4 => arithmetic::shl(regs, f, x, flags),
+        5 => arithmetic::shr(regs, f, x, flags),
+        6 => branch::jmp(regs, base, f, x, flags),
+        7 => arithmetic::sar(regs, f, x, flags),
+        8 => arithmetic::mul(regs, f, x, flags),
+        9 => arithmetic::div(regs, f, x, flags),
+        10 => arithmetic::mulu(regs, f, x, flags),
+        11 => arithmetic::divu(regs, f, x, flags),
+        12 => arithmetic::or(regs, f, x, flags),
+        13 => arithmetic::and(regs, f, x, flags),
+        14 => arithmetic::xor(regs, f, x, flags),
+        15 => arithmetic::not(regs, f, x, flags),
+        16 => arithmetic::mov_immediate(regs, f, x, flags),
+        17 => arithmetic::add_immediate(regs, f, x, flags),
+        18 => arithmetic::setf(regs, f, x, flags),
+        19 => arithmetic::cmp_immediate(regs, f, x, flags),
+        20 => arithmetic::shl_immediate(regs, f, x, flags),
+        21 => arithmetic::shr_immediate(regs, f, x, flags),
+        23 => arithmetic::sar_immediate(regs, f, x, flags),
+        32 => branch::overflow_carry(f, x, flags),
+        33 => branch::zero_not_higher(f, x, flags),
+        34 => branch::negative_always(f, x, flags),
+        35 => branch::less(f, x, flags),
+        36 => branch::no_overflow_no_carry(f, x, flags),
+        37 => branch::not_zero_higher(f, x, flags),
+        38 => branch::positive_never(f, x, flags),
+        39 => branch::greater(f, x, flags),
+        40 => arithmetic::movea(regs, f, s, x, flags),
+        41 => arithmetic::addi(regs, f, s, x, flags),
+        42 => branch::jr(f, s, x, flags),
+        43 => branch::jal(regs, base, f, s, x, flags),
+        44 => arithmetic::ori(regs, f, s, x, flags),
+        45 => arithmetic::andi(regs, f, s, x, flags),
+        46 => arithmetic::xori(regs, f, s, x, flags),
+        47 => arithmetic::movhi(regs, f, s, x, flags),
+        48 => transfer::load_byte(rom, wram, vram, pak, device, regs, f, s, x, flags),
+        49 => transfer::load_half(rom, wram, vram, pak, device, regs, f, s, x, flags),
+        51 => transfer::load_word(rom, wram, vram, pak, device, regs, f, s, x, flags),
+        52 => transfer::store_byte(wram, vram, regs, f, s, x, flags),
+        53 => transfer::store_half(wram, vram, regs, f, s, x, flags),
+        55 => transfer::store_word(wram, vram, regs, f, s, x, flags),
+        56 => transfer::input_byte(rom, wram, vram, pak, device, regs, f, s, x, flags),
+        57 => transfer::input_half(rom, wram, vram, pak, device, regs, f, s, x, flags),
+        59 => transfer::load_word(rom, wram, vram, pak, device, regs, f, s, x, flags),
+        60 => transfer::store_byte(wram, vram, regs, f, s, x, flags),
+        61 => transfer::store_half(wram, vram, regs, f, s, x, flags),
+        62 => floating::extended(regs, f, s, x, flags),
+        63 => transfer::store_word(wram, vram, regs, f, s, x, flags),
+        _ => Quick::Other,
+    }
+}

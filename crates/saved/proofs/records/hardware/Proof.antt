@@ -1,0 +1,70 @@
+-- `saved::records::hardware` meets its contract. Assumes nothing.
+use native.Mathlib.Omega.{arith}
+use Prim.Native.Nat.{_+_, _-_}
+use mathlib.Core.Path.{_≡_, refl, sym, ap, _∙_}
+use lib.ListN.{length}
+use Rattle.saved_layout.specs.Layout.{placeOf, fileLengthOf}
+use Rattle.saved_layout.specs.File.{bodiesIn}
+use Rattle.saved_kinds.specs.Kinds.{hardwareFrom}
+use Rattle.saved_layout.specs.declared.Form.the-variants.{One, Two}
+use Rattle.saved_layout.proofs.Positions.{length-is}
+use Rattle.saved_layout.proofs.Written.{processor-part, drawing-part, hardware-part}
+use borrow.Author.Needs.{needs}
+use Rattle.saved.proofs.records.hardware.Statement.{statement}
+use Rattle.saved.proofs.records.hardware.Tie as tie
+
+enum-told : tie.Need-enum-told
+enum-told c = search needs
+
+enum-told-2 : tie.Need-enum-told-2
+enum-told-2 c = search needs
+
+first-requires : tie.Need-first-requires
+first-requires c κs = search needs
+
+add-last : tie.Need-add-last
+add-last c = search needs
+
+add-last-2 : tie.Need-add-last-2
+add-last-2 c = search needs
+
+add-end : tie.Need-add-end
+add-end c = search needs
+
+sub-hardware : tie.Need-sub-hardware
+sub-hardware c = search needs
+
+part-hardware-start : tie.Need-part-hardware-start
+part-hardware-start c = search needs
+
+part-hardware-end : tie.Need-part-hardware-end
+part-hardware-end c = let w : length ((c .before .before .before .before .args .file .now)) ≡ fileLengthOf Two ((c .before .before .before .before .args .pak)) = rw ((c .before .enum-told2 .given .1)) at ((c .before .before .before .before .pre .0)) in
+    omega (arith, w, length-is Two ((c .before .before .before .before .args .pak)))
+
+hardware-requires : tie.Need-hardware-requires
+hardware-requires c κs = search needs
+
+returns : tie.Need-returns
+unfolding bodiesIn hardwareFrom
+returns c = rw ((c .enum-told .given .1)) refl
+
+returns-2 : tie.Need-returns-2
+returns-2 c = rw ((c .before .before .before .enum-told2 .given .1))
+    ((c .hardware .ensures) ∙ ap hardwareFrom (hardware-part ((c .before .before .before .before .before .before .args .pak)) ((c .before .before .first .result)) ((c .before .before .before .before .before .before .args .file .now)) ((c .before .before .first .ensures .0)) (((c .before .before .first .result)) + 327878 + ((c .before .before .before .before .before .before .args .pak))) (((c .before .before .first .result)) + 327878 + ((c .before .before .before .before .before .before .args .pak)) + 8 - (((c .before .before .first .result)) + 327878 + ((c .before .before .before .before .before .before .args .pak)))) refl (omega arith)))
+
+pub hardware-spec : {M : Type 1} → statement M
+hardware-spec =
+    tie.close
+    (tie.spec
+    enum-told
+    enum-told-2
+    first-requires
+    add-last
+    add-last-2
+    add-end
+    sub-hardware
+    part-hardware-start
+    part-hardware-end
+    hardware-requires
+    returns
+    returns-2)

@@ -1,0 +1,7 @@
+-- `LittleEndian` has the laws of halfwords and words in bytes, `Filling` those of the loops over them, `Reading` that they are read
+-- back, `Putting` the laws of parts put over a room, and `Summing` those of the loops over bytes.
+pub mod LittleEndian
+pub mod Filling
+pub mod Reading
+pub mod Putting
+pub mod Summing

@@ -1,0 +1,46 @@
+// Where the bodies of a file start, and how long it is.
+use crate::Form;
+ghost use mathlib.Core.Path.{_≡_};
+ghost use Prim.Native.Nat.{_≤_};
+ghost use Rattle.saved_layout.specs.Layout.{otherOf, placeOf, fileLengthOf};
+
+// The form that a file is moved to.
+pub fn other(form: Form) -> Form
+    ensures { λ r. ⌜ r ≡ otherOf form ⌝ }
+{
+    match form {
+        Form::One => Form::Two,
+        Form::Two => Form::One,
+    }
+}
+
+// Where the first body starts.
+pub fn first(form: Form, pak: usize) -> usize
+    ensures { λ r. ⌜ (r ≡ placeOf form pak 0) × (r ≤ 90) ⌝ }
+{
+    match form {
+        Form::One => {
+            if pak == 0 {
+                return 42;
+            }
+            52
+        }
+        Form::Two => {
+            if pak == 0 {
+                return 76;
+            }
+            90
+        }
+    }
+}
+
+// The length of a file.
+pub fn file_length(form: Form, pak: usize) -> usize
+    requires { ⌜ pak ≤ 16777216 ⌝ }
+    ensures { λ r. ⌜ r ≡ fileLengthOf form pak ⌝ }
+{
+    match form {
+        Form::One => first(Form::One, pak) + 327878 + pak,
+        Form::Two => first(Form::Two, pak) + 327886 + pak,
+    }
+}

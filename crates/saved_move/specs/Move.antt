@@ -1,0 +1,49 @@
+-- What a move answers and leaves (paper 02, W12): "A move takes its file's form as reading does and writes what the other form's writer
+-- makes for the state held." It "refuses by 9 when its file's length fits no pak RAM size in that form or its room isn't the length due,
+-- then by 10", and by 16 where lines and timer are not at reset and the other form is 1. A refusal changes nothing.
+use Prim.Native.Nat.{ℕ}
+use mathlib.Core.Bool.{Bool, true}
+use mathlib.Core.List.{List}
+use lib.Dec.{eqb}
+use lib.ListN.{length}
+use Rattle.refusal.specs.Number.{unless}
+use Rattle.refusal.specs.declared.Verdict.{Verdict}
+use Rattle.refusal.specs.declared.Verdict.the-variants.{Accepted}
+use Rattle.refusal.specs.declared.Refusal.the-variants.{FileLength, FileBytes, NotAtReset}
+use Rattle.processor.specs.Acceptance.{both}
+use Rattle.saved_bytes.specs.Numbers.{sameOf}
+use Rattle.saved_layout.specs.Layout.{otherOf, fileLengthOf}
+use Rattle.saved_layout.specs.File.{Bodies, fileOf, bodiesIn, hardwareReset}
+use Rattle.saved_layout.specs.declared.Form.{Form}
+use Rattle.saved_layout.specs.declared.Form.the-variants.{One, Two}
+use Rattle.saved_kinds.specs.Fits.{formOf, pakLengthOf, fitsOk}
+use Rattle.saved_kinds.specs.Kinds.{fileOk}
+use Rattle.saved_kinds.specs.Room.{whenAccepted}
+
+-- the pak RAM's length and the bodies of a file, whose form and length tell them
+unfoldable pub pakIn : List ℕ → ℕ
+pakIn file = pakLengthOf (formOf file) (length file)
+
+unfoldable pub heldIn : List ℕ → Bodies
+heldIn file = bodiesIn (formOf file) (pakIn file) file
+
+-- 9: the file's length fits, and the room has the length of the other form
+unfoldable pub lengthsOk : List ℕ → List ℕ → Bool
+lengthsOk file room =
+    both (fitsOk (formOf file) (length file)) (eqb (length room) (fileLengthOf (otherOf (formOf file)) (pakIn file)))
+
+-- 16: form 2 holds any lines and timer, form 1 only those at reset
+abbrev pub holdsOk : Form → List ℕ → Bool
+holdsOk One hardware = sameOf hardware hardwareReset
+holdsOk Two hardware = true
+
+-- 9, 10, 16
+unfoldable pub moveVerdictOf : List ℕ → List ℕ → Verdict
+moveVerdictOf file room =
+    unless (lengthsOk file room) FileLength
+    (unless (fileOk (formOf file) (pakIn file) file) FileBytes
+    (unless (holdsOk (otherOf (formOf file)) (heldIn file .hardware)) NotAtReset Accepted))
+
+-- the room afterwards
+unfoldable pub movedOf : List ℕ → List ℕ → List ℕ
+movedOf file room = whenAccepted (moveVerdictOf file room) room (fileOf (otherOf (formOf file)) (heldIn file))

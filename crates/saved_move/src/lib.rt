@@ -1,0 +1,86 @@
+// A saved state moved from one form into the other.
+use refusal::Refusal;
+use refusal::Verdict;
+use saved_bytes::parts;
+use saved_kinds::bodies;
+use saved_kinds::lengths;
+use saved_layout::Form;
+use saved_layout::contents;
+use saved_layout::places;
+ghost use mathlib.Core.Path.{_≡_};
+ghost use Prim.Native.Nat.{_≤_};
+ghost use lib.ListN.{length};
+ghost use Rattle.saved_bytes.specs.Numbers.{sameOf};
+ghost use Rattle.saved_layout.specs.Layout.{fileLengthOf};
+ghost use Rattle.saved_layout.specs.File.{fileOf, bodiesIn, hardwareReset};
+ghost use Rattle.saved_layout.specs.declared.Form.the-variants.{One, Two};
+ghost use Rattle.saved_move.specs.Move.{moveVerdictOf, movedOf};
+
+// Whether the lines and the timer of a file in form 2 are at reset.
+fn at_reset(file: &[u8], pak: usize) -> bool
+    requires { ⌜ (length (now file) ≡ fileLengthOf Two pak) × (pak ≤ 16777216) ⌝ }
+    ensures { λ r. ⌜ r ≡ sameOf (bodiesIn Two pak (now (file .entry)) .hardware) hardwareReset ⌝ }
+{
+    let last = places::first(Form::Two, pak) + 327878 + pak;
+    let end = last + 8;
+    let zeros = [0u8; 8];
+    parts::same(&file[last..end], &zeros)
+}
+
+// A file in form 1 into a room of form 2: lines and timer are at reset.
+fn to_two(file: &[u8], room: &mut [u8], pak: usize)
+    requires { ⌜ (length (now file) ≡ fileLengthOf One pak) × (pak ≤ 16777216) ⌝ }
+    requires { ⌜ length (now room) ≡ fileLengthOf Two pak ⌝ }
+    ensures { λ _. ⌜ now (room .exit) ≡ fileOf Two (bodiesIn One pak (now (file .entry))) ⌝ }
+{
+    let from = places::first(Form::One, pak);
+    let end = from + 327878 + pak;
+    let at = places::first(Form::Two, pak);
+    parts::put_bytes(room, at, &file[from..end]);
+    parts::put_zeros(room, at + 327878 + pak, 8);
+    contents::put(Form::Two, room, pak);
+}
+
+// A file in form 2 into a room of form 1.
+fn to_one(file: &[u8], room: &mut [u8], pak: usize)
+    requires { ⌜ (length (now file) ≡ fileLengthOf Two pak) × (pak ≤ 16777216) ⌝ }
+    requires { ⌜ length (now room) ≡ fileLengthOf One pak ⌝ }
+    ensures { λ _. ⌜ now (room .exit) ≡ fileOf One (bodiesIn Two pak (now (file .entry))) ⌝ }
+{
+    let from = places::first(Form::Two, pak);
+    let end = from + 327878 + pak;
+    let at = places::first(Form::One, pak);
+    parts::put_bytes(room, at, &file[from..end]);
+    contents::put(Form::One, room, pak);
+}
+
+// The state that a file holds, into a room in the other form. The whole file is tested before a byte is stored.
+pub fn move_state(file: &[u8], room: &mut [u8]) -> Verdict
+    ensures verdict { λ v. ⌜ v ≡ moveVerdictOf (now (file .entry)) (now (room .entry)) ⌝ }
+    ensures room { λ _. ⌜ now (room .exit) ≡ movedOf (now (file .entry)) (now (room .entry)) ⌝ }
+{
+    let form = lengths::form_of(file);
+    if !lengths::fits(form, file.len()) {
+        return Verdict::Refused(Refusal::FileLength);
+    }
+    let pak = lengths::pak_length(form, file.len());
+    if room.len() != places::file_length(places::other(form), pak) {
+        return Verdict::Refused(Refusal::FileLength);
+    }
+    if !bodies::file_ok(form, file, pak) {
+        return Verdict::Refused(Refusal::FileBytes);
+    }
+    match form {
+        Form::One => {
+            to_two(file, room, pak);
+            Verdict::Accepted
+        }
+        Form::Two => {
+            if !at_reset(file, pak) {
+                return Verdict::Refused(Refusal::NotAtReset);
+            }
+            to_one(file, room, pak);
+            Verdict::Accepted
+        }
+    }
+}

@@ -1,0 +1,337 @@
+-- `salvaged-right`, `undamaged-equal`, `salvage-again` and `kept-exactly`. Assumes nothing.
+use Prim.Native.Nat.{ℕ, zero, suc, _+_, _*_, _/_, _%_, _^_, _<_, _≤_}
+use native.Mathlib.Omega.{arith}
+use mathlib.Core.Bool.{Bool, true, false}
+use mathlib.Core.List.{List, [], _∷_, _++_}
+use mathlib.Core.Path.{_≡_, refl, sym, ap, _∙_}
+use borrow.Author.Tests.{eqb-true, eq-eqb, ne-eqb}
+use lib.Dec.{eqb, eqb·suc-zero}
+use lib.ListN.{length, getD, take, drop, replicate}
+use Rattle.word.specs.Choose.{pick, member}
+use Rattle.word.specs.LittleEndian.{halfAt, wordAt}
+use Rattle.refusal.specs.Number.{unless}
+use Rattle.refusal.specs.declared.Refusal as refusal
+use Rattle.refusal.specs.declared.Verdict.{Verdict}
+use Rattle.refusal.specs.declared.Verdict.the-variants.{Accepted, Refused}
+use Rattle.refusal.specs.declared.Refusal.the-variants.{FileLength, NoLayout}
+use Rattle.bus.specs.Refusal.{pakOk}
+use Rattle.bus.specs.Registers.{drawingOk}
+use Rattle.processor_machine.specs.System.{pswBitsOf}
+use Rattle.processor.specs.Acceptance.{both, evenOk, formatsOk, stateOk}
+use Rattle.saved_bytes.specs.Numbers.{bytesOf, halvesOf, halvesFrom, wordsFrom, sameOf}
+use Rattle.saved_bytes.specs.Parts.{sumOf}
+use Rattle.saved_bytes.proofs.Reading.{same-self}
+use Rattle.saved_layout.specs.Layout.{contentsOf, fileLengthOf}
+use Rattle.saved_layout.specs.File.{Bodies, sumsOf, joinedOf, fileOf, bodiesIn, contentsOk, Sized, HeldBy}
+use Rattle.saved_layout.specs.declared.Form.the-variants.{Two}
+use Rattle.saved_layout.proofs.Positions.{two-empty, two-some}
+use Rattle.saved_layout.proofs.Files.{sums-small, file-length, file-held, contents-back, file-again, length-pak-in, sized-in}
+use Rattle.saved_kinds.specs.Fits.{pakLengthOf, fitsOk}
+use Rattle.saved_kinds.specs.Kinds.{generalFrom, restFrom, wordsOk, processorBodyOk, drawingFrom, drawingBodyOk, hardwareFrom, hardwareBodyOk, bodiesOk, fileOk}
+use Rattle.saved_kinds.specs.Room.{whenAccepted}
+use Rattle.saved_kinds.proofs.Sizes.{pak-small, fits-exactly}
+use Rattle.saved_kinds.proofs.Tests.{reset-ok}
+use Rattle.saved_salvage.specs.declared.Kept.{Kept}
+use Rattle.saved_salvage.specs.Keep.{keepsOf, lastSumPlace, keptFrom, keptIn, resetWords, processorReset, orZeros, keptBodiesOf}
+use Rattle.saved_salvage.specs.Told.{withKind, replacedOf, listedOf}
+use Rattle.saved_salvage.specs.Differ.{partDiffers, entryDiffers, entriesDiffer, entriesKept, contentsDiffer}
+use Rattle.saved_salvage.specs.Salvage.{outputOf, pakIn, toldOf, toldWhen, salvageVerdictOf, salvageOf, salvagedRoomOf}
+use Rattle.saved_salvage.specs.Right.{Right, SalvagedRight, Unchanged, UndamagedEqual, SalvageAgain, listsOf, KeptExactly, KeptExactlyAll}
+use Rattle.saved_salvage.proofs.Replacing.{kept-sized, kept-pak}
+use Rattle.saved_salvage.proofs.Salvaging.{by-verdict, verdict-accepted}
+
+pub both-true : (a b : Bool) → both a b ≡ true → (a ≡ true) × (b ≡ true)
+both-true true b e = (refl, e)
+both-true false b e =
+    let z : _≡_ {A = ℕ} 0 1 = cc in
+    absurd (omega arith)
+
+-- reset values can be made
+processor-reset : processorBodyOk processorReset ≡ true
+unfolding processorBodyOk processorReset wordsOk generalFrom restFrom wordsFrom bytesOf halvesOf stateOk evenOk formatsOk pswBitsOf
+processor-reset = refl
+
+drawing-reset : drawingBodyOk (replicate 26 0) ≡ true
+unfolding drawingBodyOk drawingFrom halvesFrom drawingOk
+drawing-reset = refl
+
+-- a body that is kept can be made, and so can reset's
+processor-made : (k : Bool) (body : List ℕ) → (k ≡ true → processorBodyOk body ≡ true) → processorBodyOk (pick k body processorReset) ≡ true
+processor-made true body e = e refl
+processor-made false body e = processor-reset
+
+drawing-made : (k : Bool) (body : List ℕ) → length body ≡ 26 → (k ≡ true → drawingBodyOk body ≡ true) → drawingBodyOk (orZeros k body) ≡ true
+drawing-made true body l e = e refl
+drawing-made false body l e = rw l drawing-reset
+
+hardware-made : (k : Bool) (body : List ℕ) → length body ≡ 8 → (k ≡ true → hardwareBodyOk body ≡ true) → hardwareBodyOk (orZeros k body) ≡ true
+hardware-made true body l e = e refl
+hardware-made false body l e = rw l reset-ok
+
+module _ (pak : ℕ) (file : List ℕ) (b : Bodies) (s : Sized b) where
+  kept-processor : keptFrom pak file b .processor ≡ true → processorBodyOk (b .processor) ≡ true
+  unfolding keptFrom
+  kept-processor e = both-true (eqb (wordAt file 16) (sumOf (b .processor))) (processorBodyOk (b .processor)) e .1
+
+  kept-drawing : keptFrom pak file b .drawing ≡ true → drawingBodyOk (b .drawing) ≡ true
+  unfolding keptFrom
+  kept-drawing e = both-true (eqb (wordAt file 30) (sumOf (b .drawing))) (drawingBodyOk (b .drawing)) e .1
+
+  kept-hardware : keptFrom pak file b .hardware ≡ true → hardwareBodyOk (b .hardware) ≡ true
+  unfolding keptFrom
+  kept-hardware e = both-true (eqb (wordAt file (lastSumPlace pak)) (sumOf (b .hardware))) (hardwareBodyOk (b .hardware)) e .1
+
+  output-made : bodiesOk (keptBodiesOf (keptFrom pak file b) b) ≡ true
+  unfolding bodiesOk keptBodiesOf
+  output-made =
+      let p = processor-made (keptFrom pak file b .processor) (b .processor) kept-processor in
+      let d = drawing-made (keptFrom pak file b .drawing) (b .drawing) (s .drawing) kept-drawing in
+      let h = hardware-made (keptFrom pak file b .hardware) (b .hardware) (s .hardware) kept-hardware in
+      rw (p, d, h)
+
+-- what an accepted verdict says
+passed : (t : Bool) (n : refusal.Refusal) (v : Verdict) → unless t n v ≡ Accepted → (t ≡ true) × (v ≡ Accepted)
+passed true n v e = (refl, e)
+passed false n v e =
+    let z : _≡_ {A = ℕ} 0 1 = cc in
+    absurd (omega arith)
+
+module _ (file room : List ℕ) (e : salvageVerdictOf file room ≡ Accepted) where
+  pub all-passed : (length room ≡ length file) × (fitsOk Two (length file) ≡ true)
+  unfolding salvageVerdictOf
+  all-passed =
+      let a = passed (eqb (length room) (length file)) FileLength _ e in
+      let b = passed (fitsOk Two (length file)) NoLayout Accepted (a .1) in
+      (eqb-true (length room) (length file) (a .0), b .0)
+
+  pub fit : (pakOk (pakIn file) ≡ true) × (fileLengthOf Two (pakIn file) ≡ length file)
+  fit = fits-exactly Two (length file) .fits (all-passed .1)
+
+  pub whole : length file ≡ fileLengthOf Two (pakIn file)
+  whole = sym (fit .1)
+
+  pub left : outputOf (pakIn file) file ≡ salvagedRoomOf file room
+  left = by-verdict file room Accepted e .1
+
+  pub sized : Sized (keptBodiesOf (keptIn (pakIn file) file) (bodiesIn Two (pakIn file) file))
+  sized = kept-sized (keptIn (pakIn file) file) (bodiesIn Two (pakIn file) file) (sized-in (pakIn file) file Two whole)
+
+  pub size : length (keptBodiesOf (keptIn (pakIn file) file) (bodiesIn Two (pakIn file) file) .pak) ≡ pakIn file
+  size =
+      kept-pak (keptIn (pakIn file) file) (bodiesIn Two (pakIn file) file) (sized-in (pakIn file) file Two whole)
+      ∙ length-pak-in (pakIn file) file Two whole
+
+  made : bodiesOk (keptBodiesOf (keptIn (pakIn file) file) (bodiesIn Two (pakIn file) file)) ≡ true
+  unfolding keptIn
+  made = output-made (pakIn file) file (bodiesIn Two (pakIn file) file) (sized-in (pakIn file) file Two whole)
+
+  pub output-is : salvagedRoomOf file room ≡ fileOf Two (keptBodiesOf (keptIn (pakIn file) file) (bodiesIn Two (pakIn file) file))
+  unfolding outputOf
+  output-is = sym left
+
+-- a file that was written from bodies that can be made
+module _ (b : Bodies) (s : Sized b) (legal : pakOk (length (b .pak)) ≡ true) (ok : bodiesOk b ≡ true) where
+  written-ok : fileOk Two (length (b .pak)) (fileOf Two b) ≡ true
+  unfolding fileOk
+  written-ok = rw (contents-back b s Two (pak-small (length (b .pak)) legal), file-held b s Two tt) ok
+
+pub salvaged-right : SalvagedRight
+salvaged-right file room e =
+    let legal = fit file room e .0 in
+    record {
+      whole = ap length (output-is file room e) ∙ (file-length _ (sized file room e) Two ∙ (ap (fileLengthOf Two) (size file room e) ∙ fit file room e .1));
+      right =
+          rw (output-is file room e)
+          (rw (size file room e) at (written-ok (keptBodiesOf (keptIn (pakIn file) file) (bodiesIn Two (pakIn file) file)) (sized file room e) (rw (size file room e) legal) (made file room e)));
+    }
+
+-- the sums stand in the contents at their places
+word-joined : (w : ℕ) → w < 2 ^ 32
+    → w % 65536 % 256 + 256 * (w % 65536 / 256 % 256) + 65536 * (w / 65536 % 256 + 256 * (w / 65536 / 256 % 256)) ≡ w
+word-joined w l = omega arith
+
+module _ (s rest : List ℕ) (small : (k : ℕ) → getD s k 0 < 2 ^ 32) where
+  stored-empty : (wordAt (bytesOf (contentsOf Two 0 s) ++ rest) 16 ≡ getD s 0 0)
+      × ((wordAt (bytesOf (contentsOf Two 0 s) ++ rest) 30 ≡ getD s 1 0)
+      × ((wordAt (bytesOf (contentsOf Two 0 s) ++ rest) 44 ≡ getD s 2 0)
+      × ((wordAt (bytesOf (contentsOf Two 0 s) ++ rest) 58 ≡ getD s 3 0) × (wordAt (bytesOf (contentsOf Two 0 s) ++ rest) 72 ≡ getD s 5 0))))
+  unfolding bytesOf
+  stored-empty =
+      rw (← two-empty s)
+      (word-joined (getD s 0 0) (small 0), (word-joined (getD s 1 0) (small 1), (word-joined (getD s 2 0) (small 2), (word-joined (getD s 3 0) (small 3), word-joined (getD s 5 0) (small 5)))))
+
+  stored-some : (p : ℕ) → 0 < p
+      → (wordAt (bytesOf (contentsOf Two p s) ++ rest) 16 ≡ getD s 0 0)
+      × ((wordAt (bytesOf (contentsOf Two p s) ++ rest) 30 ≡ getD s 1 0)
+      × ((wordAt (bytesOf (contentsOf Two p s) ++ rest) 44 ≡ getD s 2 0)
+      × ((wordAt (bytesOf (contentsOf Two p s) ++ rest) 58 ≡ getD s 3 0)
+      × ((wordAt (bytesOf (contentsOf Two p s) ++ rest) 72 ≡ getD s 4 0) × (wordAt (bytesOf (contentsOf Two p s) ++ rest) 86 ≡ getD s 5 0)))))
+  unfolding bytesOf
+  stored-some p some =
+      rw (← two-some p some s)
+      (word-joined (getD s 0 0) (small 0), (word-joined (getD s 1 0) (small 1), (word-joined (getD s 2 0) (small 2), (word-joined (getD s 3 0) (small 3), (word-joined (getD s 4 0) (small 4), word-joined (getD s 5 0) (small 5))))))
+
+allKept : Kept
+allKept = record { processor = true; drawing = true; wram = true; vram = true; pak = true; hardware = true }
+
+keeps-made : (word : ℕ) (body : List ℕ) (made : Bool) → word ≡ sumOf body → made ≡ true → keepsOf word body made ≡ true
+keeps-made word body made e f = simp (eq-eqb word (sumOf body) e) f
+
+kept-same : {a1 a2 b1 b2 c1 c2 d1 d2 e1 e2 f1 f2 : Bool} → a1 ≡ a2 → b1 ≡ b2 → c1 ≡ c2 → d1 ≡ d2 → e1 ≡ e2 → f1 ≡ f2
+    → _≡_ {A = Kept} (record { processor = a1; drawing = b1; wram = c1; vram = d1; pak = e1; hardware = f1 }) (record { processor = a2; drawing = b2; wram = c2; vram = d2; pak = e2; hardware = f2 })
+kept-same p q r s t u = rw (p, q, r, s, t, u)
+
+opened : (b : Bodies) → fileOf Two b ≡ bytesOf (contentsOf Two (length (b .pak)) (sumsOf b)) ++ joinedOf Two b
+unfolding fileOf
+opened b = refl
+
+replaced-none : replacedOf allKept ≡ []
+unfolding replacedOf allKept
+replaced-none = refl
+
+parts : (p : ℕ) (file : List ℕ) → fileOk Two p file ≡ true → (contentsOk Two p file ≡ true) × (bodiesOk (bodiesIn Two p file) ≡ true)
+unfolding fileOk
+parts p file e = both-true (contentsOk Two p file) (bodiesOk (bodiesIn Two p file)) e
+
+-- a part is the same as itself
+part-self : (at size : ℕ) (xs : List ℕ) → partDiffers at size xs xs ≡ false
+unfolding partDiffers
+part-self at size xs = rw (same-self (take size (drop at xs)))
+
+entry-self : (at : ℕ) (kept : Bool) (xs : List ℕ) → entryDiffers at kept xs xs ≡ false
+unfolding entryDiffers
+entry-self at true xs = part-self at 14 xs
+entry-self at false xs = part-self at 10 xs
+
+entries-self : (flags : List Bool) (at : ℕ) (xs : List ℕ) → entriesDiffer at flags xs xs ≡ false
+entries-self [] at xs = refl
+entries-self (kept ∷ flags) at xs = rw (entry-self at kept xs) (entries-self flags (at + 14) xs)
+
+contents-self : (p : ℕ) (k : Kept) (xs : List ℕ) → contentsDiffer p k xs xs ≡ false
+unfolding contentsDiffer
+contents-self p k xs = rw (part-self 0 6 xs) (entries-self (entriesKept p k) 6 xs)
+
+-- a file that was written from bodies that can be made comes out equal
+module _ (b : Bodies) (s : Sized b) (legal : pakOk (length (b .pak)) ≡ true) (ok : bodiesOk b ≡ true) where
+  oks : ((processorBodyOk (b .processor) ≡ true) × (drawingBodyOk (b .drawing) ≡ true)) × (hardwareBodyOk (b .hardware) ≡ true)
+  unfolding bodiesOk
+  oks =
+      let a = both-true (both (processorBodyOk (b .processor)) (drawingBodyOk (b .drawing))) (hardwareBodyOk (b .hardware)) ok in
+      (both-true (processorBodyOk (b .processor)) (drawingBodyOk (b .drawing)) (a .0), a .1)
+
+  kept-front : (p : ℕ) → keptFrom p (bytesOf (contentsOf Two p (sumsOf b)) ++ joinedOf Two b) b ≡ allKept
+  unfolding keptFrom sumsOf allKept
+  kept-front zero =
+      let t = stored-empty (sumsOf b) (joinedOf Two b) (sums-small b) in
+      kept-same (keeps-made (wordAt (bytesOf (contentsOf Two 0 (sumsOf b)) ++ joinedOf Two b) 16) (b .processor) _ (t .0) (oks .0 .0))
+      (keeps-made (wordAt (bytesOf (contentsOf Two 0 (sumsOf b)) ++ joinedOf Two b) 30) (b .drawing) _ (t .1 .0) (oks .0 .1))
+      (keeps-made (wordAt (bytesOf (contentsOf Two 0 (sumsOf b)) ++ joinedOf Two b) 44) (b .wram) true (t .1 .1 .0) refl)
+      (keeps-made (wordAt (bytesOf (contentsOf Two 0 (sumsOf b)) ++ joinedOf Two b) 58) (b .vram) true (t .1 .1 .1 .0) refl)
+      refl
+      (keeps-made (wordAt (bytesOf (contentsOf Two 0 (sumsOf b)) ++ joinedOf Two b) 72) (b .hardware) _ (t .1 .1 .1 .1) (oks .1))
+  kept-front (suc p) =
+      let t = stored-some (sumsOf b) (joinedOf Two b) (sums-small b) (suc p) (omega arith) in
+      kept-same (keeps-made (wordAt (bytesOf (contentsOf Two (suc p) (sumsOf b)) ++ joinedOf Two b) 16) (b .processor) _ (t .0) (oks .0 .0))
+      (keeps-made (wordAt (bytesOf (contentsOf Two (suc p) (sumsOf b)) ++ joinedOf Two b) 30) (b .drawing) _ (t .1 .0) (oks .0 .1))
+      (keeps-made (wordAt (bytesOf (contentsOf Two (suc p) (sumsOf b)) ++ joinedOf Two b) 44) (b .wram) true (t .1 .1 .0) refl)
+      (keeps-made (wordAt (bytesOf (contentsOf Two (suc p) (sumsOf b)) ++ joinedOf Two b) 58) (b .vram) true (t .1 .1 .1 .0) refl)
+      (simp (eqb·suc-zero p) (keeps-made (wordAt (bytesOf (contentsOf Two (suc p) (sumsOf b)) ++ joinedOf Two b) 72) (b .pak) true (t .1 .1 .1 .1 .0) refl))
+      (simp (eqb·suc-zero p) (keeps-made (wordAt (bytesOf (contentsOf Two (suc p) (sumsOf b)) ++ joinedOf Two b) 86) (b .hardware) _ (t .1 .1 .1 .1 .1) (oks .1)))
+
+  kept-all : keptIn (length (b .pak)) (fileOf Two b) ≡ allKept
+  unfolding keptIn
+  kept-all = rw (file-held b s Two tt) (ap (λ (xs : List ℕ). keptFrom (length (b .pak)) xs b) (opened b) ∙ kept-front (length (b .pak)))
+
+  output-same : outputOf (length (b .pak)) (fileOf Two b) ≡ fileOf Two b
+  unfolding outputOf keptBodiesOf allKept
+  output-same = rw (kept-all, file-held b s Two tt)
+
+  told-pak : (fitsOk Two (length (fileOf Two b)) ≡ true) × (pakIn (fileOf Two b) ≡ length (b .pak))
+  told-pak = fits-exactly Two (length (fileOf Two b)) .only (length (b .pak)) legal (sym (file-length b s Two))
+
+  pub unchanged : (room : List ℕ) → length room ≡ length (fileOf Two b) → Unchanged (fileOf Two b) room
+  unchanged room l =
+      let v = by-verdict (fileOf Two b) room Accepted (verdict-accepted (fileOf Two b) room l (told-pak .0)) in
+      record {
+        same = sym (v .1) ∙ rw (told-pak .1) output-same;
+        told = sym (v .0) ∙ rw (told-pak .1, kept-all, output-same, contents-self (length (b .pak)) allKept (fileOf Two b)) none;
+      }
+    where
+      none : toldOf Accepted (listedOf (replacedOf allKept)) false ≡ toldOf Accepted (listedOf []) false
+      none = ap (λ (xs : List ℕ). toldOf Accepted (listedOf xs) false) replaced-none
+
+pub undamaged-equal : UndamagedEqual
+undamaged-equal file room bytes e ok =
+    let w = whole file room e in
+    let t = parts (pakIn file) file ok in
+    let f : fileOf Two (bodiesIn Two (pakIn file) file) ≡ file = file-again (pakIn file) file Two w bytes (t .0) in
+    let l = length-pak-in (pakIn file) file Two w in
+    rw f at (unchanged (bodiesIn Two (pakIn file) file) (sized-in (pakIn file) file Two w) (rw l (fit file room e .0)) (t .1) room (rw f (all-passed file room e .0)))
+
+pub salvage-again : SalvageAgain
+salvage-again file room again e l =
+    rw (output-is file room e)
+    (unchanged (keptBodiesOf (keptIn (pakIn file) file) (bodiesIn Two (pakIn file) file)) (sized file room e) (rw (size file room e) (fit file room e .0)) (made file room e) again
+    (l ∙ (sym (salvaged-right file room e .whole) ∙ ap length (output-is file room e))))
+
+-- which kinds are listed
+member-more : (n kind : ℕ) (xs : List ℕ) → eqb n kind ≡ false → member n (xs ++ (kind ∷ [])) ≡ member n xs
+member-more n kind [] e = rw e
+member-more n kind (x ∷ xs) e = ap (pick (eqb n x) true) (member-more n kind xs e)
+
+member-last : (n : ℕ) (xs : List ℕ) → member n xs ≡ false → member n (xs ++ (n ∷ [])) ≡ true
+member-last n [] e = rw (eq-eqb n n refl)
+member-last n (x ∷ xs) e = step (member-last n xs) (eqb n x) refl
+  where
+    step : (member n xs ≡ false → member n (xs ++ (n ∷ [])) ≡ true) → (t : Bool) → eqb n x ≡ t
+        → pick (eqb n x) true (member n (xs ++ (n ∷ []))) ≡ true
+    step tail true f = rw f
+    step tail false f = rw f (tail (rw f at e))
+
+skip : (n : ℕ) (xs : List ℕ) (kind : ℕ) (kept : Bool) → eqb n kind ≡ false → member n (withKind xs kind kept) ≡ member n xs
+skip n xs kind true e = refl
+skip n xs kind false e = member-more n kind xs e
+
+hit : (n : ℕ) (xs : List ℕ) (kept : Bool) → member n xs ≡ false → member n (withKind xs n kept) ≡ pick kept false true
+hit n xs true e = e
+hit n xs false e = member-last n xs e
+
+module _ (k : Kept) where
+  lists-1 : listsOf k 1 (k .processor)
+  unfolding replacedOf
+  lists-1 = skip 1 (withKind (withKind (withKind (withKind (withKind [] 1 (k .processor)) 2 (k .drawing)) 3 (k .wram)) 4 (k .vram)) 5 (k .pak)) 6 (k .hardware) refl ∙ (skip 1 (withKind (withKind (withKind (withKind [] 1 (k .processor)) 2 (k .drawing)) 3 (k .wram)) 4 (k .vram)) 5 (k .pak) refl ∙ (skip 1 (withKind (withKind (withKind [] 1 (k .processor)) 2 (k .drawing)) 3 (k .wram)) 4 (k .vram) refl ∙ (skip 1 (withKind (withKind [] 1 (k .processor)) 2 (k .drawing)) 3 (k .wram) refl ∙ (skip 1 (withKind [] 1 (k .processor)) 2 (k .drawing) refl ∙ (hit 1 [] (k .processor) refl)))))
+
+  lists-2 : listsOf k 2 (k .drawing)
+  unfolding replacedOf
+  lists-2 = skip 2 (withKind (withKind (withKind (withKind (withKind [] 1 (k .processor)) 2 (k .drawing)) 3 (k .wram)) 4 (k .vram)) 5 (k .pak)) 6 (k .hardware) refl ∙ (skip 2 (withKind (withKind (withKind (withKind [] 1 (k .processor)) 2 (k .drawing)) 3 (k .wram)) 4 (k .vram)) 5 (k .pak) refl ∙ (skip 2 (withKind (withKind (withKind [] 1 (k .processor)) 2 (k .drawing)) 3 (k .wram)) 4 (k .vram) refl ∙ (skip 2 (withKind (withKind [] 1 (k .processor)) 2 (k .drawing)) 3 (k .wram) refl ∙ (hit 2 (withKind [] 1 (k .processor)) (k .drawing) (skip 2 [] 1 (k .processor) refl ∙ refl)))))
+
+  lists-3 : listsOf k 3 (k .wram)
+  unfolding replacedOf
+  lists-3 = skip 3 (withKind (withKind (withKind (withKind (withKind [] 1 (k .processor)) 2 (k .drawing)) 3 (k .wram)) 4 (k .vram)) 5 (k .pak)) 6 (k .hardware) refl ∙ (skip 3 (withKind (withKind (withKind (withKind [] 1 (k .processor)) 2 (k .drawing)) 3 (k .wram)) 4 (k .vram)) 5 (k .pak) refl ∙ (skip 3 (withKind (withKind (withKind [] 1 (k .processor)) 2 (k .drawing)) 3 (k .wram)) 4 (k .vram) refl ∙ (hit 3 (withKind (withKind [] 1 (k .processor)) 2 (k .drawing)) (k .wram) (skip 3 (withKind [] 1 (k .processor)) 2 (k .drawing) refl ∙ (skip 3 [] 1 (k .processor) refl ∙ refl)))))
+
+  lists-4 : listsOf k 4 (k .vram)
+  unfolding replacedOf
+  lists-4 = skip 4 (withKind (withKind (withKind (withKind (withKind [] 1 (k .processor)) 2 (k .drawing)) 3 (k .wram)) 4 (k .vram)) 5 (k .pak)) 6 (k .hardware) refl ∙ (skip 4 (withKind (withKind (withKind (withKind [] 1 (k .processor)) 2 (k .drawing)) 3 (k .wram)) 4 (k .vram)) 5 (k .pak) refl ∙ (hit 4 (withKind (withKind (withKind [] 1 (k .processor)) 2 (k .drawing)) 3 (k .wram)) (k .vram) (skip 4 (withKind (withKind [] 1 (k .processor)) 2 (k .drawing)) 3 (k .wram) refl ∙ (skip 4 (withKind [] 1 (k .processor)) 2 (k .drawing) refl ∙ (skip 4 [] 1 (k .processor) refl ∙ refl)))))
+
+  lists-5 : listsOf k 5 (k .pak)
+  unfolding replacedOf
+  lists-5 = skip 5 (withKind (withKind (withKind (withKind (withKind [] 1 (k .processor)) 2 (k .drawing)) 3 (k .wram)) 4 (k .vram)) 5 (k .pak)) 6 (k .hardware) refl ∙ (hit 5 (withKind (withKind (withKind (withKind [] 1 (k .processor)) 2 (k .drawing)) 3 (k .wram)) 4 (k .vram)) (k .pak) (skip 5 (withKind (withKind (withKind [] 1 (k .processor)) 2 (k .drawing)) 3 (k .wram)) 4 (k .vram) refl ∙ (skip 5 (withKind (withKind [] 1 (k .processor)) 2 (k .drawing)) 3 (k .wram) refl ∙ (skip 5 (withKind [] 1 (k .processor)) 2 (k .drawing) refl ∙ (skip 5 [] 1 (k .processor) refl ∙ refl)))))
+
+  lists-6 : listsOf k 6 (k .hardware)
+  unfolding replacedOf
+  lists-6 = hit 6 (withKind (withKind (withKind (withKind (withKind [] 1 (k .processor)) 2 (k .drawing)) 3 (k .wram)) 4 (k .vram)) 5 (k .pak)) (k .hardware) (skip 6 (withKind (withKind (withKind (withKind [] 1 (k .processor)) 2 (k .drawing)) 3 (k .wram)) 4 (k .vram)) 5 (k .pak) refl ∙ (skip 6 (withKind (withKind (withKind [] 1 (k .processor)) 2 (k .drawing)) 3 (k .wram)) 4 (k .vram) refl ∙ (skip 6 (withKind (withKind [] 1 (k .processor)) 2 (k .drawing)) 3 (k .wram) refl ∙ (skip 6 (withKind [] 1 (k .processor)) 2 (k .drawing) refl ∙ (skip 6 [] 1 (k .processor) refl ∙ refl)))))
+
+pub kept-exactly : KeptExactlyAll
+kept-exactly file room e =
+    let k = keptIn (pakIn file) file in
+    record {
+      bodies =
+          rw (output-is file room e)
+          (rw (size file room e) at (file-held (keptBodiesOf (keptIn (pakIn file) file) (bodiesIn Two (pakIn file) file)) (sized file room e) Two tt));
+      processor = lists-1 (keptIn (pakIn file) file);
+      drawing = lists-2 (keptIn (pakIn file) file);
+      wram = lists-3 (keptIn (pakIn file) file);
+      vram = lists-4 (keptIn (pakIn file) file);
+      pak = lists-5 (keptIn (pakIn file) file);
+      hardware = lists-6 (keptIn (pakIn file) file);
+    }

@@ -1,0 +1,34 @@
+-- What "any byte before the first body differs" comes to (paper 02, W13): since a kept body's sum is the stored one, that the halfwords 0 and
+-- 2, the count, or some entry's kind, offset or length was not the right one. The statement; its proof is `contents-differ-means` in proofs/.
+use Prim.Native.Nat.{ℕ, _+_, _<_}
+use mathlib.Core.Bool.{Bool, true, false}
+use mathlib.Core.List.{List, [], _∷_}
+use mathlib.Core.Path.{_≡_}
+use lib.ListN.{length, getD}
+use Rattle.word.specs.Choose.{pick}
+use Rattle.refusal.specs.declared.Verdict.the-variants.{Accepted}
+use Rattle.processor.specs.Acceptance.{both}
+use Rattle.saved_bytes.specs.Numbers.{halvesOf, halvesFrom, sameOf}
+use Rattle.saved_layout.specs.Layout.{Part, partsOf, contentsEndOf}
+use Rattle.saved_layout.specs.declared.Form.the-variants.{Two}
+use Rattle.saved_salvage.specs.Salvage.{pakIn, salvageVerdictOf, salvageOf}
+
+-- the kind, offset and length of an entry at byte `at`, for a body that starts at byte `place`
+abbrev pub entryRight : ℕ → ℕ → Part → List ℕ → Bool
+entryRight at place part file = sameOf (halvesFrom file at 5) (part .kind ∷ halvesOf (place ∷ part .size ∷ []))
+
+abbrev pub entriesRight : ℕ → ℕ → List Part → List ℕ → Bool
+entriesRight at place [] file = true
+entriesRight at place (part ∷ parts) file =
+    both (entryRight at place part file) (entriesRight (at + 14) (place + part .size) parts file)
+
+-- the halfwords 0 and 2 and the count, then the entries
+unfoldable pub contentsRight : ℕ → List ℕ → Bool
+contentsRight pak file =
+    both (sameOf (halvesFrom file 0 3) (0 ∷ 2 ∷ length (partsOf Two pak) ∷ []))
+    (entriesRight 6 (contentsEndOf Two (length (partsOf Two pak))) (partsOf Two pak) file)
+
+abbrev pub ContentsDifferMeans : Type 0
+ContentsDifferMeans =
+    (file room : List ℕ) → ((k : ℕ) → getD file k 0 < 256) → salvageVerdictOf file room ≡ Accepted
+    → salvageOf file room .differ ≡ pick (contentsRight (pakIn file) file) false true

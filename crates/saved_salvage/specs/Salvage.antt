@@ -1,0 +1,49 @@
+-- What a salvage tells and leaves (paper 02, W13). "Refusal 9 first: the output room isn't as long as the file; then 17: no form 2 layout has
+-- this length." Nothing else is tested; a refusal changes nothing.
+use Prim.Native.Nat.{ℕ}
+use mathlib.Core.Bool.{Bool, false}
+use mathlib.Core.List.{List, []}
+use lib.Dec.{eqb}
+use lib.ListN.{length}
+use Rattle.refusal.specs.Number.{unless}
+use Rattle.refusal.specs.declared.Verdict.{Verdict}
+use Rattle.refusal.specs.declared.Verdict.the-variants.{Accepted, Refused}
+use Rattle.refusal.specs.declared.Refusal.the-variants.{FileLength, NoLayout}
+use Rattle.saved_layout.specs.File.{fileOf, bodiesIn}
+use Rattle.saved_layout.specs.declared.Form.the-variants.{Two}
+use Rattle.saved_kinds.specs.Fits.{pakLengthOf, fitsOk}
+use Rattle.saved_kinds.specs.Room.{whenAccepted}
+use Rattle.saved_salvage.specs.Keep.{keptIn, keptBodiesOf}
+use Rattle.saved_salvage.specs.Told.{listedOf, replacedOf}
+use Rattle.saved_salvage.specs.Differ.{contentsDiffer}
+use Rattle.saved_salvage.specs.declared.Salvaged.{Salvaged}
+use Rattle.saved_salvage.specs.declared.Listed.{Listed}
+
+-- the output for a file whose pak RAM has `pak` bytes
+unfoldable pub outputOf : ℕ → List ℕ → List ℕ
+outputOf pak file = fileOf Two (keptBodiesOf (keptIn pak file) (bodiesIn Two pak file))
+
+-- the pak RAM's length, by the file's
+abbrev pub pakIn : List ℕ → ℕ
+pakIn file = pakLengthOf Two (length file)
+
+-- 9, 17
+unfoldable pub salvageVerdictOf : List ℕ → List ℕ → Verdict
+salvageVerdictOf file room =
+    unless (eqb (length room) (length file)) FileLength (unless (fitsOk Two (length file)) NoLayout Accepted)
+
+abbrev pub toldOf : Verdict → Listed → Bool → Salvaged
+toldOf verdict list differ = record { verdict = verdict; list = list; differ = differ }
+
+abbrev pub toldWhen : Verdict → List ℕ → Salvaged
+toldWhen Accepted file =
+    toldOf Accepted (listedOf (replacedOf (keptIn (pakIn file) file)))
+    (contentsDiffer (pakIn file) (keptIn (pakIn file) file) file (outputOf (pakIn file) file))
+toldWhen (Refused n) file = toldOf (Refused n) (listedOf []) false
+
+unfoldable pub salvageOf : List ℕ → List ℕ → Salvaged
+salvageOf file room = toldWhen (salvageVerdictOf file room) file
+
+-- the room afterwards
+unfoldable pub salvagedRoomOf : List ℕ → List ℕ → List ℕ
+salvagedRoomOf file room = whenAccepted (salvageVerdictOf file room) room (outputOf (pakIn file) file)

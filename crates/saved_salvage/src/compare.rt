@@ -1,0 +1,57 @@
+// Whether a byte before the first body differs in the output, sums of replaced bodies aside.
+use crate::Kept;
+use saved_bytes::parts;
+ghost use mathlib.Core.Path.{_≡_};
+ghost use Prim.Native.Nat.{_+_, _≤_};
+ghost use lib.ListN.{length};
+ghost use Rattle.saved_layout.specs.Layout.{fileLengthOf};
+ghost use Rattle.saved_layout.specs.declared.Form.the-variants.{Two};
+ghost use Rattle.saved_salvage.specs.Differ.{partDiffers, entryDiffers, contentsDiffer};
+
+// Whether `size` bytes from byte `at` on differ.
+fn part_differs(file: &[u8], room: &[u8], at: usize, size: usize) -> bool
+    requires { ⌜ (at + size ≤ length (now file)) × (at + size ≤ length (now room)) ⌝ }
+    ensures { λ r. ⌜ r ≡ partDiffers at size (now (file .entry)) (now (room .entry)) ⌝ }
+{
+    let end = at + size;
+    !parts::same(&file[at..end], &room[at..end])
+}
+
+// An entry is compared with its sum where its body is kept, and without where it is replaced.
+fn entry_differs(file: &[u8], room: &[u8], at: usize, kept: bool) -> bool
+    requires { ⌜ (at + 14 ≤ length (now file)) × (at + 14 ≤ length (now room)) ⌝ }
+    ensures { λ r. ⌜ r ≡ entryDiffers at kept (now (file .entry)) (now (room .entry)) ⌝ }
+{
+    if kept {
+        return part_differs(file, room, at, 14);
+    }
+    part_differs(file, room, at, 10)
+}
+
+pub fn contents_differ(file: &[u8], room: &[u8], pak: usize, kept: Kept) -> bool
+    requires { ⌜ (length (now file) ≡ fileLengthOf Two pak) × (length (now room) ≡ fileLengthOf Two pak) ⌝ }
+    ensures { λ r. ⌜ r ≡ contentsDiffer pak kept (now (file .entry)) (now (room .entry)) ⌝ }
+{
+    if part_differs(file, room, 0, 6) {
+        return true;
+    }
+    if entry_differs(file, room, 6, kept.processor) {
+        return true;
+    }
+    if entry_differs(file, room, 20, kept.drawing) {
+        return true;
+    }
+    if entry_differs(file, room, 34, kept.wram) {
+        return true;
+    }
+    if entry_differs(file, room, 48, kept.vram) {
+        return true;
+    }
+    if pak == 0 {
+        return entry_differs(file, room, 62, kept.hardware);
+    }
+    if entry_differs(file, room, 62, kept.pak) {
+        return true;
+    }
+    entry_differs(file, room, 76, kept.hardware)
+}

@@ -1,0 +1,67 @@
+// A damaged saved state in form 2: what can be kept of it, with the rest at reset, written as a right file.
+mod compare;
+mod keep;
+mod replace;
+mod told;
+
+use refusal::Refusal;
+use refusal::Verdict;
+use saved_kinds::lengths;
+use saved_layout::Form;
+use saved_layout::contents;
+ghost use mathlib.Core.Path.{_≡_};
+ghost use Rattle.saved_salvage.specs.Salvage.{salvageOf, salvagedRoomOf};
+
+// Which bodies are kept: a body that is not there is.
+pub struct Kept {
+    pub processor: bool,
+    pub drawing: bool,
+    pub wram: bool,
+    pub vram: bool,
+    pub pak: bool,
+    pub hardware: bool,
+}
+
+// The kinds that were replaced, ascending: how many, and 0 after the last.
+pub struct Listed {
+    pub count: u32,
+    pub kinds: [u32; 6],
+}
+
+// Whether a salvage was refused, the kinds replaced, and whether anything else before the first body differs from the file.
+pub struct Salvaged {
+    pub verdict: Verdict,
+    pub list: Listed,
+    pub differ: bool,
+}
+
+// A right file in form 2 of what a file still holds, into a room as long as the file.
+pub fn salvage_state(file: &[u8], room: &mut [u8]) -> Salvaged
+    ensures told { λ r. ⌜ r ≡ salvageOf (now (file .entry)) (now (room .entry)) ⌝ }
+    ensures room { λ _. ⌜ now (room .exit) ≡ salvagedRoomOf (now (file .entry)) (now (room .entry)) ⌝ }
+{
+    if room.len() != file.len() {
+        return Salvaged {
+            verdict: Verdict::Refused(Refusal::FileLength),
+            list: told::none(),
+            differ: false,
+        };
+    }
+    if !lengths::fits(Form::Two, file.len()) {
+        return Salvaged {
+            verdict: Verdict::Refused(Refusal::NoLayout),
+            list: told::none(),
+            differ: false,
+        };
+    }
+    let pak = lengths::pak_length(Form::Two, file.len());
+    let kept = keep::kept(file, pak);
+    replace::put_bodies(file, room, pak, kept);
+    contents::put(Form::Two, room, pak);
+    let differ = compare::contents_differ(file, room, pak, kept);
+    Salvaged {
+        verdict: Verdict::Accepted,
+        list: told::replaced(kept),
+        differ,
+    }
+}

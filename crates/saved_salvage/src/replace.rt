@@ -1,0 +1,101 @@
+// The bodies of the output: those of the file that are kept, and reset values for the others.
+use crate::Kept;
+use saved_bytes::numbers;
+use saved_bytes::parts;
+use saved_layout::Form;
+use saved_layout::places;
+ghost use mathlib.Core.Path.{_≡_};
+ghost use Prim.Native.Nat.{_+_, _≤_};
+ghost use lib.ListN.{length, take, drop};
+ghost use Rattle.word.specs.Choose.{pick};
+ghost use Rattle.saved_bytes.specs.Parts.{putAt};
+ghost use Rattle.saved_layout.specs.Layout.{fileLengthOf, placeOf};
+ghost use Rattle.saved_layout.specs.File.{bodiesIn, joinedOf};
+ghost use Rattle.saved_layout.specs.declared.Form.the-variants.{Two};
+ghost use Rattle.saved_salvage.specs.Keep.{processorReset, orZeros, keptBodiesOf};
+
+// Kind 1, which starts at byte `at` in both.
+fn put_processor(file: &[u8], room: &mut [u8], at: usize, kept: bool)
+    requires { ⌜ (at + 172 ≤ length (now file)) × (at + 172 ≤ length (now room)) ⌝ }
+    ensures { λ _. ⌜ now (room .exit) ≡ putAt (now (room .entry)) at (pick kept (take 172 (drop at (now (file .entry)))) processorReset) ⌝ }
+{
+    if kept {
+        let end = at + 172;
+        parts::put_bytes(room, at, &file[at..end]);
+        return;
+    }
+    let words = [
+        0u32,
+        0,
+        0,
+        0,
+        0,
+        0,
+        0,
+        0,
+        0,
+        0,
+        0,
+        0,
+        0,
+        0,
+        0,
+        0,
+        0,
+        0,
+        0,
+        0,
+        0,
+        0,
+        0,
+        0,
+        0,
+        0,
+        0,
+        0,
+        0,
+        0,
+        0,
+        0,
+        0xFFFFFFF0,
+        0,
+        0,
+        0,
+        0,
+        0xFFF0,
+        0x8000,
+        0,
+        0,
+        0,
+        0,
+    ];
+    numbers::put_words(room, at, &words);
+}
+
+// Another kind of `size` bytes, whose reset values are zeros.
+fn put_body(file: &[u8], room: &mut [u8], at: usize, size: usize, kept: bool)
+    requires { ⌜ (at + size ≤ length (now file)) × (at + size ≤ length (now room)) ⌝ }
+    ensures { λ _. ⌜ now (room .exit) ≡ putAt (now (room .entry)) at (orZeros kept (take size (drop at (now (file .entry))))) ⌝ }
+{
+    if kept {
+        let end = at + size;
+        parts::put_bytes(room, at, &file[at..end]);
+        return;
+    }
+    parts::put_zeros(room, at, size);
+}
+
+// All bodies, at their places.
+pub fn put_bodies(file: &[u8], room: &mut [u8], pak: usize, kept: Kept)
+    requires { ⌜ (length (now file) ≡ fileLengthOf Two pak) × (pak ≤ 16777216) ⌝ }
+    requires { ⌜ length (now room) ≡ fileLengthOf Two pak ⌝ }
+    ensures { λ _. ⌜ now (room .exit) ≡ putAt (now (room .entry)) (placeOf Two pak 0) (joinedOf Two (keptBodiesOf kept (bodiesIn Two pak (now (file .entry))))) ⌝ }
+{
+    let at = places::first(Form::Two, pak);
+    put_processor(file, room, at, kept.processor);
+    put_body(file, room, at + 172, 26, kept.drawing);
+    put_body(file, room, at + 198, 65536, kept.wram);
+    put_body(file, room, at + 65734, 262144, kept.vram);
+    put_body(file, room, at + 327878, pak, kept.pak);
+    put_body(file, room, at + 327878 + pak, 8, kept.hardware);
+}

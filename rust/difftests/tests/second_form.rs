@@ -1,0 +1,472 @@
+//! The second saved form (W12): files written, read and moved by the library and
+//! the model, at every length of pak RAM; every condition of 9, 10 and 16.
+
+#![cfg(feature = "processor")]
+
+use difftests::machine::{expect_same_bytes, to_library, Buffers};
+use difftests::random::Random;
+use difftests::state::{bodies, field_values, filled, is_untouched, pak_lengths, sum, Body, State};
+use difftests::twin::processor_to_library;
+use model::saved::{file_length, Form};
+use model::{Hardware, Refusal};
+
+/// Moves a file on both sides into room of this length and compares.
+fn moved(file: &[u8], room: usize, what: &str) -> (u32, Box<[u8]>) {
+    let (mut library, mut model) = (filled(room), filled(room));
+    let number = vbsys::move_state(file, &mut library);
+    let answer = model::saved::move_state(file, &mut model);
+    assert_eq!(number, answer.err().map_or(0, Refusal::number), "{what}");
+    expect_same_bytes("the moved file", &library, &model, &|| what.into());
+    assert!(number == 0 || is_untouched(&library), "a refused move has written; {what}");
+    (number, library)
+}
+
+/// States at every length of pak RAM: the file is the model's, it is read back
+/// whole, lines and timer among it, and written again.
+#[test]
+fn every_pak_length() {
+    for pak in pak_lengths() {
+        let rounds = if pak > 1 << 20 { 1 } else { 6 };
+        for number in 0..rounds {
+            let mut random = Random::new(0x1201_0000 + number);
+            let state = State::random(&mut random, pak);
+            let what = format!("pak RAM {pak}, round {number}");
+            let file = state.file(Form::Two, &what);
+            assert_eq!(file.len(), if pak == 0 { 327_962 } else { 327_976 + pak });
+            for Body { kind, place, length, sum_place } in bodies(pak) {
+                let stored = u32::from_le_bytes(file[sum_place..sum_place + 4].try_into().unwrap());
+                assert_eq!(stored, sum(&file[place..place + length]), "kind {kind}, {what}");
+            }
+            let other = State::random(&mut random, pak);
+            let (number, read) = other.read(&file, &what);
+            assert_eq!(number, 0, "{what}");
+            read.expect_read(&state, &what);
+            assert!(read.buffers.rom == other.buffers.rom, "ROM is not stored; {what}");
+            assert!(read.file(Form::Two, &what) == file, "written again; {what}");
+        }
+    }
+}
+
+/// Moves both ways at every length of pak RAM: what the other form's writer makes
+/// for the state held, and back the same bytes.
+#[test]
+fn moves() {
+    for pak in pak_lengths() {
+        let mut random = Random::new(0x1202_0000);
+        let state = State::at_reset(&mut random, pak);
+        let what = format!("pak RAM {pak}");
+        let (one, two) = (state.file(Form::One, &what), state.file(Form::Two, &what));
+        let (number, found) = moved(&one, two.len(), &what);
+        assert!(number == 0 && found == two, "to form 2, {what}");
+        let (number, found) = moved(&two, one.len(), &what);
+        assert!(number == 0 && found == one, "to form 1, {what}");
+        if pak > 1 << 16 {
+            continue;
+        }
+        for (file, due) in [(&one, two.len()), (&two, one.len())] {
+            for room in [0, 1, due - 1, due + 1, due + 14, file.len(), file.len() + 1] {
+                if room != due {
+                    assert_eq!(moved(file, room, &what).0, 9, "room {room}, {what}");
+                }
+            }
+            let mut longer = file.to_vec();
+            longer.push(0);
+            assert_eq!(moved(&longer, due, &what).0, 9, "{what}");
+            assert_eq!(moved(&file[..file.len() - 1], due, &what).0, 9, "{what}");
+        }
+    }
+}
+
+/// File lengths from 0 on that fit one form, the other, both or none, with each
+/// first halfword and each room that could be due.
+#[test]
+fn lengths_of_moved_files() {
+    let mut lengths =
+        vec![0, 1, 2, 6, 42, 76, 327_919, 327_921, 327_930, 327_961, 327_963, 327_976];
+    for pak in [0, 1, 2, 4, 16, 32, 64, 1_024] {
+        lengths.extend([Form::One, Form::Two].map(|form| file_length(form, pak)));
+    }
+    lengths.extend([327_930 + 3, 327_976 + 3, 327_976 + 48]);
+    let rooms: Vec<usize> = [0, 1, 2, 32, 64]
+        .into_iter()
+        .flat_map(|pak| [Form::One, Form::Two].map(|form| file_length(form, pak)))
+        .chain([0, 1])
+        .collect();
+    for &length in &lengths {
+        for first in [[0, 0], [0, 1], [4, 0], [5, 0], [0xFF, 0xFF]] {
+            let mut file = vec![0; length];
+            for (place, byte) in file.iter_mut().zip(first) {
+                *place = byte;
+            }
+            let form = if first == [0, 0] { Form::Two } else { Form::One };
+            let pak = pak_lengths().find(|&pak| file_length(form, pak) == length);
+            for &room in &rooms {
+                let what = format!("{length} bytes, first {first:?}, room {room}");
+                let (number, _) = moved(&file, room, &what);
+                let due = match form {
+                    Form::One => pak.map(|pak| file_length(Form::Two, pak)),
+                    Form::Two => pak.map(|pak| file_length(Form::One, pak)),
+                };
+                // zeros are no file: 10 where the lengths fit
+                assert_eq!(number, if due == Some(room) { 10 } else { 9 }, "{what}");
+            }
+        }
+    }
+}
+
+/// The contents that the request prints, byte for byte.
+#[test]
+fn worked_contents() {
+    let text = "00 00 02 00 05 00 | 01 00 4C 00 00 00 AC 00 00 00 5C 06 00 00 | \
+                02 00 F8 00 00 00 1A 00 00 00 00 00 00 00 | \
+                03 00 12 01 00 00 00 00 01 00 00 00 00 00 | \
+                04 00 12 01 01 00 00 00 04 00 00 00 00 00 | \
+                06 00 12 01 05 00 08 00 00 00 00 00 00 00";
+    let bytes = text.split([' ', '|']).filter(|byte| !byte.is_empty());
+    let contents: Vec<u8> = bytes.map(|byte| u8::from_str_radix(byte, 16).unwrap()).collect();
+    let buffers = Buffers::zeroed(1_024, 65_536, 262_144, 0);
+    let machine = vbsys::reset();
+    let mut room = filled(327_962);
+    let memories = buffers.lend_library_to_read();
+    let number = vbsys::write_state_2(memories, machine.processor, machine.drawing, &mut room);
+    assert_eq!(number, 0);
+    assert_eq!(room[..76], contents);
+    assert!(room[248..].iter().all(|&byte| byte == 0));
+    assert_eq!(sum(&room[76..248]), 1_628);
+    // with pak RAM: the count, kind 5's entry and kind 6's, after each other
+    let mut state = State::at_reset(&mut Random::new(0x1203_0000), 8_192);
+    state.buffers.pak.fill(1);
+    state.processor.hardware =
+        Hardware { lines: 0x1F, count: 0x1234, reload: 0x5678, control: 0x1B };
+    let file = state.file(Form::Two, "contents");
+    assert_eq!(file[..6], [0, 0, 2, 0, 6, 0]);
+    assert_eq!(file[62..76], [5, 0, 0x20, 0x01, 5, 0, 0, 0x20, 0, 0, 0, 0x20, 0, 0]);
+    assert_eq!(file[76..90], [6, 0, 0x20, 0x21, 5, 0, 8, 0, 0, 0, 0x4E, 0x01, 0, 0]);
+    assert_eq!(file[336_160..], [0x1F, 0, 0x34, 0x12, 0x78, 0x56, 0x1B, 0]);
+}
+
+/// Lengths 0, 1, around the one due, those of the neighbouring pak RAM and of the
+/// other form.
+#[test]
+fn lengths_of_room_and_file() {
+    let mut random = Random::new(0x1204_0000);
+    for pak in [0, 1, 2, 4, 32, 8_192] {
+        let state = State::random(&mut random, pak);
+        let file = state.file(Form::Two, "lengths").into_vec();
+        let due = file.len();
+        let neighbours = [0, 1, pak / 2, 2 * pak, 32].map(|pak| file_length(Form::Two, pak));
+        let other = file_length(Form::One, pak);
+        let lengths = [0, 1, 2, 76, due - 1, due, due + 1, other].into_iter().chain(neighbours);
+        for length in lengths {
+            let number = if length == due { 0 } else { 9 };
+            assert_eq!(state.write(Form::Two, length).0, number, "room {length}, pak RAM {pak}");
+            assert_eq!(state.write_by_model(Form::Two, length).0, number);
+            let mut given = file.clone();
+            given.resize(length, 0);
+            let (found, _) = state.read(&given, "lengths");
+            assert_eq!(found, number, "file {length}, pak RAM {pak}");
+        }
+    }
+}
+
+/// Each byte before the first body, changed one at a time: the sums among them.
+#[test]
+fn every_byte_of_the_contents() {
+    let mut random = Random::new(0x1205_0000);
+    for (pak, length) in [(0, 76), (4, 90)] {
+        let state = State::random(&mut random, pak);
+        let file = state.file(Form::Two, "contents");
+        for at in 0..length {
+            for change in [1u8, 0x10, 0x80, 0xFF, 2] {
+                let mut changed = file.clone();
+                changed[at] ^= change;
+                let what = format!("byte {at} changed by {change:X}, pak RAM {pak}");
+                // another first halfword is form 1's, which has other lengths
+                let number = if at < 2 { 9 } else { 10 };
+                assert_eq!(state.read(&changed, &what).0, number, "{what}");
+                let (number, _) = moved(&changed, file_length(Form::One, pak), &what);
+                assert_eq!(number, if at < 2 { 9 } else { 10 }, "{what}");
+            }
+        }
+    }
+}
+
+/// One changed byte in each body, with the stored sum and with the right one: the
+/// first is 10 everywhere, the second wherever the body is legal.
+#[test]
+fn a_byte_of_each_body() {
+    let mut random = Random::new(0x1206_0000);
+    for pak in [0, 1, 64] {
+        let state = State::random(&mut random, pak);
+        let file = state.file(Form::Two, "bodies");
+        for body in bodies(pak) {
+            for _ in 0..12 {
+                let at = body.place + random.below(body.length as u32) as usize;
+                let mut changed = file.clone();
+                changed[at] ^= 1 << random.below(8);
+                let what = format!("byte {at} of kind {}, pak RAM {pak}", body.kind);
+                assert_eq!(state.read(&changed, &what).0, 10, "{what}");
+                assert_eq!(moved(&changed, file_length(Form::One, pak), &what).0, 10);
+                body.sum_again(&mut changed);
+                let (number, _) = state.read(&changed, &what);
+                assert!(number == 0 || matches!(body.kind, 1 | 2 | 6), "{what}");
+            }
+            // two bytes changed against each other: the sum stays right
+            if body.length > 26 {
+                let mut changed = file.clone();
+                let at = body.place + 5;
+                (changed[at], changed[at + 1]) = (changed[at + 1], changed[at]);
+                assert_eq!(state.read(&changed, "exchanged").0, 0, "kind {}", body.kind);
+            }
+        }
+    }
+}
+
+/// Every field of the records with each bit alone and both sides of its limit, its
+/// sum right: refused exactly where no accepted state has it.
+#[test]
+fn every_bit_of_the_records() {
+    let state = State::random(&mut Random::new(0x1207_0000), 0);
+    let file = state.file(Form::Two, "records");
+    for (kind, offset, value, legal) in field_values() {
+        let body = bodies(0).into_iter().find(|body| body.kind == kind).unwrap();
+        let mut changed = file.clone();
+        let at = body.place + offset;
+        changed[at..at + value.len()].copy_from_slice(&value);
+        body.sum_again(&mut changed);
+        let what = format!("{value:X?} at {offset} of kind {kind}");
+        let (number, read) = state.read(&changed, &what);
+        assert_eq!(number, if legal { 0 } else { 10 }, "{what}");
+        if legal && kind == 6 {
+            assert!(read.file(Form::Two, &what) == changed, "{what}");
+        }
+    }
+}
+
+/// Every bit of lines and timer alone: form 2 holds it; form 1 is refused by 16, in
+/// writing and in moving.
+#[test]
+fn every_bit_of_lines_and_timer() {
+    let mut random = Random::new(0x1208_0000);
+    for pak in [0, 2] {
+        let mut state = State::at_reset(&mut random, pak);
+        let due = file_length(Form::One, pak);
+        let bits = (0..4).flat_map(|field| (0..16).map(move |bit| (field, 1u16 << bit)));
+        let masks = [0x1F, 0xFFFF, 0xFFFF, 0x1B];
+        for (field, bit) in bits.filter(|&(field, bit)| masks[field] & bit != 0) {
+            let mut halves = [0; 4];
+            halves[field] = bit;
+            let [lines, count, reload, control] = halves;
+            state.processor.hardware = Hardware { lines, count, reload, control };
+            let what = format!("{:X?}", state.processor.hardware);
+            let file = state.file(Form::Two, &what);
+            let other = State::random(&mut random, pak);
+            let (number, read) = other.read(&file, &what);
+            assert_eq!((number, read.processor), (0, state.processor), "{what}");
+            assert_eq!(state.write(Form::One, due).0, 16, "{what}");
+            assert_eq!(state.write_by_model(Form::One, due).0, 16, "{what}");
+            assert_eq!(moved(&file, due, &what).0, 16, "{what}");
+        }
+    }
+}
+
+/// 327,962 bytes is the one length that both forms have: form 1 with 32 bytes of
+/// pak RAM, form 2 with none.
+#[test]
+fn the_length_of_both_forms() {
+    let mut random = Random::new(0x1209_0000);
+    let (some, none) = (State::at_reset(&mut random, 32), State::at_reset(&mut random, 0));
+    let (one, two) = (some.file(Form::One, "form 1"), none.file(Form::Two, "form 2"));
+    assert_eq!((one.len(), two.len()), (327_962, 327_962));
+    assert_eq!((one[0], one[1], two[0], two[1]), (5, 0, 0, 0));
+    for (file, state, other) in [(&one, &some, &none), (&two, &none, &some)] {
+        let (number, read) = state.read(file, "its own pak RAM");
+        assert_eq!(number, 0);
+        read.expect_read(state, "its own pak RAM");
+        assert_eq!(other.read(file, "the other pak RAM").0, 9);
+    }
+    assert_eq!(moved(&one, 328_008, "form 1").0, 0);
+    assert_eq!(moved(&one, 327_920, "form 1").0, 9);
+    assert_eq!(moved(&two, 327_920, "form 2").0, 0);
+    assert_eq!(moved(&two, 328_008, "form 2").0, 9);
+    // the first halfword exchanged
+    let (mut zeroed, mut five) = (one.clone(), two.clone());
+    zeroed[0] = 0;
+    five[0] = 5;
+    for (file, length, pak) in [(&zeroed, 327_920, &none), (&five, 328_008, &some)] {
+        assert_eq!(pak.read(file, "exchanged").0, 10);
+        assert_eq!(moved(file, length, "exchanged").0, 10);
+    }
+    assert_eq!(some.read(&zeroed, "exchanged").0, 9);
+    assert_eq!(none.read(&five, "exchanged").0, 9);
+}
+
+/// Every set of broken conditions among 1 to 5, the mode and 9, and 16 for form 1's
+/// writer, 10 for reading a file of form 2.
+#[test]
+fn the_order_of_refusals() {
+    let mut random = Random::new(0x120A_0000);
+    let accepted = State::random(&mut random, 8);
+    let file = accepted.file(Form::Two, "accepted");
+    for (set, way) in (0..512u32).flat_map(|set| (0..2).map(move |way| (set, way))) {
+        let broken = |bit: u32| set >> bit & 1 == 1;
+        let length =
+            |bit: u32, good: usize, bad: [usize; 2]| if broken(bit) { bad[way] } else { good };
+        let mut buffers = Buffers::zeroed(
+            length(0, 1_024, [0, 512]),
+            length(1, 65_536, [0, 65_537]),
+            length(2, 262_144, [0, 262_143]),
+            length(3, 8, [3, 24]),
+        );
+        buffers.rom.fill(1);
+        let mut processor = processor_to_library(&accepted.processor);
+        let mut drawing = to_library(&accepted.drawing);
+        processor.hardware = Default::default();
+        if broken(8) {
+            processor.hardware.count = 1;
+        }
+        match (broken(4), way) {
+            (true, 0) => processor.hardware.lines |= 0x20,
+            (true, _) => drawing.bkcol = 4,
+            _ => {}
+        }
+        if broken(5) {
+            processor.mode = 3;
+        }
+        let mut given = file.to_vec();
+        if broken(7) {
+            given[[100, 44][way]] ^= 1;
+        }
+        if broken(6) {
+            given.resize([file.len() - 1, 0][way], 0);
+        }
+        let numbered = |numbers: &[u32], bits: &[u32]| {
+            let first = numbers.iter().zip(bits).find(|&(_, &bit)| broken(bit));
+            first.map_or(0, |(&number, _)| number)
+        };
+        let before = buffers.clone();
+        let what = format!("broken {set:09b}, way {way}");
+        let earlier = [1, 2, 3, 4, 5, vbsys::MISUSE, 9];
+        // form 2
+        let mut room = filled(given.len());
+        let read = buffers.lend_library_to_read();
+        let written = vbsys::write_state_2(read, processor, drawing, &mut room);
+        assert_eq!(written, numbered(&earlier, &[0, 1, 2, 3, 4, 5, 6]), "form 2, {what}");
+        assert!(written == 0 || is_untouched(&room), "form 2, {what}");
+        // form 1
+        let due = file_length(Form::One, 8);
+        let mut room = filled(if broken(6) { [due + 1, 0][way] } else { due });
+        let written = vbsys::write_state(read, processor, drawing, &mut room);
+        let numbers = [&earlier[..], &[16]].concat();
+        assert_eq!(written, numbered(&numbers, &[0, 1, 2, 3, 4, 5, 6, 8]), "form 1, {what}");
+        assert!(written == 0 || is_untouched(&room), "form 1, {what}");
+        // reading
+        let memories = &mut buffers.lend_library();
+        let restored = vbsys::read_state(memories, processor, drawing, &given);
+        let numbers = [&earlier[..], &[10]].concat();
+        assert_eq!(restored.refusal, numbered(&numbers, &[0, 1, 2, 3, 4, 5, 6, 7]), "{what}");
+        if restored.refusal != 0 {
+            assert_eq!((restored.processor, restored.drawing), (processor, drawing));
+            buffers.expect_equal(&before, &|| what.clone());
+        }
+    }
+}
+
+/// 9, 10 and 16 of a move to form 1, in every combination.
+#[test]
+fn the_order_of_a_move() {
+    let mut random = Random::new(0x120B_0000);
+    for pak in [0, 1, 64] {
+        for set in 0..8u32 {
+            let broken = |bit: u32| set >> bit & 1 == 1;
+            let mut state = State::at_reset(&mut random, pak);
+            if broken(2) {
+                state.processor.hardware = Hardware { control: 0x02, ..Hardware::default() };
+            }
+            let file = state.file(Form::Two, "a move");
+            let due = file_length(Form::One, pak);
+            // damage in the contents, in a body, in a sum, and in kind 6 itself
+            for at in [4, 8, 44, 100, 300, file.len() - 5] {
+                for room in [due + 1, due - 1, 0, file.len()] {
+                    let mut given = file.clone();
+                    if broken(1) {
+                        given[at] ^= 0x40;
+                    }
+                    let room = if broken(0) { room } else { due };
+                    let first = [9, 10, 16].into_iter().zip(0..).find(|&(_, bit)| broken(bit));
+                    let what = format!("broken {set:03b}, byte {at}, room {room}, pak RAM {pak}");
+                    let number = first.map_or(0, |(number, _)| number);
+                    assert_eq!(moved(&given, room, &what).0, number, "{what}");
+                }
+            }
+        }
+    }
+}
+
+/// No byte outside what is lent is touched; what is only read may not be written;
+/// room and file may be empty.
+#[cfg(target_os = "linux")]
+#[test]
+fn between_fences() {
+    use difftests::fence::{Fenced, Side};
+    let mut random = Random::new(0x120C_0000);
+    for (side, pak) in [Side::Start, Side::End].into_iter().flat_map(|s| [(s, 0), (s, 1), (s, 64)])
+    {
+        let state = State::at_reset(&mut random, pak);
+        let one = state.file(Form::One, "between fences");
+        let two = state.file(Form::Two, "between fences");
+        let closed = |bytes: &[u8]| {
+            let mut fenced = Fenced::new(bytes, side);
+            fenced.forbid_writing();
+            fenced
+        };
+        let Buffers { rom, wram, vram, pak } = &state.buffers;
+        let (rom, wram, vram, pak) = (closed(rom), closed(wram), closed(vram), closed(pak));
+        let memories = vbsys::ReadMemories {
+            rom: rom.bytes(),
+            wram: wram.bytes(),
+            vram: vram.bytes(),
+            pak: pak.bytes(),
+        };
+        let processor = processor_to_library(&state.processor);
+        let drawing = to_library(&state.drawing);
+        for length in [two.len(), two.len() - 1, 0] {
+            let mut room = Fenced::new(&filled(length), side);
+            let number = vbsys::write_state_2(memories, processor, drawing, room.bytes_mut());
+            assert_eq!(number, if length == two.len() { 0 } else { 9 });
+            assert!(number != 0 || *room.bytes() == *two);
+            let source = closed(&two[..length]);
+            let mut filled = [wram.bytes(), vram.bytes(), pak.bytes()]
+                .map(|memory| Fenced::new(&vec![0; memory.len()], side));
+            let [w, v, p] = &mut filled;
+            let mut memories = vbsys::Memories {
+                rom: rom.bytes(),
+                wram: w.bytes_mut(),
+                vram: v.bytes_mut(),
+                pak: p.bytes_mut(),
+            };
+            let restored = vbsys::read_state(&mut memories, processor, drawing, source.bytes());
+            assert_eq!(restored.refusal, number);
+            assert_eq!(filled[0].bytes() == wram.bytes(), number == 0);
+            assert!(number != 0 || filled[2].bytes() == pak.bytes());
+        }
+        for (file, other) in [(&one, &two), (&two, &one)] {
+            for (length, room) in [
+                (file.len(), other.len()),
+                (file.len(), 0),
+                (0, other.len()),
+                (0, 0),
+                (1, other.len()),
+                (file.len() - 1, other.len()),
+                (file.len(), other.len() - 1),
+            ] {
+                let source = closed(&file[..length]);
+                let mut room = Fenced::new(&filled(room), side);
+                let number = vbsys::move_state(source.bytes(), room.bytes_mut());
+                let fits = (length, room.bytes().len()) == (file.len(), other.len());
+                assert_eq!(number, if fits { 0 } else { 9 });
+                assert!(!fits || *room.bytes() == **other);
+            }
+        }
+    }
+}

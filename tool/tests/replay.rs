@@ -1,0 +1,268 @@
+//! `vbmodel trace` and `vbmodel replay`: a trace recorded, and the model beside it.
+
+mod common;
+
+use common::Folder;
+use serde_json::Value;
+
+const HALT: u16 = 0x6800;
+const RETI: u16 = 0x6400;
+const ADD_1_R1: u16 = 0x4421;
+const BIT_STRING: u16 = 0x7C00;
+const ILLEGAL: u16 = 0x6C00;
+/// LDSR r0, PSW: leaves the reset's NP state.
+const LET_IN: u16 = 0x7005;
+/// BR to the instruction before.
+const BACK: u16 = 0x8BFE;
+
+/// A folder with a ROM: code at the reset address and handlers of the five levels.
+fn with_rom(name: &str, code: &[u16]) -> Folder {
+    let folder = Folder::new(name);
+    let mut rom = vec![0; 1024];
+    for (n, half) in code.iter().enumerate() {
+        rom[0x3F0 + 2 * n..0x3F2 + 2 * n].copy_from_slice(&half.to_le_bytes());
+    }
+    for level in 0..5 {
+        rom[0x200 + 16 * level..0x202 + 16 * level].copy_from_slice(&RETI.to_le_bytes());
+    }
+    folder.write("a.rom", &rom);
+    folder
+}
+
+fn words(bytes: &[u8]) -> Vec<u32> {
+    bytes.chunks_exact(4).map(|word| u32::from_le_bytes(word.try_into().unwrap())).collect()
+}
+
+/// The status and the JSON of a replay over a.rom.
+fn replay(folder: &Folder, arguments: &str) -> (i32, Value) {
+    let ran = folder.vbmodel(&format!("replay --rom a.rom {arguments} --json"));
+    let value = serde_json::from_str(&ran.text);
+    (ran.status, value.unwrap_or_else(|_| panic!("{arguments}: {} {}", ran.text, ran.error)))
+}
+
+#[test]
+fn w10_a_trace_has_four_words_a_step() {
+    let folder = with_rom("trace-words", &[LET_IN, ADD_1_R1, ADD_1_R1, HALT]);
+    let ran = folder.vbmodel("trace --rom a.rom -o a.trace");
+    assert_eq!((ran.status, ran.error.as_str()), (0, ""));
+    assert!(ran.text.contains("answer:       halted: the processor is halted\n"), "{}", ran.text);
+    assert!(ran.text.ends_with("written:      a.trace (4 records, 64 bytes)\n"), "{}", ran.text);
+    let expected = [
+        [0xFFFF_FFF0, 0xFFFF_FFF2, 0, 0],
+        [0xFFFF_FFF2, 0xFFFF_FFF4, 0, 1],
+        [0xFFFF_FFF4, 0xFFFF_FFF6, 0, 2],
+        [0xFFFF_FFF6, 0xFFFF_FFF8, 0, 2],
+    ];
+    assert_eq!(words(&folder.read("a.trace")), expected.concat());
+    let json: Value = serde_json::from_str(
+        &folder.vbmodel("trace --rom a.rom -o b.trace --budget 2 --json").text,
+    )
+    .unwrap();
+    assert_eq!(json["trace"], serde_json::json!({"file": "b.trace", "records": 2, "bytes": 32}));
+    assert_eq!(folder.read("b.trace").len(), 32);
+    // one that meets an instruction that is not modelled has an answer too
+    let folder = with_rom("trace-six", &[LET_IN, BIT_STRING]);
+    let ran = folder.vbmodel("trace --rom a.rom -o a.trace");
+    assert_eq!(ran.status, 2);
+    assert!(ran.text.starts_with("answer:       refused: refusal 6: "), "{}", ran.text);
+    assert_eq!(folder.read("a.trace").len(), 16);
+    let out =
+        folder.shell("\"$VB\" trace --rom a.rom -o /dev/stdout --budget 1 | head -c 16 | wc -c");
+    assert_eq!(out.text.trim(), "16");
+}
+
+#[test]
+fn w10_the_first_record_that_differs_is_told() {
+    let folder = with_rom("replay-differs", &[LET_IN, ADD_1_R1, BACK]);
+    assert_eq!(folder.vbmodel("trace --rom a.rom --budget 1_000 -o a.trace").status, 0);
+    let ran = folder.vbmodel("replay --rom a.rom a.trace");
+    assert_eq!(ran.status, 0, "{}", ran.error);
+    assert!(ran.text.starts_with("verdict:      agreed: all 1,000 records agree\nagreed:       1,000 records\nmode:         running\n"), "{}", ran.text);
+    let whole = folder.read("a.trace");
+    for (record, word) in [(0, 0), (1, 3), (500, 2), (999, 1)] {
+        let mut trace = whole.clone();
+        trace[16 * record + 4 * word] ^= 0x10;
+        folder.write("b.trace", &trace);
+        let (status, found) = replay(&folder, "b.trace --last 2");
+        assert_eq!(status, 1);
+        assert_eq!(
+            (&found["verdict"], &found["agreed"], &found["word"]),
+            (&"different".into(), &record.into(), &word.into())
+        );
+        let expected = words(&whole)[4 * record + word];
+        assert_eq!(
+            (&found["expected"], &found["seen"]),
+            (&expected.into(), &(expected ^ 0x10).into())
+        );
+        let name = ["LDSR r0, 5", "ADD 1, r1", "BR 0xFFFFFFF2"]
+            [if record == 0 { 0 } else { 2 - record % 2 }];
+        assert_eq!(found["instruction"]["instruction"], name, "record {record}");
+        let before = found["before"].as_array().map_or(0, Vec::len);
+        assert_eq!(before, record.min(2));
+        // the differing step stays made
+        assert_eq!(found["regs"][1], record.div_ceil(2), "record {record}");
+    }
+    let text = folder.vbmodel("replay --rom a.rom b.trace --last 1").text;
+    for part in [
+        "verdict:      different: record 999 differs first in word 1, PC after\nagreed:       999 records\n",
+        "word 1:       PC after: expected 0xFFFFFFF4, seen 0xFFFFFFE4\ninstruction:  0xFFFFFFF2  4421       ADD 1, r1 ",
+        "\n  998         0xFFFFFFF4 0xFFFFFFF2 0x00000000 0x000001F3\n  expected    0xFFFFFFF2 0xFFFFFFF4 ",
+        "\n  seen        0xFFFFFFF2 0xFFFFFFE4 ",
+        "\nr0    0x00000000  r1    0x000001F4  ",
+    ] {
+        assert!(text.contains(part), "{part}\nnot in\n{text}");
+    }
+}
+
+#[test]
+fn w10_what_the_model_does_is_told_first() {
+    for (name, code, psw, verdict, status) in [
+        ("replay-halted", HALT, "0", "halted", 1),
+        ("replay-fatal", ILLEGAL, "0x8000", "turned fatal", 1),
+        ("replay-six", BIT_STRING, "0", "refused", 2),
+    ] {
+        let folder = with_rom(name, &[ADD_1_R1, code]);
+        let set = format!("--set psw={psw}");
+        folder.vbmodel(&format!("trace --rom a.rom {set} -o a.trace"));
+        let agreed = folder.read("a.trace").len() / 16;
+        for more in [[0; 16], [0xFF; 16]] {
+            folder
+                .write("b.trace", &[folder.read("a.trace"), more.to_vec(), more.to_vec()].concat());
+            let (found, told) = replay(&folder, &format!("{set} b.trace"));
+            assert_eq!(
+                (found, &told["verdict"], &told["agreed"]),
+                (status, &verdict.into(), &agreed.into())
+            );
+            assert_eq!(told["regs"][1], 1);
+            assert_eq!(told.get("word"), None);
+        }
+        let text = folder.vbmodel(&format!("replay --rom a.rom {set} b.trace")).text;
+        assert!(text.contains("\ninstruction:  0xFFFFFFF"), "{text}");
+    }
+    let folder = with_rom("replay-was-fatal", &[ILLEGAL]);
+    assert_eq!(folder.vbmodel("run --rom a.rom --save-processor p").status, 0);
+    folder.write("a.trace", &[0; 16]);
+    let (status, told) = replay(&folder, "--processor p a.trace");
+    assert_eq!((status, &told["verdict"], &told["agreed"]), (1, &"fatal".into(), &0.into()));
+    // an empty trace agrees in any mode
+    folder.write("empty", &[]);
+    let (status, told) = replay(&folder, "--processor p empty");
+    assert_eq!((status, &told["verdict"], &told["agreed"]), (0, &"agreed".into(), &0.into()));
+}
+
+#[test]
+fn w10_several_traces_with_a_schedule_are_one() {
+    let folder = with_rom("replay-schedule", &[LET_IN, ADD_1_R1, HALT, BACK]);
+    // the machine halts; each line wakes it, and its handler returns
+    folder.write(
+        "s",
+        b"every 7 tick\nat 50 raise vip\nat 51 lower vip\nat 90 raise pad\nat 91 lower pad\n",
+    );
+    let timer = "--set control=1 --set count=3 --set reload=3";
+    let ran = folder
+        .vbmodel(&format!("trace --rom a.rom {timer} --schedule s -o a.trace --save-processor p"));
+    assert_eq!(ran.status, 0, "{}", ran.error);
+    let trace = folder.read("a.trace");
+    assert!(words(&trace).chunks(4).any(|record| record[1] == 0xFFFF_FE40));
+    let (status, told) =
+        replay(&folder, &format!("{timer} --schedule s a.trace --save-processor q"));
+    assert_eq!((status, &told["agreed"]), (0, &(trace.len() / 16).into()));
+    assert!(
+        folder.read("p")[..172] == folder.read("q")[..172],
+        "the machine that the trace leaves"
+    );
+    // the same in three files, and without the schedule: the first acceptance is missed
+    folder.write("1", &trace[..48]);
+    folder.write("2", &[]);
+    folder.write("3", &trace[48..]);
+    assert_eq!(replay(&folder, &format!("{timer} --schedule s 1 2 3")).0, 0);
+    let (status, told) = replay(&folder, &format!("{timer} 1 2 3"));
+    assert_eq!((status, &told["verdict"], &told["agreed"]), (1, &"halted".into(), &3.into()));
+    // an interrupt that the trace does not have
+    folder.write("t", b"at 1 raise vip\n");
+    let (status, told) = replay(&folder, "--schedule t a.trace");
+    assert_eq!(
+        (status, &told["agreed"], &told["instruction"]["interrupt"]),
+        (1, &1.into(), &4.into())
+    );
+}
+
+#[test]
+fn w10_a_long_trace_is_read_in_pieces() {
+    let folder = with_rom("replay-long", &[LET_IN, ADD_1_R1, BACK]);
+    assert_eq!(folder.vbmodel("trace --rom a.rom --budget 300_000 -o a.trace").status, 0);
+    assert_eq!(replay(&folder, "a.trace").1["agreed"], 300_000);
+    let mut trace = folder.read("a.trace");
+    let fed = folder.vbmodel_fed("replay --rom a.rom - --json", &trace);
+    assert_eq!(fed.status, 0, "{}", fed.error);
+    for record in [65_535, 65_536, 131_072, 262_144, 299_999] {
+        trace[16 * record + 12] ^= 1;
+        let fed = folder.vbmodel_fed("replay --rom a.rom - --json --last 3", &trace);
+        let found: Value = serde_json::from_str(&fed.text).unwrap();
+        assert_eq!((fed.status, &found["agreed"], &found["word"]), (1, &record.into(), &3.into()));
+        assert_eq!(found["before"].as_array().unwrap().len(), 3);
+        assert_eq!(found["regs"][1], record.div_ceil(2));
+        trace[16 * record + 12] ^= 1;
+    }
+    // from a saved state on
+    assert_eq!(
+        folder.vbmodel("run --rom a.rom --budget 100_000 --save-state half.state").status,
+        0
+    );
+    folder.write("rest.trace", &trace[1_600_000..]);
+    let (status, told) = replay(&folder, "--state half.state rest.trace");
+    assert_eq!((status, &told["agreed"]), (0, &200_000.into()));
+    let again =
+        folder.vbmodel("trace --rom a.rom --state half.state --budget 200_000 -o again.trace");
+    assert_eq!(again.status, 0, "{}", again.error);
+    assert!(folder.read("again.trace") == folder.read("rest.trace"));
+}
+
+/// On a terminal, which `script` stands in for where it is installed.
+#[test]
+fn w10_a_long_replay_on_a_terminal_shows_progress() {
+    let folder = with_rom("replay-progress", &[LET_IN, ADD_1_R1, BACK]);
+    assert_eq!(folder.vbmodel("trace --rom a.rom --budget 2_000_000 -o a.trace").status, 0);
+    let tool = env!("CARGO_BIN_EXE_vbmodel");
+    let many = ["a.trace"; 12].join(" ");
+    // the trace again and again differs at once, so the machine starts anew: one file after the other is one trace
+    let command = format!("{tool} replay --rom a.rom a.trace; {tool} replay --rom a.rom {many}");
+    let shown = std::process::Command::new("script")
+        .args(["-qec", &command, "/dev/null"])
+        .current_dir(folder.path("."))
+        .output();
+    let Ok(shown) = shown else { return };
+    let text = String::from_utf8_lossy(&shown.stdout).into_owned();
+    assert!(text.contains("all 2,000,000 records agree"), "{text}");
+    assert!(text.contains("record 2,000,000 differs first in word 0, PC before"), "{text}");
+}
+
+#[test]
+fn w10_bad_traces_are_told_and_nothing_is_written() {
+    let folder = with_rom("replay-bad", &[LET_IN, ADD_1_R1, BACK]);
+    assert_eq!(folder.vbmodel("trace --rom a.rom --budget 3 -o a.trace").status, 0);
+    folder.write("odd.trace", &[0; 31]);
+    std::fs::create_dir(folder.path("folder")).unwrap();
+    for (arguments, message) in [
+        ("replay --rom a.rom a.trace odd.trace", "odd.trace (31 bytes): refusal 14: the trace has 31 bytes; its length must be a multiple of 16, a record's"),
+        ("replay --rom a.rom none", "none: No such file or directory; it must be a trace, 16 bytes a record"),
+        ("replay --rom a.rom folder", "folder: is a folder; it must be a trace, 16 bytes a record"),
+        ("replay --rom a.rom --set pc=1 odd.trace a.trace", "refusal 5: PC is 0x00000001; it must be even"),
+        ("replay --rom a.rom --set pc=1 a.trace", "refusal 5: PC is 0x00000001; it must be even"),
+        ("trace --rom a.rom --set pc=1 -o x", "refusal 5: PC is 0x00000001; it must be even"),
+        ("trace --rom none -o x", "none: No such file or directory; it must be a ROM of a power of two from 1,024 to 16,777,216 bytes"),
+        ("trace --rom a.rom -o folder", "folder: is a folder; nothing was written"),
+        ("trace --rom a.rom -o a.rom/x", "a.rom/x: a.rom is a file, not a folder; nothing was written"),
+        ("trace --rom a.rom -o new/x --save-processor folder", "folder: is a folder; nothing was written"),
+    ] {
+        folder.refused(&format!("{arguments} --save-processor p").replace("--save-processor folder --save-processor p", "--save-processor folder"), &format!("vbmodel: {message}"));
+    }
+    let fed = folder.vbmodel_fed("replay --rom a.rom - --save-processor p", &[0; 17]);
+    assert_eq!(fed.status, 2);
+    assert!(fed.error.contains("refusal 14"), "{}", fed.error);
+    assert_eq!(folder.names(), ["a.rom", "a.trace", "folder/", "odd.trace"]);
+    for command in ["trace", "replay"] {
+        let help = folder.vbmodel(&format!("help {command}")).text;
+        assert!(help.contains("Example: ") && help.contains("Exit status: 0"), "{help}");
+    }
+}
