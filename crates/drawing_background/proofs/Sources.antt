@@ -9,7 +9,7 @@ use Rattle.word.specs.LittleEndian.{halfAt}
 use Rattle.bus.specs.Registers.{gpltOf}
 use Rattle.drawing_pixel.specs.Signed.{bitOf}
 use Rattle.drawing_pixel.specs.Character.{shadeOf, valueOf, flippedOf, rowAddressOf, cellPixelOf, pairOf}
-use Rattle.drawing_pixel.specs.Background.{cellAddressOf, sourceCellAddressOf, sourcePixelOf}
+use Rattle.drawing_pixel.specs.Background.{cellAddressOf, sourceCellAddressOf, sourcePixelOf, affineFloorOf}
 use Rattle.drawing_pixel.specs.Buffer.{repaintedOf, Block}
 use Rattle.drawing_background.specs.Row.{CellAt}
 use Rattle.drawing_pixel.proofs.Blocks.{block-change}
@@ -75,3 +75,24 @@ source-repainted vram regs w q sx sy u v cell palette character h e f c =
 -- a parameter's index wraps at 16 bits, however it is reduced before
 pub index-wraps : (b k : ℕ) → (b + k % 65536) % 65536 ≡ (b + k) % 65536
 index-wraps b k = omega arith
+
+-- a row whose steps are one pixel to the right
+pub level-x : (m n k : ℕ) → affineFloorOf m 33280 n + k ≡ affineFloorOf m 33280 (n + k)
+unfolding affineFloorOf
+level-x m n k = omega arith
+
+pub level-y : (m n k : ℕ) → affineFloorOf m 32768 n ≡ affineFloorOf m 32768 (n + k)
+unfolding affineFloorOf
+level-y m n k = omega arith
+
+pub level-low : (m n : ℕ) → m < 65536 → n < 65536 → affineFloorOf m 33280 n < 33554432
+unfolding affineFloorOf
+level-low m n h l = omega arith
+
+pub level-pixel : (vram regs w : List ℕ) (mx my n k sx sy v : ℕ) → sx ≡ affineFloorOf mx 33280 n → sy ≡ affineFloorOf my 32768 n
+    → sourcePixelOf vram regs w (sx + k) sy v ≡ sourcePixelOf vram regs w (affineFloorOf mx 33280 (n + k)) (affineFloorOf my 32768 (n + k)) v
+level-pixel vram regs w mx my n k sx sy v e f = rw (e, f, level-x mx n k, level-y my n k)
+
+pub level-steps : (vram regs w : List ℕ) (mx my dx dy n v : ℕ) → dx ≡ 33280 → dy ≡ 32768
+    → sourcePixelOf vram regs w (affineFloorOf mx 33280 n) (affineFloorOf my 32768 n) v ≡ sourcePixelOf vram regs w (affineFloorOf mx dx n) (affineFloorOf my dy n) v
+level-steps vram regs w mx my dx dy n v e f = rw (e, f)

@@ -331,3 +331,55 @@ pub fn affine_span(
         x += 1;
     }
 }
+
+// The same where a step is one pixel to the right (DX 512 and DY 0, each biased by 32,768): the background is read as by a plain span.
+pub fn level_span(
+    vram: &[u8],
+    registers: &DrawingRegisters,
+    w: &[u16; 11],
+    buffer: &mut [u16; 384],
+    r: usize,
+    from: usize,
+    to: usize,
+    mx: usize,
+    my: usize,
+    n: usize,
+)
+    requires { ⌜ length (now buffer) ≡ 384 ⌝ }
+    requires { ⌜ (length (now vram) ≡ 262144) × ((from ≤ to) × ((to ≤ 384) × ((r < 8) × ((mx < 65536) × ((my < 65536) × (n < 65000)))))) ⌝ }
+    ensures { λ _. ⌜ Span r from to (λ x. sourcePixelOf (now (vram .entry)) (now (registers .entry)) (now (w .entry)) (affineFloorOf mx 33280 (n + (x - from))) (affineFloorOf my 32768 (n + (x - from)))) (now (buffer .entry)) (now (buffer .exit)) ⌝ }
+{
+    let sx = affine_floor(mx, 33280, n);
+    let sy = affine_floor(my, 32768, n);
+    plain_span(vram, registers, w, buffer, r, from, to, sx, sy);
+}
+
+// A span of row r of an affine world, by the steps that its row takes.
+pub fn along_span(
+    vram: &[u8],
+    registers: &DrawingRegisters,
+    w: &[u16; 11],
+    buffer: &mut [u16; 384],
+    r: usize,
+    from: usize,
+    to: usize,
+    mx: usize,
+    my: usize,
+    dx: usize,
+    dy: usize,
+    n: usize,
+)
+    requires { ⌜ length (now buffer) ≡ 384 ⌝ }
+    requires { ⌜ (length (now vram) ≡ 262144) × ((from ≤ to) × ((to ≤ 384) × ((r < 8) × ((mx < 65536) × ((my < 65536) × ((dx < 65536) × ((dy < 65536) × (n < 65000)))))))) ⌝ }
+    ensures { λ _. ⌜ Span r from to (λ x. sourcePixelOf (now (vram .entry)) (now (registers .entry)) (now (w .entry)) (affineFloorOf mx dx (n + (x - from))) (affineFloorOf my dy (n + (x - from)))) (now (buffer .entry)) (now (buffer .exit)) ⌝ }
+{
+    if dx != 33280 {
+        affine_span(vram, registers, w, buffer, r, from, to, mx, my, dx, dy, n);
+        return;
+    }
+    if dy != 32768 {
+        affine_span(vram, registers, w, buffer, r, from, to, mx, my, dx, dy, n);
+        return;
+    }
+    level_span(vram, registers, w, buffer, r, from, to, mx, my, n);
+}

@@ -8,7 +8,7 @@ ghost use Rattle.drawing_pixel.specs.World.{bgmOf, windowLeftOf, columnsOf, wor
 ghost use Rattle.drawing_pixel.specs.Background.{sourcePixelOf, sourceXOf, sourceYOf, backgroundPixelOf};
 ghost use Rattle.drawing_pixel.specs.Buffer.{Span, Block, Strip};
 ghost use Rattle.drawing_background.specs.Row.{rowBiasOf};
-use crate::paint::affine_span;
+use crate::paint::along_span;
 use crate::paint::plain_block;
 use crate::paint::plain_span;
 use crate::source::affine_parameter;
@@ -47,7 +47,7 @@ pub fn affine_row(
     let my = affine_parameter(vram, w, j, 2);
     let dx = affine_parameter(vram, w, j, 3);
     let dy = affine_parameter(vram, w, j, 4);
-    affine_span(
+    along_span(
         vram,
         registers,
         w,

@@ -13,6 +13,7 @@ use bus::device::drawing_in;
 use bus_timer::Hardware;
 use processor_machine::Answer;
 use processor_machine::Mode;
+use processor_step::step;
 use refusal::Verdict;
 ghost use mathlib.Core.Path.{_≡_};
 ghost use Rattle.bus.specs.Memory.{memoryOf};
@@ -51,8 +52,7 @@ pub fn verdict(
     )
 }
 
-// One step, as a stretch of one: its code then stands in one place, the loop of the stretch. Which bytes it read are
-// undefined is worked out from what that step fetched and the registers before it.
+// One step. Which bytes it read are undefined is worked out from what it fetched and the registers before it.
 pub fn step(
     rom: &[u8],
     wram: &mut [u8],
@@ -89,7 +89,7 @@ pub fn step(
             drawing,
         },
         Verdict::Accepted => {
-            let c = stretch::run(
+            let t = step::step(
                 rom,
                 wram,
                 vram,
@@ -100,10 +100,10 @@ pub fn step(
                 pc,
                 psw,
                 mode,
-                1,
             );
+            let c = t.control;
+            let fetched = t.fetched;
             let answer = c.answer;
-            let fetched = c.fetched;
             let before = processor.regs;
             let undefined = processor_reads::masks(answer, pc, fetched, &before);
             let mode = c.mode;

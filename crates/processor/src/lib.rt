@@ -10,7 +10,6 @@ use bus_timer::Hardware;
 use processor_machine::Answer;
 use processor_machine::Mode;
 use processor_reads::Undefined;
-use processor_step::step::Fetched;
 use refusal::Verdict;
 
 // The processor's record; the request lines and the timer are its last field.
@@ -58,13 +57,11 @@ pub enum After {
     Stopped(Verdict),
 }
 
-// What a run leaves beside the lent registers and memories; answer and fetched are the last step's.
+// What a run leaves beside the lent registers and memories.
 pub struct Finished {
     pub pc: u32,
     pub psw: u32,
     pub mode: Mode,
     pub verdict: Verdict,
     pub count: u64,
-    pub answer: Answer,
-    pub fetched: Fetched,
 }

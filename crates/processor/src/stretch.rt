@@ -2,17 +2,21 @@
 use crate::After;
 use crate::Finished;
 use bus::Device;
+use processor_interrupt::acceptance::accepts;
 use processor_machine::Answer;
 use processor_machine::Mode;
+use processor_quick::Progress;
+use processor_quick::stretch::stretch;
 use processor_step::step;
-use processor_step::step::Fetched;
 use refusal::Verdict;
 ghost use mathlib.Core.Path.{_≡_};
+ghost use mathlib.Core.List.{List};
+ghost use Prim.Native.Nat.{ℕ};
 ghost use lib.ListN.{length};
 ghost use Rattle.bus.specs.Memory.{memoryOf, Lengths};
-ghost use Rattle.processor_machine.specs.State.{stateOf, steppedOf};
-ghost use Rattle.processor_step.specs.Step.{stepOf, fetchedOf};
+ghost use Rattle.processor_machine.specs.State.{stateOf};
 ghost use Rattle.processor.specs.Run.{afterOf, runOf, ranBy};
+ghost use Rattle.processor.specs.Follows.{Follows};
 
 // An ended or trapped instruction counts, and so does an accepted interrupt; anything else stops the run.
 fn after(answer: Answer) -> After
@@ -29,7 +33,35 @@ fn after(answer: Answer) -> After
     }
 }
 
-// At most `budget` instructions and interrupts; of a budget of one, what that step answered and fetched.
+// The common instructions at PC, as long as there are any: in running mode, where no interrupt is accepted.
+fn quick(
+    rom: &[u8],
+    wram: &mut [u8],
+    vram: &mut [u8],
+    pak: &[u8],
+    device: &Device,
+    regs: &mut [u32; 32],
+    pc: u32,
+    psw: u32,
+    mode: Mode,
+    budget: u64,
+) -> Progress
+    requires { ⌜ Lengths (length (now rom)) (length (now wram)) (length (now vram)) (length (now pak)) ⌝ }
+    ensures { λ r. ⌜ ((sys : List ℕ) → Follows budget (stateOf (now (regs .entry)) sys pc psw mode) (memoryOf (now (rom .entry)) (now (wram .entry)) (now (vram .entry)) (now (pak .entry)) (now (device .entry))) (r .count) (stateOf (now (regs .exit)) sys (r .pc) (r .psw) mode) (memoryOf (now (rom .entry)) (now (wram .exit)) (now (vram .exit)) (now (pak .entry)) (now (device .entry)))) ⌝ }
+{
+    match mode {
+        Mode::Running => {
+            if accepts(device[13], psw, mode) {
+                return Progress { count: 0, pc, psw };
+            }
+            stretch(rom, wram, vram, pak, device, regs, pc, psw, budget)
+        }
+        Mode::Halted => Progress { count: 0, pc, psw },
+        Mode::Fatal => Progress { count: 0, pc, psw },
+    }
+}
+
+// At most `budget` instructions and interrupts: the common ones in a loop of their own, any other by a step.
 pub fn run(
     rom: &[u8],
     wram: &mut [u8],
@@ -44,28 +76,43 @@ pub fn run(
     budget: u64,
 ) -> Finished
     requires { ⌜ Lengths (length (now rom)) (length (now wram)) (length (now vram)) (length (now pak)) ⌝ }
-    ensures whole { λ r. ⌜ ranBy (now (regs .exit)) (now (sys .exit)) r (memoryOf (now (rom .entry)) (now (wram .exit)) (now (vram .exit)) (now (pak .exit)) (now (device .exit))) ≡ runOf budget (stateOf (now (regs .entry)) (now (sys .entry)) pc psw mode) (memoryOf (now (rom .entry)) (now (wram .entry)) (now (vram .entry)) (now (pak .entry)) (now (device .entry))) ⌝ }
-    ensures single { λ r. ⌜ (budget ≡ 1 → steppedOf (r .answer) (stateOf (now (regs .exit)) (now (sys .exit)) (r .pc) (r .psw) (r .mode)) (memoryOf (now (rom .entry)) (now (wram .exit)) (now (vram .exit)) (now (pak .exit)) (now (device .exit))) ≡ stepOf (stateOf (now (regs .entry)) (now (sys .entry)) pc psw mode) (memoryOf (now (rom .entry)) (now (wram .entry)) (now (vram .entry)) (now (pak .entry)) (now (device .entry)))) ⌝ }
-    ensures fetched { λ r. ⌜ (budget ≡ 1 → r .fetched ≡ fetchedOf (stateOf (now (regs .entry)) (now (sys .entry)) pc psw mode) (memoryOf (now (rom .entry)) (now (wram .entry)) (now (vram .entry)) (now (pak .entry)) (now (device .entry)))) ⌝ }
+    ensures { λ r. ⌜ ranBy (now (regs .exit)) (now (sys .exit)) r (memoryOf (now (rom .entry)) (now (wram .exit)) (now (vram .exit)) (now (pak .exit)) (now (device .exit))) ≡ runOf budget (stateOf (now (regs .entry)) (now (sys .entry)) pc psw mode) (memoryOf (now (rom .entry)) (now (wram .entry)) (now (vram .entry)) (now (pak .entry)) (now (device .entry))) ⌝ }
 {
     let mut pc = pc;
     let mut psw = psw;
     let mut mode = mode;
-    let mut answer = Answer::Ended;
-    let mut fetched = Fetched {
-        first: 0,
-        second: 0,
-    };
     let mut n: u64 = 0;
     while n < budget {
+        let q = quick(
+            rom,
+            wram,
+            vram,
+            pak,
+            device,
+            regs,
+            pc,
+            psw,
+            mode,
+            budget - n,
+        );
+        pc = q.pc;
+        psw = q.psw;
+        n += q.count;
+        if budget <= n {
+            return Finished {
+                pc,
+                psw,
+                mode,
+                verdict: Verdict::Accepted,
+                count: n,
+            };
+        }
         let t = step::step(rom, wram, vram, pak, device, regs, sys, pc, psw, mode);
         let c = t.control;
-        let f = t.fetched;
-        fetched = f;
         pc = c.pc;
         psw = c.psw;
         mode = c.mode;
-        answer = c.answer;
+        let answer = c.answer;
         match after(answer) {
             After::Counted => {
                 n += 1;
@@ -77,8 +124,6 @@ pub fn run(
                     mode,
                     verdict,
                     count: n,
-                    answer,
-                    fetched,
                 };
             }
         }
@@ -89,7 +134,5 @@ pub fn run(
         mode,
         verdict: Verdict::Accepted,
         count: n,
-        answer,
-        fetched,
     }
 }

@@ -50,10 +50,26 @@ pub fn loops() -> Vec<Loop> {
                 packed(0b001001, 14, 16),
             ],
         },
+        Loop {
+            what: "ADD, CVT.WS, ADDF.S, MULF.S, SUBF.S, DIVF.S, CMPF.S, TRNC.SW, BR",
+            code: vec![ADD_1_R10],
+        },
     ];
     for i in 0..8 {
         all[3].code.extend(load(4 * i));
         all[3].code.extend(store(64 + 4 * i));
+    }
+    let floating = [
+        (2, 14, 10),
+        (4, 14, 17),
+        (6, 14, 18),
+        (5, 14, 17),
+        (7, 14, 18),
+        (0, 14, 17),
+        (11, 19, 14),
+    ];
+    for (sub_opcode, reg2, reg1) in floating {
+        all[5].code.extend([packed(0b111110, reg2, reg1), sub_opcode << 10]);
     }
     for (i, one) in all.iter_mut().enumerate() {
         let condition = if i == 1 { NOT_ZERO } else { ALWAYS };
@@ -83,7 +99,14 @@ pub fn rows() -> Vec<Row> {
 }
 
 /// What the loops find in the registers, by number.
-pub const REGISTERS: [(usize, u32); 4] = [(11, u32::MAX), (12, 0x0500_0100), (15, 12_345), (16, 7)];
+pub const REGISTERS: [(usize, u32); 6] = [
+    (11, u32::MAX),
+    (12, 0x0500_0100),
+    (15, 12_345),
+    (16, 7),
+    (17, 0x4049_0FDB),
+    (18, 0x3F9E_0652),
+];
 
 fn library(rom: &[u8], wram: &mut [u8], pc: u32) -> f64 {
     let mut vram = vec![0; 262_144];

@@ -102,7 +102,7 @@ pub fn rotated(j: u16) -> [u16; 5] {
     [(3 * j).wrapping_neg(), 0, 7 * j, 444, 0u16.wrapping_sub(222)]
 }
 
-fn scenes() -> Vec<(&'static str, Scene)> {
+pub fn scenes() -> Vec<(&'static str, Scene)> {
     vec![
         ("empty", Scene::of(&[])),
         ("1 normal world, random characters", Scene::of(&many(1))),

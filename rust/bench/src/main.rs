@@ -3,12 +3,15 @@
 //! figure is the least of many rounds.
 //!
 //! `cargo run --release --offline --manifest-path rust/Cargo.toml -p bench [-- bus|cpu|replay|draw|rows]`
+//!
+//! `rust/bench/peer/run [cpu|draw|all]` times it beside an emulator instead.
 
 #![forbid(unsafe_code)]
 
 mod bus;
 mod cpu;
 mod draw;
+mod peer;
 mod replay;
 mod rows;
 
@@ -59,9 +62,14 @@ fn processor() -> String {
 }
 
 fn main() {
-    let asked = std::env::args().nth(1).unwrap_or_else(|| "all".to_string());
+    let words: Vec<String> = std::env::args().skip(1).collect();
+    if words.first().is_some_and(|word| word == "peer") {
+        println!("Processor: {}. Release build.", processor());
+        return peer::compare(&words[1..]);
+    }
+    let asked = words.first().map_or("all", String::as_str);
     let wants = |part: &str| asked == part || asked == "all";
-    if !["all", "bus", "cpu", "replay", "draw", "rows"].contains(&asked.as_str()) {
+    if !["all", "bus", "cpu", "replay", "draw", "rows"].contains(&asked) {
         eprintln!("usage: bench [bus|cpu|replay|draw|rows]");
         std::process::exit(2);
     }

@@ -19,8 +19,6 @@
 mod brightness;
 mod calls;
 mod instructions;
-mod pixel_bytes;
-mod lists;
 mod lists;
 mod pixel_bytes;
 mod probe;
@@ -33,8 +31,6 @@ mod undefined;
 pub use brightness::{display, load_column_table, View};
 pub use calls::{character, Answer, Cause, Ran, Stop};
 pub use instructions::{decode, encode, left_out, op, Decoded, Halfwords, Instruction};
-pub use pixel_bytes::NoList;
-pub use lists::{read, write};
 pub use lists::{read, write};
 pub use pixel_bytes::NoList;
 pub use probe::{Probe, Width};
@@ -43,10 +39,6 @@ pub use refusal::{grouped, Refusal};
 pub use replays::{record, End, Replayed, Word, RECORD_LENGTH};
 pub use states::{move_state, salvage_state, Salvaged};
 pub use undefined::{Mask, Read, Undefined};
-pub use vbsys::{state_bytes, Access, Memories, ProbeMemories, ReadMemories};
-pub use states::{move_state, salvage_state, Form, Salvaged};
-pub use undefined::{Mask, Read, Undefined};
-pub use vbsys::{state_2_bytes, state_bytes, Memories, ProbeMemories, ReadMemories};
 pub use vbsys::{state_2_bytes, state_bytes, Access, Memories, ProbeMemories, ReadMemories};
 
 /// Bytes of WRAM.

@@ -8,7 +8,8 @@ use std::path::{Path, PathBuf};
 use std::process::Command;
 
 use vbsys::{
-    op, Access, Decoded, Drawing, Encoded, Hardware, Instruction, Listed, Loaded, Machine, Part, Processor, Ran, Replayed, Restored, Salvaged, Stepped, Stored, Ticked, Undefined,
+    op, Access, Decoded, Drawing, Encoded, Hardware, Instruction, Listed, Loaded, Machine, Part,
+    Processor, Ran, Replayed, Restored, Salvaged, Stepped, Stored, Ticked, Undefined,
 };
 
 /// One line of the C program: a name, and the expression whose value it has.
@@ -74,7 +75,6 @@ fn facts() -> Vec<Fact> {
     fields!(facts, Listed, "vb_listed", refusal, count);
     fields!(facts, Access, "vb_access", address, size, write, value, undefined);
     fields!(facts, Replayed, "vb_replayed", refusal, answer, agreed, word, processor, drawing);
-    fields!(facts, Salvaged, "vb_salvaged", refusal, replaced, kinds, contents_differ);
     for pak in [0, 1, 8_192, 16_777_216] {
         let expression = format!("VB_STATE_BYTES({pak})");
         facts.push(Fact { expression, here: vbsys::state_bytes(pak) });
@@ -196,7 +196,6 @@ fn layouts_have_no_surprises() {
     assert_eq!(size_of::<Processor>(), 43 * 4 + 4 * 2);
     assert_eq!(size_of::<Stored>(), 40);
     assert_eq!(size_of::<Ticked>(), 12);
-    assert_eq!(size_of::<Processor>(), 43 * 4 + 8);
     assert_eq!(size_of::<Drawing>(), 13 * 2);
     assert_eq!(size_of::<Loaded>(), 12);
     assert_eq!(size_of::<Instruction>(), 20);

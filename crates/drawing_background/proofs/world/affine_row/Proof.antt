@@ -24,11 +24,11 @@ affine-parameter-requires-5 c κs = search needs
 affine-shift-requires : tie.Need-affine-shift-requires
 affine-shift-requires c κs = search needs
 
-add-affine-span : tie.Need-add-affine-span
-add-affine-span c = search needs
+add-along-span : tie.Need-add-along-span
+add-along-span c = search needs
 
-affine-span-requires : tie.Need-affine-span-requires
-affine-span-requires c κs = search needs
+along-span-requires : tie.Need-along-span-requires
+along-span-requires c κs = search needs
 
 returns : tie.Need-returns
 returns c = let a = c .before .before .before .before .before .before .before .before .before .args in
@@ -42,7 +42,7 @@ returns c = let a = c .before .before .before .before .before .before .before .b
     (c .before .before .before .before .affine-parameter4 .ensures .0)
     (c .before .before .before .affine-parameter5 .ensures .0)
     (c .before .affine-shift .ensures .0) v)
-    (c .affine-span .ensures)
+    (c .along-span .ensures)
 
 pub affine-row-spec : {M : Type 1} → statement M
 affine-row-spec =
@@ -54,6 +54,6 @@ affine-row-spec =
     affine-parameter-requires-4
     affine-parameter-requires-5
     affine-shift-requires
-    add-affine-span
-    affine-span-requires
+    add-along-span
+    along-span-requires
     returns)

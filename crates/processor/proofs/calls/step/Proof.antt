@@ -1,6 +1,6 @@
--- `processor::calls::step`: refused as the definition says, else what a stretch of one promises, and the masks of what
--- it fetched.
-use mathlib.Core.Path.{refl, sym, _∙_}
+-- `processor::calls::step`: refused as the definition says, else what a step promises, and the masks of what it
+-- fetched.
+use mathlib.Core.Path.{sym, _∙_}
 use borrow.Author.Needs.{needs}
 use Rattle.processor.proofs.Checked.{step-accepted}
 use Rattle.processor.proofs.Lengths.{lengths-of-accepted}
@@ -26,8 +26,8 @@ none-requires c κs = search needs
 enum-told : tie.Need-enum-told
 enum-told c = search needs
 
-run-requires : tie.Need-run-requires
-run-requires c κs = lengths-of-accepted _ _ _ _ _ _ _ _ _ (sym (c .before .before .before .before .before .before .before .before .acceptance .ensures) ∙ c .before .before .before .before .before .before .enum-told .given .1)
+step-requires : tie.Need-step-requires
+step-requires c κs = lengths-of-accepted _ _ _ _ _ _ _ _ _ (sym (c .before .before .before .before .before .before .before .before .acceptance .ensures) ∙ c .before .before .before .before .before .before .enum-told .given .1)
 
 masks-requires : tie.Need-masks-requires
 masks-requires c κs = search needs
@@ -53,11 +53,11 @@ same-length-3 c = search needs
 
 returns-2 : tie.Need-returns-2
 returns-2 c =
-    let a = c .before .before .before .before .before .before .before .before .before .before .before .before .before .before .before .before .before .before .before .before .before .before .before .before .before .before .before .before .before .before .before .before .before .before .before .before .args in
-    let system = c .before .before .before .before .before .before .before .before .before .before .before .before .before .before .before .before .before .before .before .before .before .before .before .before .before .before .before .before .before .before .system in
-    let run = c .before .before .before .before .before .before .before .before .before .before .before .before .before .before .run .ensures .1 in
+    let a = c .before .before .before .before .before .before .before .before .before .before .before .before .before .before .before .before .before .before .before .before .before .before .before .before .before .before .before .before .before .before .before .before .before .before .before .before .before .args in
+    let system = c .before .before .before .before .before .before .before .before .before .before .before .before .before .before .before .before .before .before .before .before .before .before .before .before .before .before .before .before .before .before .before .system in
+    let step = c .before .before .before .before .before .before .before .before .before .before .before .before .before .before .before .step .ensures in
     rw (c .drawing-in .ensures, c .before .before .joined .ensures)
-    (step-accepted (a .processor) _ _ _ _ (system .ensures) (c .before .before .before .before .before .before .before .before .before .before .before .before .before .before .before .before .before .before .before .before .before .before .before .before .before .before .before .device-of .ensures) (c .before .before .before .before .before .before .before .before .before .before .before .before .before .before .before .before .before .before .before .before .before .before .before .acceptance .ensures) (c .before .before .before .before .before .before .before .before .before .before .before .before .before .before .before .before .before .before .before .before .before .enum-told .given .1) _ (run .0 refl) _ (run .1 refl) _ (c .before .before .before .before .masks .ensures (system .result) (a .processor .psw) (a .processor .mode) _))
+    (step-accepted (a .processor) _ _ _ _ (system .ensures) (c .before .before .before .before .before .before .before .before .before .before .before .before .before .before .before .before .before .before .before .before .before .before .before .before .before .before .before .before .device-of .ensures) (c .before .before .before .before .before .before .before .before .before .before .before .before .before .before .before .before .before .before .before .before .before .before .before .before .acceptance .ensures) (c .before .before .before .before .before .before .before .before .before .before .before .before .before .before .before .before .before .before .before .before .before .before .enum-told .given .1) _ (step .0) _ (step .1) _ (c .before .before .before .before .masks .ensures (system .result) (a .processor .psw) (a .processor .mode) _))
 
 pub step-spec : {M : Type 1} → statement M
 step-spec =
@@ -69,7 +69,7 @@ step-spec =
     enum-known-n
     none-requires
     enum-told
-    run-requires
+    step-requires
     masks-requires
     joined-requires
     drawing-in-requires

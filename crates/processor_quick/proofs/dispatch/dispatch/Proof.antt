@@ -77,28 +77,28 @@ sar-immediate-requires : tie.Need-sar-immediate-requires
 sar-immediate-requires c κs = tt
 
 overflow-carry-requires : tie.Need-overflow-carry-requires
-overflow-carry-requires c κs = c .match .keys24
+overflow-carry-requires c κs = c .match .keys33
 
 zero-not-higher-requires : tie.Need-zero-not-higher-requires
-zero-not-higher-requires c κs = c .match .keys25
+zero-not-higher-requires c κs = c .match .keys34
 
 negative-always-requires : tie.Need-negative-always-requires
-negative-always-requires c κs = c .match .keys26
+negative-always-requires c κs = c .match .keys35
 
 less-requires : tie.Need-less-requires
-less-requires c κs = c .match .keys27
+less-requires c κs = c .match .keys36
 
 no-overflow-no-carry-requires : tie.Need-no-overflow-no-carry-requires
-no-overflow-no-carry-requires c κs = c .match .keys28
+no-overflow-no-carry-requires c κs = c .match .keys37
 
 not-zero-higher-requires : tie.Need-not-zero-higher-requires
-not-zero-higher-requires c κs = c .match .keys29
+not-zero-higher-requires c κs = c .match .keys38
 
 positive-never-requires : tie.Need-positive-never-requires
-positive-never-requires c κs = c .match .keys30
+positive-never-requires c κs = c .match .keys39
 
 greater-requires : tie.Need-greater-requires
-greater-requires c κs = c .match .keys31
+greater-requires c κs = c .match .keys40
 
 movea-requires : tie.Need-movea-requires
 movea-requires c κs = c .before .before .before .before .before .before .pre .2
@@ -296,106 +296,133 @@ returns-22 c =
     rw (c .before .before .match .keys22) (c .shr-immediate .ensures (memoryOf (now (a .rom)) (now (a .wram)) (now (a .vram)) (now (a .pak)) (now (a .device))) (a .base))
 
 returns-23 : tie.Need-returns-23
-unfolding decodeOf shortRows
-returns-23 c =
-    let a = c .before .before .before .before .before .before .before .args in
-    rw (c .before .before .match .keys23) (c .sar-immediate .ensures (memoryOf (now (a .rom)) (now (a .wram)) (now (a .vram)) (now (a .pak)) (now (a .device))) (a .base))
+returns-23 c = λ psw sys even aligned. (refl, refl)
 
 returns-24 : tie.Need-returns-24
-unfolding decodeOf shortRows branchRows
+unfolding decodeOf shortRows
 returns-24 c =
-    let a = c .before .before .before .before .before .before .args in
-    rw (c .before .match .keys24) (c .overflow-carry .ensures (now (a .regs)) (memoryOf (now (a .rom)) (now (a .wram)) (now (a .vram)) (now (a .pak)) (now (a .device))) (a .base))
+    let a = c .before .before .before .before .before .before .before .args in
+    rw (c .before .before .match .keys24) (c .sar-immediate .ensures (memoryOf (now (a .rom)) (now (a .wram)) (now (a .vram)) (now (a .pak)) (now (a .device))) (a .base))
 
 returns-25 : tie.Need-returns-25
-unfolding decodeOf shortRows branchRows
-returns-25 c =
-    let a = c .before .before .before .before .before .before .args in
-    rw (c .before .match .keys25) (c .zero-not-higher .ensures (now (a .regs)) (memoryOf (now (a .rom)) (now (a .wram)) (now (a .vram)) (now (a .pak)) (now (a .device))) (a .base))
+returns-25 c = λ psw sys even aligned. (refl, refl)
 
 returns-26 : tie.Need-returns-26
-unfolding decodeOf shortRows branchRows
-returns-26 c =
-    let a = c .before .before .before .before .before .before .args in
-    rw (c .before .match .keys26) (c .negative-always .ensures (now (a .regs)) (memoryOf (now (a .rom)) (now (a .wram)) (now (a .vram)) (now (a .pak)) (now (a .device))) (a .base))
+returns-26 c = λ psw sys even aligned. (refl, refl)
 
 returns-27 : tie.Need-returns-27
-unfolding decodeOf shortRows branchRows
-returns-27 c =
-    let a = c .before .before .before .before .before .before .args in
-    rw (c .before .match .keys27) (c .less .ensures (now (a .regs)) (memoryOf (now (a .rom)) (now (a .wram)) (now (a .vram)) (now (a .pak)) (now (a .device))) (a .base))
+returns-27 c = λ psw sys even aligned. (refl, refl)
 
 returns-28 : tie.Need-returns-28
-unfolding decodeOf shortRows branchRows
-returns-28 c =
-    let a = c .before .before .before .before .before .before .args in
-    rw (c .before .match .keys28) (c .no-overflow-no-carry .ensures (now (a .regs)) (memoryOf (now (a .rom)) (now (a .wram)) (now (a .vram)) (now (a .pak)) (now (a .device))) (a .base))
+returns-28 c = λ psw sys even aligned. (refl, refl)
 
 returns-29 : tie.Need-returns-29
-unfolding decodeOf shortRows branchRows
-returns-29 c =
-    let a = c .before .before .before .before .before .before .args in
-    rw (c .before .match .keys29) (c .not-zero-higher .ensures (now (a .regs)) (memoryOf (now (a .rom)) (now (a .wram)) (now (a .vram)) (now (a .pak)) (now (a .device))) (a .base))
+returns-29 c = λ psw sys even aligned. (refl, refl)
 
 returns-30 : tie.Need-returns-30
-unfolding decodeOf shortRows branchRows
-returns-30 c =
-    let a = c .before .before .before .before .before .before .args in
-    rw (c .before .match .keys30) (c .positive-never .ensures (now (a .regs)) (memoryOf (now (a .rom)) (now (a .wram)) (now (a .vram)) (now (a .pak)) (now (a .device))) (a .base))
+returns-30 c = λ psw sys even aligned. (refl, refl)
 
 returns-31 : tie.Need-returns-31
-unfolding decodeOf shortRows branchRows
-returns-31 c =
-    let a = c .before .before .before .before .before .before .args in
-    rw (c .before .match .keys31) (c .greater .ensures (now (a .regs)) (memoryOf (now (a .rom)) (now (a .wram)) (now (a .vram)) (now (a .pak)) (now (a .device))) (a .base))
+returns-31 c = λ psw sys even aligned. (refl, refl)
 
 returns-32 : tie.Need-returns-32
-unfolding decodeOf shortRows branchRows longRows
-returns-32 c =
-    let a = c .before .before .before .before .before .before .before .args in
-    rw (c .before .before .match .keys32) (c .movea .ensures (memoryOf (now (a .rom)) (now (a .wram)) (now (a .vram)) (now (a .pak)) (now (a .device))) (a .base))
+returns-32 c = λ psw sys even aligned. (refl, refl)
 
 returns-33 : tie.Need-returns-33
-unfolding decodeOf shortRows branchRows longRows
+unfolding decodeOf shortRows branchRows
 returns-33 c =
-    let a = c .before .before .before .before .before .before .before .args in
-    rw (c .before .before .match .keys33) (c .addi .ensures (memoryOf (now (a .rom)) (now (a .wram)) (now (a .vram)) (now (a .pak)) (now (a .device))) (a .base))
+    let a = c .before .before .before .before .before .before .args in
+    rw (c .before .match .keys33) (c .overflow-carry .ensures (now (a .regs)) (memoryOf (now (a .rom)) (now (a .wram)) (now (a .vram)) (now (a .pak)) (now (a .device))) (a .base))
 
 returns-34 : tie.Need-returns-34
-unfolding decodeOf shortRows branchRows longRows
+unfolding decodeOf shortRows branchRows
 returns-34 c =
     let a = c .before .before .before .before .before .before .args in
-    rw (c .before .match .keys34) (c .jr .ensures (now (a .regs)) (memoryOf (now (a .rom)) (now (a .wram)) (now (a .vram)) (now (a .pak)) (now (a .device))) (a .base))
+    rw (c .before .match .keys34) (c .zero-not-higher .ensures (now (a .regs)) (memoryOf (now (a .rom)) (now (a .wram)) (now (a .vram)) (now (a .pak)) (now (a .device))) (a .base))
 
 returns-35 : tie.Need-returns-35
-unfolding decodeOf shortRows branchRows longRows
+unfolding decodeOf shortRows branchRows
 returns-35 c =
-    let a = c .before .before .before .before .before .before .before .args in
-    rw (c .before .before .match .keys35) (c .jal .ensures (memoryOf (now (a .rom)) (now (a .wram)) (now (a .vram)) (now (a .pak)) (now (a .device))))
+    let a = c .before .before .before .before .before .before .args in
+    rw (c .before .match .keys35) (c .negative-always .ensures (now (a .regs)) (memoryOf (now (a .rom)) (now (a .wram)) (now (a .vram)) (now (a .pak)) (now (a .device))) (a .base))
 
 returns-36 : tie.Need-returns-36
-unfolding decodeOf shortRows branchRows longRows
+unfolding decodeOf shortRows branchRows
 returns-36 c =
-    let a = c .before .before .before .before .before .before .before .args in
-    rw (c .before .before .match .keys36) (c .ori .ensures (memoryOf (now (a .rom)) (now (a .wram)) (now (a .vram)) (now (a .pak)) (now (a .device))) (a .base))
+    let a = c .before .before .before .before .before .before .args in
+    rw (c .before .match .keys36) (c .less .ensures (now (a .regs)) (memoryOf (now (a .rom)) (now (a .wram)) (now (a .vram)) (now (a .pak)) (now (a .device))) (a .base))
 
 returns-37 : tie.Need-returns-37
-unfolding decodeOf shortRows branchRows longRows
+unfolding decodeOf shortRows branchRows
 returns-37 c =
-    let a = c .before .before .before .before .before .before .before .args in
-    rw (c .before .before .match .keys37) (c .andi .ensures (memoryOf (now (a .rom)) (now (a .wram)) (now (a .vram)) (now (a .pak)) (now (a .device))) (a .base))
+    let a = c .before .before .before .before .before .before .args in
+    rw (c .before .match .keys37) (c .no-overflow-no-carry .ensures (now (a .regs)) (memoryOf (now (a .rom)) (now (a .wram)) (now (a .vram)) (now (a .pak)) (now (a .device))) (a .base))
 
 returns-38 : tie.Need-returns-38
-unfolding decodeOf shortRows branchRows longRows
+unfolding decodeOf shortRows branchRows
 returns-38 c =
-    let a = c .before .before .before .before .before .before .before .args in
-    rw (c .before .before .match .keys38) (c .xori .ensures (memoryOf (now (a .rom)) (now (a .wram)) (now (a .vram)) (now (a .pak)) (now (a .device))) (a .base))
+    let a = c .before .before .before .before .before .before .args in
+    rw (c .before .match .keys38) (c .not-zero-higher .ensures (now (a .regs)) (memoryOf (now (a .rom)) (now (a .wram)) (now (a .vram)) (now (a .pak)) (now (a .device))) (a .base))
 
 returns-39 : tie.Need-returns-39
-unfolding decodeOf shortRows branchRows longRows
+unfolding decodeOf shortRows branchRows
 returns-39 c =
+    let a = c .before .before .before .before .before .before .args in
+    rw (c .before .match .keys39) (c .positive-never .ensures (now (a .regs)) (memoryOf (now (a .rom)) (now (a .wram)) (now (a .vram)) (now (a .pak)) (now (a .device))) (a .base))
+
+returns-40 : tie.Need-returns-40
+unfolding decodeOf shortRows branchRows
+returns-40 c =
+    let a = c .before .before .before .before .before .before .args in
+    rw (c .before .match .keys40) (c .greater .ensures (now (a .regs)) (memoryOf (now (a .rom)) (now (a .wram)) (now (a .vram)) (now (a .pak)) (now (a .device))) (a .base))
+
+returns-41 : tie.Need-returns-41
+unfolding decodeOf shortRows branchRows longRows
+returns-41 c =
     let a = c .before .before .before .before .before .before .before .args in
-    rw (c .before .before .match .keys39) (c .movhi .ensures (memoryOf (now (a .rom)) (now (a .wram)) (now (a .vram)) (now (a .pak)) (now (a .device))) (a .base))
+    rw (c .before .before .match .keys41) (c .movea .ensures (memoryOf (now (a .rom)) (now (a .wram)) (now (a .vram)) (now (a .pak)) (now (a .device))) (a .base))
+
+returns-42 : tie.Need-returns-42
+unfolding decodeOf shortRows branchRows longRows
+returns-42 c =
+    let a = c .before .before .before .before .before .before .before .args in
+    rw (c .before .before .match .keys42) (c .addi .ensures (memoryOf (now (a .rom)) (now (a .wram)) (now (a .vram)) (now (a .pak)) (now (a .device))) (a .base))
+
+returns-43 : tie.Need-returns-43
+unfolding decodeOf shortRows branchRows longRows
+returns-43 c =
+    let a = c .before .before .before .before .before .before .args in
+    rw (c .before .match .keys43) (c .jr .ensures (now (a .regs)) (memoryOf (now (a .rom)) (now (a .wram)) (now (a .vram)) (now (a .pak)) (now (a .device))) (a .base))
+
+returns-44 : tie.Need-returns-44
+unfolding decodeOf shortRows branchRows longRows
+returns-44 c =
+    let a = c .before .before .before .before .before .before .before .args in
+    rw (c .before .before .match .keys44) (c .jal .ensures (memoryOf (now (a .rom)) (now (a .wram)) (now (a .vram)) (now (a .pak)) (now (a .device))))
+
+returns-45 : tie.Need-returns-45
+unfolding decodeOf shortRows branchRows longRows
+returns-45 c =
+    let a = c .before .before .before .before .before .before .before .args in
+    rw (c .before .before .match .keys45) (c .ori .ensures (memoryOf (now (a .rom)) (now (a .wram)) (now (a .vram)) (now (a .pak)) (now (a .device))) (a .base))
+
+returns-46 : tie.Need-returns-46
+unfolding decodeOf shortRows branchRows longRows
+returns-46 c =
+    let a = c .before .before .before .before .before .before .before .args in
+    rw (c .before .before .match .keys46) (c .andi .ensures (memoryOf (now (a .rom)) (now (a .wram)) (now (a .vram)) (now (a .pak)) (now (a .device))) (a .base))
+
+returns-47 : tie.Need-returns-47
+unfolding decodeOf shortRows branchRows longRows
+returns-47 c =
+    let a = c .before .before .before .before .before .before .before .args in
+    rw (c .before .before .match .keys47) (c .xori .ensures (memoryOf (now (a .rom)) (now (a .wram)) (now (a .vram)) (now (a .pak)) (now (a .device))) (a .base))
+
+returns-48 : tie.Need-returns-48
+unfolding decodeOf shortRows branchRows longRows
+returns-48 c =
+    let a = c .before .before .before .before .before .before .before .args in
+    rw (c .before .before .match .keys48) (c .movhi .ensures (memoryOf (now (a .rom)) (now (a .wram)) (now (a .vram)) (now (a .pak)) (now (a .device))) (a .base))
 
 same-length : tie.Need-same-length
 same-length c = search needs
@@ -403,11 +430,11 @@ same-length c = search needs
 same-length-2 : tie.Need-same-length-2
 same-length-2 c = search needs
 
-returns-40 : tie.Need-returns-40
+returns-49 : tie.Need-returns-49
 unfolding decodeOf shortRows branchRows longRows
-returns-40 c =
+returns-49 c =
     let a = c .before .before .before .before .before .before .before .before .before .args in
-    rw (c .before .before .before .before .match .keys40) (c .load-byte .ensures (a .base))
+    rw (c .before .before .before .before .match .keys49) (c .load-byte .ensures (a .base))
 
 same-length-3 : tie.Need-same-length-3
 same-length-3 c = search needs
@@ -415,11 +442,14 @@ same-length-3 c = search needs
 same-length-4 : tie.Need-same-length-4
 same-length-4 c = search needs
 
-returns-41 : tie.Need-returns-41
+returns-50 : tie.Need-returns-50
 unfolding decodeOf shortRows branchRows longRows
-returns-41 c =
+returns-50 c =
     let a = c .before .before .before .before .before .before .before .before .before .args in
-    rw (c .before .before .before .before .match .keys41) (c .load-half .ensures (a .base))
+    rw (c .before .before .before .before .match .keys50) (c .load-half .ensures (a .base))
+
+returns-51 : tie.Need-returns-51
+returns-51 c = λ psw sys even aligned. (refl, refl)
 
 same-length-5 : tie.Need-same-length-5
 same-length-5 c = search needs
@@ -427,11 +457,11 @@ same-length-5 c = search needs
 same-length-6 : tie.Need-same-length-6
 same-length-6 c = search needs
 
-returns-42 : tie.Need-returns-42
+returns-52 : tie.Need-returns-52
 unfolding decodeOf shortRows branchRows longRows
-returns-42 c =
+returns-52 c =
     let a = c .before .before .before .before .before .before .before .before .before .args in
-    rw (c .before .before .before .before .match .keys42) (c .load-word .ensures .0 (a .base))
+    rw (c .before .before .before .before .match .keys52) (c .load-word .ensures .0 (a .base))
 
 same-length-7 : tie.Need-same-length-7
 same-length-7 c = search needs
@@ -439,11 +469,11 @@ same-length-7 c = search needs
 same-length-8 : tie.Need-same-length-8
 same-length-8 c = search needs
 
-returns-43 : tie.Need-returns-43
+returns-53 : tie.Need-returns-53
 unfolding decodeOf shortRows branchRows longRows
-returns-43 c =
+returns-53 c =
     let a = c .before .before .before .before .before .before .before .before .before .before .before .before .before .args in
-    rw (c .before .before .before .before .before .before .before .before .match .keys43) (c .before .before .before .before .store-byte .ensures .0 (now (a .rom)) (now (a .pak)) (now (a .device)) (a .base))
+    rw (c .before .before .before .before .before .before .before .before .match .keys53) (c .before .before .before .before .store-byte .ensures .0 (now (a .rom)) (now (a .pak)) (now (a .device)) (a .base))
 
 same-length-9 : tie.Need-same-length-9
 same-length-9 c = search needs
@@ -451,11 +481,14 @@ same-length-9 c = search needs
 same-length-10 : tie.Need-same-length-10
 same-length-10 c = search needs
 
-returns-44 : tie.Need-returns-44
+returns-54 : tie.Need-returns-54
 unfolding decodeOf shortRows branchRows longRows
-returns-44 c =
+returns-54 c =
     let a = c .before .before .before .before .before .before .before .before .before .before .before .before .before .args in
-    rw (c .before .before .before .before .before .before .before .before .match .keys44) (c .before .before .before .before .store-half .ensures .0 (now (a .rom)) (now (a .pak)) (now (a .device)) (a .base))
+    rw (c .before .before .before .before .before .before .before .before .match .keys54) (c .before .before .before .before .store-half .ensures .0 (now (a .rom)) (now (a .pak)) (now (a .device)) (a .base))
+
+returns-55 : tie.Need-returns-55
+returns-55 c = λ psw sys even aligned. (refl, refl)
 
 same-length-11 : tie.Need-same-length-11
 same-length-11 c = search needs
@@ -463,11 +496,11 @@ same-length-11 c = search needs
 same-length-12 : tie.Need-same-length-12
 same-length-12 c = search needs
 
-returns-45 : tie.Need-returns-45
+returns-56 : tie.Need-returns-56
 unfolding decodeOf shortRows branchRows longRows
-returns-45 c =
+returns-56 c =
     let a = c .before .before .before .before .before .before .before .before .before .before .before .before .before .args in
-    rw (c .before .before .before .before .before .before .before .before .match .keys45) (c .before .before .before .before .store-word .ensures .0 (now (a .rom)) (now (a .pak)) (now (a .device)) (a .base))
+    rw (c .before .before .before .before .before .before .before .before .match .keys56) (c .before .before .before .before .store-word .ensures .0 (now (a .rom)) (now (a .pak)) (now (a .device)) (a .base))
 
 same-length-13 : tie.Need-same-length-13
 same-length-13 c = search needs
@@ -475,11 +508,11 @@ same-length-13 c = search needs
 same-length-14 : tie.Need-same-length-14
 same-length-14 c = search needs
 
-returns-46 : tie.Need-returns-46
+returns-57 : tie.Need-returns-57
 unfolding decodeOf shortRows branchRows longRows
-returns-46 c =
+returns-57 c =
     let a = c .before .before .before .before .before .before .before .before .before .args in
-    rw (c .before .before .before .before .match .keys46) (c .input-byte .ensures (a .base))
+    rw (c .before .before .before .before .match .keys57) (c .input-byte .ensures (a .base))
 
 same-length-15 : tie.Need-same-length-15
 same-length-15 c = search needs
@@ -487,11 +520,14 @@ same-length-15 c = search needs
 same-length-16 : tie.Need-same-length-16
 same-length-16 c = search needs
 
-returns-47 : tie.Need-returns-47
+returns-58 : tie.Need-returns-58
 unfolding decodeOf shortRows branchRows longRows
-returns-47 c =
+returns-58 c =
     let a = c .before .before .before .before .before .before .before .before .before .args in
-    rw (c .before .before .before .before .match .keys47) (c .input-half .ensures (a .base))
+    rw (c .before .before .before .before .match .keys58) (c .input-half .ensures (a .base))
+
+returns-59 : tie.Need-returns-59
+returns-59 c = λ psw sys even aligned. (refl, refl)
 
 same-length-17 : tie.Need-same-length-17
 same-length-17 c = search needs
@@ -499,11 +535,11 @@ same-length-17 c = search needs
 same-length-18 : tie.Need-same-length-18
 same-length-18 c = search needs
 
-returns-48 : tie.Need-returns-48
+returns-60 : tie.Need-returns-60
 unfolding decodeOf shortRows branchRows longRows
-returns-48 c =
+returns-60 c =
     let a = c .before .before .before .before .before .before .before .before .before .args in
-    rw (c .before .before .before .before .match .keys48) (c .load-word2 .ensures .1 (a .base))
+    rw (c .before .before .before .before .match .keys60) (c .load-word2 .ensures .1 (a .base))
 
 same-length-19 : tie.Need-same-length-19
 same-length-19 c = search needs
@@ -511,11 +547,11 @@ same-length-19 c = search needs
 same-length-20 : tie.Need-same-length-20
 same-length-20 c = search needs
 
-returns-49 : tie.Need-returns-49
+returns-61 : tie.Need-returns-61
 unfolding decodeOf shortRows branchRows longRows
-returns-49 c =
+returns-61 c =
     let a = c .before .before .before .before .before .before .before .before .before .before .before .before .before .args in
-    rw (c .before .before .before .before .before .before .before .before .match .keys49) (c .before .before .before .before .store-byte2 .ensures .1 (now (a .rom)) (now (a .pak)) (now (a .device)) (a .base))
+    rw (c .before .before .before .before .before .before .before .before .match .keys61) (c .before .before .before .before .store-byte2 .ensures .1 (now (a .rom)) (now (a .pak)) (now (a .device)) (a .base))
 
 same-length-21 : tie.Need-same-length-21
 same-length-21 c = search needs
@@ -523,17 +559,17 @@ same-length-21 c = search needs
 same-length-22 : tie.Need-same-length-22
 same-length-22 c = search needs
 
-returns-50 : tie.Need-returns-50
+returns-62 : tie.Need-returns-62
 unfolding decodeOf shortRows branchRows longRows
-returns-50 c =
+returns-62 c =
     let a = c .before .before .before .before .before .before .before .before .before .before .before .before .before .args in
-    rw (c .before .before .before .before .before .before .before .before .match .keys50) (c .before .before .before .before .store-half2 .ensures .1 (now (a .rom)) (now (a .pak)) (now (a .device)) (a .base))
+    rw (c .before .before .before .before .before .before .before .before .match .keys62) (c .before .before .before .before .store-half2 .ensures .1 (now (a .rom)) (now (a .pak)) (now (a .device)) (a .base))
 
-returns-51 : tie.Need-returns-51
+returns-63 : tie.Need-returns-63
 unfolding decodeOf shortRows branchRows longRows
-returns-51 c =
+returns-63 c =
     let a = c .before .before .before .before .before .before .before .args in
-    rw (c .before .before .match .keys51) (c .extended .ensures (memoryOf (now (a .rom)) (now (a .wram)) (now (a .vram)) (now (a .pak)) (now (a .device))) (a .base))
+    rw (c .before .before .match .keys63) (c .extended .ensures (memoryOf (now (a .rom)) (now (a .wram)) (now (a .vram)) (now (a .pak)) (now (a .device))) (a .base))
 
 same-length-23 : tie.Need-same-length-23
 same-length-23 c = search needs
@@ -541,14 +577,14 @@ same-length-23 c = search needs
 same-length-24 : tie.Need-same-length-24
 same-length-24 c = search needs
 
-returns-52 : tie.Need-returns-52
+returns-64 : tie.Need-returns-64
 unfolding decodeOf shortRows branchRows longRows
-returns-52 c =
+returns-64 c =
     let a = c .before .before .before .before .before .before .before .before .before .before .before .before .before .args in
-    rw (c .before .before .before .before .before .before .before .before .match .keys52) (c .before .before .before .before .store-word2 .ensures .1 (now (a .rom)) (now (a .pak)) (now (a .device)) (a .base))
+    rw (c .before .before .before .before .before .before .before .before .match .keys64) (c .before .before .before .before .store-word2 .ensures .1 (now (a .rom)) (now (a .pak)) (now (a .device)) (a .base))
 
-returns-53 : tie.Need-returns-53
-returns-53 c = λ psw sys even aligned. (refl, refl)
+returns-65 : tie.Need-returns-65
+returns-65 c = λ psw sys even aligned. (refl, refl)
 
 pub dispatch-spec : {M : Type 1} → statement M
 dispatch-spec =
@@ -645,41 +681,53 @@ dispatch-spec =
     returns-37
     returns-38
     returns-39
+    returns-40
+    returns-41
+    returns-42
+    returns-43
+    returns-44
+    returns-45
+    returns-46
+    returns-47
+    returns-48
     same-length
     same-length-2
-    returns-40
+    returns-49
     same-length-3
     same-length-4
-    returns-41
-    same-length-5
-    same-length-6
-    returns-42
-    same-length-7
-    same-length-8
-    returns-43
-    same-length-9
-    same-length-10
-    returns-44
-    same-length-11
-    same-length-12
-    returns-45
-    same-length-13
-    same-length-14
-    returns-46
-    same-length-15
-    same-length-16
-    returns-47
-    same-length-17
-    same-length-18
-    returns-48
-    same-length-19
-    same-length-20
-    returns-49
-    same-length-21
-    same-length-22
     returns-50
     returns-51
+    same-length-5
+    same-length-6
+    returns-52
+    same-length-7
+    same-length-8
+    returns-53
+    same-length-9
+    same-length-10
+    returns-54
+    returns-55
+    same-length-11
+    same-length-12
+    returns-56
+    same-length-13
+    same-length-14
+    returns-57
+    same-length-15
+    same-length-16
+    returns-58
+    returns-59
+    same-length-17
+    same-length-18
+    returns-60
+    same-length-19
+    same-length-20
+    returns-61
+    same-length-21
+    same-length-22
+    returns-62
+    returns-63
     same-length-23
     same-length-24
-    returns-52
-    returns-53)
+    returns-64
+    returns-65)
