@@ -60,6 +60,7 @@ ObjectsInOrder =
     → objectsPixelOf vram regs w eye x y (suc n) k before
     ≡ objectPixelOf vram regs w (objectOf vram (drawnOf n k)) eye x y (objectsPixelOf vram regs w eye x y n k before)
 
+-- 01: "group 0 ends at object 0": its objects are SPT0, SPT0 - 1, .., 0
 abbrev pub GroupZero : Type 0
 GroupZero =
     (regs : List ℕ) (i : ℕ) → sptOf regs 0 < 1024 → i < groupCountOf regs 0 → drawnOf i (sptOf regs 0) ≡ sptOf regs 0 - i

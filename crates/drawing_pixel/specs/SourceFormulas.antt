@@ -1,6 +1,6 @@
 -- Paper 01, "Normal", "H-bias" and "Affine", over the integers: the source of a window's offsets i and j. The
 -- definitions keep source x and y plus 2 ^ 23 = 8,388,608. Affine's hold for every i below 65,536; `offset-small` of
--- WindowFormulas says that the offset of a covered column is.
+-- proofs/WindowFormulas says that the offset of a covered column is.
 use Prim.Native.Nat.{ℕ, _+_, _-_, _*_, _<_}
 use mathlib.Core.Path.{_≡_}
 use mathlib.Core.List.{List}

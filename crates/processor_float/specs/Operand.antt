@@ -16,7 +16,7 @@ sizeBitsOf w = w % 2 ^ 31
 abbrev pub isZero : ℕ → Bool
 isZero w = eqb (sizeBitsOf w) 0
 
--- "A reserved operand" is an infinity, a NaN or a denormal
+-- "An infinity, a not-a-number or a nonzero subnormal is a reserved operand"
 abbrev pub reservedOf : ℕ → Bool
 reservedOf w = leb 0x7F800000 (sizeBitsOf w) || (ltb 0 (sizeBitsOf w) && ltb (sizeBitsOf w) 0x00800000)
 

@@ -1,4 +1,4 @@
--- What it is to be the nearest float (request W4: "Each result is rounded once, to nearest, ties to even"), over whole
+-- What it is to be the nearest float (request W4: "each result is rounded once to nearest, ties to even"), over whole
 -- numbers: no finite word's value is nearer to num / den, and where another's is as near, the word is even.
 use Prim.Native.Nat.{ℕ, _%_, _^_, _<_, _≤_}
 use mathlib.Core.Path.{_≡_}

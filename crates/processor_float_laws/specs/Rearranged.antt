@@ -10,14 +10,14 @@ use Rattle.processor_float.specs.Nintendo.{xbOf, xhOf, revOf, mpyhwOf}
 abbrev pub byteAt : ℕ → ℕ → ℕ
 byteAt i w = w / 256 ^ i % 256
 
--- "reg2 with its two low bytes exchanged"
+-- XB, "Exchange Byte": reg2 with its two low bytes exchanged
 pub record BytesExchanged (w : ℕ) : Type 0 where
   pub byte0 : byteAt 0 (xbOf w) ≡ byteAt 1 w
   pub byte1 : byteAt 1 (xbOf w) ≡ byteAt 0 w
   pub byte2 : byteAt 2 (xbOf w) ≡ byteAt 2 w
   pub byte3 : byteAt 3 (xbOf w) ≡ byteAt 3 w
 
--- "reg2 with its halfwords exchanged"
+-- XH, "Exchange Halfword": reg2 with its halfwords exchanged
 pub record HalvesExchanged (w : ℕ) : Type 0 where
   pub byte0 : byteAt 0 (xhOf w) ≡ byteAt 2 w
   pub byte1 : byteAt 1 (xhOf w) ≡ byteAt 3 w

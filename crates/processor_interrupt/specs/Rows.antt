@@ -1,4 +1,4 @@
--- Worked rows of W6: what an interrupt leaves of PC, PSW, EIPC and EIPSW, and which lines are not accepted.
+-- Worked rows of W6: what an interrupt leaves of PC, PSW, EIPC, EIPSW and ECR, and which lines are not accepted.
 use Prim.Native.Nat.{ℕ}
 use mathlib.Core.Bool.{Bool, true, false}
 use mathlib.Core.List.{List, [], _∷_, map}
@@ -19,7 +19,7 @@ pub record Row : Type 0 where
 abbrev row : ℕ → ℕ → Mode → Row
 row lines psw mode = record { lines = lines; psw = psw; mode = mode }
 
--- PC, PSW, EIPC and EIPSW after the entry
+-- PC, PSW, EIPC, EIPSW and ECR after the entry
 abbrev enteredOf : Row → List ℕ
 enteredOf r =
     let s = interruptedOf (levelOf (r .lines)) (stateOf (replicate 32 0) (replicate 8 0) 0x07000100 (r .psw) (r .mode)) in
