@@ -10,8 +10,6 @@ use processor_quick::stretch::stretch;
 use processor_step::step;
 use refusal::Verdict;
 ghost use mathlib.Core.Path.{_≡_};
-ghost use mathlib.Core.List.{List};
-ghost use Prim.Native.Nat.{ℕ};
 ghost use lib.ListN.{length};
 ghost use Rattle.bus.specs.Memory.{memoryOf, Lengths};
 ghost use Rattle.processor_machine.specs.State.{stateOf};
@@ -41,20 +39,21 @@ fn quick(
     pak: &[u8],
     device: &Device,
     regs: &mut [u32; 32],
+    sys: &mut [u32; 8],
     pc: u32,
     psw: u32,
     mode: Mode,
     budget: u64,
 ) -> Progress
     requires { ⌜ Lengths (length (now rom)) (length (now wram)) (length (now vram)) (length (now pak)) ⌝ }
-    ensures { λ r. ⌜ ((sys : List ℕ) → Follows budget (stateOf (now (regs .entry)) sys pc psw mode) (memoryOf (now (rom .entry)) (now (wram .entry)) (now (vram .entry)) (now (pak .entry)) (now (device .entry))) (r .count) (stateOf (now (regs .exit)) sys (r .pc) (r .psw) mode) (memoryOf (now (rom .entry)) (now (wram .exit)) (now (vram .exit)) (now (pak .entry)) (now (device .entry)))) ⌝ }
+    ensures { λ r. ⌜ Follows budget (stateOf (now (regs .entry)) (now (sys .entry)) pc psw mode) (memoryOf (now (rom .entry)) (now (wram .entry)) (now (vram .entry)) (now (pak .entry)) (now (device .entry))) (r .count) (stateOf (now (regs .exit)) (now (sys .exit)) (r .pc) (r .psw) mode) (memoryOf (now (rom .entry)) (now (wram .exit)) (now (vram .exit)) (now (pak .entry)) (now (device .entry))) ⌝ }
 {
     match mode {
         Mode::Running => {
             if accepts(device[13], psw, mode) {
                 return Progress { count: 0, pc, psw };
             }
-            stretch(rom, wram, vram, pak, device, regs, pc, psw, budget)
+            stretch(rom, wram, vram, pak, device, regs, sys, pc, psw, budget)
         }
         Mode::Halted => Progress { count: 0, pc, psw },
         Mode::Fatal => Progress { count: 0, pc, psw },
@@ -90,6 +89,7 @@ pub fn run(
             pak,
             device,
             regs,
+            sys,
             pc,
             psw,
             mode,

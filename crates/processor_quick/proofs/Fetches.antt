@@ -16,7 +16,7 @@ use Rattle.bus.specs.Refusal.{romLengths, romOk}
 use Rattle.bus.specs.Memory.{Memory, loadOf, Lengths}
 use Rattle.bus.proofs.Places.{region-code}
 use Rattle.bus.proofs.Spans.{span-half, rom-span-half, wram-span-half}
-use Rattle.processor_quick.specs.Quick.{addressOf}
+use Rattle.processor_quick_compute.specs.Quick.{addressOf}
 use Rattle.processor_quick.specs.Stands.{Stands}
 
 -- a fact of every number of a list

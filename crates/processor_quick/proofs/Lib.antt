@@ -1,7 +1,4 @@
-pub mod Results
-mod Branches
-mod Extends
+mod Acceptance
 mod Fetches
-mod Floats
 mod Leading
-mod Stores
+mod Written

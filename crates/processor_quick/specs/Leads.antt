@@ -1,21 +1,20 @@
--- A stretch of instructions (paper 01, "Instructions"): steps of running mode, each of which ended. The mode, the
--- devices and PSW above its four flags stay, so that what they decide stays decided.
-use Prim.Native.Nat.{ℕ, suc, _/_, _≤_}
+-- A stretch of instructions (paper 01, "Instructions"): steps of running mode, each of which ended. The mode stays, and
+-- where no interrupt is accepted at its start none is accepted on the way.
+use Prim.Native.Nat.{ℕ, suc, _≤_}
+use mathlib.Core.Bool.{false}
 use mathlib.Core.List.{List}
 use mathlib.Core.Path.{_≡_}
 use Rattle.bus.specs.Memory.{Memory}
 use Rattle.processor_machine.specs.State.{State, stateOf, steppedOf}
 use Rattle.processor_machine.specs.declared.Answer.the-variants.{Ended}
 use Rattle.processor_machine.specs.declared.Mode.the-variants.{Running}
-use Rattle.processor_step.specs.Step.{runningStepOf}
+use Rattle.processor_step.specs.Step.{acceptsIn, runningStepOf}
 use Rattle.processor_quick.specs.declared.Progress.{Progress}
 
 -- what stays
 pub record Stays (s₀ : State) (m₀ : Memory) (s : State) (m : Memory) : Type 0 where
   pub mode : s .mode ≡ Running
-  pub high : s .psw / 16 ≡ s₀ .psw / 16
-  pub sys : s .sys ≡ s₀ .sys
-  pub devices : m .regs ≡ m₀ .regs
+  pub unaccepted : acceptsIn s₀ m₀ ≡ false → acceptsIn s m ≡ false
 
 -- n instructions lead from the first machine to the last
 pub data Leads (s₀ : State) (m₀ : Memory) : ℕ → State → Memory → Type 0 where
@@ -28,7 +27,7 @@ pub record Stretched (budget : ℕ) (s₀ : State) (m₀ : Memory) (n : ℕ) (s 
   pub leads : Leads s₀ m₀ n s m
   pub stays : Stays s₀ m₀ s m
 
--- the same put together from the lent registers and memories and what the code returns, for all system registers
-abbrev pub stretchedBy : ℕ → List ℕ → ℕ → ℕ → Memory → List ℕ → Progress → Memory → Type 0
-stretchedBy budget regs₀ pc psw m₀ regs r m =
-    (sys : List ℕ) → Stretched budget (stateOf regs₀ sys pc psw Running) m₀ (r .count) (stateOf regs sys (r .pc) (r .psw) Running) m
+-- the same put together from the lent registers and memories and what the code returns
+abbrev pub stretchedBy : ℕ → List ℕ → List ℕ → ℕ → ℕ → Memory → List ℕ → List ℕ → Progress → Memory → Type 0
+stretchedBy budget regs₀ sys₀ pc psw m₀ regs sys r m =
+    Stretched budget (stateOf regs₀ sys₀ pc psw Running) m₀ (r .count) (stateOf regs sys (r .pc) (r .psw) Running) m

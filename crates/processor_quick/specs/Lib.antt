@@ -1,3 +1,3 @@
-pub mod Quick
+pub mod Controlled
 pub mod Stands
 pub mod Leads

@@ -1,16 +1,16 @@
 // One instruction, by its opcode, where it is one of the common ones.
-use crate::Quick;
-use crate::arithmetic;
-use crate::branch;
-use crate::floating;
-use crate::transfer;
 use bus::Device;
 use processor_flags::Flags;
+use processor_quick_compute::Quick;
+use processor_quick_compute::arithmetic;
+use processor_quick_compute::floating;
+use processor_quick_move::branch;
+use processor_quick_move::transfer;
 ghost use lib.ListN.{length};
 ghost use mathlib.Core.Path.{_≡_};
 ghost use Prim.Native.Nat.{_<_};
 ghost use Rattle.bus.specs.Memory.{memoryOf, Lengths};
-ghost use Rattle.processor_quick.specs.Quick.{Dispatches};
+ghost use Rattle.processor_quick_compute.specs.Quick.{Dispatches};
 
 // f and s are the two halfwords of code at index x; the second counts only where the first asks for it.
 pub fn dispatch(

@@ -1,18 +1,15 @@
 // A stretch of the common instructions, from ROM or WRAM, in one dispatch: what a run does between the steps that need
-// more. It leaves the system registers, the mode, the devices and PSW above its flags as they are. The functions here
-// are for the crate processor, whose calls test their arguments and refuse.
-mod arithmetic;
-mod branch;
+// more. It leaves the mode and the devices as they are, and where no interrupt is accepted before it none is after it.
+// The functions here are for the crate processor, whose calls test their arguments and refuse.
 mod dispatch;
-mod field;
-mod floating;
 mod position;
 pub mod stretch;
-mod transfer;
+mod system;
 
-// What the dispatch did: the instruction, which goes on at index x with these flags; or nothing.
-pub enum Quick {
-    Done { x: u32, wide: u64, ov: u32 },
+// What an instruction on the system registers did: it goes on at the following one, with this PSW above the flags; or
+// nothing.
+pub enum Controlled {
+    Done { psw: u32 },
     Other,
 }
 

@@ -1,11 +1,14 @@
-// At most `budget` of the common instructions.
+// At most `budget` of the common instructions. `above` is PSW above its flags, which are kept beside it.
+use crate::Controlled;
 use crate::Progress;
-use crate::Quick;
 use crate::dispatch::dispatch;
 use crate::position::fetch;
+use crate::system::control;
 use bus::Device;
 use processor_flags::Flags;
 use processor_flags::status;
+use processor_quick_compute::Quick;
+use processor_quick_compute::field::after_one;
 ghost use lib.ListN.{length};
 ghost use mathlib.Core.Path.{_≡_};
 ghost use Prim.Native.Nat.{_%_};
@@ -21,6 +24,7 @@ fn inside(
     pak: &[u8],
     device: &Device,
     regs: &mut [u32; 32],
+    sys: &mut [u32; 8],
     pc: u32,
     psw: u32,
     budget: u64,
@@ -29,9 +33,10 @@ fn inside(
     last: u32,
 ) -> Progress
     requires { ⌜ Lengths (length (now rom)) (length (now wram)) (length (now vram)) (length (now pak)) × Stands (length (now rom)) in_rom base last × (pc % 2 ≡ 0) × (psw % 4 ≡ 3 → ⊥) ⌝ }
-    ensures { λ r. ⌜ stretchedBy budget (now (regs .entry)) pc psw (memoryOf (now (rom .entry)) (now (wram .entry)) (now (vram .entry)) (now (pak .entry)) (now (device .entry))) (now (regs .exit)) r (memoryOf (now (rom .entry)) (now (wram .exit)) (now (vram .exit)) (now (pak .entry)) (now (device .entry))) ⌝ }
+    ensures { λ r. ⌜ stretchedBy budget (now (regs .entry)) (now (sys .entry)) pc psw (memoryOf (now (rom .entry)) (now (wram .entry)) (now (vram .entry)) (now (pak .entry)) (now (device .entry))) (now (regs .exit)) (now (sys .exit)) r (memoryOf (now (rom .entry)) (now (wram .exit)) (now (vram .exit)) (now (pak .entry)) (now (device .entry))) ⌝ }
 {
     let mut x = std::num::wrapping_sub_u32(pc, base);
+    let mut above = psw;
     let mut flags = status::unpacked(psw);
     let mut left = budget;
     while 0 < left {
@@ -39,7 +44,7 @@ fn inside(
             return Progress {
                 count: budget - left,
                 pc: std::num::wrapping_add_u32(base, x),
-                psw: status::packed(psw, flags),
+                psw: status::packed(above, flags),
             };
         }
         let w = fetch(rom, wram, in_rom, x as usize);
@@ -62,18 +67,27 @@ fn inside(
                 left -= 1;
             }
             Quick::Other => {
-                return Progress {
-                    count: budget - left,
-                    pc: std::num::wrapping_add_u32(base, x),
-                    psw: status::packed(psw, flags),
-                };
+                match control(device, regs, sys, w % 65536, above, flags) {
+                    Controlled::Done { psw: p } => {
+                        x = after_one(x);
+                        above = p;
+                        left -= 1;
+                    }
+                    Controlled::Other => {
+                        return Progress {
+                            count: budget - left,
+                            pc: std::num::wrapping_add_u32(base, x),
+                            psw: status::packed(above, flags),
+                        };
+                    }
+                }
             }
         }
     }
     Progress {
         count: budget - left,
         pc: std::num::wrapping_add_u32(base, x),
-        psw: status::packed(psw, flags),
+        psw: status::packed(above, flags),
     }
 }
 
@@ -84,12 +98,13 @@ pub fn stretch(
     pak: &[u8],
     device: &Device,
     regs: &mut [u32; 32],
+    sys: &mut [u32; 8],
     pc: u32,
     psw: u32,
     budget: u64,
 ) -> Progress
     requires { ⌜ Lengths (length (now rom)) (length (now wram)) (length (now vram)) (length (now pak)) ⌝ }
-    ensures { λ r. ⌜ stretchedBy budget (now (regs .entry)) pc psw (memoryOf (now (rom .entry)) (now (wram .entry)) (now (vram .entry)) (now (pak .entry)) (now (device .entry))) (now (regs .exit)) r (memoryOf (now (rom .entry)) (now (wram .exit)) (now (vram .exit)) (now (pak .entry)) (now (device .entry))) ⌝ }
+    ensures { λ r. ⌜ stretchedBy budget (now (regs .entry)) (now (sys .entry)) pc psw (memoryOf (now (rom .entry)) (now (wram .entry)) (now (vram .entry)) (now (pak .entry)) (now (device .entry))) (now (regs .exit)) (now (sys .exit)) r (memoryOf (now (rom .entry)) (now (wram .exit)) (now (vram .exit)) (now (pak .entry)) (now (device .entry))) ⌝ }
 {
     if pc % 2 != 0 {
         return Progress { count: 0, pc, psw };
@@ -108,6 +123,7 @@ pub fn stretch(
             pak,
             device,
             regs,
+            sys,
             pc,
             psw,
             budget,
@@ -125,6 +141,7 @@ pub fn stretch(
             pak,
             device,
             regs,
+            sys,
             pc,
             psw,
             budget,

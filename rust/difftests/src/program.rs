@@ -26,8 +26,8 @@ pub const CAXI: u16 = half(0b111010, 1, 2);
 pub const CLI: u16 = half(0b010110, 0, 0);
 pub const SEI: u16 = half(0b011110, 0, 0);
 pub const FLOATING: u16 = 0b111110;
-const LDSR: u16 = 0b011100;
-const STSR: u16 = 0b011101;
+pub const LDSR: u16 = 0b011100;
+pub const STSR: u16 = 0b011101;
 /// The system registers EIPSW and PSW.
 const EIPSW: u16 = 1;
 const PSW: u16 = 5;

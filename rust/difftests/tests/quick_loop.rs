@@ -6,8 +6,8 @@
 
 use difftests::machine::{random_drawing, Buffers};
 use difftests::program::{
-    aim_pointers, biased_register, half, instruction, program, put_handlers, random_processor,
-    FLOATING,
+    aim_pointers, biased_register, half, instruction, program, put_handlers, random_processor, CLI,
+    FLOATING, LDSR, NOP, RETI, SEI, STSR,
 };
 use difftests::random::Random;
 use difftests::twin::Twin;
@@ -105,6 +105,64 @@ fn every_sub_opcode_among_common_ones() {
         }
         twin.expect_equal(&|| format!("after sub-opcode {sub_opcode:06b}"));
     }
+}
+
+/// CLI, SEI, STSR, or LDSR of any number; PSW's is likely.
+fn system_instruction(random: &mut Random) -> u16 {
+    let number = match random.below(4) {
+        0 => 5,
+        1 => random.below(32) as u16,
+        _ => random.pick(&[0, 1, 2, 3, 4, 25, 29, 31]),
+    };
+    match random.below(4) {
+        0 => CLI,
+        1 => SEI,
+        2 => half(STSR, biased_register(random), number),
+        _ => half(LDSR, biased_register(random), number),
+    }
+}
+
+/// The system instructions, one after another and among common ones, with lines raised and lowered, masked and let
+/// through by I, ID, EP and NP: where CLI or LDSR lets a line through, its interrupt comes before the next instruction.
+#[test]
+fn system_instructions_with_lines() {
+    let mut random = Random::new(0x100B_0006);
+    let mut twin = random_twin(&mut random, 4_096, 16);
+    put_handlers(&mut random, &mut twin);
+    for level in 0..5 {
+        twin.put_code(0xFFFF_FE00 + 16 * level, &[NOP, NOP, RETI]);
+    }
+    let (mut entered, mut passed) = (0, 0);
+    for number in 0..60_000 {
+        let mut code: Vec<u16> = Vec::new();
+        for _ in 0..8 {
+            if random.one_in(3) {
+                code.extend(common(&mut random));
+            }
+            code.push(system_instruction(&mut random));
+        }
+        let place = random.pick(&[0x0700_0100u32, 0x0500_0300, 0x0600_0000]);
+        twin.put_code(place, &code);
+        start(&mut random, &mut twin, place);
+        let processor = &mut twin.processor;
+        processor.hardware.lines = random.pick(&[0, 1 << random.below(5), random.half() & 0x1F]);
+        let masks = random.pick(&[0, 0x1000, 0x1000, 0x1000, 0x4000, 0x8000, 0x5000]);
+        processor.psw = processor.psw & 0x23FF | random.below(7) << 16 | masks;
+        // a PSW for LDSR that lets some lines through, and one that masks all
+        processor.registers[2] = random.below(6) << 16;
+        processor.registers[3] = 0x1000;
+        let what = || format!("code {code:04X?} at 0x{place:08X}, number {number}, seed 100B0006");
+        let raised = processor.hardware.lines != 0;
+        runs(&mut random, &mut twin, &what);
+        if raised {
+            let handler = (0xFFFF_FE00..0xFFFF_FE50).contains(&twin.processor.pc);
+            *(if handler { &mut entered } else { &mut passed }) += 1;
+        }
+        if number % 64 == 0 {
+            twin.expect_equal(&what);
+        }
+    }
+    assert!(entered > 1_000 && passed > 1_000, "{entered} in a handler, {passed} not");
 }
 
 /// Code that lies across the end of ROM and of WRAM, where the next byte is the first one.

@@ -16,10 +16,10 @@ accepts-requires : tie.Need-accepts-requires
 accepts-requires c κs = tt
 
 returns : tie.Need-returns
-returns c = λ sys. follows-start _ _ _
+returns c = follows-start _ _ _
 
 stretch-requires : tie.Need-stretch-requires
-stretch-requires c κs = c .before .before .before .before .before .before .before .before .before .before .before .before .pre
+stretch-requires c κs = c .before .before .before .before .before .before .before .before .before .before .before .before .before .pre
 
 enum-told-2 : tie.Need-enum-told-2
 enum-told-2 c = c .match .keys2
@@ -35,19 +35,17 @@ same-length-2 c = c .before .before .before .before .stretch .kept .1 .1 .0
 
 returns-2 : tie.Need-returns-2
 returns-2 c =
-    let a = c .before .before .before .before .before .before .before .before .before .before .before .before .before .before .before .before .before .args in
-    let mode = c .before .before .before .before .before .before .before .before .before .before .before .enum-told .given .1 in
-    let s = c .before .before .before .before .stretch in
-    λ sys.
-    let t = s .ensures sys in
-    let none = rw mode at (sym (c .before .before .before .before .before .before .before .before .before .accepts .ensures) ∙ c .before .before .before .before .before .before .before .before .if1 .left) in
-    rw mode (follows-leads _ _ none refl (a .budget) _ _ _ (t .within) (t .leads))
+    let a = c .before .before .before .before .before .before .before .before .before .before .before .before .before .before .before .before .before .before .args in
+    let mode = c .before .before .before .before .before .before .before .before .before .before .before .before .enum-told .given .1 in
+    let t = c .before .before .before .before .stretch .ensures in
+    let none = rw mode at (sym (c .before .before .before .before .before .before .before .before .before .before .accepts .ensures) ∙ c .before .before .before .before .before .before .before .before .before .if1 .left) in
+    rw mode (follows-leads _ _ none (a .budget) _ _ _ (t .within) (t .leads))
 
 returns-3 : tie.Need-returns-3
-returns-3 c = λ sys. follows-start _ _ _
+returns-3 c = follows-start _ _ _
 
 returns-4 : tie.Need-returns-4
-returns-4 c = λ sys. follows-start _ _ _
+returns-4 c = follows-start _ _ _
 
 pub quick-spec : {M : Type 1} → statement M
 quick-spec =

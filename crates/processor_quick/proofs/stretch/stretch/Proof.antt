@@ -14,10 +14,10 @@ use Rattle.processor_quick.proofs.stretch.stretch.Statement.{statement}
 use Rattle.processor_quick.proofs.stretch.stretch.Tie as tie
 
 returns : tie.Need-returns
-returns c = λ sys. stretched-none _ _ sys _ _ _
+returns c = stretched-none _ _ _ _ _ _
 
 returns-2 : tie.Need-returns-2
-returns-2 c = λ sys. stretched-none _ _ sys _ _ _
+returns-2 c = stretched-none _ _ _ _ _ _
 
 cast-n : tie.Need-cast-n
 cast-n c =
@@ -38,24 +38,24 @@ sub-base c =
 
 sub-inside : tie.Need-sub-inside
 sub-inside c =
-    let b = c .before .before .before .before .before .before .before .before .before .before in
+    let b = c .before .before .before .before .before .before .before .before .before .before .before in
     let room = rom-room (length (now (b .args .rom))) (b .pre .rom-ok) in
     omega (arith, room .least)
 
 inside-requires : tie.Need-inside-requires
 inside-requires c κs =
-    let b = c .before .before .before .before .before .before .before .before .before .before in
+    let b = c .before .before .before .before .before .before .before .before .before .before .before in
     let room = rom-room (length (now (b .args .rom))) (b .pre .rom-ok) in
     let a = b .args in
     let n = length (now (a .rom)) in (
       b .pre,
       record {
         word = omega (arith, mod-le (a .pc) (length (now (a .rom))));
-        in-rom = λ _. (omega (arith, room .least), room .start (a .pc), sym (region-code _) ∙ ap (λ (k : ℕ). k % 8) (room .same (a .pc)) ∙ c .before .before .before .if3 .taken);
+        in-rom = λ _. (omega (arith, room .least), room .start (a .pc), sym (region-code _) ∙ ap (λ (k : ℕ). k % 8) (room .same (a .pc)) ∙ c .before .before .before .before .if3 .taken);
         in-wram = λ e. absurd (true≢false e);
       },
-      omega (arith, c .before .before .before .before .before .if1 .left),
-      c .before .before .before .before .if2 .left,
+      omega (arith, c .before .before .before .before .before .before .if1 .left),
+      c .before .before .before .before .before .if2 .left,
     )
 
 same-length : tie.Need-same-length
@@ -72,16 +72,16 @@ sub-base-2 c = search needs
 
 inside-requires-2 : tie.Need-inside-requires-2
 inside-requires-2 c κs =
-    let b = c .before .before .before .before .before .before .before .before .before .before .before in
+    let b = c .before .before .before .before .before .before .before .before .before .before .before .before in
     let a = b .args in (
       b .pre,
       record {
         word = omega arith;
         in-rom = λ e. absurd (true≢false (sym e));
-        in-wram = λ _. (refl, wram-room .start (a .pc), sym (region-code _) ∙ ap (λ (k : ℕ). k % 8) (wram-room .same (a .pc)) ∙ c .before .before .before .if4 .taken);
+        in-wram = λ _. (refl, wram-room .start (a .pc), sym (region-code _) ∙ ap (λ (k : ℕ). k % 8) (wram-room .same (a .pc)) ∙ c .before .before .before .before .if4 .taken);
       },
-      omega (arith, c .before .before .before .before .before .before .if1 .left),
-      c .before .before .before .before .before .if2 .left,
+      omega (arith, c .before .before .before .before .before .before .before .if1 .left),
+      c .before .before .before .before .before .before .if2 .left,
     )
 
 same-length-3 : tie.Need-same-length-3
@@ -94,7 +94,7 @@ returns-4 : tie.Need-returns-4
 returns-4 c = c .before .before .before .before .inside2 .ensures
 
 returns-5 : tie.Need-returns-5
-returns-5 c = λ sys. stretched-none _ _ sys _ _ _
+returns-5 c = stretched-none _ _ _ _ _ _
 
 pub stretch-spec : {M : Type 1} → statement M
 stretch-spec =

@@ -1,0 +1,3 @@
+pub mod Results
+mod Extends
+mod Floats

@@ -1,0 +1,29 @@
+-- `processor_quick_compute::arithmetic::cmp_immediate`: its own case.
+use Rattle.processor_execute.specs.Execute.{executeOf}
+use Rattle.processor_quick_compute.proofs.Results.{after-one, one-even, compare-does}
+use borrow.Author.Needs.{needs}
+use Rattle.processor_quick_compute.proofs.arithmetic.cmp_immediate.Statement.{statement}
+use Rattle.processor_quick_compute.proofs.arithmetic.cmp_immediate.Tie as tie
+
+reg2-requires : tie.Need-reg2-requires
+reg2-requires c κs = search needs
+
+extend5-requires : tie.Need-extend5-requires
+extend5-requires c κs = search needs
+
+sub-requires : tie.Need-sub-requires
+sub-requires c κs = search needs
+
+after-one-requires : tie.Need-after-one-requires
+after-one-requires c κs = search needs
+
+returns : tie.Need-returns
+unfolding executeOf
+returns c = λ m base psw sys even aligned.
+    let a = c .before .before .before .before .args in
+    let e = rw (c .before .before .before .reg2 .ensures, c .before .before .extend5 .ensures) at (c .before .sub .ensures psw (a .flags)) in
+    rw (c .after-one .ensures) (compare-does base (a .x) psw _ _ sys (a .flags) m _ _ (after-one base (a .x)) (one-even (a .x) aligned) _ _ e)
+
+pub cmp-immediate-spec : {M : Type 1} → statement M
+cmp-immediate-spec =
+    tie.close (tie.spec reg2-requires extend5-requires sub-requires after-one-requires returns)

@@ -1,0 +1,21 @@
+-- `processor_quick_compute::floating::trnc_sw`: its own case.
+use Rattle.processor_execute.specs.Execute.{executeOf}
+use borrow.Author.Needs.{needs}
+use Rattle.processor_quick_compute.proofs.floating.trnc_sw.Statement.{statement}
+use Rattle.processor_quick_compute.proofs.floating.trnc_sw.Tie as tie
+
+reg1-requires : tie.Need-reg1-requires
+reg1-requires c κs = search needs
+
+truncated-requires : tie.Need-truncated-requires
+truncated-requires c κs = search needs
+
+settle-requires : tie.Need-settle-requires
+settle-requires c κs = search needs
+
+returns : tie.Need-returns
+unfolding executeOf
+returns c = λ m base psw sys even aligned. rw (c .before .before .truncated .ensures, c .before .before .before .reg1 .ensures) at (c .settle .ensures m base psw sys even aligned)
+
+pub trnc-sw-spec : {M : Type 1} → statement M
+trnc-sw-spec = tie.close (tie.spec reg1-requires truncated-requires settle-requires returns)

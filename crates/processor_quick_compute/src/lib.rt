@@ -1,0 +1,11 @@
+// The common instructions that compute, for the loop of the crate processor_quick: by their values and flags, and the
+// fields of an instruction that they read. The functions here are for that crate alone.
+pub mod arithmetic;
+pub mod field;
+pub mod floating;
+
+// What the dispatch did: the instruction, which goes on at index x with these flags; or nothing.
+pub enum Quick {
+    Done { x: u32, wide: u64, ov: u32 },
+    Other,
+}

@@ -1,0 +1,38 @@
+-- `processor_quick_move::branch::jal`: its own case.
+use mathlib.Core.Path.{_≡_, refl, sym, ap, _∙_}
+use native.Mathlib.Omega.{arith}
+use Prim.Native.Nat.{_%_}
+use Rattle.processor_execute.specs.Execute.{executeOf}
+use Rattle.processor_decode.specs.Format as format
+use Rattle.processor_quick_move.proofs.Branches.{extended-even, jump-on, jump-even, sum-moved}
+use Rattle.processor_decode.specs.Format as format
+use Rattle.processor_decode.specs.Format as format
+use Rattle.processor_decode.specs.Format as format
+use borrow.Author.Needs.{needs}
+use Rattle.processor_quick_move.proofs.branch.jal.Statement.{statement}
+use Rattle.processor_quick_move.proofs.branch.jal.Tie as tie
+
+after-two-requires : tie.Need-after-two-requires
+after-two-requires c κs = search needs
+
+wrapping-add-u32-requires : tie.Need-wrapping-add-u32-requires
+wrapping-add-u32-requires c κs = search needs
+
+put-requires : tie.Need-put-requires
+put-requires c κs = search needs
+
+target-requires : tie.Need-target-requires
+target-requires c κs = search needs
+
+returns : tie.Need-returns
+unfolding executeOf
+returns c = λ m psw sys even aligned.
+    let a = c .before .before .before .before .before .args in
+    let d : format.dispOf (a .f) (a .s) % 2 ≡ 0 = extended-even 33554432 _ (omega arith) (omega arith) in
+    rw (c .target .ensures, c .before .put .ensures, c .before .before .before .wrapping-add-u32 .ensures, c .before .before .before .before .after-two .ensures, sum-moved (a .base) (a .x) 4)
+    (rw (jump-on (a .base) (a .x) _ even aligned d), jump-even (a .base) (a .x) _ even aligned d)
+
+pub jal-spec : {M : Type 1} → statement M
+jal-spec =
+    tie.close
+    (tie.spec after-two-requires wrapping-add-u32-requires put-requires target-requires returns)

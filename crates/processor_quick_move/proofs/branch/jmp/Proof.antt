@@ -1,0 +1,36 @@
+-- `processor_quick_move::branch::jmp`: its own case.
+use denote.Ref.{now}
+use mathlib.Core.Path.{_≡_, refl, sym, ap, _∙_}
+use native.Mathlib.Omega.{arith}
+use Prim.Native.Nat.{ℕ, _-_, _%_}
+use Rattle.processor_execute.specs.Execute.{executeOf}
+use Rattle.processor_machine.specs.State.{evenOf}
+use lib.ListN.{getD}
+use Rattle.processor_quick_compute.specs.Quick.{addressOf}
+use Rattle.processor_quick_move.proofs.Branches.{address-jump, address-even}
+use borrow.Author.Needs.{needs}
+use Rattle.processor_quick_move.proofs.branch.jmp.Statement.{statement}
+use Rattle.processor_quick_move.proofs.branch.jmp.Tie as tie
+
+reg1-requires : tie.Need-reg1-requires
+reg1-requires c κs = search needs
+
+sub-wrapping-sub-u32 : tie.Need-sub-wrapping-sub-u32
+sub-wrapping-sub-u32 c = search needs
+
+wrapping-sub-u32-requires : tie.Need-wrapping-sub-u32-requires
+wrapping-sub-u32-requires c κs = search needs
+
+returns : tie.Need-returns
+unfolding executeOf
+returns c = λ m psw sys even aligned.
+    let a = c .before .before .args in
+    let t = c .before .reg1 in
+    let w = c .wrapping-sub-u32 in
+    let e : addressOf (a .base) (w .result) ≡ evenOf (getD (now (a .regs)) (a .f % 32 % 32) 0) =
+    address-jump (evenOf (t .result)) (a .base) (w .result) (omega arith) (omega arith) (w .ensures) ∙ ap evenOf (t .ensures) in
+    (rw e, address-even (t .result) (a .base) (w .result) (omega arith) even (w .ensures))
+
+pub jmp-spec : {M : Type 1} → statement M
+jmp-spec =
+    tie.close (tie.spec reg1-requires sub-wrapping-sub-u32 wrapping-sub-u32-requires returns)
