@@ -1,28 +1,21 @@
 -- Paper 01, "Checks worth a day each": its table of worked examples. A row is a question and the answer that
--- the paper prints; `answer` answers a question by the definitions that the contracts name; `rows-hold` is the one
+-- the paper prints; `answer` answers a question by the definitions that the contracts name; `RowsHold` is the one
 -- statement about the list.
-use Prim.Native.Nat.{ℕ, zero, suc, _+_, _-_, _*_, _^_}
+use Prim.Native.Nat.{ℕ, zero, suc, _+_, _-_, _*_, _/_, _%_, _^_}
 use mathlib.Core.List.{List, [], _∷_, map}
-use mathlib.Core.Path.{_≡_, refl}
+use mathlib.Core.Path.{_≡_}
 use lib.ListN.{replicate}
 use Rattle.word.specs.Choose.{pick}
-use Rattle.word.specs.Extend.{extendOf, signedOf}
-use Rattle.bus.specs.Place.{Place, wramAt, vramAt, romAt, regionOf, mirrorOf, vipPlace, registerPlace, placeOf}
+use Rattle.bus.specs.Place.{Place, wramAt, vramAt, romAt, placeOf}
 use Rattle.bus.specs.Memory.{Memory, memoryOf, alignedOf}
-use Rattle.processor_arithmetic.specs.Flag.{flagsOf, keepCarryOf, flagOf}
-use Rattle.processor_arithmetic.specs.Sign.{magnitudeOf, negativeOf}
+use Rattle.processor_arithmetic.specs.Flag.{flagOf}
 use Rattle.processor_arithmetic.specs.Sum.{sumOf}
-use Rattle.processor_arithmetic.specs.Quotient.{divideOf, quotientOf, remainderOf, quotientOverflowsOf}
-use Rattle.processor_arithmetic.specs.Condition.{conditionOf}
-use Rattle.processor_decode.specs.Opcode.{decodeOf, shortRows, branchRows, longRows}
-use Rattle.processor_decode.specs.declared.Decoded.{Decoded}
-use Rattle.processor_decode.specs.declared.Decoded.the-variants.{Modelled, NotModelled}
+use Rattle.processor_arithmetic.specs.Quotient.{divideOf}
 use Rattle.processor_machine.specs.State.{State, stateOf}
-use Rattle.processor_execute.specs.Execute.{executeOf}
 use Rattle.processor_machine.specs.declared.Mode.the-variants.{Running}
-use Rattle.drawing_pixel.specs.Signed.{edgeOf}
-use Rattle.drawing_pixel.specs.Character.{pairOf, characterAddressOf, shadeOf}
-use Rattle.drawing_pixel.specs.World.{columnsOf, windowLeftOf, columnCoveredOf}
+use Rattle.processor_step.specs.Step.{stepOf}
+use Rattle.drawing_pixel.specs.Character.{characterAddressOf, shadeOf}
+use Rattle.drawing_pixel.specs.World.{columnCoveredOf}
 use Rattle.drawing_pixel.specs.Strip.{pixelOffsetOf, pixelPairOf}
 
 -- what a row asks
@@ -41,7 +34,7 @@ pub data Question : Type 0 where
   sum : ℕ → ℕ → Question
   -- a signed quotient and its remainder
   quotient : ℕ → ℕ → Question
-  -- where an instruction of one halfword goes on, in each of the sixteen settings of the four flags, from PC 0x1000
+  -- where a step of an instruction of one halfword goes on, in each of the sixteen settings of the four flags
   branch : ℕ → Question
   -- which image columns the window of a normal world has, by W, GX and GP
   window : ℕ → ℕ → ℕ → Question
@@ -65,43 +58,46 @@ pub record Row : Type 0 where
   pub question : Question
   pub printed : Answer
 
-row : Question → Answer → Row
+unfoldable pub row : Question → Answer → Row
 row q a = record { question = q; printed = a }
 
 -- a normal world of a width, position and parallax, all else 0
-worldWith : ℕ → ℕ → ℕ → List ℕ
+unfoldable pub worldWith : ℕ → ℕ → ℕ → List ℕ
 worldWith w gx gp = 0 ∷ gx ∷ gp ∷ 0 ∷ 0 ∷ 0 ∷ 0 ∷ w ∷ 0 ∷ 0 ∷ 0 ∷ []
 
 -- of the n image columns from x on, those that are in a world's window
-shownFrom : List ℕ → ℕ → ℕ → ℕ → List ℕ
+unfoldable pub shownFrom : List ℕ → ℕ → ℕ → ℕ → List ℕ
 shownFrom w eye x zero = []
 shownFrom w eye x (suc n) =
     let rest = shownFrom w eye (suc x) n in
     pick (columnCoveredOf w eye x) (x ∷ rest) rest
 
--- no memory, and a processor at PC 0x1000 with a PSW
-nowhere : Memory
-nowhere = memoryOf [] [] [] [] []
+-- the first address of ROM, where the halfword of the instruction stands; all other memory and every register is 0
+abbrev pub pcBefore : ℕ
+pcBefore = 0x07000000
 
-stateWith : ℕ → State
-stateWith psw = stateOf (replicate 32 0) (replicate 8 0) 0x1000 psw Running
+unfoldable pub memoryWith : ℕ → Memory
+memoryWith f =
+    memoryOf (f % 256 ∷ f / 256 ∷ replicate 1022 0) (replicate 65536 0) (replicate 262144 0) [] (replicate 17 0)
 
--- PC after what was decoded
-pcAfter : Decoded → ℕ → ℕ
-pcAfter (Modelled i) psw = executeOf i 0x1002 (stateWith psw) nowhere .state .pc
-pcAfter NotModelled psw = 0
+abbrev pub stateWith : ℕ → State
+stateWith psw = stateOf (replicate 32 0) (replicate 8 0) pcBefore psw Running
 
--- PC after, for the n settings of the flags from psw on
-pcsFrom : Decoded → ℕ → ℕ → List ℕ
-pcsFrom d psw zero = []
-pcsFrom d psw (suc n) = pcAfter d psw ∷ pcsFrom d (suc psw) n
+-- PC after a step
+unfoldable pub pcAfter : ℕ → ℕ → ℕ
+pcAfter f psw = stepOf (stateWith psw) (memoryWith f) .state .pc
+
+-- the same for the n settings of the flags from psw on
+unfoldable pub pcsFrom : ℕ → ℕ → ℕ → List ℕ
+pcsFrom f psw zero = []
+pcsFrom f psw (suc n) = pcAfter f psw ∷ pcsFrom f (suc psw) n
 
 -- the flags of a PSW
-flagsIn : ℕ → Answer
+unfoldable pub flagsIn : ℕ → Answer
 flagsIn psw = flags (flagOf 4 psw) (flagOf 2 psw) (flagOf 8 psw) (flagOf 1 psw)
 
 -- a question, answered by the definitions
-pub answer : Question → Answer
+unfoldable pub answer : Question → Answer
 answer (address romLength a) = place (placeOf romLength 0 a)
 answer (halfword a) = places (placeOf 1024 0 (alignedOf 2 a)) (placeOf 1024 0 (alignedOf 2 a + 1))
 answer (character c) = place (vramAt (characterAddressOf c))
@@ -109,11 +105,11 @@ answer (pixel x y) = bits (pixelOffsetOf x y) (2 * pixelPairOf y) (2 * pixelPair
 answer (palette p) = shades (shadeOf p 1 0) (shadeOf p 2 0) (shadeOf p 3 0)
 answer (sum a b) = flagsIn (sumOf a b 0 .psw)
 answer (quotient a b) = results (divideOf a b 0 .reg2) (divideOf a b 0 .r30)
-answer (branch f) = addresses (pcsFrom (decodeOf f 0) 0 16)
+answer (branch f) = addresses (pcsFrom f 0 16)
 answer (window w gx gp) = columns (shownFrom (worldWith w gx gp) 0 0 384) (shownFrom (worldWith w gx gp) 1 0 384)
 
 -- the paper's rows
-pub rows : List Row
+unfoldable pub rows : List Row
 rows =
     row (address 1024 0xFFFFFFF0) (place (romAt 0x3F0))
     ∷ row (address 1024 0x05012345) (place (wramAt 0x2345))
@@ -124,15 +120,12 @@ rows =
     ∷ row (palette 0xE4) (shades 1 2 3)
     ∷ row (sum 0x7FFFFFFF 1) (flags 1 1 0 0)
     ∷ row (quotient (2 ^ 32 - 7) 2) (results (2 ^ 32 - 3) (2 ^ 32 - 1))
-    ∷ row (branch 0x8A00) (addresses (replicate 16 0x1000))
-    ∷ row (branch 0x9A00) (addresses (replicate 16 0x1002))
+    ∷ row (branch 0x8A00) (addresses (replicate 16 pcBefore))
+    ∷ row (branch 0x9A00) (addresses (replicate 16 (pcBefore + 2)))
     ∷ row (window 0 383 1) (columns (382 ∷ []) [])
     ∷ []
 
 -- every row's printed answer is the definitions' answer
-pub rows-hold : map (λ (r : Row). answer (r .question)) rows ≡ map (λ (r : Row). r .printed) rows
-unfolding rows row answer nowhere stateWith pcAfter pcsFrom flagsIn extendOf sumOf signedOf flagsOf keepCarryOf
-    divideOf quotientOf remainderOf quotientOverflowsOf magnitudeOf negativeOf conditionOf decodeOf shortRows branchRows longRows
-    executeOf placeOf regionOf vipPlace registerPlace mirrorOf
-    characterAddressOf shadeOf pairOf worldWith shownFrom columnCoveredOf windowLeftOf edgeOf columnsOf
-rows-hold = refl
+abbrev pub RowsHold : Type 0
+RowsHold =
+    map (λ (r : Row). answer (r .question)) rows ≡ map (λ (r : Row). r .printed) rows

@@ -1,16 +1,17 @@
 -- What the public calls answer, for every input: refusals 1 to 5 first, which change nothing; then the step or the run.
 use Prim.Native.Nat.{ℕ}
-use lib.ListN.{replicate}
+use lib.ListN.{replicate, set}
 use Rattle.bus.specs.Memory.{Memory}
 use Rattle.refusal.specs.declared.Verdict.{Verdict}
 use Rattle.refusal.specs.declared.Verdict.the-variants as verdict
+use Rattle.processor_machine.specs.State.{stateOf}
 use Rattle.processor_step.specs.Step.{stepOf}
 use Rattle.processor_reads.specs.Reads.{noneOf, undefinedStepOf}
 use Rattle.processor_reads.specs.declared.Undefined.{Undefined}
 use Rattle.processor_machine.specs.declared.Mode.the-variants.{Running}
 use Rattle.processor_machine.specs.declared.Answer.{Answer}
 use Rattle.processor_machine.specs.declared.Answer.the-variants.{Refused}
-use Rattle.processor.specs.Record.{stateIn, busOf, lentOf, processorOf, resetHardware}
+use Rattle.processor.specs.Record.{stateIn, busOf, lentOf, processorOf}
 use Rattle.processor.specs.Acceptance.{acceptanceIn}
 use Rattle.processor.specs.Run.{runOf}
 use Rattle.processor.specs.declared.Processor.{Processor}
@@ -56,25 +57,12 @@ runWhen (verdict.Refused n) budget p m = ranOf (verdict.Refused n) 0 p m
 unfoldable pub checkedRunOf : ℕ → Processor → Memory → Ran
 checkedRunOf budget p m = runWhen (acceptanceIn p m) budget p m
 
--- reset: "PC 0xFFFFFFF0, ECR 0xFFF0, PSW 0x8000, all else 0, running"; "Lines and timer reset to 0" (paper 02, W6)
+-- reset: "PC 0xFFFFFFF0, ECR 0xFFF0, PSW 0x8000, all else 0, running"; "Lines and timer reset to 0" (paper 02, W6). ECR is
+-- number 4 of the stored system registers
 unfoldable pub resetOf : Machine
 resetOf =
     record {
       processor =
-          record {
-            regs = replicate 32 0;
-            pc = 0xFFFFFFF0;
-            eipc = 0;
-            eipsw = 0;
-            fepc = 0;
-            fepsw = 0;
-            ecr = 0xFFF0;
-            psw = 0x8000;
-            sr25 = 0;
-            sr29 = 0;
-            sr31 = 0;
-            mode = Running;
-            hardware = resetHardware;
-          };
+          processorOf (stateOf (replicate 32 0) (set (replicate 8 0) 4 0xFFF0) 0xFFFFFFF0 0x8000 Running) (replicate 17 0);
       drawing = record { regs = replicate 13 0 };
     }

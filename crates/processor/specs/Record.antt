@@ -4,7 +4,6 @@
 use Prim.Native.Nat.{ℕ}
 use mathlib.Core.List.{List, [], _∷_}
 use lib.ListN.{getD}
-use Rattle.bus_timer.specs.Timer.{hardwareOf}
 use Rattle.bus_timer.specs.declared.Hardware.{Hardware}
 use Rattle.bus.specs.Registers.{drawingIn, hardwareIn, deviceOf}
 use Rattle.bus.specs.Memory.{Memory, withRegs}
@@ -64,7 +63,3 @@ withHardware p h =
       mode = p .mode;
       hardware = h;
     }
-
--- lines and timer at reset
-abbrev pub resetHardware : Hardware
-resetHardware = hardwareOf 0 0 0 0

@@ -8,8 +8,9 @@ use native.Mathlib.Omega.{arith}
 use borrow.Author.Tests.{lt-ltb, le-ltb}
 use lib.IntN.{ℤ, pos, negsuc}
 use lib.Pow.{shr-le}
+use lib.Signed.{shrZ}
 use Rattle.word.specs.Extend.{signedOf}
-use Rattle.processor_arithmetic.specs.Integer.{signed, signed64, complementOf, floorOf}
+use Rattle.processor_arithmetic.specs.Integer.{signed, signed64, complementOf}
 
 -- a complement is below its range
 pub complement-below : (z : ℤ) → complementOf (2 ^ 64) z < 2 ^ 64
@@ -28,12 +29,12 @@ complement-signed64 w h =
     ]
 
 -- a signed reading rounded down
-pub floor-below : (a n : ℕ) → a < 2 ^ 31 → complementOf (2 ^ 32) (floorOf (signed a) (2 ^ n)) ≡ a / 2 ^ n
+pub floor-below : (a n : ℕ) → a < 2 ^ 31 → complementOf (2 ^ 32) (shrZ (signed a) (2 ^ n)) ≡ a / 2 ^ n
 unfolding signedOf
 floor-below a n h = simp (lt-ltb a (2 ^ 31) h) (omega (arith, shr-le a n))
 
 pub floor-above : (a n : ℕ) → a < 2 ^ 32 → 2 ^ 31 ≤ a
-    → complementOf (2 ^ 32) (floorOf (signed a) (2 ^ n)) ≡ 2 ^ 32 - 1 - (2 ^ 32 - 1 - a) / 2 ^ n
+    → complementOf (2 ^ 32) (shrZ (signed a) (2 ^ n)) ≡ 2 ^ 32 - 1 - (2 ^ 32 - 1 - a) / 2 ^ n
 unfolding signedOf
 floor-above a n ha g =
     let e : 2 ^ 32 - suc a ≡ 2 ^ 32 - 1 - a = omega arith in

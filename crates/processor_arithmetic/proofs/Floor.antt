@@ -1,10 +1,10 @@
 -- The bit that a shift takes out, and the shift to the right that rounds down: what the laws of Shifted rest on.
 use Prim.Native.Nat.{ℕ, suc, _+_, _-_, _*_, _/_, _%_, _^_, _<_, _≤_}
 use mathlib.Core.Path.{_≡_, sym, ap, _∙_}
-use native.Mathlib.Decide.{decLt}
+use native.Mathlib.Decide.{decLt, ℕ-discrete}
 use native.Mathlib.Nat.{mod-lt, mul-div-mul-left, mul-div-mul-right, suc-mul}
 use native.Mathlib.Omega.{arith}
-use borrow.Author.Tests.{le-ltb}
+use borrow.Author.Tests.{le-ltb, eq-eqb, ne-eqb}
 use lib.IntN.{ℤ, pos, negsuc, subℕ, _+ℤ_, _*ℤ_}
 use lib.Pow.{pow-pos, pow-add, split, low, shr-le}
 use Rattle.word.specs.Extend.{signedOf}
@@ -17,33 +17,61 @@ use Rattle.processor_arithmetic.proofs.Digit.{complement}
 use Rattle.processor_arithmetic.specs.Bit.{bitAt}
 
 -- a times 2 ^ n, from bit 32 on, is a from bit 32 - n on
-pub left-out : (a n : ℕ) → n ≤ 32 → leftOutOf a n ≡ bitAt (32 - n) a
-unfolding leftOutOf
-left-out a n h =
+left-bit-at : (a n : ℕ) → n ≤ 32 → a * 2 ^ n / 2 ^ 32 % 2 ≡ bitAt (32 - n) a
+left-bit-at a n h =
     let s : 32 - n + n ≡ 32 = omega arith in
     let p : 2 ^ 32 ≡ 2 ^ (32 - n) * 2 ^ n = ap (λ (k : ℕ). 2 ^ k) (sym s) ∙ pow-add 2 (32 - n) n in
     ap (λ (x : ℕ). x % 2) (ap (λ (x : ℕ). a * 2 ^ n / x) p ∙ mul-div-mul-right a (2 ^ (32 - n)) (pow-pos n))
 
-right-out : (a n : ℕ) → rightOutOf a (1 + n) ≡ bitAt n a
-unfolding rightOutOf
-right-out a n =
+-- 2 a, from bit n + 1 on, is a from bit n on
+right-bit-at : (a n : ℕ) → 2 * a / 2 ^ (1 + n) % 2 ≡ bitAt n a
+right-bit-at a n =
     let p : 2 ^ (1 + n) ≡ 2 * 2 ^ n = pow-add 2 1 n in
     ap (λ (x : ℕ). x % 2) (ap (λ (x : ℕ). 2 * a / x) p ∙ mul-div-mul-left a (2 ^ n) (omega arith))
 
-pub right-bit : (a n : ℕ) → rightOutOf a n < 2
-unfolding rightOutOf
-right-bit a n = omega arith
+-- the last bit out, where something moves and where nothing does
+pub left-some : (a n : ℕ) → 0 < n → leftOutOf a n ≡ bitAt (32 - n) a
+unfolding leftOutOf
+left-some a n h = simp (ne-eqb n 0 (λ e. omega arith))
+
+pub left-zero : (a n : ℕ) → n ≡ 0 → leftOutOf a n ≡ 0
+unfolding leftOutOf
+left-zero a n e = simp (eq-eqb n 0 e)
 
 pub right-some : (a n : ℕ) → 0 < n → rightOutOf a n ≡ bitAt (n - 1) a
-right-some a n h =
-    let s : n ≡ 1 + (n - 1) = omega arith in
-    ap (rightOutOf a) s ∙ right-out a (n - 1)
+unfolding rightOutOf
+right-some a n h = simp (ne-eqb n 0 (λ e. omega arith))
 
 pub right-zero : (a n : ℕ) → n ≡ 0 → rightOutOf a n ≡ 0
-right-zero a n e = ap (rightOutOf a) e ∙ nothing a
-  where
-    nothing : (a : ℕ) → rightOutOf a 0 ≡ 0
-    nothing a = unfold rightOutOf in omega arith
+unfolding rightOutOf
+right-zero a n e = simp (eq-eqb n 0 e)
+
+-- the same as the code has it, without a test of the amount
+pub left-out : (a n : ℕ) → a < 2 ^ 32 → n ≤ 32 → leftOutOf a n ≡ a * 2 ^ n / 2 ^ 32 % 2
+left-out a n ha h =
+    elim (ℕ-discrete n 0) [
+      | yes e ↦ left-zero a n e ∙ sym (left-bit-at a n h ∙ ap (λ (k : ℕ). bitAt (32 - k) a) e ∙ omega arith)
+      | no e ↦ left-some a n (omega arith) ∙ sym (left-bit-at a n h)
+    ]
+
+pub right-out : (a n : ℕ) → rightOutOf a n ≡ 2 * a / 2 ^ n % 2
+right-out a n =
+    elim (ℕ-discrete n 0) [
+      | yes e ↦ right-zero a n e ∙ sym (ap (λ (k : ℕ). 2 * a / 2 ^ k % 2) e ∙ omega arith)
+      | no e ↦
+          let s : 1 + (n - 1) ≡ n = omega arith in
+          right-some a n (omega arith) ∙ sym (right-bit-at a (n - 1)) ∙ ap (λ (k : ℕ). 2 * a / 2 ^ k % 2) s
+    ]
+
+pub left-bit : (a n : ℕ) → leftOutOf a n < 2
+left-bit a n =
+    elim (ℕ-discrete n 0) [
+      | yes e ↦ rw (left-zero a n e) (omega arith)
+      | no e ↦ rw (left-some a n (omega arith)) (omega arith)
+    ]
+
+pub right-bit : (a n : ℕ) → rightOutOf a n < 2
+right-bit a n = rw (right-out a n) (omega arith)
 
 pub sar-low : (a n : ℕ) → a < 2 ^ 31 → arithmeticRightOf a n ≡ a / 2 ^ n
 unfolding arithmeticRightOf

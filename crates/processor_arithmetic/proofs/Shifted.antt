@@ -1,6 +1,6 @@
 -- The laws of specs/Shifted, proved.
 use Prim.Native.Nat.{ℕ, _-_, _*_, _/_, _%_, _^_, _<_, _≤_}
-use mathlib.Core.Path.{_≡_, ap, _∙_}
+use mathlib.Core.Path.{_≡_, _∙_}
 use native.Mathlib.Decide.{decLt}
 use native.Mathlib.Nat.{mod-lt}
 use native.Mathlib.Omega.{arith}
@@ -9,22 +9,18 @@ use lib.Pow.{pow-pos, shr-le}
 use Rattle.processor_arithmetic.specs.Shift.{leftOutOf, rightOutOf, arithmeticRightOf, shiftLeftOf, shiftRightOf, shiftArithmeticOf}
 use Rattle.processor_arithmetic.specs.Integer.{signed}
 use Rattle.processor_arithmetic.proofs.Places.{flags-placed}
-use Rattle.processor_arithmetic.specs.Bit.{bitAt}
-use Rattle.processor_arithmetic.proofs.Floor.{sar-low, sar-high, sar-word, floor-high, floor-low, left-out, right-some, right-zero, right-bit}
+use Rattle.processor_arithmetic.proofs.Floor.{sar-low, sar-high, sar-word, floor-high, floor-low, left-some, left-zero, left-bit, right-some, right-zero, right-bit}
 use Rattle.processor_arithmetic.specs.Shifted.{ShiftLeftPlaced, ShiftLeftOut, ShiftLeftNone, ShiftRightPlaced, ShiftRightOut, ShiftRightNone, ShiftArithmeticPlaced, ShiftArithmeticOut, ShiftArithmeticNone, ShiftArithmeticFloor}
 
 pub shift-left-placed : ShiftLeftPlaced
 unfolding shiftLeftOf
 shift-left-placed a b psw = flags-placed psw (leftOutOf a (b % 32)) 0 (a * 2 ^ (b % 32) % 2 ^ 32) (left-bit a (b % 32)) (omega arith) (omega arith)
-  where
-    left-bit : (a n : ℕ) → leftOutOf a n < 2
-    left-bit a n = unfold leftOutOf in omega arith
 
 pub shift-left-out : ShiftLeftOut
-shift-left-out a b psw = shift-left-placed a b psw .at-cy ∙ left-out a (b % 32) (omega arith)
+shift-left-out a b psw h = shift-left-placed a b psw .at-cy ∙ left-some a (b % 32) h
 
 pub shift-left-none : ShiftLeftNone
-shift-left-none a b psw ha e = shift-left-out a b psw ∙ ap (λ (n : ℕ). bitAt (32 - n) a) e ∙ omega arith
+shift-left-none a b psw e = shift-left-placed a b psw .at-cy ∙ left-zero a (b % 32) e
 
 pub shift-right-placed : ShiftRightPlaced
 unfolding shiftRightOf

@@ -5,10 +5,11 @@ use mathlib.Core.Path.{_≡_}
 use mathlib.Core.Logic.{_≢_}
 use mathlib.Core.Bool.{false}
 use lib.Dec.{eqb}
+use lib.Signed.{quotZ}
 use Rattle.word.specs.Choose.{pick}
 use Rattle.processor_arithmetic.specs.Flag.{bitOf}
-use Rattle.processor_arithmetic.specs.Quotient.{divideOf, divideUnsignedOf, quotientOf, quotientOverflowsOf}
-use Rattle.processor_arithmetic.specs.Integer.{signed}
+use Rattle.processor_arithmetic.specs.Quotient.{divideOf, divideUnsignedOf}
+use Rattle.processor_arithmetic.specs.Integer.{signed, outside}
 use Rattle.processor_arithmetic.specs.Places.{Placed}
 use Rattle.processor_arithmetic.specs.Bit.{bitAt}
 use Rattle.processor_arithmetic.specs.Truncation.{Truncated}
@@ -17,12 +18,12 @@ use Rattle.processor_arithmetic.specs.Truncation.{Truncated}
 abbrev pub DividePlaced : Type 0
 DividePlaced =
     (a b psw : ℕ)
-    → Placed psw (bitAt 3 psw) (quotientOverflowsOf a b) (quotientOf a b) (divideOf a b psw .psw)
+    → Placed psw (bitAt 3 psw) (bitOf (outside (quotZ (signed a) (signed b)))) (divideOf a b psw .reg2) (divideOf a b psw .psw)
 
 -- OV of DIV: 0x80000000 by -1, and nothing else
 abbrev pub DivideOverflow : Type 0
 DivideOverflow =
-    (a b psw : ℕ)
+    (a b psw : ℕ) → a < 2 ^ 32 → b < 2 ^ 32 → b ≢ 0
     → bitAt 2 (divideOf a b psw .psw) ≡ bitOf (pick (eqb a 0x80000000) (eqb b 0xFFFFFFFF) false)
 
 -- there the quotient is 0x80000000 and the remainder 0

@@ -1,6 +1,6 @@
 -- Words and whole numbers: the signed reading of a word, the two's complement of a whole number, and which whole numbers
 -- are no signed word.
-use Prim.Native.Nat.{ℕ, _-_, _/_, _%_, _^_}
+use Prim.Native.Nat.{ℕ, _-_, _%_, _^_}
 use mathlib.Core.Bool.{Bool, true}
 use lib.IntN.{ℤ, pos, negsuc, negℤ}
 use lib.Signed.{ltZ, leZ}
@@ -23,8 +23,3 @@ outside z = pick (ltZ z (negℤ (pos (2 ^ 31)))) true (leZ (pos (2 ^ 31)) z)
 abbrev pub complementOf : ℕ → ℤ → ℕ
 complementOf range (pos n) = n % range
 complementOf range (negsuc n) = range - 1 - n % range
-
--- a whole number divided by a natural one, rounded down
-abbrev pub floorOf : ℤ → ℕ → ℤ
-floorOf (pos n) d = pos (n / d)
-floorOf (negsuc n) d = negsuc (n / d)

@@ -1,20 +1,23 @@
 -- Shifts with their flags (document 000, "Bitwise"; paper 01: amounts mod 32, CY the last bit out, clear for amount 0).
-use Prim.Native.Nat.{ℕ, _*_, _/_, _%_, _^_}
+use Prim.Native.Nat.{ℕ, _-_, _*_, _/_, _%_, _^_}
+use lib.Dec.{eqb}
+use lib.Signed.{shrZ}
+use Rattle.word.specs.Choose.{pick}
 use Rattle.processor_arithmetic.specs.Flag.{flagsOf}
-use Rattle.processor_arithmetic.specs.Integer.{signed, complementOf, floorOf}
+use Rattle.processor_arithmetic.specs.Bit.{bitAt}
+use Rattle.processor_arithmetic.specs.Integer.{signed, complementOf}
 use Rattle.processor_arithmetic.specs.declared.Outcome.{Outcome}
 
--- the last bit out to the left: bit 32 - n, which 2 ^ n takes to bit 32
+-- the last bit out to the left, bit 32 - n, and to the right, bit n - 1; clear for amount 0
 unfoldable pub leftOutOf : ℕ → ℕ → ℕ
-leftOutOf a n = a * 2 ^ n / 2 ^ 32 % 2
+leftOutOf a n = pick (eqb n 0) 0 (bitAt (32 - n) a)
 
--- the last bit out to the right: bit n - 1; for n = 0 it is 0
 unfoldable pub rightOutOf : ℕ → ℕ → ℕ
-rightOutOf a n = 2 * a / 2 ^ n % 2
+rightOutOf a n = pick (eqb n 0) 0 (bitAt (n - 1) a)
 
 -- a shifted right with copies of its top bit: the signed reading divided by 2 ^ n and rounded down
 unfoldable pub arithmeticRightOf : ℕ → ℕ → ℕ
-arithmeticRightOf a n = complementOf (2 ^ 32) (floorOf (signed a) (2 ^ n))
+arithmeticRightOf a n = complementOf (2 ^ 32) (shrZ (signed a) (2 ^ n))
 
 -- SHL
 unfoldable pub shiftLeftOf : ℕ → ℕ → ℕ → Outcome

@@ -17,11 +17,11 @@ ShiftLeftPlaced =
 -- CY of SHL: bit 32 - n of the operand, and 0 where nothing moves
 abbrev pub ShiftLeftOut : Type 0
 ShiftLeftOut =
-    (a b psw : ℕ) → bitAt 3 (shiftLeftOf a b psw .psw) ≡ bitAt (32 - b % 32) a
+    (a b psw : ℕ) → 0 < b % 32 → bitAt 3 (shiftLeftOf a b psw .psw) ≡ bitAt (32 - b % 32) a
 
 abbrev pub ShiftLeftNone : Type 0
 ShiftLeftNone =
-    (a b psw : ℕ) → a < 2 ^ 32 → b % 32 ≡ 0 → bitAt 3 (shiftLeftOf a b psw .psw) ≡ 0
+    (a b psw : ℕ) → b % 32 ≡ 0 → bitAt 3 (shiftLeftOf a b psw .psw) ≡ 0
 
 -- every flag of SHR at its place
 abbrev pub ShiftRightPlaced : Type 0

@@ -5,10 +5,11 @@ use crate::flag::bit;
 use crate::flag::keep_carry;
 use crate::product::magnitude;
 ghost use mathlib.Core.Path.{_≡_};
-ghost use Prim.Native.Nat.{_<_};
+ghost use Prim.Native.Nat.{_-_, _^_, _<_};
+ghost use lib.Dec.{eqb};
 ghost use Rattle.word.specs.Choose.{pick};
 ghost use Rattle.processor_arithmetic.specs.Sign.{negativeOf};
-ghost use Rattle.processor_arithmetic.specs.Quotient.{quotientOverflowsOf, divideOf, divideUnsignedOf};
+ghost use Rattle.processor_arithmetic.specs.Quotient.{divideOf, divideUnsignedOf};
 
 // The word of -x.
 fn negative(x: u32) -> u32
@@ -55,7 +56,7 @@ pub fn div(a: u32, b: u32, psw: u32) -> Pair
 
 // 1 for 0x80000000 by -1.
 fn overflows(a: u32, b: u32) -> u32
-    ensures { λ r. ⌜ (r ≡ quotientOverflowsOf a b) × (r < 2) ⌝ }
+    ensures { λ r. ⌜ (r ≡ pick (eqb a (2 ^ 31)) (pick (eqb b (2 ^ 32 - 1)) 1 0) 0) × (r < 2) ⌝ }
 {
     if a != 2147483648 {
         return 0;

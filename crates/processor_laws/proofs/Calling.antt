@@ -6,8 +6,10 @@ use mathlib.Core.Path.{_≡_, refl, _∙_}
 use native.Mathlib.Omega.{arith}
 use lib.ListN.{length, getD, replicate}
 use Rattle.word.specs.Choose.{pick}
+use Rattle.bus_timer.specs.Timer.{hardwareOf}
 use Rattle.bus_timer.specs.Ports.{controlBitsOf, hardwareOk}
-use Rattle.bus.specs.Registers.{drawingOk, deviceOf, registersOk}
+use Rattle.bus_timer.specs.declared.Hardware.{Hardware}
+use Rattle.bus.specs.Registers.{drawingOk, hardwareIn, deviceOf, registersOk}
 use Rattle.bus.proofs.Devices.{device-whole, device-length, device-ok}
 use Rattle.bus.specs.Memory.{Memory}
 use Rattle.bus.proofs.Accepted.{lengths-accepted}
@@ -15,7 +17,7 @@ use Rattle.processor_machine.specs.State.{State}
 use Rattle.processor_machine.specs.System.{pswBitsOf}
 use Rattle.processor_step.specs.Step.{stepOf}
 use Rattle.processor.specs.Acceptance.{evenOk, formatsOk, stateOk, acceptanceAt, acceptanceOf}
-use Rattle.processor.specs.Record.{systemIn, stateIn, busOf, lentOf, processorOf, resetHardware}
+use Rattle.processor.specs.Record.{systemIn, stateIn, busOf, lentOf, processorOf}
 use Rattle.processor.specs.Run.{runOf}
 use Rattle.processor.specs.Calls.{checkedStepOf, checkedRunOf, resetOf}
 use Rattle.processor_laws.specs.Accepted.{Below, Machine}
@@ -73,13 +75,17 @@ run-call-accepted budget p m h =
     let r = runOf budget (stateIn p) (busOf p m) in
     rw (h .accepted) (record-machine (r .state) (r .memory) (run-accepted budget (stateIn p) (busOf p m) h))
 
+-- lines and timer at reset
+abbrev resetHardware : Hardware
+resetHardware = hardwareOf 0 0 0 0
+
 zeros : (n k i : ℕ) → 0 < k → getD (replicate n 0) i 0 < k
 zeros zero k i h = h
 zeros (suc n) k zero h = h
 zeros (suc n) k (suc i) h = zeros n k i h
 
 pub reset-accepted : ResetAccepted
-unfolding resetOf acceptanceAt stateOk evenOk formatsOk pswBitsOf
+unfolding resetOf hardwareIn acceptanceAt stateOk evenOk formatsOk pswBitsOf
 reset-accepted rom wram vram pak l r w v p =
     record {
       sized =

@@ -5,9 +5,10 @@ use mathlib.Core.Path.{_≡_, refl, _∙_}
 use native.Mathlib.Decide.{ℕ-discrete}
 use native.Mathlib.Omega.{arith}
 use borrow.Author.Tests.{eq-eqb, ne-eqb}
+use lib.IntN.{natAbs}
 use lib.ListN.{getD, set, length-set}
-use Rattle.processor_arithmetic.specs.Sign.{magnitudeOf}
-use Rattle.processor_arithmetic.proofs.Reading.{magnitude-small}
+use Rattle.processor_arithmetic.specs.Integer.{signed}
+use Rattle.processor_arithmetic.proofs.Reading.{magnitude-small, magnitude-absolute}
 use Rattle.processor_machine.specs.State.{putOf}
 use Rattle.processor_machine.specs.System.{pswBitsOf, systemOf, Status, statusOf, writtenOf}
 use Rattle.processor_laws.proofs.Lists.{set-each, each-row}
@@ -146,7 +147,7 @@ writeRows sys psw v =
     ∷ (5, statusOf sys (pswBitsOf v))
     ∷ (25, statusOf (set sys 5 (v - v % 2)) psw)
     ∷ (29, statusOf (set sys 6 v) psw)
-    ∷ (31, statusOf (set sys 7 (magnitudeOf v)) psw)
+    ∷ (31, statusOf (set sys 7 (natAbs (signed v))) psw)
     ∷ []
 
 pub written : (sys : List ℕ) (psw id v : ℕ) → v < 2 ^ 32 → Systems sys → Format psw → Written (writtenOf sys psw id v)
@@ -154,6 +155,7 @@ unfolding writtenOf
 written sys psw id v hv h f =
     let low : v - v % 2 < 2 ^ 32 = omega arith in
     let even : (v - v % 2) % 2 ≡ 0 = omega arith in
+    let absolute : natAbs (signed v) ≤ 2 ^ 31 = rw (magnitude-absolute v hv) (magnitude-small v) in
     let keep : (k x : ℕ) → System k x → Written (statusOf (set sys k x) psw) = λ k x q. record { systems = set-systems sys k x q h; format = f } in
     each-row Written id (writeRows sys psw v) (statusOf sys psw) (
       keep 0 (v - v % 2) (eipc-system (v - v % 2) low even),
@@ -169,7 +171,7 @@ written sys psw id v hv h f =
                 keep 5 (v - v % 2) (sr25-system (v - v % 2) low even),
                 (
                   keep 6 v (sr29-system v hv),
-                  (keep 7 (magnitudeOf v) (sr31-system (magnitudeOf v) (magnitude-small v)), tt),
+                  (keep 7 (natAbs (signed v)) (sr31-system (natAbs (signed v)) absolute), tt),
                 ),
               ),
             ),

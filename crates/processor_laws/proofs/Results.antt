@@ -3,29 +3,26 @@ use Prim.Native.Nat.{ℕ, _+_, _-_, _*_, _/_, _%_, _^_, _<_}
 use native.Mathlib.Nat.{div-le-self, mod-le}
 use native.Mathlib.Omega.{arith}
 use lib.Bits.{bitAnd, bitOr, bitXor, and-lt, or-lt, xor-lt}
-use lib.Dec.{ltb, leb, eqb}
+use lib.Dec.{ltb, leb}
 use lib.IntN.{_+ℤ_, _-ℤ_}
-use Rattle.word.specs.Choose.{pick}
+use lib.Signed.{quotZ, remZ}
 use Rattle.processor_arithmetic.specs.declared.Outcome.{Outcome}
 use Rattle.processor_arithmetic.specs.declared.Pair.{Pair}
 use Rattle.processor_arithmetic.specs.Flag.{bitOf}
 use Rattle.processor_arithmetic.proofs.Bits.{bit-small}
 use Rattle.processor_arithmetic.specs.Sum.{sumOf, differenceOf, compareOf}
-use Rattle.processor_arithmetic.specs.Integer.{signed, outside}
+use Rattle.processor_arithmetic.specs.Integer.{signed, outside, complementOf}
 use Rattle.processor_arithmetic.specs.Shift.{leftOutOf, rightOutOf, shiftLeftOf, shiftRightOf, shiftArithmeticOf}
-use Rattle.processor_arithmetic.proofs.Floor.{right-bit, sar-word}
+use Rattle.processor_arithmetic.proofs.Floor.{left-bit, right-bit, sar-word}
 use Rattle.processor_arithmetic.specs.Bitwise.{andOf, orOf, xorOf, notOf}
-use Rattle.processor_arithmetic.specs.Sign.{magnitudeOf, negativeOf}
-use Rattle.processor_arithmetic.proofs.Reading.{magnitude-small}
 use Rattle.processor_arithmetic.specs.Product.{productOf, overflowsOf, wordsOf, multiplyOf, multiplyUnsignedOf}
 use Rattle.processor_arithmetic.proofs.Product64.{product-word, unsigned-word, overflow-small}
-use Rattle.processor_arithmetic.specs.Quotient.{divideOf, divideUnsignedOf, quotientOf, remainderOf, quotientOverflowsOf}
-use Rattle.processor_arithmetic.proofs.Division.{quotient-word}
+use Rattle.processor_arithmetic.specs.Quotient.{divideOf, divideUnsignedOf}
+use Rattle.processor_arithmetic.proofs.Division.{complement-word}
 use Rattle.processor_decode.specs.declared.RegisterOperation.{RegisterOperation}
 use Rattle.processor_decode.specs.declared.ImmediateOperation.{ImmediateOperation}
 use Rattle.processor_decode.specs.declared.LongOperation.{LongOperation}
 use Rattle.processor_execute.specs.Operation.{registerOf, immediateOf, longOf}
-use Rattle.processor_laws.proofs.Lists.{pick-each}
 use Rattle.processor_laws.proofs.Invariant.{Format}
 use Rattle.processor_laws.proofs.Psw.{flags-format, keep-carry-format}
 
@@ -37,28 +34,6 @@ pub record Results (p : Pair) : Type 0 where
   pub high : p .r30 < 2 ^ 32
   pub low : p .reg2 < 2 ^ 32
   pub format : Format (p .psw)
-
-left-bit : (a n : ℕ) → leftOutOf a n < 2
-unfolding leftOutOf
-left-bit a n = omega arith
-
-negative-word : (x : ℕ) → negativeOf x < 2 ^ 32
-unfolding negativeOf
-negative-word x = omega arith
-
-remainder-word : (a b : ℕ) → remainderOf a b < 2 ^ 32
-unfolding remainderOf
-remainder-word a b =
-    let r : magnitudeOf a % magnitudeOf b < 2 ^ 32 = omega (arith, mod-le (magnitudeOf a) (magnitudeOf b), magnitude-small a) in
-    pick-each (λ (x : ℕ). x < 2 ^ 32) (ltb a (2 ^ 31)) (magnitudeOf a % magnitudeOf b) (negativeOf (magnitudeOf a % magnitudeOf b)) r (negative-word (magnitudeOf a % magnitudeOf b))
-
-overflow-bit : (a b : ℕ) → quotientOverflowsOf a b < 2
-unfolding quotientOverflowsOf
-overflow-bit a b =
-    let one : 1 < 2 = omega arith in
-    let none : 0 < 2 = omega arith in
-    pick-each (λ (x : ℕ). x < 2) (eqb a (2 ^ 31)) (pick (eqb b (2 ^ 32 - 1)) 1 0) 0
-    (pick-each (λ (x : ℕ). x < 2) (eqb b (2 ^ 32 - 1)) 1 0 one none) none
 
 module _ (a b psw : ℕ) (ha : a < 2 ^ 32) (hb : b < 2 ^ 32) (h : Format psw) where
   sum-result : Result (sumOf a b psw)
@@ -143,10 +118,11 @@ module _ (a b psw : ℕ) (ha : a < 2 ^ 32) (hb : b < 2 ^ 32) (h : Format psw) wh
   pub divide-results : Results (divideOf a b psw)
   unfolding divideOf
   divide-results =
+      let q = quotZ (signed a) (signed b) in
       record {
-        high = remainder-word a b;
-        low = quotient-word a b;
-        format = keep-carry-format psw (quotientOverflowsOf a b) (quotientOf a b) h (overflow-bit a b) (quotient-word a b);
+        high = complement-word (remZ (signed a) (signed b));
+        low = complement-word q;
+        format = keep-carry-format psw _ (complementOf (2 ^ 32) q) h (bit-small (outside q)) (complement-word q);
       }
 
   pub divide-unsigned-results : Results (divideUnsignedOf a b psw)

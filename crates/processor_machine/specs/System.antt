@@ -3,9 +3,10 @@
 use Prim.Native.Nat.{ℕ, _+_, _-_, _*_, _/_, _%_}
 use mathlib.Core.List.{List, [], _∷_}
 use lib.Dec.{eqb}
+use lib.IntN.{natAbs}
 use lib.ListN.{getD, set}
 use Rattle.word.specs.Choose.{pick}
-use Rattle.processor_arithmetic.specs.Sign.{magnitudeOf}
+use Rattle.processor_arithmetic.specs.Integer.{signed}
 
 -- what a PSW format keeps of a word: the bits of 0x000FF3FF
 unfoldable pub pswBitsOf : ℕ → ℕ
@@ -58,5 +59,5 @@ writtenOf sys psw id v =
     -- ADTRE, 29, and 31, which keeps the absolute value
     ∷ (25, statusOf (set sys 5 (v - v % 2)) psw)
     ∷ (29, statusOf (set sys 6 v) psw)
-    ∷ (31, statusOf (set sys 7 (magnitudeOf v)) psw)
+    ∷ (31, statusOf (set sys 7 (natAbs (signed v))) psw)
     ∷ []) (statusOf sys psw)

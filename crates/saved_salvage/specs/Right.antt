@@ -17,7 +17,7 @@ use Rattle.saved_salvage.specs.Salvage.{pakIn, toldOf, salvageVerdictOf,
 use Rattle.saved_salvage.specs.declared.Kept.{Kept}
 
 -- the output has the file's length, and reading it with pak RAM of that length refuses neither by 9 nor by 10: it is what form 2's writer makes
--- for an accepted state (`written-exactly` of the crate saved)
+-- for an accepted state (`salvaged-accepted` of the crate saved_laws)
 pub record Right (file room : List ℕ) : Type 0 where
   pub whole : length (salvagedRoomOf file room) ≡ length file
   pub right : fileOk Two (pakIn file) (salvagedRoomOf file room) ≡ true

@@ -3,19 +3,16 @@ use native.Mathlib.Omega.{arith}
 use borrow.Author.Tests.{eq-eqb, ne-eqb}
 use borrow.Author.Needs.{needs}
 use Rattle.processor_arithmetic.proofs.Carry.{bit-is}
-use Rattle.processor_arithmetic.specs.Quotient.{quotientOverflowsOf}
 use Rattle.processor_arithmetic.proofs.quotient.overflows.Statement.{statement}
 use Rattle.processor_arithmetic.proofs.quotient.overflows.Tie as tie
 
 returns : tie.Need-returns
-unfolding quotientOverflowsOf
 returns c = (simp (ne-eqb _ _ (c .if1 .taken)), omega arith)
 
 bit-requires : tie.Need-bit-requires
 bit-requires c κs = search needs
 
 returns-2 : tie.Need-returns-2
-unfolding quotientOverflowsOf
 returns-2 c = (simp (eq-eqb _ _ (c .before .if1 .left)) (rw (c .bit .ensures .0, bit-is)), omega arith)
 
 pub overflows-spec : {M : Type 1} → statement M

@@ -1,6 +1,7 @@
 -- `processor_arithmetic::shift::sar`: the flags are those of the value.
 use borrow.Author.Needs.{needs}
-use Rattle.processor_arithmetic.specs.Shift.{shiftArithmeticOf, rightOutOf}
+use Rattle.processor_arithmetic.specs.Shift.{shiftArithmeticOf}
+use Rattle.processor_arithmetic.proofs.Floor.{right-out}
 use Rattle.processor_arithmetic.proofs.shift.sar.Statement.{statement}
 use Rattle.processor_arithmetic.proofs.shift.sar.Tie as tie
 
@@ -23,8 +24,8 @@ flags-requires : tie.Need-flags-requires
 flags-requires c κs = search needs
 
 returns : tie.Need-returns
-unfolding shiftArithmeticOf rightOutOf
-returns c = rw (c .flags .ensures, c .before .arithmetic-right .ensures)
+unfolding shiftArithmeticOf
+returns c = rw (right-out, c .flags .ensures, c .before .arithmetic-right .ensures)
 
 pub sar-spec : {M : Type 1} → statement M
 sar-spec =

@@ -1,6 +1,7 @@
 -- `processor_arithmetic::shift::shr`: the flags are those of the value.
 use borrow.Author.Needs.{needs}
-use Rattle.processor_arithmetic.specs.Shift.{shiftRightOf, rightOutOf}
+use Rattle.processor_arithmetic.specs.Shift.{shiftRightOf}
+use Rattle.processor_arithmetic.proofs.Floor.{right-out}
 use Rattle.processor_arithmetic.proofs.shift.shr.Statement.{statement}
 use Rattle.processor_arithmetic.proofs.shift.shr.Tie as tie
 
@@ -23,8 +24,8 @@ flags-requires : tie.Need-flags-requires
 flags-requires c κs = search needs
 
 returns : tie.Need-returns
-unfolding shiftRightOf rightOutOf
-returns c = rw (c .flags .ensures)
+unfolding shiftRightOf
+returns c = rw (right-out, c .flags .ensures)
 
 pub shr-spec : {M : Type 1} → statement M
 shr-spec = tie.close (tie.spec shr-value mul-cy cast-cy shr-cy cast-cy-2 flags-requires returns)

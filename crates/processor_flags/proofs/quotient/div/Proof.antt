@@ -2,10 +2,15 @@
 use Prim.Native.Nat.{_+_, _-_, _*_, _/_, _%_, _^_, _<_}
 use mathlib.Core.Path.{_≡_, refl, sym, ap, _∙_}
 use native.Mathlib.Omega.{arith}
-use Rattle.processor_arithmetic.specs.Quotient.{quotientOf, quotientOverflowsOf, divideOf}
+use lib.Signed.{quotZ}
+use Rattle.processor_arithmetic.specs.Flag.{bitOf}
+use Rattle.processor_arithmetic.specs.Integer.{signed, outside, complementOf}
+use Rattle.processor_arithmetic.specs.Quotient.{divideOf}
+use Rattle.processor_arithmetic.proofs.Bits.{bit-small}
+use Rattle.processor_arithmetic.proofs.Division.{complement-word}
 use Rattle.processor_arithmetic.specs.declared.Pair.{Pair}
 use Rattle.processor_flags.specs.Packed.{packedOf}
-use Rattle.processor_flags.proofs.Quotients.{divide-plain, quotient-overflows-small, keep-overflow}
+use Rattle.processor_flags.proofs.Quotients.{divide-plain, keep-overflow}
 use Rattle.processor_flags.proofs.Kept.{gives-pair}
 use borrow.Author.Needs.{needs}
 use Rattle.processor_flags.proofs.quotient.div.Statement.{statement}
@@ -36,10 +41,11 @@ unfolding divideOf
 returns-2 c = λ psw.
     let a = c .before .before .before .before .before .args in
     let p = c .before .before .div in
-    let q : p .result .reg2 ≡ quotientOf (a .a) (a .b) = ap (λ (x : Pair). x .reg2) (p .ensures) in
-    let o : p .result .psw / 4 % 2 ≡ quotientOverflowsOf (a .a) (a .b) =
-    rw (p .ensures) (keep-overflow _ _ _ (quotient-overflows-small (a .a) (a .b)) (rw (← q) (omega arith))) in
-    let s : quotientOverflowsOf (a .a) (a .b) < 2 = quotient-overflows-small (a .a) (a .b) in
+    let z = quotZ (signed (a .a)) (signed (a .b)) in
+    let q : p .result .reg2 ≡ complementOf (2 ^ 32) (quotZ (signed (a .a)) (signed (a .b))) = ap (λ (x : Pair). x .reg2) (p .ensures) in
+    let s : bitOf (outside (quotZ (signed (a .a)) (signed (a .b)))) < 2 = bit-small (outside z) in
+    let o : p .result .psw / 4 % 2 ≡ bitOf (outside (quotZ (signed (a .a)) (signed (a .b)))) =
+    rw (p .ensures) (keep-overflow _ _ _ s (complement-word z)) in
     gives-pair psw (a .flags) _ _ _ _
     (ap (λ (x : Pair). x .r30) (p .ensures)) (omega (arith, c .before .kept .ensures, q))
     (omega (arith, c .before .kept .ensures)) (omega (arith, o, s))

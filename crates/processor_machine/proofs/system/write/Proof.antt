@@ -1,6 +1,8 @@
 -- `processor_machine::system::write`: the row of each number.
+use native.Mathlib.Omega.{arith}
 use borrow.Author.Tests.{ne-eqb}
 use borrow.Author.Needs.{needs}
+use Rattle.processor_arithmetic.proofs.Reading.{magnitude-absolute}
 use Rattle.processor_machine.specs.System.{writtenOf}
 use Rattle.processor_machine.proofs.system.write.Statement.{statement}
 use Rattle.processor_machine.proofs.system.write.Tie as tie
@@ -77,7 +79,7 @@ returns-7 c = rw (c .match .keys7)
 
 returns-8 : tie.Need-returns-8
 unfolding writtenOf
-returns-8 c = rw (c .before .match .keys8, c .magnitude .ensures .0)
+returns-8 c = rw (c .before .match .keys8, c .magnitude .ensures .0, magnitude-absolute (c .before .before .args .v) (omega arith))
 
 returns-9 : tie.Need-returns-9
 unfolding writtenOf

@@ -1,0 +1,45 @@
+-- `salvaged-accepted`: a salvage's output is right, so it is of form 2 and refused by neither 9 nor 10, and such a file is an accepted
+-- machine's. Assumes nothing.
+use Prim.Native.Nat.{ℕ, _<_}
+use mathlib.Core.Bool.{true}
+use mathlib.Core.List.{List}
+use mathlib.Core.Path.{_≡_, sym, ap, _∙_}
+use lib.ListN.{length, getD}
+use Rattle.refusal.specs.declared.Verdict.the-variants.{Accepted}
+use Rattle.bus.specs.Memory.{Memory}
+use Rattle.saved_bytes.proofs.Reading.{under}
+use Rattle.saved_layout.specs.Layout.{fileLengthOf}
+use Rattle.saved_layout.specs.File.{bodiesIn}
+use Rattle.saved_layout.specs.declared.Form.the-variants.{Two}
+use Rattle.saved_kinds.specs.Fits.{formOf}
+use Rattle.saved_kinds.specs.Kinds.{fileOk}
+use Rattle.saved_move.proofs.Returning.{form-back}
+use Rattle.saved.proofs.Made.{written-exactly}
+use Rattle.saved_salvage.specs.Keep.{keptIn}
+use Rattle.saved_salvage.specs.Salvage.{pakIn, salvageVerdictOf, salvagedRoomOf}
+use Rattle.saved_salvage.proofs.Unharmed.{salvaged-right, output-is, whole}
+use Rattle.saved_laws.specs.Salvaged.{SalvagedAccepted}
+use Rattle.saved_laws.proofs.Bytes.{output-bytes}
+
+module _ (file room : List ℕ) (e : salvageVerdictOf file room ≡ Accepted) where
+  form : formOf (salvagedRoomOf file room) ≡ Two
+  form = ap formOf (output-is file room e) ∙ form-back Two _
+
+  due : length (salvagedRoomOf file room) ≡ fileLengthOf Two (pakIn file)
+  due = salvaged-right file room e .whole ∙ whole file room e
+
+  bytes : ((k : ℕ) → getD file k 0 < 256) → (k : ℕ) → getD (salvagedRoomOf file room) k 0 < 256
+  bytes b k = rw (output-is file room e) (output-bytes (keptIn (pakIn file) file) (pakIn file) file (under 256 file b) k)
+
+pub salvaged-accepted : SalvagedAccepted
+salvaged-accepted file room q n b e accepted l =
+    let out = salvagedRoomOf file room in
+    let f = form file room e in
+    let w : length (salvagedRoomOf file room) ≡ fileLengthOf (formOf (salvagedRoomOf file room)) (length (n .pak)) =
+    rw (f, l) (due file room e)
+    in
+    let ok : fileOk (formOf (salvagedRoomOf file room)) (length (n .pak)) (salvagedRoomOf file room) ≡ true =
+    rw (f, l) (salvaged-right file room e .right)
+    in
+    let made = written-exactly q n out accepted w (bytes file room e b) .made ok in
+    record { savable = rw f at (made .0); written = rw f at (made .1 .1) }
