@@ -15,7 +15,7 @@ use Rattle.processor_machine.specs.State.{State, stateOf}
 use Rattle.processor_machine.specs.declared.Mode.the-variants.{Running}
 use Rattle.processor_step.specs.Step.{stepOf}
 use Rattle.drawing_pixel.specs.Character.{characterAddressOf, shadeOf}
-use Rattle.drawing_pixel.specs.World.{columnCoveredOf}
+use Rattle.drawing_pixel.specs.Pixel.{worldCovers}
 use Rattle.drawing_pixel.specs.Strip.{pixelOffsetOf, pixelPairOf}
 
 -- what a row asks
@@ -61,16 +61,16 @@ pub record Row : Type 0 where
 unfoldable pub row : Question → Answer → Row
 row q a = record { question = q; printed = a }
 
--- a normal world of a width, position and parallax, all else 0
+-- a normal world of a width, position and parallax, shown to both eyes, all else 0
 unfoldable pub worldWith : ℕ → ℕ → ℕ → List ℕ
-worldWith w gx gp = 0 ∷ gx ∷ gp ∷ 0 ∷ 0 ∷ 0 ∷ 0 ∷ w ∷ 0 ∷ 0 ∷ 0 ∷ []
+worldWith w gx gp = 0xC000 ∷ gx ∷ gp ∷ 0 ∷ 0 ∷ 0 ∷ 0 ∷ w ∷ 0 ∷ 0 ∷ 0 ∷ []
 
--- of the n image columns from x on, those that are in a world's window
+-- of the n columns from x on of the image's first row, those that a world covers
 unfoldable pub shownFrom : List ℕ → ℕ → ℕ → ℕ → List ℕ
 shownFrom w eye x zero = []
 shownFrom w eye x (suc n) =
     let rest = shownFrom w eye (suc x) n in
-    pick (columnCoveredOf w eye x) (x ∷ rest) rest
+    pick (worldCovers w eye x 0) (x ∷ rest) rest
 
 -- the first address of ROM, where the halfword of the instruction stands; all other memory and every register is 0
 abbrev pub pcBefore : ℕ
