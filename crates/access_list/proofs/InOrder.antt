@@ -1,17 +1,16 @@
 -- Accesses in order: one access by what its words say, and in the middle of a list what is left, made from here, is what all of
 -- them leave from the start. Assumes nothing.
-use Prim.Native.Nat.{ℕ, zero, suc, _+_, _-_, _*_, _<_, _≤_}
+use Prim.Native.Nat.{ℕ, suc, _+_, _-_, _<_, _≤_}
 use mathlib.Core.Bool.{Bool, true, false}
 use mathlib.Core.List.{List}
-use mathlib.Core.Path.{_≡_, refl, sym, ap, _∙_}
+use mathlib.Core.Path.{_≡_, refl, sym, _∙_}
 use native.Mathlib.Omega.{arith}
 use borrow.Author.Tests.{eq-eqb, ne-eqb}
 use lib.Dec.{eqb}
-use lib.ListN.{length}
 use Rattle.word.specs.Choose.{pick}
-use Rattle.bus.specs.Memory.{Memory, loadOf}
+use Rattle.bus.specs.Memory.{Memory, loadOf, storeOf}
 use Rattle.bus_defined.specs.Defined.{undefinedOf}
-use Rattle.access_list.specs.List.{addressAt, sizeAt, writeAt, valueAt, answeredOf, storeOf, Made, madeOf, accessOf, accessesOf, sizeOk}
+use Rattle.access_list.specs.List.{addressAt, sizeAt, writeAt, valueAt, answeredOf, Made, madeOf, accessOf, accessesOf, sizeOk}
 use Rattle.access_list.proofs.Sizes.{answer-size}
 
 module _ (k : ℕ) (m : Memory) (xs : List ℕ) where
@@ -23,7 +22,7 @@ module _ (k : ℕ) (m : Memory) (xs : List ℕ) where
       simp (eq-eqb (writeAt xs k) 0 (sym w ∙ z)) (rw (e, p, q, s, t))
 
   pub access-writes : (size a : ℕ) → size ≡ sizeAt xs k → a ≡ addressAt xs k → (flag : ℕ) → flag ≡ writeAt xs k → (flag ≡ 0 → ⊥)
-      → (v : ℕ) → v ≡ valueAt xs k → (n : Memory) → n ≡ storeOf size m a v → madeOf n xs ≡ accessOf k m xs
+      → (v : ℕ) → v ≡ valueAt xs k → (n : Memory) → n ≡ storeOf m size a v → madeOf n xs ≡ accessOf k m xs
   unfolding accessOf
   access-writes size a s t flag w z v p n e =
       simp (ne-eqb (writeAt xs k) 0 (λ o. z (w ∙ o))) (rw (e, p, s, t))
@@ -38,7 +37,7 @@ unfolding accessOf
 access-size k m xs j =
     let a = addressAt xs k in
     let size = sizeAt xs k in
-    picked-size (eqb (writeAt xs k) 0) m (storeOf size m a (valueAt xs k)) xs k (loadOf m size a) (undefinedOf m size a) j
+    picked-size (eqb (writeAt xs k) 0) m (storeOf m size a (valueAt xs k)) xs k (loadOf m size a) (undefinedOf m size a) j
 
 -- the first k of n accesses are made, and every size is right
 pub record Follows (n : ℕ) (m₀ : Memory) (xs₀ : List ℕ) (k : ℕ) (m : Memory) (xs : List ℕ) : Type 0 where

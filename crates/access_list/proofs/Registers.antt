@@ -6,22 +6,10 @@ use mathlib.Core.Path.{_≡_, refl, _∙_}
 use lib.Dec.{eqb}
 use lib.ListN.{length}
 use Rattle.word.specs.Choose.{pick}
-use Rattle.bus.specs.Memory.{Memory, loadOf, storeByteOf, storeHalfOf, storeWordOf}
-use Rattle.bus.proofs.Kept.{store-byte-shape, store-half-shape, store-word-shape}
+use Rattle.bus.specs.Memory.{Memory, loadOf, storeOf}
+use Rattle.bus.proofs.Kept.{store-shape}
 use Rattle.bus_defined.specs.Defined.{undefinedOf}
-use Rattle.access_list.specs.List.{addressAt, sizeAt, writeAt, valueAt, answeredOf, storeOf, madeOf, accessOf, accessesOf}
-
-picked-registers : (b : Bool) (k : ℕ) (m n : Memory) → length (m .regs) ≡ k → length (n .regs) ≡ k → length (pick b m n .regs) ≡ k
-picked-registers true k m n p q = p
-picked-registers false k m n p q = q
-
-store-registers : (size : ℕ) (m : Memory) (a v : ℕ) → length (storeOf size m a v .regs) ≡ length (m .regs)
-unfolding storeOf
-store-registers size m a v =
-    let half = storeHalfOf m a v in
-    let word = storeWordOf m a v in
-    picked-registers (eqb size 1) (length (m .regs)) (storeByteOf m a v) (pick (eqb size 2) half word) (store-byte-shape m a v .same-regs)
-    (picked-registers (eqb size 2) (length (m .regs)) half word (store-half-shape m a v .same-regs) (store-word-shape m a v .same-regs))
+use Rattle.access_list.specs.List.{addressAt, sizeAt, writeAt, valueAt, answeredOf, madeOf, accessOf, accessesOf}
 
 made-registers : (b : Bool) (k : ℕ) (m n : Memory) (xs ys : List ℕ) → length (m .regs) ≡ k → length (n .regs) ≡ k
     → length (pick b (madeOf m xs) (madeOf n ys) .memory .regs) ≡ k
@@ -33,8 +21,8 @@ unfolding accessOf
 access-registers k m xs =
     let a = addressAt xs k in
     let size = sizeAt xs k in
-    made-registers (eqb (writeAt xs k) 0) (length (m .regs)) m (storeOf size m a (valueAt xs k)) (answeredOf xs k (loadOf m size a) (undefinedOf m size a)) xs refl
-    (store-registers size m a (valueAt xs k))
+    made-registers (eqb (writeAt xs k) 0) (length (m .regs)) m (storeOf m size a (valueAt xs k)) (answeredOf xs k (loadOf m size a) (undefinedOf m size a)) xs refl
+    (store-shape m size a (valueAt xs k) .same-regs)
 
 pub accesses-registers : (n k : ℕ) (m : Memory) (xs : List ℕ) → length (accessesOf n k m xs .memory .regs) ≡ length (m .regs)
 unfolding accessesOf

@@ -7,27 +7,14 @@ use mathlib.Core.Path.{_≡_, refl, sym, _∙_}
 use lib.Dec.{eqb}
 use Rattle.word.specs.Choose.{pick}
 use Rattle.refusal.specs.declared.Verdict.the-variants.{Accepted}
-use Rattle.bus.specs.Memory.{Memory, verdictOf, loadOf, storeByteOf, storeHalfOf, storeWordOf}
-use Rattle.bus.proofs.Kept.{store-byte-shape, store-half-shape, store-word-shape, shape-accepted}
+use Rattle.bus.specs.Memory.{Memory, verdictOf, loadOf, storeOf}
+use Rattle.bus.proofs.Kept.{store-shape, shape-accepted}
 use Rattle.bus_defined.specs.Defined.{undefinedOf}
 use Rattle.bus_calls.specs.Access.{checkedLoadOf, checkedStoreOf}
-use Rattle.access_list.specs.List.{countOf, addressAt, sizeAt, writeAt, valueAt, answeredOf, storeOf, madeOf, accessOf, accessesOf}
-use Rattle.access_list.specs.Calls.{listVerdictOf, accessListOf}
+use Rattle.access_list.specs.List.{countOf, addressAt, sizeAt, writeAt, valueAt, answeredOf, madeOf, accessOf, accessesOf}
+use Rattle.access_list.specs.Calls.{listVerdictOf}
 use Rattle.access_list.specs.OneByOne.{singleOf, singlesOf, OneByOne, NoneRefused}
 use Rattle.access_list.proofs.Tested.{bus-passed, list-left}
-
-picked-memory : (b : Bool) (m n : Memory) → verdictOf m ≡ Accepted → verdictOf n ≡ Accepted → verdictOf (pick b m n) ≡ Accepted
-picked-memory true m n p q = p
-picked-memory false m n p q = q
-
-store-kept : (size : ℕ) (m : Memory) (a v : ℕ) → verdictOf m ≡ Accepted → verdictOf (storeOf size m a v) ≡ Accepted
-unfolding storeOf
-store-kept size m a v h =
-    let byte = storeByteOf m a v in
-    let half = storeHalfOf m a v in
-    let word = storeWordOf m a v in
-    picked-memory (eqb size 1) byte (pick (eqb size 2) half word) (shape-accepted m byte (store-byte-shape m a v) h)
-    (picked-memory (eqb size 2) half word (shape-accepted m half (store-half-shape m a v) h) (shape-accepted m word (store-word-shape m a v) h))
 
 picked-access : (b : Bool) (m n : Memory) (xs ys : List ℕ) → verdictOf m ≡ Accepted → verdictOf n ≡ Accepted → verdictOf (pick b (madeOf m xs) (madeOf n ys) .memory) ≡ Accepted
 picked-access true m n xs ys p q = p
@@ -39,8 +26,9 @@ module _ (k : ℕ) (m : Memory) (xs : List ℕ) (h : verdictOf m ≡ Accepted) w
   access-kept =
       let a = addressAt xs k in
       let size = sizeAt xs k in
-      picked-access (eqb (writeAt xs k) 0) m (storeOf size m a (valueAt xs k)) (answeredOf xs k (loadOf m size a) (undefinedOf m size a)) xs h
-      (store-kept size m a (valueAt xs k) h)
+      let n = storeOf m size a (valueAt xs k) in
+      picked-access (eqb (writeAt xs k) 0) m n (answeredOf xs k (loadOf m size a) (undefinedOf m size a)) xs h
+      (shape-accepted m n (store-shape m size a (valueAt xs k)) h)
 
   single-access : singleOf k m xs ≡ accessOf k m xs
   unfolding singleOf accessOf checkedLoadOf checkedStoreOf

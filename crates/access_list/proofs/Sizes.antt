@@ -1,19 +1,17 @@
--- The sizes of a list's accesses: what the tests of them tell, which load and store each one is, and that no answer in the list
--- changes one. Assumes nothing.
+-- The sizes of a list's accesses: what the tests of them tell, and that no answer in the list changes one. Assumes nothing.
 use Prim.Native.Nat.{ℕ, zero, suc, _+_, _-_, _*_, _/_, _%_, _<_, _≤_}
 use mathlib.Core.Bool.{Bool, true, false, not, false≢true}
 use mathlib.Core.List.{List}
-use mathlib.Core.Path.{_≡_, refl, sym, ap, _∙_}
+use mathlib.Core.Path.{_≡_, refl, _∙_}
 use native.Mathlib.Decide.{ℕ-discrete}
 use native.Mathlib.Omega.{arith}
-use borrow.Author.Tests.{eqb-true, eq-eqb, ne-eqb, le-leb, lt-leb, not-true, not-false}
+use borrow.Author.Tests.{eqb-true, ne-eqb, le-leb, lt-leb, not-true, not-false}
 use lib.Dec.{eqb, leb}
 use lib.ListN.{length, getD, set}
 use lib.Seq.{getD-set-other}
 use Rattle.word.specs.Choose.{pick}
 use Rattle.word.specs.LittleEndian.{putHalf, putWord}
-use Rattle.bus.specs.Memory.{Memory, storeByteOf, storeHalfOf, storeWordOf}
-use Rattle.access_list.specs.List.{countOf, sizeAt, answeredOf, storeOf, sizeOk, sizesOk, listOk}
+use Rattle.access_list.specs.List.{countOf, sizeAt, answeredOf, sizeOk, sizesOk, listOk}
 
 -- what passed a test that is picked
 picked : (b t : Bool) → pick b t false ≡ true → (b ≡ true) × (t ≡ true)
@@ -38,19 +36,6 @@ module _ (size : ℕ) where
   four-left h a b =
       let t : pick (eqb size 4) true false ≡ true = simp (ne-eqb size 1 a, ne-eqb size 2 b) at h in
       eqb-true size 4 (picked (eqb size 4) true t .0)
-
-  module _ (m : Memory) (a v : ℕ) where
-    pub store-one : size ≡ 1 → storeByteOf m a v ≡ storeOf size m a v
-    unfolding storeOf
-    store-one e = simp (eq-eqb size 1 e)
-
-    pub store-two : (size ≡ 1 → ⊥) → size ≡ 2 → storeHalfOf m a v ≡ storeOf size m a v
-    unfolding storeOf
-    store-two p e = simp (ne-eqb size 1 p, eq-eqb size 2 e)
-
-    pub store-four : (size ≡ 1 → ⊥) → (size ≡ 2 → ⊥) → storeWordOf m a v ≡ storeOf size m a v
-    unfolding storeOf
-    store-four p q = simp (ne-eqb size 1 p, ne-eqb size 2 q)
 
 -- one size of those from access k on, and the rest
 pub sizes-start : (n : ℕ) (xs : List ℕ) → sizesOk n 0 xs ≡ sizesOk (n - 0) 0 xs

@@ -8,7 +8,7 @@ use lib.Dec.{eqb, leb}
 use lib.ListN.{length}
 use Rattle.word.specs.Choose.{pick, member}
 use Rattle.word.specs.LittleEndian.{wordAt, putWord}
-use Rattle.bus.specs.Memory.{Memory, loadOf, storeByteOf, storeHalfOf, storeWordOf}
+use Rattle.bus.specs.Memory.{Memory, loadOf, storeOf}
 use Rattle.bus_defined.specs.Defined.{undefinedOf}
 
 -- how many accesses a list has; bytes that follow the last whole one are left as they are
@@ -32,11 +32,6 @@ valueAt xs k = wordAt xs (20 * k + 12)
 unfoldable pub answeredOf : List ℕ → ℕ → ℕ → ℕ → List ℕ
 answeredOf xs k value undefined = putWord (putWord xs (20 * k + 12) value) (20 * k + 16) undefined
 
--- a store of 1, 2 or 4 bytes
-unfoldable pub storeOf : ℕ → Memory → ℕ → ℕ → Memory
-storeOf size m a v =
-    pick (eqb size 1) (storeByteOf m a v) (pick (eqb size 2) (storeHalfOf m a v) (storeWordOf m a v))
-
 -- memory, registers among it, and the list
 pub record Made : Type 0 where
   pub memory : Memory
@@ -51,7 +46,7 @@ accessOf k m xs =
     let a = addressAt xs k in
     let size = sizeAt xs k in
     pick (eqb (writeAt xs k) 0) (madeOf m (answeredOf xs k (loadOf m size a) (undefinedOf m size a)))
-    (madeOf (storeOf size m a (valueAt xs k)) xs)
+    (madeOf (storeOf m size a (valueAt xs k)) xs)
 
 -- n accesses, from access k on, in order
 unfoldable pub accessesOf : ℕ → ℕ → Memory → List ℕ → Made

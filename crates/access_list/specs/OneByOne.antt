@@ -6,11 +6,11 @@ use mathlib.Core.Path.{_≡_}
 use lib.Dec.{eqb}
 use Rattle.word.specs.Choose.{pick}
 use Rattle.refusal.specs.declared.Verdict.the-variants.{Accepted}
-use Rattle.bus.specs.Memory.{Memory, verdictOf}
+use Rattle.bus.specs.Memory.{Memory, verdictOf, storeOf}
 use Rattle.bus_calls.specs.Access.{checkedLoadOf, checkedStoreOf}
 use Rattle.bus_calls.specs.declared.Load.{Load}
 use Rattle.bus_calls.specs.declared.Load.the-variants.{Value, Refused}
-use Rattle.access_list.specs.List.{countOf, addressAt, sizeAt, writeAt, valueAt, answeredOf, storeOf, Made, madeOf}
+use Rattle.access_list.specs.List.{countOf, addressAt, sizeAt, writeAt, valueAt, answeredOf, Made, madeOf}
 use Rattle.access_list.specs.Calls.{listVerdictOf, accessListOf}
 
 -- the list with the answer of a load of the bus in access k; a refused load would answer nothing
@@ -24,7 +24,7 @@ singleOf k m xs =
     let a = addressAt xs k in
     let size = sizeAt xs k in
     pick (eqb (writeAt xs k) 0) (madeOf m (answeredBy (checkedLoadOf m size a) xs k))
-    (madeOf (checkedStoreOf m (storeOf size m a (valueAt xs k))) xs)
+    (madeOf (checkedStoreOf m (storeOf m size a (valueAt xs k))) xs)
 
 -- n such calls, from access k on, each given the memory and registers that the one before left
 unfoldable pub singlesOf : ℕ → ℕ → Memory → List ℕ → Made

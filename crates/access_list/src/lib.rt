@@ -17,10 +17,10 @@ ghost use mathlib.Core.Bool.{true};
 ghost use Prim.Native.Nat.{_+_, _*_, _<_, _≤_};
 ghost use lib.ListN.{length};
 ghost use Rattle.bus.specs.Registers.{deviceOf};
-ghost use Rattle.bus.specs.Memory.{memoryOf, Lengths, loadOf};
+ghost use Rattle.bus.specs.Memory.{memoryOf, Lengths, loadOf, storeOf};
 ghost use Rattle.bus_calls.specs.Access.{entering, leaving};
 ghost use Rattle.bus_defined.specs.Defined.{undefinedOf};
-ghost use Rattle.access_list.specs.List.{countOf, sizeAt, answeredOf, storeOf, madeOf, accessOf, accessesOf, sizeOk, sizesOk, listOk};
+ghost use Rattle.access_list.specs.List.{countOf, sizeAt, answeredOf, madeOf, accessOf, accessesOf, sizeOk, sizesOk, listOk};
 ghost use Rattle.access_list.specs.Calls.{listVerdictAt, listVerdictOf, accessListOf};
 
 // Whether an access may have this size.
@@ -128,8 +128,8 @@ fn write(
     address: u32,
     value: u32,
 )
-    requires { ⌜ Lengths (length (now rom)) (length (now wram)) (length (now vram)) (length (now pak)) ⌝ }
-    ensures { λ r. ⌜ memoryOf (now (rom .entry)) (now (wram .exit)) (now (vram .exit)) (now (pak .exit)) (now (device .exit)) ≡ storeOf size (memoryOf (now (rom .entry)) (now (wram .entry)) (now (vram .entry)) (now (pak .entry)) (now (device .entry))) address value ⌝ }
+    requires { ⌜ Lengths (length (now rom)) (length (now wram)) (length (now vram)) (length (now pak)) × (sizeOk size ≡ true) ⌝ }
+    ensures { λ r. ⌜ memoryOf (now (rom .entry)) (now (wram .exit)) (now (vram .exit)) (now (pak .exit)) (now (device .exit)) ≡ storeOf (memoryOf (now (rom .entry)) (now (wram .entry)) (now (vram .entry)) (now (pak .entry)) (now (device .entry))) size address value ⌝ }
 {
     if size == 1 {
         store::byte(rom, wram, vram, pak, device, address, value);

@@ -1,15 +1,16 @@
 -- What accesses of each size do in each region, as far as no one memory says it: bytes of WRAM and ROM, the regions
 -- with nothing behind them, and the range between VRAM and the mirror. Assumes nothing.
-use Prim.Native.Nat.{ℕ, zero, suc, _+_, _-_, _*_, _/_, _%_, _^_, _<_, _≤_}
+use Prim.Native.Nat.{ℕ, zero, suc, _+_, _-_, _/_, _%_, _<_, _≤_}
 use mathlib.Core.Bool.{true}
-use mathlib.Core.Path.{_≡_, refl, sym, ap, subst, _∙_}
+use mathlib.Core.Path.{_≡_, refl, sym, _∙_}
 use native.Mathlib.Omega.{arith}
 use lib.ListN.{length, getD, set}
+use Rattle.word.specs.LittleEndian.{littleEndian}
 use Rattle.bus.specs.Refusal.{romOk}
-use Rattle.bus.specs.Place.{Place, vramAt, wramAt, romAt, vipPlace, regionOf, placeOf}
-use Rattle.bus.specs.Memory.{Memory, byteOf, loadOf, readPlace, putPlace, putDrawing, placeIn, putByte, putRegister, putHalfword, storeByteOf, storeHalfOf, storeWordOf, withWram, withVram}
-use Rattle.bus.proofs.Places.{region-code, region-half, region-half-start, region-word, region-word-start, region-next, place-wram, place-rom, place-vip, byte-nothing, register-elsewhere, put-nothing}
-use Rattle.bus.proofs.Halfwords.{byte-load, half-load, word-load, word-store}
+use Rattle.bus.specs.Place.{vramAt, vipPlace, regionOf}
+use Rattle.bus.specs.Memory.{Memory, byteOf, loadOf, putByte, putRegister, putHalfword, alignedOf, bytesFrom, putFrom, storeOf, withWram, withVram}
+use Rattle.bus.proofs.Places.{region-code, region-half-start, region-word, region-word-start, region-next, place-wram, place-rom, place-vip, byte-nothing, register-elsewhere, put-nothing}
+use Rattle.bus.proofs.Halfwords.{byte-load, byte-store}
 use Rattle.bus.proofs.VipPlaces.{register-byte}
 
 -- the region that the code's test found
@@ -32,73 +33,90 @@ module _ (m : Memory) (a : ℕ) where
   unfolding byteOf
   rom-byte here ok = byte-load m a ∙ rw (place-rom (length (m .rom)) (length (m .pak)) a here ok)
 
-  pub wram-put : (v : ℕ) → regionOf a ≡ 5 → storeByteOf m a v ≡ withWram m (set (m .wram) (a % 65536) (v % 256))
-  unfolding storeByteOf putByte putRegister
+  pub wram-put : (v : ℕ) → regionOf a ≡ 5 → storeOf m 1 a v ≡ withWram m (set (m .wram) (a % 65536) (v % 256))
+  unfolding putByte putRegister
   wram-put v here =
       let e = place-wram (length (m .rom)) (length (m .pak)) a here in
-      rw (e, e)
+      byte-store m a v ∙ rw (e, e)
 
   pub vram-put : (i v : ℕ) → regionOf a ≡ 0 → ((j : ℕ) → a % 524288 % 4 + j < 4 → vipPlace (a % 524288 + j) ≡ vramAt (i + j))
-      → storeByteOf m a v ≡ withVram m (set (m .vram) i (v % 256))
-  unfolding storeByteOf putByte putRegister
+      → storeOf m 1 a v ≡ withVram m (set (m .vram) i (v % 256))
+  unfolding putByte putRegister
   vram-put i v here p =
       let e : a % 524288 + 0 ≡ a % 524288 = omega arith in
       let f : i + 0 ≡ i = omega arith in
       let q : vipPlace (a % 524288) ≡ vramAt i = rw (e, f) at (p 0 (omega arith)) in
       let r = place-vip (length (m .rom)) (length (m .pak)) a here ∙ q in
-      rw (r, r)
+      byte-store m a v ∙ rw (r, r)
+
+-- each byte of an access stands in the region of its address
+abbrev pub Within : ℕ → ℕ → Type 0
+Within size a = (j : ℕ) → j < size → regionOf (alignedOf size a + j) ≡ regionOf a
+
+-- neither the VIP, pak RAM nor the timer, by the code's tests
+abbrev pub Passed : ℕ → Type 0
+Passed r = (r ≡ 0 → ⊥) × ((r ≡ 6 → ⊥) × (r ≡ 2 → ⊥))
+
+pub passed-each : (a : ℕ) → (a / 16777216 % 8 ≡ 0 → ⊥) → (a / 16777216 % 8 ≡ 6 → ⊥) → (a / 16777216 % 8 ≡ 2 → ⊥) → Passed (regionOf a)
+passed-each a vip pak timer = (missed a 0 vip, (missed a 6 pak, missed a 2 timer))
+
+pub passed-above : (a : ℕ) → 2 < a / 16777216 % 8 → (a / 16777216 % 8 ≡ 6 → ⊥) → Passed (regionOf a)
+passed-above a high pak = (above a 0 (omega arith) high, (missed a 6 pak, above a 2 (omega arith) high))
 
 -- a region with nothing to read
 abbrev pub Quiet : ℕ → Type 0
-Quiet r = (r ≡ 5 → ⊥) × ((r ≡ 7 → ⊥) × ((r ≡ 0 → ⊥) × ((r ≡ 6 → ⊥) × (r ≡ 2 → ⊥))))
+Quiet r = (r ≡ 5 → ⊥) × ((r ≡ 7 → ⊥) × Passed r)
 
-quiet-at : (m : Memory) (a b : ℕ) → regionOf b ≡ regionOf a → Quiet (regionOf a) → byteOf m b ≡ 0
-quiet-at m a b e q =
-    let p = subst Quiet (sym e) q in
-    byte-nothing m b (p .0) (p .1 .0) (p .1 .1 .0) (p .1 .1 .1 .0) (p .1 .1 .1 .1)
+from-quiet : (m : Memory) (s n : ℕ) → ((j : ℕ) → j < n → Quiet (regionOf (s + j))) → littleEndian (bytesFrom m s n) ≡ 0
+from-quiet m s zero q = refl
+from-quiet m s (suc n) q =
+    let e : s + 0 ≡ s = omega arith in
+    let p : Quiet (regionOf s) = rw e at (q 0 (omega arith)) in
+    let first = byte-nothing m s (p .0) (p .1 .0) (p .1 .1 .0) (p .1 .1 .1 .0) (p .1 .1 .1 .1) in
+    let next : (j : ℕ) → j < n → Quiet (regionOf (s + 1 + j)) =
+    λ j less.
+    let f : s + (1 + j) ≡ s + 1 + j = omega arith in
+    rw f at (q (1 + j) (omega arith)) in
+    rw (first, from-quiet m (s + 1) n next)
 
-pub nothing-byte : (m : Memory) (a : ℕ) → Quiet (regionOf a) → loadOf m 1 a ≡ 0
-nothing-byte m a q = byte-load m a ∙ quiet-at m a a refl q
-
-pub nothing-half : (m : Memory) (a : ℕ) → Quiet (regionOf a) → loadOf m 2 a ≡ 0
-nothing-half m a q =
-    half-load m a
-    ∙ rw (quiet-at m a (a - a % 2) (region-half-start a) q, quiet-at m a (a - a % 2 + 1) (region-half a 1 (omega arith)) q)
-
-pub nothing-word : (m : Memory) (a : ℕ) → Quiet (regionOf a) → loadOf m 4 a ≡ 0
-nothing-word m a q =
-    word-load m a
-    ∙ rw (nothing-half m (a - a % 4) (subst Quiet (sym (region-word-start a)) q), nothing-half m (a - a % 4 + 2) (subst Quiet (sym (region-word a 2 (omega arith))) q))
+pub nothing-read : (m : Memory) (size a : ℕ) → Within size a → Quiet (regionOf a) → loadOf m size a ≡ 0
+unfolding loadOf
+nothing-read m size a w q = from-quiet m (a - a % size) size (λ j less. rw (w j less) q)
 
 -- a region that takes nothing
 abbrev pub Inert : ℕ → Type 0
-Inert r = (r ≡ 5 → ⊥) × ((r ≡ 0 → ⊥) × ((r ≡ 6 → ⊥) × (r ≡ 2 → ⊥)))
+Inert r = (r ≡ 5 → ⊥) × Passed r
 
-inert-at : (m : Memory) (a b v : ℕ) → regionOf b ≡ regionOf a → Inert (regionOf a) → putByte m b v ≡ m
-inert-at m a b v e q =
-    let p = subst Inert (sym e) q in
-    put-nothing m b v (p .0) (p .1 .0) (p .1 .1 .0) (p .1 .1 .1)
+inert-byte : (m : Memory) (s v : ℕ) → Inert (regionOf s) → putByte m s v ≡ m
+inert-byte m s v q = put-nothing m s v (q .0) (q .1 .0) (q .1 .1 .0) (q .1 .1 .1)
 
-pub nothing-put-byte : (m : Memory) (a v : ℕ) → Inert (regionOf a) → storeByteOf m a v ≡ m
-unfolding storeByteOf
-nothing-put-byte m a v q = register-elsewhere _ a v (q .1 .0) ∙ inert-at m a a v refl q
+inert-halfword : (m : Memory) (s v : ℕ) → Inert (regionOf s) → Inert (regionOf (s + 1)) → putHalfword m s v ≡ m
+unfolding putHalfword
+inert-halfword m s v q next =
+    register-elsewhere _ s v (q .1 .0) ∙ rw (inert-byte m s v q) (inert-byte m (s + 1) (v / 256) next)
 
-pub nothing-put-half : (m : Memory) (a v : ℕ) → Inert (regionOf a) → storeHalfOf m a v ≡ m
-unfolding storeHalfOf putHalfword
-nothing-put-half m a v q =
-    register-elsewhere _ (a - a % 2) v (subst Inert (sym (region-half-start a)) q .1 .0)
-    ∙ rw (inert-at m a (a - a % 2) v (region-half-start a) q) (inert-at m a (a - a % 2 + 1) (v / 256) (region-half a 1 (omega arith)) q)
+from-inert : (m : Memory) (s n v : ℕ) → ((j : ℕ) → j < n → Inert (regionOf (s + j))) → putFrom m s n v ≡ m
+from-inert m s zero v q = refl
+from-inert m s (suc zero) v q =
+    let e : s + 0 ≡ s = omega arith in
+    let p : Inert (regionOf s) = rw e at (q 0 (omega arith)) in
+    register-elsewhere _ s v (p .1 .0) ∙ inert-byte m s v p
+from-inert m s (suc (suc n)) v q =
+    let e : s + 0 ≡ s = omega arith in
+    let p : Inert (regionOf s) = rw e at (q 0 (omega arith)) in
+    let next : (j : ℕ) → j < n → Inert (regionOf (s + 2 + j)) =
+    λ j less.
+    let f : s + (2 + j) ≡ s + 2 + j = omega arith in
+    rw f at (q (2 + j) (omega arith)) in
+    rw (inert-halfword m s v p (q 1 (omega arith))) (from-inert m (s + 2) n (v / 65536) next)
 
-pub nothing-put-word : (m : Memory) (a v : ℕ) → Inert (regionOf a) → storeWordOf m a v ≡ m
-nothing-put-word m a v q =
-    word-store m a v
-    ∙ rw (nothing-put-half m (a - a % 4) v (subst Inert (sym (region-word-start a)) q))
-    (nothing-put-half m (a - a % 4 + 2) (v / 65536) (subst Inert (sym (region-word a 2 (omega arith))) q))
+pub nothing-stored : (m : Memory) (size a v : ℕ) → Within size a → Inert (regionOf a) → storeOf m size a v ≡ m
+unfolding storeOf
+nothing-stored m size a v w q = from-inert m (a - a % size) size v (λ j less. rw (w j less) q)
 
 -- between VRAM and the mirror only registers take anything
-pub between-byte : (m : Memory) (a v : ℕ) → regionOf a ≡ 0 → 262144 ≤ a % 524288 → a % 524288 < 491520 → storeByteOf m a v ≡ putRegister m a v
-unfolding storeByteOf
-between-byte m a v here low high = rw (register-byte m a v here low high)
+pub between-byte : (m : Memory) (a v : ℕ) → regionOf a ≡ 0 → 262144 ≤ a % 524288 → a % 524288 < 491520 → storeOf m 1 a v ≡ putRegister m a v
+between-byte m a v here low high = byte-store m a v ∙ rw (register-byte m a v here low high)
 
 between-put : (m : Memory) (s v : ℕ) → s % 2 ≡ 0 → regionOf s ≡ 0 → 262144 ≤ s % 524288 → s % 524288 < 491520 → putHalfword m s v ≡ putRegister m s v
 unfolding putHalfword
@@ -107,13 +125,13 @@ between-put m s v even here low high =
     let h : (s + 1) % 524288 < 491520 = omega arith in
     rw (register-byte m s v here low high, register-byte m (s + 1) (v / 256) (region-next s even ∙ here) l h)
 
-pub between-half : (m : Memory) (a v : ℕ) → regionOf a ≡ 0 → 262144 ≤ (a - a % 2) % 524288 → (a - a % 2) % 524288 < 491520 → storeHalfOf m a v ≡ putRegister m (a - a % 2) v
-unfolding storeHalfOf
+pub between-half : (m : Memory) (a v : ℕ) → regionOf a ≡ 0 → 262144 ≤ (a - a % 2) % 524288 → (a - a % 2) % 524288 < 491520 → storeOf m 2 a v ≡ putRegister m (a - a % 2) v
+unfolding storeOf
 between-half m a v here low high = between-put m (a - a % 2) v (omega arith) (region-half-start a ∙ here) low high
 
 pub between-word : (m : Memory) (a v : ℕ) → regionOf a ≡ 0 → 262144 ≤ (a - a % 4) % 524288 → (a - a % 4) % 524288 < 491520
-    → storeWordOf m a v ≡ putRegister (putRegister m (a - a % 4) v) (a - a % 4 + 2) (v / 65536)
-unfolding storeWordOf
+    → storeOf m 4 a v ≡ putRegister (putRegister m (a - a % 4) v) (a - a % 4 + 2) (v / 65536)
+unfolding storeOf
 between-word m a v here low high =
     let s = a - a % 4 in
     let l : 262144 ≤ (a - a % 4 + 2) % 524288 = omega arith in

@@ -1,18 +1,17 @@
 -- The device registers, put together and taken apart. Assumes nothing.
 use Prim.Native.Nat.{ℕ, zero, suc, _+_, _-_, _<_, _≤_}
-use mathlib.Core.Bool.{Bool, true, false}
-use mathlib.Core.List.{List, [], _∷_, _++_}
-use mathlib.Core.Path.{_≡_, refl, sym, ap, subst, _∙_}
+use mathlib.Core.Bool.{false}
+use mathlib.Core.List.{List, [], _∷_}
+use mathlib.Core.Path.{_≡_, refl, ap, _∙_}
 use native.Mathlib.Decide.{decLt}
 use native.Mathlib.Omega.{arith}
 use lib.ListN.{length, getD, set, length-set, length-append, List·getD-append, List·getD-eq-default}
 use lib.Seq.{getD-set-same, getD-set-other, getD-append-add, set-out, set-getD}
 use Rattle.word.specs.Choose.{pick}
-use Rattle.bus_timer.specs.Timer.{hardwareOf}
 use Rattle.bus_timer.specs.Ports.{hardwareOk, controlBitsOf}
 use Rattle.bus_timer.proofs.Accepting.{Fits}
 use Rattle.bus_timer.specs.declared.Hardware.{Hardware}
-use Rattle.bus.specs.Registers.{withinFrom, widthOf, drawingOk, registersFrom, drawingIn, hardwareIn, withHardware, deviceOf, registersOk}
+use Rattle.bus.specs.Registers.{withinFrom, drawingOk, registersFrom, drawingIn, hardwareIn, withHardware, deviceOf, registersOk}
 
 -- the registers from k on, one by one
 from-tail : (x : ℕ) (d : List ℕ) (k n : ℕ) → registersFrom (x ∷ d) (suc k) n ≡ registersFrom d k n
@@ -87,10 +86,6 @@ module _ (d : List ℕ) (h : Hardware) where
       List·getD-append (registersFrom d 0 13) (h .lines ∷ h .count ∷ h .reload ∷ h .control ∷ []) 0 k (omega (arith, from-length d 0 13))
       ∙ from-first d 13 k less
 
-  pub drawing-device : length d ≡ 13 → drawingIn (deviceOf d h) ≡ d
-  unfolding drawingIn deviceOf
-  drawing-device l = from-whole d 13 l
-
   -- refusal 5 of both records
   pub device-ok : registersOk (deviceOf d h) ≡ pick (drawingOk d) (hardwareOk h) false
   unfolding registersOk
@@ -104,12 +99,6 @@ parts-ok d = device-ok (drawingIn d) (hardwareIn d) ∙ rw (drawing-ok-in d)
 pub device-whole : (d : List ℕ) → length d ≡ 17 → deviceOf (drawingIn d) (hardwareIn d) ≡ d
 unfolding deviceOf hardwareIn drawingIn
 device-whole d l = from-whole d 17 l
-
--- registers that agree
-from-same : (d e : List ℕ) → ((k : ℕ) → k < 13 → getD d k 0 ≡ getD e k 0) → (k n : ℕ) → k + n ≤ 13
-    → registersFrom d k n ≡ registersFrom e k n
-from-same d e p k zero less = refl
-from-same d e p k (suc n) less = rw (p k (omega arith), from-same d e p (suc k) n (omega arith))
 
 -- an entry that was set, also past the end
 set-each : (P : ℕ → Type 0) (d : List ℕ) (k x : ℕ) → P x → P 0 → P (getD (set d k x) k 0)
@@ -130,10 +119,6 @@ module _ (d : List ℕ) (h : Hardware) where
       getD-set-other e 16 k (h .control) 0 (λ x. omega arith)
       ∙ (getD-set-other b 15 k (h .reload) 0 (λ x. omega arith)
       ∙ (getD-set-other a 14 k (h .count) 0 (λ x. omega arith) ∙ getD-set-other d 13 k (h .lines) 0 (λ x. omega arith)))
-
-  pub drawing-with : drawingIn (withHardware d h) ≡ drawingIn d
-  unfolding drawingIn
-  drawing-with = from-same (withHardware d h) d with-register 0 13 (omega arith)
 
   -- also where the list is too short for them
   pub with-fits : Fits h → Fits (hardwareIn (withHardware d h))

@@ -1,13 +1,9 @@
 -- A load or store of any size in terms of its bytes and halfwords.
 -- Assumes nothing.
-use Prim.Native.Nat.{ℕ, zero, suc, _+_, _-_, _*_, _/_, _%_, _^_, _<_, _≤_}
-use mathlib.Core.List.{List, [], _∷_}
-use mathlib.Core.Path.{_≡_, refl, sym, ap, subst, _∙_}
+use Prim.Native.Nat.{ℕ, _+_, _-_, _*_, _/_, _%_}
+use mathlib.Core.Path.{_≡_, sym, _∙_}
 use native.Mathlib.Omega.{arith}
-use lib.ListN.{length, getD, set, length-set}
-use Rattle.word.specs.LittleEndian.{halfAt, wordAt, putHalf, putWord}
-use Rattle.bus.specs.Place.{Place, vramAt, wramAt, pakAt, romAt, regionOf, placeOf}
-use Rattle.bus.specs.Memory.{Memory, Reads, byteOf, loadOf, readPlace, putPlace, putDrawing, placeIn, putByte, putRegister, putHalfword, storeByteOf, storeHalfOf, storeWordOf, withWram, withVram, withPak}
+use Rattle.bus.specs.Memory.{Memory, Reads, byteOf, loadOf, putByte, putRegister, storeOf}
 
 -- a byte load is the byte
 pub byte-load : (m : Memory) (a : ℕ) → loadOf m 1 a ≡ byteOf m a
@@ -42,9 +38,16 @@ word-load m a =
     let g : a - a % 4 + 1 + 1 ≡ a - a % 4 + 2 = omega arith in
     rw (g, e, f) (omega arith)
 
+-- a byte store puts the byte, and writes the register
+pub byte-store : (m : Memory) (a v : ℕ) → storeOf m 1 a v ≡ putRegister (putByte m a v) a v
+unfolding storeOf
+byte-store m a v =
+    let e : a - a % 1 ≡ a = omega arith in
+    rw e
+
 -- a word store is two halfword stores
-pub word-store : (m : Memory) (a v : ℕ) → storeWordOf m a v ≡ storeHalfOf (storeHalfOf m (a - a % 4) v) (a - a % 4 + 2) (v / 65536)
-unfolding storeWordOf storeHalfOf
+pub word-store : (m : Memory) (a v : ℕ) → storeOf m 4 a v ≡ storeOf (storeOf m 2 (a - a % 4) v) 2 (a - a % 4 + 2) (v / 65536)
+unfolding storeOf
 word-store m a v =
     let e : a - a % 4 - (a - a % 4) % 2 ≡ a - a % 4 = omega arith in
     let f : a - a % 4 + 2 - (a - a % 4 + 2) % 2 ≡ a - a % 4 + 2 = omega arith in

@@ -1,25 +1,23 @@
 -- A store keeps every length and every register width, so an accepted machine stays accepted. Assumes nothing.
-use Prim.Native.Nat.{ℕ, zero, suc, _+_, _-_, _*_, _/_, _%_, _^_, _<_, _≤_}
-use mathlib.Core.Bool.{Bool, true, false, false≢true}
-use mathlib.Core.List.{List, [], _∷_}
-use mathlib.Core.Path.{_≡_, refl, sym, ap, subst, _∙_}
+use Prim.Native.Nat.{ℕ, zero, suc, _+_, _-_, _/_, _%_, _^_, _<_}
+use mathlib.Core.Bool.{true, false≢true}
+use mathlib.Core.List.{List}
+use mathlib.Core.Path.{_≡_, refl, _∙_}
 use native.Mathlib.Decide.{ℕ-discrete, decLt}
 use native.Mathlib.Nat.{mod-lt}
 use native.Mathlib.Omega.{arith}
 use borrow.Author.Tests.{lt-ltb, le-ltb}
-use lib.Dec.{ltb}
 use lib.ListN.{length, getD, set, length-set}
 use lib.Pow.{pow-pos}
 use lib.Seq.{getD-set-same, getD-set-other, set-out}
-use Rattle.word.specs.Choose.{pick}
 use Rattle.refusal.specs.declared.Verdict.the-variants.{Accepted}
 use Rattle.bus_timer.specs.Ports.{hardwareOk, portWrittenOf}
 use Rattle.bus_timer.specs.declared.Hardware.{Hardware}
 use Rattle.bus_timer.proofs.Accepting.{ok-fits, fits-ok, write-accepted}
 use Rattle.bus_timer.proofs.Choices.{pick-true}
 use Rattle.bus.specs.Registers.{widthOf, keptOf, withinFrom, drawingOk, hardwareIn, withHardware, registersOk}
-use Rattle.bus.specs.Place.{Place, vramAt, wramAt, pakAt, romAt, drawingAt, versionAt, silent, unlisted, unmapped, hardwareAt, soundUnit, nothing, expansion, placeOf}
-use Rattle.bus.specs.Memory.{Memory, Lengths, verdictOf, putPlace, putDrawing, placeIn, putByte, putRegister, putHalfword, storeByteOf, storeHalfOf, storeWordOf}
+use Rattle.bus.specs.Place.{Place, vramAt, wramAt, pakAt, romAt, drawingAt, versionAt, silent, unlisted, unmapped, hardwareAt, soundUnit, nothing, expansion}
+use Rattle.bus.specs.Memory.{Memory, Lengths, verdictOf, putPlace, putDrawing, placeIn, putByte, putRegister, putHalfword, putFrom, storeOf}
 use Rattle.bus.proofs.Accepted.{accepted-lengths, accepted-registers, lengths-accepted}
 use Rattle.bus.proofs.Devices.{drawing-ok-same, with-register, with-length, with-fits}
 use Rattle.bus.proofs.DrawingPlaces.{Proper, place-proper}
@@ -232,22 +230,18 @@ halfword-shape m a v =
     let o = putByte n (a + 1) (v / 256) in
     both m o (putRegister o a v) (both m n o (byte-shape m a v) (byte-shape n (a + 1) (v / 256))) (register-shape o a v)
 
--- a store of each size
-pub store-byte-shape : (m : Memory) (a v : ℕ) → Shape m (storeByteOf m a v)
-unfolding storeByteOf
-store-byte-shape m a v =
+-- a store of any size
+from-shape : (m : Memory) (a size v : ℕ) → Shape m (putFrom m a size v)
+from-shape m a zero v = same m
+from-shape m a (suc zero) v =
     both m (putByte m a v) (putRegister (putByte m a v) a v) (byte-shape m a v) (register-shape (putByte m a v) a v)
+from-shape m a (suc (suc n)) v =
+    let h = putHalfword m a v in
+    both m h (putFrom h (a + 2) n (v / 65536)) (halfword-shape m a v) (from-shape h (a + 2) n (v / 65536))
 
-pub store-half-shape : (m : Memory) (a v : ℕ) → Shape m (storeHalfOf m a v)
-unfolding storeHalfOf
-store-half-shape m a v = halfword-shape m (a - a % 2) v
-
-pub store-word-shape : (m : Memory) (a v : ℕ) → Shape m (storeWordOf m a v)
-unfolding storeWordOf
-store-word-shape m a v =
-    let s = a - a % 4 in
-    let n = putHalfword m s v in
-    both m n (putHalfword n (s + 2) (v / 65536)) (halfword-shape m s v) (halfword-shape n (s + 2) (v / 65536))
+pub store-shape : (m : Memory) (size a v : ℕ) → Shape m (storeOf m size a v)
+unfolding storeOf
+store-shape m size a v = from-shape m (a - a % size) size v
 
 -- accepted lengths stay accepted, and so does an accepted machine
 pub shape-lengths : (m n : Memory) → Shape m n → Lengths (length (m .rom)) (length (m .wram)) (length (m .vram)) (length (m .pak))

@@ -1,22 +1,21 @@
 -- A load after a store: at another place nothing changed, at the same place the stored value is read. Assumes nothing.
-use Prim.Native.Nat.{ℕ, zero, suc, _+_, _-_, _*_, _/_, _%_, _^_, _<_, _≤_}
-use mathlib.Core.List.{List, [], _∷_}
+use Prim.Native.Nat.{ℕ, zero, suc, _+_, _-_, _/_, _%_, _^_, _<_}
 use mathlib.Core.Logic.{_≢_}
-use mathlib.Core.Path.{_≡_, refl, sym, ap, subst, _∙_}
+use mathlib.Core.Path.{_≡_, refl, ap, _∙_}
 use native.Mathlib.Omega.{arith}
-use lib.ListN.{length, getD, set, length-set}
+use lib.ListN.{length}
 use lib.Seq.{getD-set-same, getD-set-other}
 use Rattle.word.proofs.RoundTrip.{half-same, word-same}
-use Rattle.word.specs.LittleEndian.{halfAt, wordAt, putHalf, putWord}
+use Rattle.word.specs.LittleEndian.{putHalf, putWord}
 use Rattle.bus_timer.specs.Ports.{portByteOf, portWrittenOf}
 use Rattle.bus_timer.specs.declared.Hardware.{Hardware}
 use Rattle.bus.specs.Registers.{keptOf, hardwareIn}
 use Rattle.bus.specs.Place.{Place, vramAt, wramAt, pakAt, romAt, drawingAt, versionAt, silent, unlisted, unmapped, hardwareAt, soundUnit, nothing, expansion}
-use Rattle.bus.specs.Memory.{Memory, byteOf, loadOf, readPlace, placeIn, putPlace, putDrawing, putByte, putRegister, putHalfword, storeByteOf, storeHalfOf, storeWordOf, withWram, withVram}
+use Rattle.bus.specs.Memory.{Memory, byteOf, loadOf, readPlace, placeIn, putPlace, putDrawing, putByte, putRegister, putHalfword, alignedOf, putFrom, storeOf, withWram, withVram}
 use Rattle.bus.proofs.Devices.{with-register}
 use Rattle.bus.proofs.DrawingPlaces.{Proper, place-proper}
 use Rattle.bus.proofs.Kept.{Shape, set-hardware, byte-shape, register-shape, halfword-shape}
-use Rattle.bus.proofs.Halfwords.{byte-load}
+use Rattle.bus.proofs.Halfwords.{byte-load, byte-store}
 use Rattle.bus.proofs.Spans.{Span, span-half, span-word, half-wram, half-vram, word-wram, word-vram}
 
 -- what a store to a place may change: its byte, its whole register, or the whole timer
@@ -198,12 +197,6 @@ write-elsewhere m a b v ne =
 moved : (m n : Memory) → Shape m n → (b a : ℕ) → Apart m b a → Apart n b a
 moved m n p b a ne = rw (shape-place m n p b, shape-place m n p a) ne
 
--- a store leaves every byte that is apart from those it names
-pub store-byte-elsewhere : (m : Memory) (a b v : ℕ) → Apart m b a → byteOf (storeByteOf m a v) b ≡ byteOf m b
-unfolding storeByteOf
-store-byte-elsewhere m a b v ne =
-    write-elsewhere (putByte m a v) a b v (moved m (putByte m a v) (byte-shape m a v) b a ne) ∙ put-elsewhere m a b v ne
-
 halfword-elsewhere : (m : Memory) (a b v : ℕ) → Apart m b a → Apart m b (a + 1) → byteOf (putHalfword m a v) b ≡ byteOf m b
 unfolding putHalfword
 halfword-elsewhere m a b v ne next =
@@ -215,22 +208,28 @@ halfword-elsewhere m a b v ne next =
     ∙ put-elsewhere n (a + 1) b (v / 256) (moved m n mn b (a + 1) next)
     ∙ put-elsewhere m a b v ne
 
-pub store-half-elsewhere : (m : Memory) (a b v : ℕ) → Apart m b (a - a % 2) → Apart m b (a - a % 2 + 1) → byteOf (storeHalfOf m a v) b ≡ byteOf m b
-unfolding storeHalfOf
-store-half-elsewhere m a b v ne next = halfword-elsewhere m (a - a % 2) b v ne next
+from-elsewhere : (m : Memory) (a b size v : ℕ) → ((j : ℕ) → j < size → Apart m b (a + j)) → byteOf (putFrom m a size v) b ≡ byteOf m b
+from-elsewhere m a b zero v ne = refl
+from-elsewhere m a b (suc zero) v ne =
+    let e : a + 0 ≡ a = omega arith in
+    let first : Apart m b a = rw e at (ne 0 (omega arith)) in
+    write-elsewhere (putByte m a v) a b v (moved m (putByte m a v) (byte-shape m a v) b a first)
+    ∙ put-elsewhere m a b v first
+from-elsewhere m a b (suc (suc n)) v ne =
+    let h = putHalfword m a v in
+    let e : a + 0 ≡ a = omega arith in
+    let rest : (j : ℕ) → j < n → Apart h b (a + 2 + j) =
+    λ j less.
+    let f : a + (2 + j) ≡ a + 2 + j = omega arith in
+    moved m h (halfword-shape m a v) b (a + 2 + j) (rw f at (ne (2 + j) (omega arith))) in
+    from-elsewhere h (a + 2) b n (v / 65536) rest
+    ∙ halfword-elsewhere m a b v (rw e at (ne 0 (omega arith))) (ne 1 (omega arith))
 
-pub store-word-elsewhere : (m : Memory) (a b v : ℕ) → ((j : ℕ) → j < 4 → Apart m b (a - a % 4 + j)) → byteOf (storeWordOf m a v) b ≡ byteOf m b
-unfolding storeWordOf
-store-word-elsewhere m a b v ne =
-    let s = a - a % 4 in
-    let n = putHalfword m s v in
-    let mn = halfword-shape m s v in
-    let e : s + 0 ≡ s = omega arith in
-    let f : s + 3 ≡ s + 2 + 1 = omega arith in
-    let third : Apart m b (s + 2) = ne 2 (omega arith) in
-    let fourth : Apart m b (s + 2 + 1) = rw f at (ne 3 (omega arith)) in
-    halfword-elsewhere n (s + 2) b (v / 65536) (moved m n mn b (s + 2) third) (moved m n mn b (s + 2 + 1) fourth)
-    ∙ halfword-elsewhere m s b v (rw e at (ne 0 (omega arith))) (ne 1 (omega arith))
+-- a store of any size leaves every byte that is apart from those it names
+pub store-elsewhere : (m : Memory) (size a b v : ℕ) → ((j : ℕ) → j < size → Apart m b (alignedOf size a + j))
+    → byteOf (storeOf m size a v) b ≡ byteOf m b
+unfolding storeOf
+store-elsewhere m size a b v ne = from-elsewhere m (alignedOf size a) b size v ne
 
 -- a place of memory is no register
 held-plain : (m n : Memory) (p : Place) (v : ℕ) → Held m p → putDrawing n p v ≡ n
@@ -249,27 +248,27 @@ held-plain m n nothing v h = refl
 held-plain m n expansion v h = refl
 
 -- a byte store is read back where memory holds it
-pub store-byte-same : (m : Memory) (a v : ℕ) → Held m (placeIn m a) → loadOf (storeByteOf m a v) 1 a ≡ v % 256
-unfolding storeByteOf byteOf putRegister putByte
+pub store-byte-same : (m : Memory) (a v : ℕ) → Held m (placeIn m a) → loadOf (storeOf m 1 a v) 1 a ≡ v % 256
+unfolding byteOf putRegister putByte
 store-byte-same m a v h =
     let e = shape-place m (putByte m a v) (byte-shape m a v) a in
-    byte-load (storeByteOf m a v) a
-    ∙ rw (e, held-plain m (putByte m a v) (placeIn m a) (v % 65536) h, e) (read-same m (placeIn m a) (v % 256) h)
+    byte-load (storeOf m 1 a v) a
+    ∙ rw (byte-store m a v, e, held-plain m (putByte m a v) (placeIn m a) (v % 65536) h, e) (read-same m (placeIn m a) (v % 256) h)
 
 -- halfword and word stores are read back from WRAM and VRAM
 module _ (m : Memory) (a i v : ℕ) where
-  pub store-half-wram : Span m (a - a % 2) wramAt i 2 → i + 1 < length (m .wram) → loadOf (storeHalfOf m a v) 2 a ≡ v % 65536
+  pub store-half-wram : Span m (a - a % 2) wramAt i 2 → i + 1 < length (m .wram) → loadOf (storeOf m 2 a v) 2 a ≡ v % 65536
   store-half-wram p h =
       rw (half-wram m a i v p) (span-half (withWram m (putHalf (m .wram) i v)) a wramAt i p ∙ half-same (m .wram) i v h)
 
-  pub store-half-vram : Span m (a - a % 2) vramAt i 2 → i + 1 < length (m .vram) → loadOf (storeHalfOf m a v) 2 a ≡ v % 65536
+  pub store-half-vram : Span m (a - a % 2) vramAt i 2 → i + 1 < length (m .vram) → loadOf (storeOf m 2 a v) 2 a ≡ v % 65536
   store-half-vram p h =
       rw (half-vram m a i v p) (span-half (withVram m (putHalf (m .vram) i v)) a vramAt i p ∙ half-same (m .vram) i v h)
 
-  pub store-word-wram : Span m (a - a % 4) wramAt i 4 → i + 3 < length (m .wram) → loadOf (storeWordOf m a v) 4 a ≡ v % 4294967296
+  pub store-word-wram : Span m (a - a % 4) wramAt i 4 → i + 3 < length (m .wram) → loadOf (storeOf m 4 a v) 4 a ≡ v % 4294967296
   store-word-wram p h =
       rw (word-wram m a i v p) (span-word (withWram m (putWord (m .wram) i v)) a wramAt i p ∙ word-same (m .wram) i v h)
 
-  pub store-word-vram : Span m (a - a % 4) vramAt i 4 → i + 3 < length (m .vram) → loadOf (storeWordOf m a v) 4 a ≡ v % 4294967296
+  pub store-word-vram : Span m (a - a % 4) vramAt i 4 → i + 3 < length (m .vram) → loadOf (storeOf m 4 a v) 4 a ≡ v % 4294967296
   store-word-vram p h =
       rw (word-vram m a i v p) (span-word (withVram m (putWord (m .vram) i v)) a vramAt i p ∙ word-same (m .vram) i v h)

@@ -1,17 +1,16 @@
 -- Region 6: what a byte of pak RAM reads and takes, empty or not. Assumes nothing.
-use Prim.Native.Nat.{ℕ, zero, suc, _+_, _-_, _*_, _/_, _%_, _^_, _<_, _≤_}
+use Prim.Native.Nat.{ℕ, _+_, _-_, _/_, _%_, _<_}
 use mathlib.Core.Bool.{true}
-use mathlib.Core.List.{List, [], _∷_}
-use mathlib.Core.Path.{_≡_, refl, sym, ap, subst, _∙_}
+use mathlib.Core.Path.{_≡_, sym, ap, _∙_}
 use native.Mathlib.Omega.{arith}
 use lib.ListN.{length, getD, set, List·getD-eq-default}
 use lib.Seq.{set-out}
-use Rattle.bus.specs.Place.{regionOf, placeOf}
+use Rattle.bus.specs.Place.{regionOf}
 use Rattle.bus.specs.Refusal.{pakOk}
-use Rattle.bus.specs.Memory.{Memory, byteOf, loadOf, putByte, putRegister, storeByteOf, storeHalfOf, putHalfword, withPak}
+use Rattle.bus.specs.Memory.{Memory, byteOf, loadOf, putByte, storeOf, putHalfword, withPak}
 use Rattle.bus.proofs.Power.{pak-power, power-low}
 use Rattle.bus.proofs.Places.{place-pak, register-elsewhere, region-half, region-half-start}
-use Rattle.bus.proofs.Halfwords.{byte-load}
+use Rattle.bus.proofs.Halfwords.{byte-load, byte-store}
 
 module _ (m : Memory) (a : ℕ) (here : regionOf a ≡ 6) where
   -- a byte of pak RAM
@@ -31,25 +30,28 @@ module _ (m : Memory) (a : ℕ) (here : regionOf a ≡ 6) where
   not-vip : regionOf a ≡ 0 → ⊥
   not-vip e = omega arith
 
-  pub pak-put : (v : ℕ) → pakOk (length (m .pak)) ≡ true → 0 < length (m .pak) → storeByteOf m a v ≡ withPak m (set (m .pak) (a % length (m .pak)) (v % 256))
-  unfolding storeByteOf putByte
+  pub pak-put : (v : ℕ) → pakOk (length (m .pak)) ≡ true → 0 < length (m .pak) → storeOf m 1 a v ≡ withPak m (set (m .pak) (a % length (m .pak)) (v % 256))
+  unfolding putByte
   pak-put v ok filled =
-      register-elsewhere _ a v not-vip
+      byte-store m a v
+      ∙ register-elsewhere _ a v not-vip
       ∙ rw (place-pak (length (m .rom)) (length (m .pak)) a here, power-low 0 (length (m .pak)) (pak-power (length (m .pak)) ok filled) a)
 
   -- empty pak RAM takes nothing
-  pub pak-put-empty : (v : ℕ) → length (m .pak) ≡ 0 → storeByteOf m a v ≡ m
-  unfolding storeByteOf putByte
+  pub pak-put-empty : (v : ℕ) → length (m .pak) ≡ 0 → storeOf m 1 a v ≡ m
+  unfolding putByte
   pak-put-empty v none =
-      register-elsewhere _ a v not-vip
+      byte-store m a v
+      ∙ register-elsewhere _ a v not-vip
       ∙ rw (place-pak (length (m .rom)) (length (m .pak)) a here) (ap (withPak m) (set-out (m .pak) _ (v % 256) (omega arith)))
 
   -- a halfword store is two byte stores
-  pub pak-half : (v : ℕ) → storeHalfOf m a v ≡ storeByteOf (storeByteOf m (a - a % 2) v) (a - a % 2 + 1) (v / 256)
-  unfolding storeHalfOf putHalfword storeByteOf
+  pub pak-half : (v : ℕ) → storeOf m 2 a v ≡ storeOf (storeOf m 1 (a - a % 2) v) 1 (a - a % 2 + 1) (v / 256)
+  unfolding storeOf putHalfword
   pak-half v =
       let n0 : regionOf (a - a % 2) ≡ 0 → ⊥ = λ e. not-vip (sym (region-half-start a) ∙ e) in
       let n1 : regionOf (a - a % 2 + 1) ≡ 0 → ⊥ = λ e. not-vip (sym (region-half a 1 (omega arith)) ∙ e) in
       register-elsewhere _ (a - a % 2) v n0
-      ∙ sym (register-elsewhere _ (a - a % 2 + 1) (v / 256) n1
-      ∙ ap (λ (x : Memory). putByte x (a - a % 2 + 1) (v / 256)) (register-elsewhere _ (a - a % 2) v n0))
+      ∙ sym (byte-store _ (a - a % 2 + 1) (v / 256)
+      ∙ register-elsewhere _ (a - a % 2 + 1) (v / 256) n1
+      ∙ ap (λ (x : Memory). putByte x (a - a % 2 + 1) (v / 256)) (byte-store m (a - a % 2) v ∙ register-elsewhere _ (a - a % 2) v n0))

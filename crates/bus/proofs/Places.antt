@@ -1,18 +1,14 @@
 -- Where an address leads, by its region, and what a byte there reads or takes. Assumes nothing.
-use Prim.Native.Nat.{ℕ, zero, suc, _+_, _-_, _*_, _/_, _%_, _^_, _<_, _≤_}
-use mathlib.Core.Bool.{Bool, true, false}
-use mathlib.Core.List.{List, [], _∷_}
+use Prim.Native.Nat.{ℕ, _+_, _-_, _/_, _%_, _^_, _<_}
+use mathlib.Core.Bool.{true}
 use mathlib.Core.Logic.{_⊎_, inl, inr}
-use mathlib.Core.Path.{_≡_, refl, sym, ap, subst, _∙_}
+use mathlib.Core.Path.{_≡_, ap}
 use native.Mathlib.Decide.{ℕ-discrete}
 use native.Mathlib.Omega.{arith}
-use borrow.Author.Tests.{lt-ltb, le-ltb}
-use lib.ListN.{length, getD, set}
-use Rattle.word.specs.Choose.{pick}
 use Rattle.bus.specs.Refusal.{romOk}
 use Rattle.bus_timer.specs.Ports.{hardwareOffsetOf}
-use Rattle.bus.specs.Place.{Place, vramAt, wramAt, pakAt, romAt, hardwareAt, mirrorOf, vipPlace, registerPlace, regionOf, placeOf}
-use Rattle.bus.specs.Memory.{Memory, byteOf, readPlace, putPlace, putDrawing, placeIn, putByte, putRegister, withWram, withVram, withPak}
+use Rattle.bus.specs.Place.{wramAt, pakAt, romAt, hardwareAt, vipPlace, regionOf, placeOf}
+use Rattle.bus.specs.Memory.{Memory, byteOf, putByte, putRegister}
 use Rattle.bus.proofs.Power.{rom-power, power-low}
 
 -- the region as the code works it out
@@ -30,6 +26,11 @@ region-half a j h =
     let e : a - a % 2 + j ≡ a - a % 4 + (a % 4 - a % 2 + j) = omega arith in
     let f : a % 4 - a % 2 + j < 4 = omega arith in
     rw e (region-word a (a % 4 - a % 2 + j) f)
+
+pub region-byte : (a j : ℕ) → j < 1 → regionOf (a - a % 1 + j) ≡ regionOf a
+region-byte a j h =
+    let e : a - a % 1 + j ≡ a = omega arith in
+    rw e
 
 pub region-half-start : (a : ℕ) → regionOf (a - a % 2) ≡ regionOf a
 region-half-start a =

@@ -1,18 +1,18 @@
 -- Region 2: what a byte, a halfword and a word read there, and what a store does. The timer's registers stand at
 -- multiples of four, so an access of any size is that of its first byte. Assumes nothing.
-use Prim.Native.Nat.{ℕ, zero, suc, _+_, _-_, _*_, _/_, _%_, _^_, _<_, _≤_}
-use mathlib.Core.Path.{_≡_, refl, sym, ap, subst, _∙_}
+use Prim.Native.Nat.{ℕ, _+_, _-_, _/_, _%_, _<_}
+use mathlib.Core.Path.{_≡_, sym, _∙_}
 use native.Mathlib.Omega.{arith}
 use borrow.Author.Tests.{ne-eqb}
 use lib.ListN.{length}
-use Rattle.bus_timer.specs.Ports.{tlr, thr, tcr, hardwareOffsetOf, portByteOf, portWrittenOf}
+use Rattle.bus_timer.specs.Ports.{hardwareOffsetOf, portByteOf, portWrittenOf}
 use Rattle.bus_timer.specs.declared.Hardware.{Hardware}
 use Rattle.bus.specs.Registers.{hardwareIn, withHardware}
-use Rattle.bus.specs.Place.{regionOf, placeOf}
-use Rattle.bus.specs.Memory.{Memory, byteOf, loadOf, withRegs, putByte, putRegister, putHalfword, storeByteOf, storeHalfOf, storeWordOf, Reads}
+use Rattle.bus.specs.Place.{regionOf}
+use Rattle.bus.specs.Memory.{Memory, byteOf, loadOf, withRegs, putByte, putHalfword, storeOf, Reads}
 use Rattle.bus.proofs.Devices.{with-same}
 use Rattle.bus.proofs.Places.{place-hardware, region-half, region-half-start, region-word, region-word-start, register-elsewhere}
-use Rattle.bus.proofs.Halfwords.{byte-load, half-load, half-load-start, word-load, word-store}
+use Rattle.bus.proofs.Halfwords.{byte-load, half-load, word-load, byte-store, word-store}
 
 -- an offset that is no multiple of four has no register
 pub between-read : (h : Hardware) (o : ℕ) → (o % 4 ≡ 0 → ⊥) → portByteOf h o ≡ 0
@@ -48,9 +48,8 @@ module _ (m : Memory) (a : ℕ) (here : regionOf a ≡ 2) where
   unfolding putByte
   port-put v = rw (place-hardware (length (m .rom)) (length (m .pak)) a here)
 
-  pub port-store : (v : ℕ) → storeByteOf m a v ≡ withRegs m (withHardware (m .regs) (portWrittenOf (hardwareIn (m .regs)) (hardwareOffsetOf a) (v % 256)))
-  unfolding storeByteOf
-  port-store v = register-elsewhere _ a v not-vip ∙ port-put v
+  pub port-store : (v : ℕ) → storeOf m 1 a v ≡ withRegs m (withHardware (m .regs) (portWrittenOf (hardwareIn (m .regs)) (hardwareOffsetOf a) (v % 256)))
+  port-store v = byte-store m a v ∙ register-elsewhere _ a v not-vip ∙ port-put v
 
 -- a byte that is no multiple of four reads 0 and takes nothing
 between-byte : (m : Memory) (a : ℕ) → regionOf a ≡ 2 → (a % 4 ≡ 0 → ⊥) → byteOf m a ≡ 0
@@ -79,22 +78,21 @@ port-word m a here =
     ∙ (rw (port-half m s (region-word-start a ∙ here), port-half m (s + 2) (region-word a 2 (omega arith) ∙ here), first, second, third) (omega arith))
 
 -- and store it
-port-halfword : (m : Memory) (s v : ℕ) → s % 2 ≡ 0 → regionOf s ≡ 2 → regionOf (s + 1) ≡ 2 → putHalfword m s v ≡ storeByteOf m s v
-unfolding putHalfword storeByteOf
+port-halfword : (m : Memory) (s v : ℕ) → s % 2 ≡ 0 → regionOf s ≡ 2 → regionOf (s + 1) ≡ 2 → putHalfword m s v ≡ storeOf m 1 s v
+unfolding putHalfword
 port-halfword m s v even here next =
-    rw (between-put (putByte m s v) (s + 1) (v / 256) next (λ e. omega arith))
+    rw (between-put (putByte m s v) (s + 1) (v / 256) next (λ e. omega arith)) (sym (byte-store m s v))
 
-pub port-half-store : (m : Memory) (a v : ℕ) → regionOf a ≡ 2 → storeHalfOf m a v ≡ storeByteOf m (a - a % 2) v
-unfolding storeHalfOf
+pub port-half-store : (m : Memory) (a v : ℕ) → regionOf a ≡ 2 → storeOf m 2 a v ≡ storeOf m 1 (a - a % 2) v
+unfolding storeOf
 port-half-store m a v here =
     port-halfword m (a - a % 2) v (omega arith) (region-half-start a ∙ here) (region-half a 1 (omega arith) ∙ here)
 
 -- the upper halfword of a word takes nothing
-upper-half : (m : Memory) (s v : ℕ) → s % 4 ≡ 2 → regionOf s ≡ 2 → storeByteOf m s v ≡ m
-unfolding storeByteOf
-upper-half m s v odd here = register-elsewhere _ s v (λ e. omega arith) ∙ between-put m s v here (λ e. omega arith)
+upper-half : (m : Memory) (s v : ℕ) → s % 4 ≡ 2 → regionOf s ≡ 2 → storeOf m 1 s v ≡ m
+upper-half m s v odd here = byte-store m s v ∙ register-elsewhere _ s v (λ e. omega arith) ∙ between-put m s v here (λ e. omega arith)
 
-pub port-word-store : (m : Memory) (a v : ℕ) → regionOf a ≡ 2 → storeWordOf m a v ≡ storeByteOf m (a - a % 4) v
+pub port-word-store : (m : Memory) (a v : ℕ) → regionOf a ≡ 2 → storeOf m 4 a v ≡ storeOf m 1 (a - a % 4) v
 port-word-store m a v here =
     let s = a - a % 4 in
     let first : a - a % 4 - (a - a % 4) % 2 ≡ a - a % 4 = omega arith in
@@ -102,9 +100,9 @@ port-word-store m a v here =
     let low = region-word-start a ∙ here in
     let high = region-word a 2 (omega arith) ∙ here in
     word-store m a v
-    ∙ (port-half-store (storeHalfOf m s v) (s + 2) (v / 65536) high
+    ∙ (port-half-store (storeOf m 2 s v) (s + 2) (v / 65536) high
     ∙ rw (second)
-    (upper-half (storeHalfOf m s v) (s + 2) (v / 65536) (omega arith) high ∙ (port-half-store m s v low ∙ rw first)))
+    (upper-half (storeOf m 2 s v) (s + 2) (v / 65536) (omega arith) high ∙ (port-half-store m s v low ∙ rw first)))
 
 -- what the code reads
 pub port-reads : (m : Memory) (a r : ℕ) → regionOf a ≡ 2 → r ≡ portByteOf (hardwareIn (m .regs)) (hardwareOffsetOf a) → r < 256

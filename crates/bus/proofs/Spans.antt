@@ -1,16 +1,15 @@
 -- Addresses that follow each other and lead to bytes of one memory that follow each other, and what a
 -- halfword or a word there reads and takes. Assumes nothing.
-use Prim.Native.Nat.{ℕ, zero, suc, _+_, _-_, _*_, _/_, _%_, _^_, _<_, _≤_}
+use Prim.Native.Nat.{ℕ, _+_, _-_, _*_, _/_, _%_, _<_}
 use mathlib.Core.Bool.{true}
-use mathlib.Core.List.{List, [], _∷_}
-use mathlib.Core.Path.{_≡_, refl, sym, ap, subst, _∙_}
+use mathlib.Core.Path.{_≡_, ap, _∙_}
 use native.Mathlib.Omega.{arith}
-use lib.ListN.{length, getD, set}
-use Rattle.word.specs.LittleEndian.{halfAt, wordAt, putHalf, putWord}
+use lib.ListN.{length}
+use Rattle.word.specs.LittleEndian.{putHalf, putWord}
 use Rattle.bus.specs.Refusal.{romOk}
-use Rattle.bus.specs.Place.{Place, vramAt, wramAt, pakAt, romAt, vipPlace, regionOf, placeOf}
-use Rattle.bus.specs.Memory.{Memory, byteOf, loadOf, readPlace, putPlace, putDrawing, placeIn, putByte, putRegister, putHalfword, storeHalfOf, storeWordOf, withWram, withVram}
-use Rattle.bus.proofs.Power.{rom-power, power-step, power-room}
+use Rattle.bus.specs.Place.{Place, vramAt, wramAt, romAt, vipPlace, regionOf}
+use Rattle.bus.specs.Memory.{Memory, byteOf, loadOf, readPlace, placeIn, putByte, putRegister, putHalfword, storeOf, withWram, withVram}
+use Rattle.bus.proofs.Power.{rom-power, power-step}
 use Rattle.bus.proofs.Places.{place-wram, place-rom, place-vip, region-half, region-word}
 use Rattle.bus.proofs.Halfwords.{half-load, half-load-even, word-load}
 
@@ -65,23 +64,23 @@ module _ (m : Memory) (s i v : ℕ) where
       let e = span-first m s vramAt i 2 (omega arith) p in
       rw (e, p 1 (omega arith), e)
 
-pub half-wram : (m : Memory) (a i v : ℕ) → Span m (a - a % 2) wramAt i 2 → storeHalfOf m a v ≡ withWram m (putHalf (m .wram) i v)
-unfolding storeHalfOf
+pub half-wram : (m : Memory) (a i v : ℕ) → Span m (a - a % 2) wramAt i 2 → storeOf m 2 a v ≡ withWram m (putHalf (m .wram) i v)
+unfolding storeOf
 half-wram m a i v p = put-half-wram m (a - a % 2) i v p
 
-pub half-vram : (m : Memory) (a i v : ℕ) → Span m (a - a % 2) vramAt i 2 → storeHalfOf m a v ≡ withVram m (putHalf (m .vram) i v)
-unfolding storeHalfOf
+pub half-vram : (m : Memory) (a i v : ℕ) → Span m (a - a % 2) vramAt i 2 → storeOf m 2 a v ≡ withVram m (putHalf (m .vram) i v)
+unfolding storeOf
 half-vram m a i v p = put-half-vram m (a - a % 2) i v p
 
-pub word-wram : (m : Memory) (a i v : ℕ) → Span m (a - a % 4) wramAt i 4 → storeWordOf m a v ≡ withWram m (putWord (m .wram) i v)
-unfolding storeWordOf
+pub word-wram : (m : Memory) (a i v : ℕ) → Span m (a - a % 4) wramAt i 4 → storeOf m 4 a v ≡ withWram m (putWord (m .wram) i v)
+unfolding storeOf
 word-wram m a i v p =
     let s = a - a % 4 in
     rw (put-half-wram m s i v (span-start m s wramAt i p))
     (put-half-wram (withWram m (putHalf (m .wram) i v)) (s + 2) (i + 2) (v / 65536) (span-third m s wramAt i p))
 
-pub word-vram : (m : Memory) (a i v : ℕ) → Span m (a - a % 4) vramAt i 4 → storeWordOf m a v ≡ withVram m (putWord (m .vram) i v)
-unfolding storeWordOf
+pub word-vram : (m : Memory) (a i v : ℕ) → Span m (a - a % 4) vramAt i 4 → storeOf m 4 a v ≡ withVram m (putWord (m .vram) i v)
+unfolding storeOf
 word-vram m a i v p =
     let s = a - a % 4 in
     rw (put-half-vram m s i v (span-start m s vramAt i p))

@@ -143,18 +143,17 @@ putByte m a v = putPlace m (placeIn m a) (v % 256)
 unfoldable pub putRegister : Memory → ℕ → ℕ → Memory
 putRegister m a v = putDrawing m (placeIn m a) (v % 65536)
 
--- a byte store: memory and the timer take the low 8 bits of the source, a VIP register its low 16 bits
-unfoldable pub storeByteOf : Memory → ℕ → ℕ → Memory
-storeByteOf m a v = putRegister (putByte m a v) a v
-
 -- a halfword stored from an even address on, lowest byte first
 unfoldable pub putHalfword : Memory → ℕ → ℕ → Memory
 putHalfword m a v = putRegister (putByte (putByte m a v) (a + 1) (v / 256)) a v
 
--- a halfword store
-unfoldable pub storeHalfOf : Memory → ℕ → ℕ → Memory
-storeHalfOf m a v = putHalfword m (alignedOf 2 a) v
+-- the n low bytes of v stored from an address on, by halfwords, the low one first; of a byte alone memory and the timer take
+-- the low 8 bits of the source, a VIP register its low 16 bits
+abbrev pub putFrom : Memory → ℕ → ℕ → ℕ → Memory
+putFrom m a zero v = m
+putFrom m a (suc zero) v = putRegister (putByte m a v) a v
+putFrom m a (suc (suc n)) v = putFrom (putHalfword m a v) (a + 2) n (v / 65536)
 
--- a word store is two halfword stores, low one first
-unfoldable pub storeWordOf : Memory → ℕ → ℕ → Memory
-storeWordOf m a v = putHalfword (putHalfword m (alignedOf 4 a) v) (alignedOf 4 a + 2) (v / 65536)
+-- what a store of `size` bytes leaves; v is the whole source register
+unfoldable pub storeOf : Memory → ℕ → ℕ → ℕ → Memory
+storeOf m size a v = putFrom m (alignedOf size a) size v

@@ -8,7 +8,7 @@ ghost use mathlib.Core.List.{List};
 ghost use Prim.Native.Nat.{ℕ, _/_, _%_, _<_};
 ghost use lib.ListN.{length};
 ghost use Rattle.bus.specs.Refusal.{romOk, pakOk};
-ghost use Rattle.bus.specs.Memory.{memoryOf, Reads, storeByteOf, storeHalfOf, storeWordOf};
+ghost use Rattle.bus.specs.Memory.{memoryOf, Reads, storeOf};
 
 // A byte, a halfword and a word there.
 pub fn byte(rom: &[u8], wram: &[u8], pak: &[u8], address: u32) -> u32
@@ -69,7 +69,7 @@ pub fn word(rom: &[u8], wram: &[u8], pak: &[u8], address: u32) -> u32
 // A byte, a halfword and a word stored there: to WRAM, to pak RAM, or nowhere.
 pub fn put_byte(wram: &mut [u8], pak: &mut [u8], address: u32, value: u32)
     requires { ⌜ (length (now wram) ≡ 65536) × (pakOk (length (now pak)) ≡ true) × (2 < address / 16777216 % 8) ⌝ }
-    ensures { λ r. ⌜ ((rom vram regs : List ℕ) → memoryOf rom (now (wram .exit)) vram (now (pak .exit)) regs ≡ storeByteOf (memoryOf rom (now (wram .entry)) vram (now (pak .entry)) regs) address value) ⌝ }
+    ensures { λ r. ⌜ ((rom vram regs : List ℕ) → memoryOf rom (now (wram .exit)) vram (now (pak .exit)) regs ≡ storeOf (memoryOf rom (now (wram .entry)) vram (now (pak .entry)) regs) 1 address value) ⌝ }
 {
     let region = address / 16777216 % 8;
     if region == 5 {
@@ -84,7 +84,7 @@ pub fn put_byte(wram: &mut [u8], pak: &mut [u8], address: u32, value: u32)
 
 pub fn put_half(wram: &mut [u8], pak: &mut [u8], address: u32, value: u32)
     requires { ⌜ (length (now wram) ≡ 65536) × (pakOk (length (now pak)) ≡ true) × (2 < address / 16777216 % 8) ⌝ }
-    ensures { λ r. ⌜ ((rom vram regs : List ℕ) → memoryOf rom (now (wram .exit)) vram (now (pak .exit)) regs ≡ storeHalfOf (memoryOf rom (now (wram .entry)) vram (now (pak .entry)) regs) address value) ⌝ }
+    ensures { λ r. ⌜ ((rom vram regs : List ℕ) → memoryOf rom (now (wram .exit)) vram (now (pak .exit)) regs ≡ storeOf (memoryOf rom (now (wram .entry)) vram (now (pak .entry)) regs) 2 address value) ⌝ }
 {
     let region = address / 16777216 % 8;
     if region == 5 {
@@ -99,7 +99,7 @@ pub fn put_half(wram: &mut [u8], pak: &mut [u8], address: u32, value: u32)
 
 pub fn put_word(wram: &mut [u8], pak: &mut [u8], address: u32, value: u32)
     requires { ⌜ (length (now wram) ≡ 65536) × (pakOk (length (now pak)) ≡ true) × (2 < address / 16777216 % 8) ⌝ }
-    ensures { λ r. ⌜ ((rom vram regs : List ℕ) → memoryOf rom (now (wram .exit)) vram (now (pak .exit)) regs ≡ storeWordOf (memoryOf rom (now (wram .entry)) vram (now (pak .entry)) regs) address value) ⌝ }
+    ensures { λ r. ⌜ ((rom vram regs : List ℕ) → memoryOf rom (now (wram .exit)) vram (now (pak .exit)) regs ≡ storeOf (memoryOf rom (now (wram .entry)) vram (now (pak .entry)) regs) 4 address value) ⌝ }
 {
     let region = address / 16777216 % 8;
     if region == 5 {

@@ -6,7 +6,7 @@ ghost use Prim.Native.Nat.{ℕ, _%_, _<_, _*_};
 ghost use lib.ListN.{length};
 ghost use Rattle.bus.specs.Place.{regionOf};
 ghost use Rattle.bus.specs.Refusal.{pakOk};
-ghost use Rattle.bus.specs.Memory.{memoryOf, Reads, storeByteOf, storeHalfOf, storeWordOf};
+ghost use Rattle.bus.specs.Memory.{memoryOf, Reads, storeOf};
 
 // An address mod the length of a memory, which is a power of two.
 pub fn masked(address: u32, length: usize) -> usize
@@ -46,7 +46,7 @@ pub fn word(pak: &[u8], address: u32) -> u32
 // A byte, a halfword and a word stored in pak RAM, lowest byte first.
 pub fn put_byte(pak: &mut [u8], address: u32, value: u32)
     requires { ⌜ (regionOf address ≡ 6) × (pakOk (length (now pak)) ≡ true) ⌝ }
-    ensures { λ r. ⌜ ((rom wram vram regs : List ℕ) → memoryOf rom wram vram (now (pak .exit)) regs ≡ storeByteOf (memoryOf rom wram vram (now (pak .entry)) regs) address value) ⌝ }
+    ensures { λ r. ⌜ ((rom wram vram regs : List ℕ) → memoryOf rom wram vram (now (pak .exit)) regs ≡ storeOf (memoryOf rom wram vram (now (pak .entry)) regs) 1 address value) ⌝ }
 {
     if pak.len() == 0 {
         return;
@@ -57,7 +57,7 @@ pub fn put_byte(pak: &mut [u8], address: u32, value: u32)
 
 pub fn put_half(pak: &mut [u8], address: u32, value: u32)
     requires { ⌜ (regionOf address ≡ 6) × (pakOk (length (now pak)) ≡ true) ⌝ }
-    ensures { λ r. ⌜ ((rom wram vram regs : List ℕ) → memoryOf rom wram vram (now (pak .exit)) regs ≡ storeHalfOf (memoryOf rom wram vram (now (pak .entry)) regs) address value) ⌝ }
+    ensures { λ r. ⌜ ((rom wram vram regs : List ℕ) → memoryOf rom wram vram (now (pak .exit)) regs ≡ storeOf (memoryOf rom wram vram (now (pak .entry)) regs) 2 address value) ⌝ }
 {
     let a = address - address % 2;
     put_byte(pak, a, value);
@@ -66,7 +66,7 @@ pub fn put_half(pak: &mut [u8], address: u32, value: u32)
 
 pub fn put_word(pak: &mut [u8], address: u32, value: u32)
     requires { ⌜ (regionOf address ≡ 6) × (pakOk (length (now pak)) ≡ true) ⌝ }
-    ensures { λ r. ⌜ ((rom wram vram regs : List ℕ) → memoryOf rom wram vram (now (pak .exit)) regs ≡ storeWordOf (memoryOf rom wram vram (now (pak .entry)) regs) address value) ⌝ }
+    ensures { λ r. ⌜ ((rom wram vram regs : List ℕ) → memoryOf rom wram vram (now (pak .exit)) regs ≡ storeOf (memoryOf rom wram vram (now (pak .entry)) regs) 4 address value) ⌝ }
 {
     let a = address - address % 4;
     put_half(pak, a, value);

@@ -6,7 +6,7 @@ ghost use mathlib.Core.Path.{_≡_};
 ghost use mathlib.Core.List.{List};
 ghost use Prim.Native.Nat.{ℕ};
 ghost use Rattle.bus.specs.Place.{regionOf};
-ghost use Rattle.bus.specs.Memory.{memoryOf, Reads, storeByteOf, storeHalfOf, storeWordOf};
+ghost use Rattle.bus.specs.Memory.{memoryOf, Reads, storeOf};
 
 // A byte, a halfword and a word of region 2.
 pub fn byte(regs: &Device, address: u32) -> u32
@@ -33,7 +33,7 @@ pub fn word(regs: &Device, address: u32) -> u32
 // A byte, a halfword and a word stored in region 2.
 pub fn put_byte(regs: &mut Device, address: u32, value: u32)
     requires { ⌜ regionOf address ≡ 2 ⌝ }
-    ensures { λ r. ⌜ ((rom wram vram pak : List ℕ) → memoryOf rom wram vram pak (now (regs .exit)) ≡ storeByteOf (memoryOf rom wram vram pak (now (regs .entry))) address value) ⌝ }
+    ensures { λ r. ⌜ ((rom wram vram pak : List ℕ) → memoryOf rom wram vram pak (now (regs .exit)) ≡ storeOf (memoryOf rom wram vram pak (now (regs .entry))) 1 address value) ⌝ }
 {
     let before = device::hardware_in(regs);
     let after = bus_timer::ports::write(before, address % 16777216, value);
@@ -42,14 +42,14 @@ pub fn put_byte(regs: &mut Device, address: u32, value: u32)
 
 pub fn put_half(regs: &mut Device, address: u32, value: u32)
     requires { ⌜ regionOf address ≡ 2 ⌝ }
-    ensures { λ r. ⌜ ((rom wram vram pak : List ℕ) → memoryOf rom wram vram pak (now (regs .exit)) ≡ storeHalfOf (memoryOf rom wram vram pak (now (regs .entry))) address value) ⌝ }
+    ensures { λ r. ⌜ ((rom wram vram pak : List ℕ) → memoryOf rom wram vram pak (now (regs .exit)) ≡ storeOf (memoryOf rom wram vram pak (now (regs .entry))) 2 address value) ⌝ }
 {
     put_byte(regs, address - address % 2, value);
 }
 
 pub fn put_word(regs: &mut Device, address: u32, value: u32)
     requires { ⌜ regionOf address ≡ 2 ⌝ }
-    ensures { λ r. ⌜ ((rom wram vram pak : List ℕ) → memoryOf rom wram vram pak (now (regs .exit)) ≡ storeWordOf (memoryOf rom wram vram pak (now (regs .entry))) address value) ⌝ }
+    ensures { λ r. ⌜ ((rom wram vram pak : List ℕ) → memoryOf rom wram vram pak (now (regs .exit)) ≡ storeOf (memoryOf rom wram vram pak (now (regs .entry))) 4 address value) ⌝ }
 {
     put_byte(regs, address - address % 4, value);
 }

@@ -6,7 +6,7 @@ ghost use mathlib.Core.List.{List};
 ghost use Prim.Native.Nat.{ℕ, _+_, _%_, _<_, _≤_};
 ghost use lib.ListN.{length};
 ghost use Rattle.bus.specs.Place.{vramAt, vipPlace, regionOf};
-ghost use Rattle.bus.specs.Memory.{memoryOf, Reads, putRegister, storeByteOf, storeHalfOf, storeWordOf};
+ghost use Rattle.bus.specs.Memory.{memoryOf, Reads, putRegister, storeOf};
 
 // Where byte v of the VIP leads in VRAM; 0x40000 where it leads elsewhere.
 fn vram_index(v: u32) -> usize
@@ -104,7 +104,7 @@ fn put_register(regs: &mut Device, address: u32, value: u32)
 // A byte, a halfword and a word stored in the VIP.
 pub fn put_byte(vram: &mut [u8], regs: &mut Device, address: u32, value: u32)
     requires { ⌜ (regionOf address ≡ 0) × (length (now vram) ≡ 262144) ⌝ }
-    ensures { λ r. ⌜ ((rom wram pak : List ℕ) → memoryOf rom wram (now (vram .exit)) pak (now (regs .exit)) ≡ storeByteOf (memoryOf rom wram (now (vram .entry)) pak (now (regs .entry))) address value) ⌝ }
+    ensures { λ r. ⌜ ((rom wram pak : List ℕ) → memoryOf rom wram (now (vram .exit)) pak (now (regs .exit)) ≡ storeOf (memoryOf rom wram (now (vram .entry)) pak (now (regs .entry))) 1 address value) ⌝ }
 {
     let i = vram_index(address % 524288);
     if i < 262144 {
@@ -116,7 +116,7 @@ pub fn put_byte(vram: &mut [u8], regs: &mut Device, address: u32, value: u32)
 
 pub fn put_half(vram: &mut [u8], regs: &mut Device, address: u32, value: u32)
     requires { ⌜ (regionOf address ≡ 0) × (length (now vram) ≡ 262144) ⌝ }
-    ensures { λ r. ⌜ ((rom wram pak : List ℕ) → memoryOf rom wram (now (vram .exit)) pak (now (regs .exit)) ≡ storeHalfOf (memoryOf rom wram (now (vram .entry)) pak (now (regs .entry))) address value) ⌝ }
+    ensures { λ r. ⌜ ((rom wram pak : List ℕ) → memoryOf rom wram (now (vram .exit)) pak (now (regs .exit)) ≡ storeOf (memoryOf rom wram (now (vram .entry)) pak (now (regs .entry))) 2 address value) ⌝ }
 {
     let a = address - address % 2;
     let i = vram_index(a % 524288);
@@ -129,7 +129,7 @@ pub fn put_half(vram: &mut [u8], regs: &mut Device, address: u32, value: u32)
 
 pub fn put_word(vram: &mut [u8], regs: &mut Device, address: u32, value: u32)
     requires { ⌜ (regionOf address ≡ 0) × (length (now vram) ≡ 262144) ⌝ }
-    ensures { λ r. ⌜ ((rom wram pak : List ℕ) → memoryOf rom wram (now (vram .exit)) pak (now (regs .exit)) ≡ storeWordOf (memoryOf rom wram (now (vram .entry)) pak (now (regs .entry))) address value) ⌝ }
+    ensures { λ r. ⌜ ((rom wram pak : List ℕ) → memoryOf rom wram (now (vram .exit)) pak (now (regs .exit)) ≡ storeOf (memoryOf rom wram (now (vram .entry)) pak (now (regs .entry))) 4 address value) ⌝ }
 {
     let a = address - address % 4;
     let i = vram_index(a % 524288);

@@ -11,7 +11,7 @@ use bus_timer::Hardware;
 use refusal::Refusal;
 use refusal::Verdict;
 ghost use mathlib.Core.Path.{_≡_};
-ghost use Rattle.bus.specs.Memory.{verdictOf, storeByteOf, storeHalfOf, storeWordOf};
+ghost use Rattle.bus.specs.Memory.{verdictOf, storeOf};
 ghost use Rattle.bus_calls.specs.Access.{entering, leaving, checkedLoadOf, checkedStoreOf};
 
 // What a load read: its value, and bit k of `undefined` set where byte k, counted from the aligned address, is undefined.
@@ -156,7 +156,7 @@ pub fn store_byte(
     value: u32,
 ) -> Stored
     ensures verdict { λ r. ⌜ r .verdict ≡ verdictOf (entering rom wram vram pak (drawing .regs) hardware) ⌝ }
-    ensures memory { λ r. ⌜ (let m = entering rom wram vram pak (drawing .regs) hardware in leaving rom wram vram pak (r .drawing .regs) (r .hardware) ≡ checkedStoreOf m (storeByteOf m address value)) ⌝ }
+    ensures memory { λ r. ⌜ (let m = entering rom wram vram pak (drawing .regs) hardware in leaving rom wram vram pak (r .drawing .regs) (r .hardware) ≡ checkedStoreOf m (storeOf m 1 address value)) ⌝ }
 {
     let verdict = refusals::call_verdict(
         rom.len(),
@@ -207,7 +207,7 @@ pub fn store_half(
     value: u32,
 ) -> Stored
     ensures verdict { λ r. ⌜ r .verdict ≡ verdictOf (entering rom wram vram pak (drawing .regs) hardware) ⌝ }
-    ensures memory { λ r. ⌜ (let m = entering rom wram vram pak (drawing .regs) hardware in leaving rom wram vram pak (r .drawing .regs) (r .hardware) ≡ checkedStoreOf m (storeHalfOf m address value)) ⌝ }
+    ensures memory { λ r. ⌜ (let m = entering rom wram vram pak (drawing .regs) hardware in leaving rom wram vram pak (r .drawing .regs) (r .hardware) ≡ checkedStoreOf m (storeOf m 2 address value)) ⌝ }
 {
     let verdict = refusals::call_verdict(
         rom.len(),
@@ -258,7 +258,7 @@ pub fn store_word(
     value: u32,
 ) -> Stored
     ensures verdict { λ r. ⌜ r .verdict ≡ verdictOf (entering rom wram vram pak (drawing .regs) hardware) ⌝ }
-    ensures memory { λ r. ⌜ (let m = entering rom wram vram pak (drawing .regs) hardware in leaving rom wram vram pak (r .drawing .regs) (r .hardware) ≡ checkedStoreOf m (storeWordOf m address value)) ⌝ }
+    ensures memory { λ r. ⌜ (let m = entering rom wram vram pak (drawing .regs) hardware in leaving rom wram vram pak (r .drawing .regs) (r .hardware) ≡ checkedStoreOf m (storeOf m 4 address value)) ⌝ }
 {
     let verdict = refusals::call_verdict(
         rom.len(),

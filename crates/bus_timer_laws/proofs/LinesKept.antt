@@ -1,21 +1,20 @@
 -- `lines-kept` and `line-never-rises`: the statements of specs/Writing about the request lines. A store is made of bytes
 -- put and drawing registers written; of these only a byte written to TCR reaches a line. Assumes nothing.
-use Prim.Native.Nat.{ℕ, zero, suc, _+_, _-_, _*_, _/_, _%_, _^_, _≤_, _<_}
-use mathlib.Core.List.{List}
-use mathlib.Core.Path.{_≡_, refl, sym, ap, _∙_}
+use Prim.Native.Nat.{ℕ, zero, suc, _+_, _-_, _/_, _%_, _≤_}
+use mathlib.Core.Path.{_≡_, refl, _∙_}
 use native.Mathlib.Omega.{arith}
 use lib.ListN.{length}
 use Rattle.bus_timer.specs.Ports.{portWrittenOf}
 use Rattle.bus_timer.specs.Lines.{lineOf}
 use Rattle.bus_timer.specs.declared.Hardware.{Hardware}
 use Rattle.bus_timer.proofs.TimerLines.{write-lines, write-keeps-down}
-use Rattle.bus.specs.Registers.{keptOf, hardwareIn}
+use Rattle.bus.specs.Registers.{keptOf}
 use Rattle.bus.specs.Place.{Place, vramAt, wramAt, pakAt, romAt, drawingAt, versionAt, silent, unlisted, unmapped, hardwareAt, soundUnit, nothing, expansion}
-use Rattle.bus.specs.Memory.{Memory, putPlace, putDrawing, placeIn, putByte, putRegister, putHalfword, storeByteOf, storeHalfOf, storeWordOf}
+use Rattle.bus.specs.Memory.{Memory, putPlace, putDrawing, placeIn, putByte, putRegister, putHalfword, putFrom, storeOf}
 use Rattle.bus.proofs.Devices.{hardware-with}
 use Rattle.bus.proofs.DrawingPlaces.{Proper, place-proper}
-use Rattle.bus.proofs.Kept.{Shape, set-hardware, byte-shape, register-shape, halfword-shape}
-use Rattle.bus_timer_laws.specs.Writing.{timerIn, Size, byte, half, word, storeOf, LinesKept, LineNeverRises}
+use Rattle.bus.proofs.Kept.{set-hardware, byte-shape, halfword-shape}
+use Rattle.bus_timer_laws.specs.Writing.{timerIn, LinesKept, LineNeverRises}
 
 -- what a step of a store leaves of the lines
 pub record Lowered (g h : Hardware) : Type 0 where
@@ -88,20 +87,22 @@ halfword-lowered m a v l =
     (byte-lowered n (a + 1) (v / 256) (byte-shape m a v .same-regs ∙ l)))
     (register-lowered o a v)
 
--- a store of any size, at any address
-pub store-lowered : (size : Size) (m : Memory) (a v : ℕ) → length (m .regs) ≡ 17 → Lowered (timerIn m) (timerIn (storeOf size m a v))
-unfolding storeByteOf storeHalfOf storeWordOf
-store-lowered byte m a v l =
+from-lowered : (m : Memory) (a size v : ℕ) → length (m .regs) ≡ 17 → Lowered (timerIn m) (timerIn (putFrom m a size v))
+from-lowered m a zero v l = same (timerIn m)
+from-lowered m a (suc zero) v l =
     both (timerIn m) (timerIn (putByte m a v)) _ (byte-lowered m a v l) (register-lowered (putByte m a v) a v)
-store-lowered half m a v l = halfword-lowered m (a - a % 2) v l
-store-lowered word m a v l =
-    let s = a - a % 4 in
-    let n = putHalfword m s v in
-    both (timerIn m) (timerIn n) _ (halfword-lowered m s v l)
-    (halfword-lowered n (s + 2) (v / 65536) (halfword-shape m s v .same-regs ∙ l))
+from-lowered m a (suc (suc n)) v l =
+    let h = putHalfword m a v in
+    both (timerIn m) (timerIn h) _ (halfword-lowered m a v l)
+    (from-lowered h (a + 2) n (v / 65536) (halfword-shape m a v .same-regs ∙ l))
+
+-- a store of any size, at any address
+pub store-lowered : (m : Memory) (size a v : ℕ) → length (m .regs) ≡ 17 → Lowered (timerIn m) (timerIn (storeOf m size a v))
+unfolding storeOf
+store-lowered m size a v l = from-lowered m (a - a % size) size v l
 
 pub lines-kept : LinesKept
-lines-kept size m a v n l other = store-lowered size m a v l .others n other
+lines-kept m size a v n l other = store-lowered m size a v l .others n other
 
 pub line-never-rises : LineNeverRises
-line-never-rises size m a v l = store-lowered size m a v l .down
+line-never-rises m size a v l = store-lowered m size a v l .down

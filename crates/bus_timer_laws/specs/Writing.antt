@@ -10,7 +10,7 @@ use Rattle.bus_timer.specs.Lines.{lineOf}
 use Rattle.bus_timer.specs.declared.Hardware.{Hardware}
 use Rattle.bus.specs.Place.{regionOf}
 use Rattle.bus.specs.Registers.{hardwareIn, withHardware}
-use Rattle.bus.specs.Memory.{Memory, withRegs, alignedOf, storeByteOf, storeHalfOf, storeWordOf}
+use Rattle.bus.specs.Memory.{Memory, withRegs, alignedOf, storeOf}
 use Rattle.bus_timer_laws.specs.Reading.{At}
 
 -- the lines and the timer of a memory
@@ -25,49 +25,38 @@ timed m h = withRegs m (withHardware (m .regs) h)
 abbrev pub TlrStores : Type 0
 TlrStores =
     (m : Memory) (a v : ℕ) → At tlr a
-    → storeByteOf m a v ≡ timed m (reloadWrittenOf (lowWrittenOf (timerIn m .reload) (v % 256)) (timerIn m))
+    → storeOf m 1 a v ≡ timed m (reloadWrittenOf (lowWrittenOf (timerIn m .reload) (v % 256)) (timerIn m))
 
 abbrev pub ThrStores : Type 0
 ThrStores =
     (m : Memory) (a v : ℕ) → At thr a
-    → storeByteOf m a v ≡ timed m (reloadWrittenOf (highWrittenOf (timerIn m .reload) (v % 256)) (timerIn m))
+    → storeOf m 1 a v ≡ timed m (reloadWrittenOf (highWrittenOf (timerIn m .reload) (v % 256)) (timerIn m))
 
 abbrev pub TcrStores : Type 0
-TcrStores = (m : Memory) (a v : ℕ) → At tcr a → storeByteOf m a v ≡ timed m (tcrWrittenOf (timerIn m) (v % 256))
+TcrStores = (m : Memory) (a v : ℕ) → At tcr a → storeOf m 1 a v ≡ timed m (tcrWrittenOf (timerIn m) (v % 256))
 
 abbrev pub RestStores : Type 0
 RestStores =
-    (m : Memory) (a v : ℕ) → regionOf a ≡ 2 → (At tlr a → ⊥) → (At thr a → ⊥) → (At tcr a → ⊥) → storeByteOf m a v ≡ m
+    (m : Memory) (a v : ℕ) → regionOf a ≡ 2 → (At tlr a → ⊥) → (At thr a → ⊥) → (At tcr a → ⊥) → storeOf m 1 a v ≡ m
 
 -- a halfword and a word store the byte that they begin with
 abbrev pub HalfStores : Type 0
-HalfStores = (m : Memory) (a v : ℕ) → regionOf a ≡ 2 → storeHalfOf m a v ≡ storeByteOf m (alignedOf 2 a) v
+HalfStores = (m : Memory) (a v : ℕ) → regionOf a ≡ 2 → storeOf m 2 a v ≡ storeOf m 1 (alignedOf 2 a) v
 
 abbrev pub WordStores : Type 0
-WordStores = (m : Memory) (a v : ℕ) → regionOf a ≡ 2 → storeWordOf m a v ≡ storeByteOf m (alignedOf 4 a) v
+WordStores = (m : Memory) (a v : ℕ) → regionOf a ≡ 2 → storeOf m 4 a v ≡ storeOf m 1 (alignedOf 4 a) v
 
 -- what a memory with other lines and another timer holds
 abbrev pub TimedHardware : Type 0
 TimedHardware = (m : Memory) (h : Hardware) → length (m .regs) ≡ 17 → timerIn (timed m h) ≡ h
 
--- a store of each size
-pub data Size : Type 0 where
-  byte : Size
-  half : Size
-  word : Size
-
-abbrev pub storeOf : Size → Memory → ℕ → ℕ → Memory
-storeOf byte m a v = storeByteOf m a v
-storeOf half m a v = storeHalfOf m a v
-storeOf word m a v = storeWordOf m a v
-
--- no store, at any address, changes a line but the timer's, and none raises that
+-- no store, of any size and at any address, changes a line but the timer's, and none raises that
 abbrev pub LinesKept : Type 0
 LinesKept =
-    (size : Size) (m : Memory) (a v n : ℕ) → length (m .regs) ≡ 17 → (n ≡ 1 → ⊥)
-    → lineOf n (timerIn (storeOf size m a v)) ≡ lineOf n (timerIn m)
+    (m : Memory) (size a v n : ℕ) → length (m .regs) ≡ 17 → (n ≡ 1 → ⊥)
+    → lineOf n (timerIn (storeOf m size a v)) ≡ lineOf n (timerIn m)
 
 abbrev pub LineNeverRises : Type 0
 LineNeverRises =
-    (size : Size) (m : Memory) (a v : ℕ) → length (m .regs) ≡ 17
-    → lineOf 1 (timerIn (storeOf size m a v)) ≤ lineOf 1 (timerIn m)
+    (m : Memory) (size a v : ℕ) → length (m .regs) ≡ 17
+    → lineOf 1 (timerIn (storeOf m size a v)) ≤ lineOf 1 (timerIn m)

@@ -9,7 +9,7 @@ use refusal::number;
 use refusal::verdict_number;
 ghost use mathlib.Core.Path.{_≡_};
 ghost use Rattle.refusal.specs.Number.{verdictNumber};
-ghost use Rattle.bus.specs.Memory.{verdictOf, storeByteOf, storeHalfOf, storeWordOf};
+ghost use Rattle.bus.specs.Memory.{verdictOf, storeOf};
 ghost use Rattle.bus_calls.specs.Access.{entering, leaving, checkedLoadOf, checkedStoreOf};
 ghost use Rattle.capi.specs.Hardware.{hardwareGiven};
 ghost use Rattle.capi.specs.Answers.{loadedOf, storedOf};
@@ -130,7 +130,7 @@ pub extern "C" fn vb_store_byte(
     value: u32,
 ) -> VbStored
     ensures refusal { λ r. ⌜ r .refusal ≡ verdictNumber (verdictOf (entering rom wram vram pak (drawing .regs) (hardwareGiven hardware))) ⌝ }
-    ensures memory { λ r. ⌜ (let m = entering rom wram vram pak (drawing .regs) (hardwareGiven hardware) in leaving rom wram vram pak (r .drawing .regs) (hardwareGiven (r .hardware)) ≡ checkedStoreOf m (storeByteOf m address value)) ⌝ }
+    ensures memory { λ r. ⌜ (let m = entering rom wram vram pak (drawing .regs) (hardwareGiven hardware) in leaving rom wram vram pak (r .drawing .regs) (hardwareGiven (r .hardware)) ≡ checkedStoreOf m (storeOf m 1 address value)) ⌝ }
 {
     let regs = drawing.regs;
     let given = hardware_given(hardware);
@@ -158,7 +158,7 @@ pub extern "C" fn vb_store_half(
     value: u32,
 ) -> VbStored
     ensures refusal { λ r. ⌜ r .refusal ≡ verdictNumber (verdictOf (entering rom wram vram pak (drawing .regs) (hardwareGiven hardware))) ⌝ }
-    ensures memory { λ r. ⌜ (let m = entering rom wram vram pak (drawing .regs) (hardwareGiven hardware) in leaving rom wram vram pak (r .drawing .regs) (hardwareGiven (r .hardware)) ≡ checkedStoreOf m (storeHalfOf m address value)) ⌝ }
+    ensures memory { λ r. ⌜ (let m = entering rom wram vram pak (drawing .regs) (hardwareGiven hardware) in leaving rom wram vram pak (r .drawing .regs) (hardwareGiven (r .hardware)) ≡ checkedStoreOf m (storeOf m 2 address value)) ⌝ }
 {
     let regs = drawing.regs;
     let given = hardware_given(hardware);
@@ -186,7 +186,7 @@ pub extern "C" fn vb_store_word(
     value: u32,
 ) -> VbStored
     ensures refusal { λ r. ⌜ r .refusal ≡ verdictNumber (verdictOf (entering rom wram vram pak (drawing .regs) (hardwareGiven hardware))) ⌝ }
-    ensures memory { λ r. ⌜ (let m = entering rom wram vram pak (drawing .regs) (hardwareGiven hardware) in leaving rom wram vram pak (r .drawing .regs) (hardwareGiven (r .hardware)) ≡ checkedStoreOf m (storeWordOf m address value)) ⌝ }
+    ensures memory { λ r. ⌜ (let m = entering rom wram vram pak (drawing .regs) (hardwareGiven hardware) in leaving rom wram vram pak (r .drawing .regs) (hardwareGiven (r .hardware)) ≡ checkedStoreOf m (storeOf m 4 address value)) ⌝ }
 {
     let regs = drawing.regs;
     let given = hardware_given(hardware);

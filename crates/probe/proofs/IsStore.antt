@@ -1,17 +1,16 @@
 -- `probe-is-store`: an accepted write is the bus's store of that size. Assumes nothing.
 use Prim.Native.Nat.{ℕ, _+_, _-_, _%_, _<_}
 use mathlib.Core.Bool.{true}
-use mathlib.Core.List.{List}
 use mathlib.Core.Logic.{⊎-elim}
-use mathlib.Core.Path.{_≡_, refl, sym, ap, _∙_}
+use mathlib.Core.Path.{_≡_, sym, ap, _∙_}
 use native.Mathlib.Omega.{arith}
 use lib.ListN.{length, set}
 use Rattle.bus.specs.Place.{vramAt, placeOf}
-use Rattle.bus.specs.Memory.{Memory, withVram, placeIn, putByte, putRegister, storeByteOf}
-use Rattle.refusal.specs.declared.Verdict.the-variants.{Accepted}
+use Rattle.bus.specs.Memory.{Memory, withVram, placeIn, putByte, putRegister, storeOf}
+use Rattle.bus.proofs.Halfwords.{byte-store}
 use Rattle.bus.proofs.Spans.{Span, half-vram, word-vram}
 use Rattle.probe.specs.Probe.{inRangesOf, vramIndexOf, targetOf, putBytes, probeVerdictOf, probedOf}
-use Rattle.probe.specs.Kept.{Width, byte, half, word, sizeOf, storeAs, ProbeIsStore}
+use Rattle.probe.specs.Kept.{Width, byte, half, word, sizeOf, ProbeIsStore}
 use Rattle.probe.proofs.Ranges.{in-ranges}
 use Rattle.probe.proofs.Targets.{index-place, follows}
 use Rattle.probe.proofs.Verdicts.{allowed}
@@ -38,16 +37,16 @@ module _ (m : Memory) (a v : ℕ) where
   unfolding target targetOf
   span size r e j h = place-at (length (m .rom)) (length (m .pak)) (a - a % size) j (omega arith) e
 
-  byte-store : (i : ℕ) → placeIn m a ≡ vramAt i → storeByteOf m a v ≡ withVram m (set (m .vram) i (v % 256))
-  unfolding storeByteOf putByte putRegister
-  byte-store i e = rw (e, e)
+  byte-stored : (i : ℕ) → placeIn m a ≡ vramAt i → storeOf m 1 a v ≡ withVram m (set (m .vram) i (v % 256))
+  unfolding putByte putRegister
+  byte-stored i e = byte-store m a v ∙ rw (e, e)
 
   stored : (width : Width) → inRangesOf (target (sizeOf width)) ≡ true
-      → storeAs width m a v ≡ withVram m (putBytes (sizeOf width) (m .vram) (target (sizeOf width)) v)
+      → storeOf m (sizeOf width) a v ≡ withVram m (putBytes (sizeOf width) (m .vram) (target (sizeOf width)) v)
   stored byte e =
       let f : a - a % 1 + 0 ≡ a = omega arith in
       let g : target 1 + 0 ≡ target 1 = omega arith in
-      byte-store (target 1) (rw (f, g) at (span 1 (omega arith) e 0 (omega arith)))
+      byte-stored (target 1) (rw (f, g) at (span 1 (omega arith) e 0 (omega arith)))
       ∙ ap (withVram m) (sym (put-bytes-byte (m .vram) (target 1) v))
   stored half e =
       half-vram m a (target 2) v (span 2 (omega arith) e) ∙ ap (withVram m) (sym (put-bytes-half (m .vram) (target 2) v))

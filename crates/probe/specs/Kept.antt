@@ -5,7 +5,7 @@ use mathlib.Core.Bool.{false}
 use mathlib.Core.List.{List, [], _∷_}
 use mathlib.Core.Path.{_≡_}
 use lib.ListN.{length, getD}
-use Rattle.bus.specs.Memory.{Memory, withVram, storeByteOf, storeHalfOf, storeWordOf}
+use Rattle.bus.specs.Memory.{Memory, withVram, storeOf}
 use Rattle.refusal.specs.declared.Verdict.the-variants.{Accepted}
 use Rattle.probe.specs.Probe.{inRangesOf, probeVerdictOf, probedOf}
 
@@ -20,18 +20,12 @@ sizeOf byte = 1
 sizeOf half = 2
 sizeOf word = 4
 
--- the bus's store of that size
-abbrev pub storeAs : Width → Memory → ℕ → ℕ → Memory
-storeAs byte m a v = storeByteOf m a v
-storeAs half m a v = storeHalfOf m a v
-storeAs word m a v = storeWordOf m a v
-
 -- an accepted write leaves in VRAM what the bus's store leaves there, and the store changes nothing else
 abbrev pub ProbeIsStore : Type 0
 ProbeIsStore =
     (m : Memory) (width : Width) (a v : ℕ)
     → probeVerdictOf (sizeOf width) (m .rom) (m .wram) (m .vram) (m .pak) a ≡ Accepted
-    → storeAs width m a v ≡ withVram m (probedOf (sizeOf width) (m .rom) (m .wram) (m .vram) (m .pak) a v)
+    → storeOf m (sizeOf width) a v ≡ withVram m (probedOf (sizeOf width) (m .rom) (m .wram) (m .vram) (m .pak) a v)
 
 -- a call of the probe: what it is lent beside VRAM, and what it is to write where
 pub record Write : Type 0 where

@@ -1,18 +1,16 @@
 -- `step-lines` and `run-lines`: the statements of specs/Lines. Assumes nothing.
-use Prim.Native.Nat.{ℕ, zero, suc, _≤_}
+use Prim.Native.Nat.{ℕ, zero, suc}
 use mathlib.Core.Path.{_≡_, refl, _∙_}
 use native.Mathlib.Omega.{arith}
 use lib.ListN.{length}
-use Rattle.bus_timer_laws.specs.Writing.{Size, byte, half, word, storeOf}
 use Rattle.bus_timer_laws.proofs.LinesKept.{lines-kept, line-never-rises}
 use Rattle.bus.specs.Registers.{hardwareIn}
-use Rattle.bus.specs.Memory.{Memory, storeByteOf, storeHalfOf, storeWordOf}
-use Rattle.bus.proofs.Kept.{store-byte-shape, store-half-shape, store-word-shape}
+use Rattle.bus.specs.Memory.{Memory, storeOf}
+use Rattle.bus.proofs.Kept.{store-shape}
 use Rattle.processor_decode.specs.declared.Width.{Width}
-use Rattle.processor_decode.specs.declared.Width.the-variants.{Byte, Half, Word}
 use Rattle.processor_machine.specs.State.{State, Stepped}
-use Rattle.processor_execute.specs.Transfer.{storedOf}
-use Rattle.processor_step.specs.Step.{linesIn, stepOf}
+use Rattle.processor_execute.specs.Transfer.{sizeOf, storedOf}
+use Rattle.processor_step.specs.Step.{stepOf}
 use Rattle.processor.specs.Run.{Run, afterOf, afterStep, runOf}
 use Rattle.processor.specs.declared.After.{After}
 use Rattle.processor.specs.declared.After.the-variants.{Counted, Stopped}
@@ -34,18 +32,16 @@ module _ (m : Memory) (whole : length (m .regs) ≡ 17) where
   abbrev Kept : Memory → Type 0
   Kept n = KeepsLines m n × (length (n .regs) ≡ 17)
 
-  store-lines : (size : Size) (a v : ℕ) → KeepsLines m (storeOf size m a v)
+  store-lines : (size a v : ℕ) → KeepsLines m (storeOf m size a v)
   unfolding hardwareIn
   store-lines size a v =
       record {
-        others = λ level other. lines-kept size m a v level whole other;
-        timer = line-never-rises size m a v whole;
+        others = λ level other. lines-kept m size a v level whole other;
+        timer = line-never-rises m size a v whole;
       }
 
   stored-kept : (w : Width) (a v : ℕ) → Kept (storedOf m w a v)
-  stored-kept Byte a v = (store-lines byte a v, store-byte-shape m a v .same-regs ∙ whole)
-  stored-kept Half a v = (store-lines half a v, store-half-shape m a v .same-regs ∙ whole)
-  stored-kept Word a v = (store-lines word a v, store-word-shape m a v .same-regs ∙ whole)
+  stored-kept w a v = (store-lines (sizeOf w) a v, store-shape m (sizeOf w) a v .same-regs ∙ whole)
 
   step-kept : (s : State) → Kept (stepOf s m .memory)
   step-kept s = step-leaves s m Kept (same m, whole) stored-kept

@@ -1,5 +1,5 @@
 -- A store leaves bytes, and a load of bytes fits its size.
-use Prim.Native.Nat.{ℕ, _+_, _-_, _*_, _/_, _%_, _^_, _<_}
+use Prim.Native.Nat.{ℕ, zero, suc, _+_, _-_, _*_, _/_, _%_, _^_, _<_}
 use mathlib.Core.List.{List}
 use mathlib.Core.Path.{_∙_}
 use native.Mathlib.Omega.{arith}
@@ -10,11 +10,11 @@ use Rattle.bus_timer.specs.Ports.{tlr, thr, tcr, controlBitsOf, portByteOf}
 use Rattle.bus_timer.specs.declared.Hardware.{Hardware}
 use Rattle.bus.specs.Registers.{hardwareIn}
 use Rattle.bus.specs.Place.{Place, vramAt, wramAt, pakAt, romAt, drawingAt, versionAt, silent, unlisted, unmapped, hardwareAt, soundUnit, nothing, expansion}
-use Rattle.bus.specs.Memory.{Memory, readPlace, byteOf, loadOf, putPlace, putDrawing, placeIn, putByte, putRegister, putHalfword, storeByteOf, storeHalfOf, storeWordOf}
-use Rattle.bus.proofs.Kept.{Shape, store-byte-shape, store-half-shape, store-word-shape, shape-accepted}
+use Rattle.bus.specs.Memory.{Memory, readPlace, byteOf, loadOf, putPlace, putDrawing, placeIn, putByte, putRegister, putHalfword, putFrom, storeOf}
+use Rattle.bus.proofs.Kept.{store-shape, shape-accepted}
 use Rattle.processor_decode.specs.declared.Width.{Width}
 use Rattle.processor_decode.specs.declared.Width.the-variants.{Byte, Half, Word}
-use Rattle.processor_execute.specs.Transfer.{loadedOf, inputOf, storedOf}
+use Rattle.processor_execute.specs.Transfer.{sizeOf, loadedOf, inputOf, storedOf}
 use Rattle.processor_laws.specs.Accepted.{Below}
 use Rattle.processor_laws.proofs.Lists.{set-each, pick-each}
 use Rattle.processor_laws.proofs.Invariant.{Bytes, Memories}
@@ -69,31 +69,25 @@ halfword-bytes m a v h =
     let n = putByte m a v in
     register-bytes (putByte n (a + 1) (v / 256)) a v (byte-bytes n (a + 1) (v / 256) (byte-bytes m a v h))
 
-store-byte-bytes : (m : Memory) (a v : ℕ) → Bytes m → Bytes (storeByteOf m a v)
-unfolding storeByteOf
-store-byte-bytes m a v h = register-bytes (putByte m a v) a v (byte-bytes m a v h)
+from-bytes : (m : Memory) (a size v : ℕ) → Bytes m → Bytes (putFrom m a size v)
+from-bytes m a zero v h = h
+from-bytes m a (suc zero) v h = register-bytes (putByte m a v) a v (byte-bytes m a v h)
+from-bytes m a (suc (suc n)) v h = from-bytes (putHalfword m a v) (a + 2) n (v / 65536) (halfword-bytes m a v h)
 
-store-half-bytes : (m : Memory) (a v : ℕ) → Bytes m → Bytes (storeHalfOf m a v)
-unfolding storeHalfOf
-store-half-bytes m a v h = halfword-bytes m (a - a % 2) v h
-
-store-word-bytes : (m : Memory) (a v : ℕ) → Bytes m → Bytes (storeWordOf m a v)
-unfolding storeWordOf
-store-word-bytes m a v h =
-    halfword-bytes (putHalfword m (a - a % 4) v) (a - a % 4 + 2) (v / 65536) (halfword-bytes m (a - a % 4) v h)
+store-bytes : (m : Memory) (size a v : ℕ) → Bytes m → Bytes (storeOf m size a v)
+unfolding storeOf
+store-bytes m size a v h = from-bytes m (a - a % size) size v h
 
 -- lengths and widths are the bus's laws
-shape-memories : (m n : Memory) → Shape m n → Bytes n → Memories m → Memories n
-shape-memories m n p b h =
-    record { bytes = b; device = p .same-regs ∙ h .device; verdict = shape-accepted m n p (h .verdict) }
-
 pub stored-memories : (m : Memory) (w : Width) (a v : ℕ) → Memories m → Memories (storedOf m w a v)
-stored-memories m Byte a v h =
-    shape-memories m (storeByteOf m a v) (store-byte-shape m a v) (store-byte-bytes m a v (h .bytes)) h
-stored-memories m Half a v h =
-    shape-memories m (storeHalfOf m a v) (store-half-shape m a v) (store-half-bytes m a v (h .bytes)) h
-stored-memories m Word a v h =
-    shape-memories m (storeWordOf m a v) (store-word-shape m a v) (store-word-bytes m a v (h .bytes)) h
+stored-memories m w a v h =
+    let n = storedOf m w a v in
+    let p = store-shape m (sizeOf w) a v in
+    record {
+      bytes = store-bytes m (sizeOf w) a v (h .bytes);
+      device = p .same-regs ∙ h .device;
+      verdict = shape-accepted m n p (h .verdict);
+    }
 
 port-small : (h : Hardware) (o : ℕ) → portByteOf h o < 256
 unfolding portByteOf controlBitsOf

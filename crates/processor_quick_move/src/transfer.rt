@@ -16,7 +16,7 @@ ghost use Prim.Native.Nat.{ℕ, _/_, _%_, _<_};
 ghost use lib.ListN.{length, getD};
 ghost use Rattle.word.specs.Choose.{pick};
 ghost use Rattle.word.specs.Extend.{extendOf};
-ghost use Rattle.bus.specs.Memory.{memoryOf, Lengths, storeByteOf, storeHalfOf, storeWordOf};
+ghost use Rattle.bus.specs.Memory.{memoryOf, Lengths, storeOf};
 ghost use Rattle.processor_decode.specs.Format as format;
 ghost use Rattle.processor_execute.specs.Execute.{plusOf};
 ghost use Rattle.processor_machine.specs.State.{putOf};
@@ -152,7 +152,7 @@ pub fn input_half(
 // Whether a byte was stored; nothing changes where it was not.
 fn put_byte(wram: &mut [u8], vram: &mut [u8], a: u32, v: u32) -> bool
     requires { ⌜ (length (now wram) ≡ 65536) × (length (now vram) ≡ 262144) ⌝ }
-    ensures { λ r. ⌜ ((rom pak device : List ℕ) → memoryOf rom (now (wram .exit)) (now (vram .exit)) pak device ≡ pick r (storeByteOf (memoryOf rom (now (wram .entry)) (now (vram .entry)) pak device) a v) (memoryOf rom (now (wram .entry)) (now (vram .entry)) pak device)) ⌝ }
+    ensures { λ r. ⌜ ((rom pak device : List ℕ) → memoryOf rom (now (wram .exit)) (now (vram .exit)) pak device ≡ pick r (storeOf (memoryOf rom (now (wram .entry)) (now (vram .entry)) pak device) 1 a v) (memoryOf rom (now (wram .entry)) (now (vram .entry)) pak device)) ⌝ }
 {
     let region = a / 16777216 % 8;
     if region == 5 {
@@ -199,7 +199,7 @@ pub fn store_byte(
 // Whether a half was stored; nothing changes where it was not.
 fn put_half(wram: &mut [u8], vram: &mut [u8], a: u32, v: u32) -> bool
     requires { ⌜ (length (now wram) ≡ 65536) × (length (now vram) ≡ 262144) ⌝ }
-    ensures { λ r. ⌜ ((rom pak device : List ℕ) → memoryOf rom (now (wram .exit)) (now (vram .exit)) pak device ≡ pick r (storeHalfOf (memoryOf rom (now (wram .entry)) (now (vram .entry)) pak device) a v) (memoryOf rom (now (wram .entry)) (now (vram .entry)) pak device)) ⌝ }
+    ensures { λ r. ⌜ ((rom pak device : List ℕ) → memoryOf rom (now (wram .exit)) (now (vram .exit)) pak device ≡ pick r (storeOf (memoryOf rom (now (wram .entry)) (now (vram .entry)) pak device) 2 a v) (memoryOf rom (now (wram .entry)) (now (vram .entry)) pak device)) ⌝ }
 {
     let region = a / 16777216 % 8;
     if region == 5 {
@@ -246,7 +246,7 @@ pub fn store_half(
 // Whether a word was stored; nothing changes where it was not.
 fn put_word(wram: &mut [u8], vram: &mut [u8], a: u32, v: u32) -> bool
     requires { ⌜ (length (now wram) ≡ 65536) × (length (now vram) ≡ 262144) ⌝ }
-    ensures { λ r. ⌜ ((rom pak device : List ℕ) → memoryOf rom (now (wram .exit)) (now (vram .exit)) pak device ≡ pick r (storeWordOf (memoryOf rom (now (wram .entry)) (now (vram .entry)) pak device) a v) (memoryOf rom (now (wram .entry)) (now (vram .entry)) pak device)) ⌝ }
+    ensures { λ r. ⌜ ((rom pak device : List ℕ) → memoryOf rom (now (wram .exit)) (now (vram .exit)) pak device ≡ pick r (storeOf (memoryOf rom (now (wram .entry)) (now (vram .entry)) pak device) 4 a v) (memoryOf rom (now (wram .entry)) (now (vram .entry)) pak device)) ⌝ }
 {
     let region = a / 16777216 % 8;
     if region == 5 {

@@ -7,8 +7,6 @@ use Rattle.bus.specs.Memory.{Memory}
 use Rattle.bus_defined.specs.Defined.{undefinedOf}
 use Rattle.processor_decode.specs.Format.{twoOf}
 use Rattle.processor_decode.specs.Opcode.{decodeOf}
-use Rattle.processor_decode.specs.declared.Width.{Width}
-use Rattle.processor_decode.specs.declared.Width.the-variants.{Byte, Half, Word}
 use Rattle.processor_decode.specs.declared.Instruction.{Instruction}
 use Rattle.processor_decode.specs.declared.Instruction.the-variants.{Register, Mul, Div, Mulu, Divu, Jmp, Immediate, Setf, Cli, Sei, Trap, Reti, Halt, Ldsr, Stsr, Bcond, Jr, Jal, Long, Load, In, Store, Out, Illegal, Cmpf, Floating, Nintendo}
 use Rattle.processor_decode.specs.declared.Decoded.{Decoded}
@@ -16,16 +14,11 @@ use Rattle.processor_decode.specs.declared.Decoded.the-variants.{Modelled, NotM
 use Rattle.processor_machine.specs.State.{State, regOf}
 use Rattle.processor_machine.specs.declared.Answer.{Answer}
 use Rattle.processor_machine.specs.declared.Answer.the-variants.{Ended, Trapped, Interrupted, TurnedFatal, WasHalted, WasFatal, Refused}
+use Rattle.processor_execute.specs.Transfer.{sizeOf}
 use Rattle.processor_execute.specs.Execute.{plusOf}
 use Rattle.processor_step.specs.Step.{stepOf, fetchedOf}
 use Rattle.processor_step.specs.declared.step.Fetched.{Fetched}
 use Rattle.processor_reads.specs.declared.Undefined.{Undefined}
-
--- how many bytes a width has
-abbrev pub sizeOf : Width → ℕ
-sizeOf Byte = 1
-sizeOf Half = 2
-sizeOf Word = 4
 
 -- the mask of an instruction's load: LD and IN read at their effective address, the others load nothing
 abbrev pub loadUndefinedOf : Instruction → State → Memory → ℕ

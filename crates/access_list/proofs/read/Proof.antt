@@ -1,33 +1,14 @@
 -- `access_list::read`: the load and the mask of its size. Assumes nothing.
 use borrow.Author.Needs.{needs}
-use mathlib.Core.Path.{_∙_}
 use Rattle.access_list.proofs.Sizes.{four-left}
 use Rattle.access_list.proofs.read.Statement.{statement}
 use Rattle.access_list.proofs.read.Tie as tie
 
-byte-requires : tie.Need-byte-requires
-byte-requires c κs = search needs
-
-byte-requires-2 : tie.Need-byte-requires-2
-byte-requires-2 c κs = search needs
-
 returns : tie.Need-returns
 returns c = rw (c .before .before .if1 .taken) (c .byte2 .ensures .means, c .before .byte .ensures _)
 
-half-requires : tie.Need-half-requires
-half-requires c κs = search needs
-
-half-requires-2 : tie.Need-half-requires-2
-half-requires-2 c κs = search needs
-
 returns-2 : tie.Need-returns-2
 returns-2 c = rw (c .before .before .if2 .taken) (c .half2 .ensures .means, c .before .half .ensures .0 _)
-
-word-requires : tie.Need-word-requires
-word-requires c κs = search needs
-
-word-requires-2 : tie.Need-word-requires-2
-word-requires-2 c κs = search needs
 
 returns-3 : tie.Need-returns-3
 returns-3 c =
@@ -38,12 +19,12 @@ pub read-spec : {M : Type 1} → statement M
 read-spec =
     tie.close
     (tie.spec
-    byte-requires
-    byte-requires-2
+    (λ c κs. search needs)
+    (λ c κs. search needs)
     returns
-    half-requires
-    half-requires-2
+    (λ c κs. search needs)
+    (λ c κs. search needs)
     returns-2
-    word-requires
-    word-requires-2
+    (λ c κs. search needs)
+    (λ c κs. search needs)
     returns-3)

@@ -1,23 +1,17 @@
 -- `bus::outside::byte` meets its contract: by region, a byte of WRAM, of ROM, of pak RAM, or 0.
 -- Assumes nothing.
 use borrow.Author.Needs.{needs}
-use Prim.Native.Nat.{ℕ, _+_, _-_, _*_, _/_, _%_, _<_, _≤_}
-use mathlib.Core.Path.{_≡_, sym, _∙_}
+use Prim.Native.Nat.{_-_}
+use mathlib.Core.Path.{sym, _∙_}
 use native.Mathlib.Omega.{arith}
 use lib.ListN.{length}
 use denote.Ref.{now}
 use Rattle.bus.specs.Memory.{memoryOf}
-use Rattle.bus.specs.Place.{regionOf}
 use Rattle.bus.proofs.Power.{rom-power, rom-as-pak, power-pos}
-use Rattle.bus.proofs.Accesses.{Quiet, found, missed, above, wram-byte, rom-byte, nothing-byte}
+use Rattle.bus.proofs.Places.{region-byte}
+use Rattle.bus.proofs.Accesses.{found, missed, passed-above, wram-byte, rom-byte, nothing-read}
 use Rattle.bus.proofs.outside.byte.Statement.{statement}
 use Rattle.bus.proofs.outside.byte.Tie as tie
-
-cast-i : tie.Need-cast-i
-cast-i c = search needs
-
-byte-at-requires : tie.Need-byte-at-requires
-byte-at-requires c κs = search needs
 
 returns : tie.Need-returns
 returns c =
@@ -32,9 +26,6 @@ masked-requires c κs =
     let b = c .before .before .before .before .before in
     let n = length (now (b .args .rom)) in
     (rom-as-pak n (b .pre .0), power-pos 2 n (rom-power n (b .pre .0)))
-
-byte-at-requires-2 : tie.Need-byte-at-requires-2
-byte-at-requires-2 c κs = search needs
 
 returns-2 : tie.Need-returns-2
 returns-2 c =
@@ -58,11 +49,10 @@ returns-3 c =
 returns-4 : tie.Need-returns-4
 returns-4 c =
     let b = c .before .before .before .before .before .before in
-    let a = b .args in
-    let quiet : Quiet (regionOf (a .address)) = (missed (a .address) 5 (c .before .before .if1 .left), (missed (a .address) 7 (c .before .if2 .left), (above (a .address) 0 (omega arith) (b .pre .3), (missed (a .address) 6 (c .if3 .left), above (a .address) 2 (omega arith) (b .pre .3))))) in
+    let passed = passed-above _ (b .pre .3) (c .if3 .left) in
     λ vram regs.
     record {
-      means = sym (nothing-byte (memoryOf (now (a .rom)) (now (a .wram)) vram (now (a .pak)) regs) (a .address) quiet);
+      means = sym (nothing-read _ 1 _ (region-byte _) (missed _ 5 (c .before .before .if1 .left), (missed _ 7 (c .before .if2 .left), passed)));
       fits = omega arith;
     }
 
@@ -70,11 +60,11 @@ pub byte-spec : {M : Type 1} → statement M
 byte-spec =
     tie.close
     (tie.spec
-    cast-i
-    byte-at-requires
+    (λ c. search needs)
+    (λ c κs. search needs)
     returns
     masked-requires
-    byte-at-requires-2
+    (λ c κs. search needs)
     returns-2
     byte-requires
     returns-3

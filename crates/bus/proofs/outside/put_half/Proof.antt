@@ -1,27 +1,14 @@
 -- `bus::outside::put_half` meets its contract: by region, WRAM, pak RAM, or nothing.
 -- Assumes nothing.
 use borrow.Author.Needs.{needs}
-use native.Mathlib.Omega.{arith}
-use mathlib.Core.Path.{_≡_, sym}
-use lib.ListN.{length}
+use mathlib.Core.Path.{sym}
 use denote.Ref.{now}
 use Rattle.bus.specs.Memory.{memoryOf}
 use Rattle.bus.proofs.Spans.{half-wram, wram-span-half}
-use Rattle.bus.proofs.Accesses.{found, missed, above, nothing-put-half}
+use Rattle.bus.proofs.Places.{region-half}
+use Rattle.bus.proofs.Accesses.{found, missed, passed-above, nothing-stored}
 use Rattle.bus.proofs.outside.put_half.Statement.{statement}
 use Rattle.bus.proofs.outside.put_half.Tie as tie
-
-sub-i : tie.Need-sub-i
-sub-i c = search needs
-
-cast-i : tie.Need-cast-i
-cast-i c = search needs
-
-put-half-requires : tie.Need-put-half-requires
-put-half-requires c κs = search needs
-
-same-length : tie.Need-same-length
-same-length c = search needs
 
 returns : tie.Need-returns
 returns c =
@@ -36,9 +23,6 @@ put-half-requires-2 c κs =
     let b = c .before .before .before .before .before in
     (found (b .args .address) 6 (c .before .if2 .taken), b .pre .1)
 
-same-length-2 : tie.Need-same-length-2
-same-length-2 c = search needs
-
 returns-2 : tie.Need-returns-2
 returns-2 c =
     let a = c .before .before .before .before .before .before .before .before .args in
@@ -47,19 +31,18 @@ returns-2 c =
 returns-3 : tie.Need-returns-3
 returns-3 c =
     let b = c .before .before .before .before in
-    let a = b .args in
-    λ rom vram regs. sym (nothing-put-half (memoryOf rom (now (a .wram)) vram (now (a .pak)) regs) (a .address) (a .value) (missed (a .address) 5 (c .before .if1 .left), (above (a .address) 0 (omega arith) (b .pre .2), (missed (a .address) 6 (c .if2 .left), above (a .address) 2 (omega arith) (b .pre .2)))))
+    λ rom vram regs. sym (nothing-stored _ 2 _ _ (region-half _) (missed _ 5 (c .before .if1 .left), passed-above _ (b .pre .2) (c .if2 .left)))
 
 pub put-half-spec : {M : Type 1} → statement M
 put-half-spec =
     tie.close
     (tie.spec
-    sub-i
-    cast-i
-    put-half-requires
-    same-length
+    (λ c. search needs)
+    (λ c. search needs)
+    (λ c κs. search needs)
+    (λ c. search needs)
     returns
     put-half-requires-2
-    same-length-2
+    (λ c. search needs)
     returns-2
     returns-3)

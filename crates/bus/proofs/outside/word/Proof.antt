@@ -1,27 +1,19 @@
 -- `bus::outside::word` meets its contract: by region, a word of WRAM, of ROM, of pak RAM, or 0.
 -- Assumes nothing.
 use borrow.Author.Needs.{needs}
-use Prim.Native.Nat.{ℕ, _+_, _-_, _*_, _/_, _%_, _<_, _≤_}
-use mathlib.Core.Path.{_≡_, sym, _∙_}
+use Prim.Native.Nat.{_-_, _%_}
+use mathlib.Core.Path.{sym, _∙_}
 use native.Mathlib.Omega.{arith}
 use lib.ListN.{length}
 use denote.Ref.{now}
 use Rattle.bus.specs.Memory.{memoryOf}
-use Rattle.bus.specs.Place.{wramAt, romAt, regionOf}
+use Rattle.bus.specs.Place.{wramAt, romAt}
 use Rattle.bus.proofs.Power.{rom-power, rom-as-pak, power-pos, power-room}
 use Rattle.bus.proofs.Spans.{span-word, wram-span-word, rom-span-word}
-use Rattle.bus.proofs.Accesses.{Quiet, found, missed, above, nothing-word}
+use Rattle.bus.proofs.Places.{region-word}
+use Rattle.bus.proofs.Accesses.{found, missed, passed-above, nothing-read}
 use Rattle.bus.proofs.outside.word.Statement.{statement}
 use Rattle.bus.proofs.outside.word.Tie as tie
-
-sub-i : tie.Need-sub-i
-sub-i c = search needs
-
-cast-i : tie.Need-cast-i
-cast-i c = search needs
-
-word-at-requires : tie.Need-word-at-requires
-word-at-requires c κs = search needs
 
 returns : tie.Need-returns
 returns c =
@@ -30,9 +22,6 @@ returns c =
     λ vram regs.
     let m = memoryOf (now (a .rom)) (now (a .wram)) vram (now (a .pak)) regs in
     record { means = c .word-at .ensures ∙ sym (span-word m (a .address) wramAt _ (wram-span-word m (a .address) here)); fits = omega arith }
-
-sub-masked : tie.Need-sub-masked
-sub-masked c = search needs
 
 masked-requires : tie.Need-masked-requires
 masked-requires c κs =
@@ -69,11 +58,10 @@ returns-3 c =
 returns-4 : tie.Need-returns-4
 returns-4 c =
     let b = c .before .before .before .before .before .before in
-    let a = b .args in
-    let quiet : Quiet (regionOf (a .address)) = (missed (a .address) 5 (c .before .before .if1 .left), (missed (a .address) 7 (c .before .if2 .left), (above (a .address) 0 (omega arith) (b .pre .3), (missed (a .address) 6 (c .if3 .left), above (a .address) 2 (omega arith) (b .pre .3))))) in
+    let passed = passed-above _ (b .pre .3) (c .if3 .left) in
     λ vram regs.
     record {
-      means = sym (nothing-word (memoryOf (now (a .rom)) (now (a .wram)) vram (now (a .pak)) regs) (a .address) quiet);
+      means = sym (nothing-read _ 4 _ (region-word _) (missed _ 5 (c .before .before .if1 .left), (missed _ 7 (c .before .if2 .left), passed)));
       fits = omega arith;
     }
 
@@ -81,11 +69,11 @@ pub word-spec : {M : Type 1} → statement M
 word-spec =
     tie.close
     (tie.spec
-    sub-i
-    cast-i
-    word-at-requires
+    (λ c. search needs)
+    (λ c. search needs)
+    (λ c κs. search needs)
     returns
-    sub-masked
+    (λ c. search needs)
     masked-requires
     word-at-requires-2
     returns-2

@@ -3,26 +3,12 @@
 use borrow.Author.Needs.{needs}
 use Rattle.bus.proofs.store.half.Statement.{statement}
 use Rattle.bus.proofs.store.half.Tie as tie
-use mathlib.Core.Path.{_≡_, refl, sym, ap, subst, _∙_}
-use Prim.Native.Nat.{ℕ, _+_, _-_, _*_, _/_, _%_, _<_, _≤_}
-use native.Mathlib.Omega.{arith}
-use Rattle.bus.specs.Memory.{Memory, memoryOf}
-use lib.ListN.{length, getD, set}
+use mathlib.Core.Path.{sym}
+use Prim.Native.Nat.{_-_}
+use Rattle.bus.specs.Memory.{memoryOf}
 use denote.Ref.{now}
 use Rattle.bus.proofs.Spans.{half-wram, wram-span-half}
 use Rattle.bus.proofs.Accesses.{found, missed}
-
-sub-i : tie.Need-sub-i
-sub-i c = search needs
-
-cast-i : tie.Need-cast-i
-cast-i c = search needs
-
-put-half-requires : tie.Need-put-half-requires
-put-half-requires c κs = search needs
-
-same-length : tie.Need-same-length
-same-length c = search needs
 
 returns : tie.Need-returns
 returns c =
@@ -32,19 +18,10 @@ returns c =
     let m = memoryOf (now (a .rom)) (now (a .wram)) (now (a .vram)) (now (a .pak)) (now (a .regs)) in
     rw (c .before .before .put-half .ensures) (sym (half-wram m (a .address) _ (a .value) (wram-span-half m (a .address) here)))
 
-wrapping-add-u32-requires : tie.Need-wrapping-add-u32-requires
-wrapping-add-u32-requires c κs = search needs
-
 elsewhere-requires : tie.Need-elsewhere-requires
 elsewhere-requires c κs =
     let b = c .before .before .before .before .before .before .before .before .before in
     (b .pre .vram-ok, b .pre .pak-ok, missed (b .args .address) 5 (c .before .before .before .before .if1 .left))
-
-same-length-2 : tie.Need-same-length-2
-same-length-2 c = search needs
-
-same-length-3 : tie.Need-same-length-3
-same-length-3 c = search needs
 
 returns-2 : tie.Need-returns-2
 returns-2 c =
@@ -55,13 +32,13 @@ pub half-spec : {M : Type 1} → statement M
 half-spec =
     tie.close
     (tie.spec
-    sub-i
-    cast-i
-    put-half-requires
-    same-length
+    (λ c. search needs)
+    (λ c. search needs)
+    (λ c κs. search needs)
+    (λ c. search needs)
     returns
-    wrapping-add-u32-requires
+    (λ c κs. search needs)
     elsewhere-requires
-    same-length-2
-    same-length-3
+    (λ c. search needs)
+    (λ c. search needs)
     returns-2)

@@ -5,30 +5,9 @@ use Rattle.processor_execute.specs.Execute.{executeOf}
 use Rattle.processor_execute.proofs.compute.divu.Statement.{statement}
 use Rattle.processor_execute.proofs.compute.divu.Tie as tie
 
-get-requires : tie.Need-get-requires
-get-requires c κs = search needs
-
-get-requires-2 : tie.Need-get-requires-2
-get-requires-2 c κs = search needs
-
-raise-requires : tie.Need-raise-requires
-raise-requires c κs = search needs
-
 returns : tie.Need-returns
 unfolding executeOf
 returns c = λ m. rw (← c .before .before .before .get2 .ensures) (simp (eq-eqb _ _ (c .before .before .if1 .taken)) (c .raise .ensures _ m))
-
-divu-requires : tie.Need-divu-requires
-divu-requires c κs = search needs
-
-put-requires : tie.Need-put-requires
-put-requires c κs = search needs
-
-put-requires-2 : tie.Need-put-requires-2
-put-requires-2 c κs = search needs
-
-ended-requires : tie.Need-ended-requires
-ended-requires c κs = search needs
 
 returns-2 : tie.Need-returns-2
 unfolding executeOf
@@ -41,12 +20,12 @@ pub divu-spec : {M : Type 1} → statement M
 divu-spec =
     tie.close
     (tie.spec
-    get-requires
-    get-requires-2
-    raise-requires
+    (λ c κs. search needs)
+    (λ c κs. search needs)
+    (λ c κs. search needs)
     returns
-    divu-requires
-    put-requires
-    put-requires-2
-    ended-requires
+    (λ c κs. search needs)
+    (λ c κs. search needs)
+    (λ c κs. search needs)
+    (λ c κs. search needs)
     returns-2)

@@ -4,24 +4,6 @@ use Rattle.processor_execute.specs.Execute.{executeOf}
 use Rattle.processor_execute.proofs.compute.mul.Statement.{statement}
 use Rattle.processor_execute.proofs.compute.mul.Tie as tie
 
-get-requires : tie.Need-get-requires
-get-requires c κs = search needs
-
-get-requires-2 : tie.Need-get-requires-2
-get-requires-2 c κs = search needs
-
-mul-requires : tie.Need-mul-requires
-mul-requires c κs = search needs
-
-put-requires : tie.Need-put-requires
-put-requires c κs = search needs
-
-put-requires-2 : tie.Need-put-requires-2
-put-requires-2 c κs = search needs
-
-ended-requires : tie.Need-ended-requires
-ended-requires c κs = search needs
-
 returns : tie.Need-returns
 unfolding executeOf
 returns c = λ pc sys m. rw (c .ended .ensures, c .before .put2 .ensures, c .before .before .before .put .ensures, c .before .before .before .before .before .mul .ensures, c .before .before .before .before .before .before .get2 .ensures, c .before .before .before .before .before .before .before .before .get .ensures)
@@ -30,10 +12,10 @@ pub mul-spec : {M : Type 1} → statement M
 mul-spec =
     tie.close
     (tie.spec
-    get-requires
-    get-requires-2
-    mul-requires
-    put-requires
-    put-requires-2
-    ended-requires
+    (λ c κs. search needs)
+    (λ c κs. search needs)
+    (λ c κs. search needs)
+    (λ c κs. search needs)
+    (λ c κs. search needs)
+    (λ c κs. search needs)
     returns)

@@ -4,21 +4,6 @@ use Rattle.processor_execute.specs.Execute.{executeOf}
 use Rattle.processor_execute.proofs.memory.input.Statement.{statement}
 use Rattle.processor_execute.proofs.memory.input.Tie as tie
 
-get-requires : tie.Need-get-requires
-get-requires c κs = search needs
-
-wrapping-add-u32-requires : tie.Need-wrapping-add-u32-requires
-wrapping-add-u32-requires c κs = search needs
-
-input-requires : tie.Need-input-requires
-input-requires c κs = search needs
-
-put-requires : tie.Need-put-requires
-put-requires c κs = search needs
-
-ended-requires : tie.Need-ended-requires
-ended-requires c κs = search needs
-
 returns : tie.Need-returns
 unfolding executeOf
 returns c = λ pc sys. rw (c .ended .ensures, c .before .put .ensures, c .before .before .before .input .ensures, c .before .before .before .before .wrapping-add-u32 .ensures, c .before .before .before .before .before .get .ensures)
@@ -27,9 +12,9 @@ pub input-spec : {M : Type 1} → statement M
 input-spec =
     tie.close
     (tie.spec
-    get-requires
-    wrapping-add-u32-requires
-    input-requires
-    put-requires
-    ended-requires
+    (λ c κs. search needs)
+    (λ c κs. search needs)
+    (λ c κs. search needs)
+    (λ c κs. search needs)
+    (λ c κs. search needs)
     returns)

@@ -3,24 +3,6 @@ use borrow.Author.Needs.{needs}
 use Rattle.processor_execute.proofs.transfer.input.Statement.{statement}
 use Rattle.processor_execute.proofs.transfer.input.Tie as tie
 
-enum-told : tie.Need-enum-told
-enum-told c = search needs
-
-byte-requires : tie.Need-byte-requires
-byte-requires c κs = search needs
-
-enum-told-2 : tie.Need-enum-told-2
-enum-told-2 c = search needs
-
-half-requires : tie.Need-half-requires
-half-requires c κs = search needs
-
-enum-told-3 : tie.Need-enum-told-3
-enum-told-3 c = search needs
-
-word-requires : tie.Need-word-requires
-word-requires c κs = search needs
-
 returns : tie.Need-returns
 returns c = rw (c .before .enum-told .given .1, c .byte .ensures .means)
 
@@ -34,12 +16,12 @@ pub input-spec : {M : Type 1} → statement M
 input-spec =
     tie.close
     (tie.spec
-    enum-told
-    byte-requires
-    enum-told-2
-    half-requires
-    enum-told-3
-    word-requires
+    (λ c. search needs)
+    (λ c κs. search needs)
+    (λ c. search needs)
+    (λ c κs. search needs)
+    (λ c. search needs)
+    (λ c κs. search needs)
     returns
     returns-2
     returns-3)
