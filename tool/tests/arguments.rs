@@ -9,11 +9,7 @@ use common::Folder;
 const SCENE: &str = "--vram out/vram.bin --drawing out/drawing.bin";
 
 fn with_loop(name: &str) -> Folder {
-    let folder = Folder::new(name);
-    let mut rom = vec![0; 1024];
-    rom[0x3F0..0x3F2].copy_from_slice(&0x8A00u16.to_le_bytes());
-    folder.write("loop.rom", &rom);
-    folder
+    Folder::with_rom(name, &[0x8A00], &[])
 }
 
 #[test]
@@ -35,7 +31,7 @@ fn wrong_8_argument_errors_are_json_where_json_is_asked_for() {
 #[test]
 fn wrong_8_hexadecimal_numbers_and_underscores_are_taken() {
     let folder = with_loop("arguments-numbers");
-    let ran = folder.vbmodel("run --rom loop.rom --budget 0x1_0000");
+    let ran = folder.vbmodel("run --rom a.rom --budget 0x1_0000");
     assert!(ran.text.contains("instructions: 65,536 of at most 65,536\n"), "{}", ran.text);
     let demo = Folder::with_demo("arguments-numbers-why");
     let hex = demo.vbmodel(&format!("why left 0xC0 0x78 {SCENE}"));
@@ -83,7 +79,7 @@ fn wrong_8_ctrl_c_prints_and_writes_what_was_done() {
         .args([
             "run",
             "--rom",
-            "loop.rom",
+            "a.rom",
             "--budget",
             "0xFFFF_FFFF_FFFF",
             "--save-processor",
@@ -104,19 +100,12 @@ fn wrong_8_ctrl_c_prints_and_writes_what_was_done() {
     assert_eq!(folder.read("p").len(), 180);
 }
 
-/// On a terminal of 30 columns, which `script` and `stty` stand in for where they are installed.
+/// On a terminal of 30 columns.
 #[test]
 fn wrong_8_the_progress_line_fits_its_terminal() {
     let folder = with_loop("arguments-progress");
-    let tool = env!("CARGO_BIN_EXE_vbmodel");
-    let command =
-        format!("stty cols 30 rows 20; {tool} run --rom loop.rom --budget 200_000_000 >/dev/null");
-    let shown = Command::new("script")
-        .args(["-qec", &command, "/dev/null"])
-        .current_dir(folder.path("."))
-        .output();
-    let Ok(shown) = shown else { return };
-    let text = String::from_utf8(shown.stdout).unwrap();
+    let command = "stty cols 30 rows 20; \"$VB\" run --rom a.rom --budget 200_000_000 >/dev/null";
+    let Some(text) = folder.terminal(command) else { return };
     let lines: Vec<&str> =
         text.split(['\r', '\n']).map(|line| line.trim_start_matches("\x1b[K")).collect();
     assert!(lines.iter().any(|line| line.contains(" of at most 200,")), "{text:?}");

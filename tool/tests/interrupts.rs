@@ -14,23 +14,6 @@ const BIT_STRING: u16 = 0x7C00;
 /// LDSR r0, PSW: interrupts are let in after reset.
 const LET_IN: u16 = 0x7005;
 
-/// A folder with a ROM: code at the reset address and handlers of the five levels.
-fn with_rom(name: &str, code: &[u16], handler: &[u16]) -> Folder {
-    let folder = Folder::new(name);
-    let mut rom = vec![0; 1024];
-    let mut put = |at: usize, code: &[u16]| {
-        for (n, half) in code.iter().enumerate() {
-            rom[at + 2 * n..at + 2 * n + 2].copy_from_slice(&half.to_le_bytes());
-        }
-    };
-    put(0x3F0, code);
-    for level in 0..5 {
-        put(0x200 + 16 * level, handler);
-    }
-    folder.write("a.rom", &rom);
-    folder
-}
-
 fn json(folder: &Folder, arguments: &str) -> Value {
     let ran = folder.vbmodel(&format!("run --rom a.rom {arguments} --json"));
     assert_eq!(ran.status, 0, "{arguments}: {}", ran.error);
@@ -39,7 +22,7 @@ fn json(folder: &Folder, arguments: &str) -> Value {
 
 #[test]
 fn w6_a_raised_line_wakes_a_halted_machine() {
-    let folder = with_rom("lines-wake", &[LET_IN, HALT, ADD_1_R1, HALT], &[ADD_1_R1, RETI]);
+    let folder = Folder::with_rom("lines-wake", &[LET_IN, HALT, ADD_1_R1, HALT], &[ADD_1_R1, RETI]);
     let waits = folder.vbmodel("run --rom a.rom --save-processor p");
     assert!(waits.text.contains("\nlines   0x0000   count   0x0000   "), "{}", waits.text);
     assert_eq!(folder.read("p").len(), 180);
@@ -73,7 +56,7 @@ fn w6_a_raised_line_wakes_a_halted_machine() {
 
 #[test]
 fn w6_an_interrupt_comes_before_the_next_instruction_is_looked_at() {
-    let folder = with_rom("lines-before", &[LET_IN, BIT_STRING], &[HALT]);
+    let folder = Folder::with_rom("lines-before", &[LET_IN, BIT_STRING], &[HALT]);
     assert_eq!(folder.vbmodel("run --rom a.rom").status, 2);
     let ran = json(&folder, "--raise 3");
     assert_eq!((&ran["answer"], &ran["count"]), (&"halted".into(), &3.into()));
@@ -88,7 +71,7 @@ fn w6_an_interrupt_comes_before_the_next_instruction_is_looked_at() {
     assert_eq!((&line["interrupt"], &line["exception"]), (&3.into(), &0xFE30.into()));
     assert_eq!(line["halfwords"], serde_json::json!([]));
     // a masked line leaves the machine halted
-    let folder = with_rom("lines-masked", &[HALT], &[NOP]);
+    let folder = Folder::with_rom("lines-masked", &[HALT], &[NOP]);
     let ran = json(&folder, "--raise 4");
     assert_eq!(
         (&ran["answer"], &ran["count"], &ran["hardware"]["lines"]),
@@ -100,7 +83,7 @@ fn w6_an_interrupt_comes_before_the_next_instruction_is_looked_at() {
 
 #[test]
 fn w6_ticks_count_the_timer_down() {
-    let folder = with_rom("lines-ticks", &[LET_IN, HALT], &[HALT]);
+    let folder = Folder::with_rom("lines-ticks", &[LET_IN, HALT], &[HALT]);
     let timer = "--set count=3 --set reload=5 --set control=0x09";
     for (ticks, lines, count, control) in [(0, 0, 3, 9), (2, 0, 1, 9), (3, 2, 0, 11), (4, 2, 4, 11)]
     {
@@ -118,13 +101,13 @@ fn w6_ticks_count_the_timer_down() {
     assert!(ran.text.contains("ecr   0x0000FE10"), "{}", ran.text);
     // what a program reads of it
     let code = [0xBC40, 0x0200, 0xE062, 0x20, HALT];
-    let folder = with_rom("lines-tcr", &code, &[HALT]);
+    let folder = Folder::with_rom("lines-tcr", &code, &[HALT]);
     assert_eq!(json(&folder, "--set control=0x11")["regs"][3], 0xF5);
 }
 
 #[test]
 fn w6_a_schedule_raises_lowers_and_ticks() {
-    let folder = with_rom("lines-schedule", &[LET_IN, ADD_1_R1, 0x8BFE], &[RETI]);
+    let folder = Folder::with_rom("lines-schedule", &[LET_IN, ADD_1_R1, 0x8BFE], &[RETI]);
     let run = |schedule: &str, budget: u32| {
         folder.write("a.schedule", schedule.as_bytes());
         json(&folder, &format!("--schedule a.schedule --budget {budget}"))
@@ -149,13 +132,13 @@ fn w6_a_schedule_raises_lowers_and_ticks() {
 #[test]
 fn w6_a_halted_machine_waits_for_its_schedule() {
     // each interrupt adds 1 and halts again
-    let folder = with_rom("lines-halted", &[LET_IN, HALT, ADD_1_R1, 0x8BFC], &[RETI]);
+    let folder = Folder::with_rom("lines-halted", &[LET_IN, HALT, ADD_1_R1, 0x8BFC], &[RETI]);
     folder.write("two", b"at 1_000_000 raise vip\nat 1_000_001 lower vip\nat 2_000_000 raise pad\nat 2_000_001 lower pad\n");
     let ran = json(&folder, "--schedule two");
     assert_eq!((&ran["answer"], &ran["regs"][1]), (&"halted".into(), &2.into()));
     // the timer wakes it every 5 ticks; its handler is a RETI, so the program takes the line back
     let code = [LET_IN, HALT, ADD_1_R1, 0x8BFC];
-    let folder = with_rom("lines-timer", &code, &[0xD062, 0x20, RETI]);
+    let folder = Folder::with_rom("lines-timer", &code, &[0xD062, 0x20, RETI]);
     folder.write("ticks", b"every 100 tick\n");
     let timer =
         "--set count=5 --set reload=5 --set control=0x09 --set r2=0x0200_0000 --set r3=0x0D";
@@ -169,7 +152,7 @@ fn w6_a_halted_machine_waits_for_its_schedule() {
 
 #[test]
 fn w6_wrong_levels_and_schedules_are_told_and_nothing_is_written() {
-    let folder = with_rom("lines-wrong", &[CLI, HALT], &[RETI]);
+    let folder = Folder::with_rom("lines-wrong", &[CLI, HALT], &[RETI]);
     for option in ["--raise 5", "--lower all", "--raise 0x"] {
         let ran = folder.vbmodel(&format!("run --rom a.rom {option} --save-processor p"));
         assert_eq!(ran.status, 2, "{option}");

@@ -35,7 +35,7 @@ fn deliver_1_a_folder_is_judged_by_its_names() {
     assert_eq!((ran.status, ran.error.as_str()), (1, ""));
     let lines: Vec<&str> = ran.text.lines().collect();
     assert_eq!(lines[0], "equal      good: frame 0, left eye equal; right eye equal");
-    let start = "different  worn & <old>: frame 0, left eye: 10,307 of 86,016 pixels, columns ";
+    let start = "different  worn & <old>: frame 0, left eye: 11,715 of 86,016 pixels, columns ";
     assert!(lines[1].starts_with(start) && lines[1].ends_with("; right eye equal"), "{}", lines[1]);
     assert_eq!(lines[2..], ["2 parts: 1 equal, 1 different"]);
     fs::remove_file(folder.path("lot/worn & <old>.left.png")).unwrap();
@@ -181,11 +181,11 @@ fn deliver_1_json_has_a_line_for_each_part_and_one_for_all() {
     assert_eq!((&lines[0]["name"], &lines[0]["verdict"]), (&"good".into(), &"equal".into()));
     let left = &lines[1]["eyes"][0];
     assert_eq!(left["capture"], "lot/worn & <old>.left.png");
-    assert_eq!(left["different"], 10_307);
+    assert_eq!(left["different"], 11_715);
     assert_eq!(left["first"].as_array().unwrap().len(), 2);
     let shares = left["shares"].as_array().unwrap();
     let counted: u64 = shares.iter().map(|share| share["pixels"].as_u64().unwrap()).sum();
-    assert_eq!(counted, 10_307, "every differing pixel is accounted for once");
+    assert_eq!(counted, 11_715, "every differing pixel is accounted for once");
     assert_eq!(lines[2]["summary"]["different"], 1);
 }
 
@@ -200,7 +200,7 @@ fn deliver_1_junit_is_written_for_a_test_server() {
     for part in [
         "<testsuite name=\"vbmodel judge\" tests=\"3\" failures=\"1\" errors=\"1\" skipped=\"0\" time=\"",
         "<testcase classname=\"vbmodel.judge\" name=\"good\"/>",
-        "name=\"worn &amp; &lt;old&gt;\"><failure message=\"frame 0, left eye: 10,307 of 86,016 pixels",
+        "name=\"worn &amp; &lt;old&gt;\"><failure message=\"frame 0, left eye: 11,715 of 86,016 pixels",
         "name=\"bad\"><error message=\"lot/bad.left.png (6 bytes): a capture is a raw frame buffer",
     ] {
         assert!(xml.contains(part), "{part}: {xml}");
@@ -223,11 +223,11 @@ fn deliver_1_the_page_needs_nothing_else_and_explains_a_failed_part() {
         "2 parts: 1 equal, 1 different",
         "<tr class=\"equal\"><td>good</td>",
         "<h2>worn &amp; &lt;old&gt;: different</h2>",
-        "10,307 of 86,016 pixels differ, in columns ",
+        "11,715 of 86,016 pixels differ, in columns ",
         "<svg viewBox=\"0 0 384 224\"><rect x=\"",
         "<h3>right eye: equal</h3>",
         "<th>What the model shows there</th>",
-        "<pre>pixel (220, 40) of the left eye: value 3\n",
+        "<pre>pixel (297, 9) of the left eye: value 0\n",
     ] {
         assert!(page.contains(part), "{part}");
     }
@@ -334,6 +334,23 @@ fn a_lot_is_stopped_by_ctrl_c_with_what_was_judged() {
     assert_eq!(output.status.code(), Some(130));
     let text = String::from_utf8(output.stdout).unwrap();
     assert!(text.lines().last().unwrap().ends_with(" not judged"), "{text}");
+}
+
+/// The parts wait for a FIFO each, so that the lot
+/// takes long enough.
+#[test]
+fn deliver_1_a_lot_on_a_terminal_shows_progress() {
+    let folder = Folder::with_demo("judge-progress");
+    lot_of(&folder, 3);
+    for i in 0..3 {
+        fs::remove_file(folder.path(&format!("many/000{i}.left.png"))).unwrap();
+    }
+    assert_eq!(folder.shell("for i in 0 1 2; do mkfifo many/000$i.left.raw; done").status, 0);
+    let feed = "for i in 0 1 2; do sleep 0.3; head -c 24576 /dev/zero >many/000$i.left.raw; done";
+    let command = format!("{{ {feed}; }} & RAYON_NUM_THREADS=1 \"$VB\" judge many; wait");
+    let Some(text) = folder.terminal(&command) else { return };
+    assert!(text.contains(" of 3 parts\r"), "{text:?}");
+    assert!(text.contains("3 parts: 0 equal, 3 different"), "{text}");
 }
 
 /// The aim is 1,000 in 5 s on two idle cores; a hundred have the same time here, for a busy machine.

@@ -8,15 +8,12 @@ use std::os::unix::fs::{symlink, FileTypeExt, PermissionsExt};
 
 use common::Folder;
 
-const HALT: [u8; 2] = [0x00, 0x68];
+const HALT: u16 = 0x6800;
+const BRANCH_TO_ITSELF: u16 = 0x8A00;
 
 /// A folder with a ROM that halts at once.
 fn with_rom(name: &str) -> Folder {
-    let folder = Folder::new(name);
-    let mut rom = vec![0; 1024];
-    rom[0x3F0..0x3F2].copy_from_slice(&HALT);
-    folder.write("a.rom", &rom);
-    folder
+    Folder::with_rom(name, &[HALT], &[])
 }
 
 #[test]
@@ -139,14 +136,11 @@ fn wrong_4_standard_output_that_cannot_be_written_is_an_error() {
 
 #[test]
 fn wrong_5_a_run_tests_its_outputs_first() {
-    let folder = Folder::new("outputs-first");
-    let mut rom = vec![0; 1024];
-    rom[0x3F0..0x3F2].copy_from_slice(&0x8A00u16.to_le_bytes());
-    folder.write("loop.rom", &rom);
+    let folder = Folder::with_rom("outputs-first", &[BRANCH_TO_ITSELF], &[]);
     // this would take days; it is refused at once
     folder.refused(
-        "run --rom loop.rom --budget 0xFFFF_FFFF_FFFF --save-wram no/such/../../loop.rom/x",
-        "vbmodel: no/such/../../loop.rom/x: no/such/../../loop.rom is a file, not a folder; nothing was written",
+        "run --rom a.rom --budget 0xFFFF_FFFF_FFFF --save-wram no/such/../../a.rom/x",
+        "vbmodel: no/such/../../a.rom/x: no/such/../../a.rom is a file, not a folder; nothing was written",
     );
 }
 

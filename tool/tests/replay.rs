@@ -15,18 +15,8 @@ const LET_IN: u16 = 0x7005;
 /// BR to the instruction before.
 const BACK: u16 = 0x8BFE;
 
-/// A folder with a ROM: code at the reset address and handlers of the five levels.
 fn with_rom(name: &str, code: &[u16]) -> Folder {
-    let folder = Folder::new(name);
-    let mut rom = vec![0; 1024];
-    for (n, half) in code.iter().enumerate() {
-        rom[0x3F0 + 2 * n..0x3F2 + 2 * n].copy_from_slice(&half.to_le_bytes());
-    }
-    for level in 0..5 {
-        rom[0x200 + 16 * level..0x202 + 16 * level].copy_from_slice(&RETI.to_le_bytes());
-    }
-    folder.write("a.rom", &rom);
-    folder
+    Folder::with_rom(name, code, &[RETI])
 }
 
 fn words(bytes: &[u8]) -> Vec<u32> {
@@ -218,21 +208,15 @@ fn w10_a_long_trace_is_read_in_pieces() {
     assert!(folder.read("again.trace") == folder.read("rest.trace"));
 }
 
-/// On a terminal, which `script` stands in for where it is installed.
 #[test]
 fn w10_a_long_replay_on_a_terminal_shows_progress() {
     let folder = with_rom("replay-progress", &[LET_IN, ADD_1_R1, BACK]);
     assert_eq!(folder.vbmodel("trace --rom a.rom --budget 2_000_000 -o a.trace").status, 0);
-    let tool = env!("CARGO_BIN_EXE_vbmodel");
     let many = ["a.trace"; 12].join(" ");
     // the trace again and again differs at once, so the machine starts anew: one file after the other is one trace
-    let command = format!("{tool} replay --rom a.rom a.trace; {tool} replay --rom a.rom {many}");
-    let shown = std::process::Command::new("script")
-        .args(["-qec", &command, "/dev/null"])
-        .current_dir(folder.path("."))
-        .output();
-    let Ok(shown) = shown else { return };
-    let text = String::from_utf8_lossy(&shown.stdout).into_owned();
+    let replay = "\"$VB\" replay --rom a.rom";
+    let shown = folder.terminal(&format!("{replay} a.trace; {replay} {many}"));
+    let Some(text) = shown else { return };
     assert!(text.contains("all 2,000,000 records agree"), "{text}");
     assert!(text.contains("record 2,000,000 differs first in word 0, PC before"), "{text}");
 }

@@ -10,15 +10,8 @@ const BRANCH_TO_ITSELF: u16 = 0x8A00;
 const ILLEGAL: u16 = 0x6C00;
 const BIT_STRING: u16 = 0x7C00;
 
-/// A folder with a ROM whose reset address holds these halfwords.
 fn with_rom(name: &str, code: &[u16]) -> Folder {
-    let folder = Folder::new(name);
-    let mut rom = vec![0; 1024];
-    for (i, half) in code.iter().enumerate() {
-        rom[0x3F0 + 2 * i..0x3F2 + 2 * i].copy_from_slice(&half.to_le_bytes());
-    }
-    folder.write("a.rom", &rom);
-    folder
+    Folder::with_rom(name, code, &[])
 }
 
 /// The processor record at reset, changed at words; then lines and timer.
@@ -182,18 +175,12 @@ fn bad_files_are_told() {
     }
 }
 
-/// On a terminal, which `script` stands in for where it is installed, a long run tells how far it is.
+/// A long run tells how far it is.
 #[test]
 fn a_long_run_on_a_terminal_shows_progress() {
     let folder = with_rom("run-progress", &[BRANCH_TO_ITSELF]);
-    let tool = env!("CARGO_BIN_EXE_vbmodel");
-    let command = format!("{tool} run --rom a.rom --budget 100000000");
-    let shown = std::process::Command::new("script")
-        .args(["-qec", &command, "/dev/null"])
-        .current_dir(folder.path("."))
-        .output();
-    let Ok(shown) = shown else { return };
-    let text = String::from_utf8(shown.stdout).unwrap();
+    let shown = folder.terminal("\"$VB\" run --rom a.rom --budget 100000000");
+    let Some(text) = shown else { return };
     assert!(text.contains(" of at most 100,000,000 instructions, "), "{text}");
     assert!(text.contains("instructions: 100,000,000 of at most 100,000,000"), "{text}");
 }

@@ -43,7 +43,7 @@ fn state_run_goes_on_from_a_saved_state() {
     let folder = Folder::with_demo("state-run");
     folder.write("a.pak", &[7; 64]);
     for (pak, first, second) in
-        [("", 1_000, 2_345), ("--pak a.pak", 5_000, 1), ("", 0, 777), ("", 320_313, 5)]
+        [("", 1_000, 2_345), ("--pak a.pak", 5_000, 1), ("", 0, 777), ("", 321_778, 5)]
     {
         let rom = "run --rom out/rom.bin";
         let one = format!("{rom} {pak} --budget {first} --state-form 1 --save-state one.state");
@@ -58,7 +58,7 @@ fn state_run_goes_on_from_a_saved_state() {
         assert_eq!((one.status, two.status, all.status), (0, 0, 0), "{}", two.error);
         assert!(folder.read("two.state") == folder.read("all.state"), "{first} and {second}");
         let still = folder.read("one.state") == folder.read("all.state");
-        assert_eq!(still, first == 320_313, "the demo halts after 320,313");
+        assert_eq!(still, first == 321_778, "the demo halts after 321,778");
         let note = format!("note:         one.state is a saved state of form 1; {NOT_STORED}\n");
         assert!(two.text.starts_with(&note), "{}", two.text);
     }

@@ -11,15 +11,8 @@ const MOVHI: [u16; 2] = [0b101111 << 10 | 1 << 5, 6];
 /// LD.W -1934[r1], r1: the word at 0x5F870, where BKCOL is followed by no register
 const LD_W: [u16; 2] = [0b110011 << 10 | 1 << 5 | 1, 0xF872];
 
-/// A folder with a ROM whose reset address holds these halfwords.
 fn with_rom(name: &str, code: &[u16]) -> Folder {
-    let folder = Folder::new(name);
-    let mut rom = vec![0; 1024];
-    for (i, half) in code.iter().enumerate() {
-        rom[0x3F0 + 2 * i..0x3F2 + 2 * i].copy_from_slice(&half.to_le_bytes());
-    }
-    folder.write("a.rom", &rom);
-    folder
+    Folder::with_rom(name, code, &[])
 }
 
 fn program() -> Vec<u16> {

@@ -109,7 +109,7 @@ fn deliver_3_compare_groups_differing_pixels_by_what_wins_there() {
         .iter()
         .map(|line| line.split_whitespace().next().unwrap().replace(',', "").parse().unwrap())
         .collect();
-    assert_eq!(counts.iter().sum::<u64>(), 10_307, "{}", ran.text);
+    assert_eq!(counts.iter().sum::<u64>(), 11_715, "{}", ran.text);
     assert!(counts[..10].windows(2).all(|pair| pair[0] >= pair[1]), "{}", ran.text);
     assert_eq!((counts.len(), shares[10].ends_with(" others")), (11, true), "{}", ran.text);
     // each group's first pixel is given by what the group names
@@ -130,11 +130,11 @@ fn deliver_3_compare_groups_differing_pixels_by_what_wins_there() {
     assert_eq!(value["eyes"][0]["models_agree"], true);
     let all = value["eyes"][0]["why"].as_array().unwrap();
     let pixels: u64 = all.iter().map(|share| share["pixels"].as_u64().unwrap()).sum();
-    assert!(all.len() > 10 && pixels == 10_307, "{} of {pixels}", all.len());
+    assert!(all.len() > 10 && pixels == 11_715, "{} of {pixels}", all.len());
 }
 
 #[test]
-fn the_list_is_the_proved_librarys_and_the_models_is_the_same() {
+fn deliver_4_the_list_is_the_proved_librarys_and_the_models_is_the_same() {
     let folder = Folder::with_demo("why-list");
     for pixel in ["left 192 120", "right 150 218", "left 75 120", "right 383 223"] {
         let ran = folder.vbmodel(&format!("why {pixel} {SCENE}"));

@@ -6,7 +6,7 @@ use std::fs;
 use std::os::unix::fs::{symlink, PermissionsExt};
 use std::path::Path;
 use std::process::Command;
-use std::time::{Duration, SystemTime};
+use std::time::{Duration, Instant, SystemTime};
 
 use common::Folder;
 
@@ -70,6 +70,51 @@ fn wrong_6_the_wrapper_works_through_a_symlink_and_with_cdpath() {
     let called = call(&folder, link.to_str().unwrap(), "elsewhere");
     assert_eq!(called, format!("{}: why left\n", link.display()));
     assert_eq!(builds(&folder), 1);
+}
+
+/// The aim is 10 ms more than the tool's own start, on an idle machine; this one may be busy. The repository has as many
+/// sources as this one, under the same names.
+#[test]
+fn speed_the_wrapper() {
+    let folder = repository("wrapper-speed");
+    let root = Path::new(env!("CARGO_MANIFEST_DIR")).join("..");
+    let mut count = 0;
+    for part in ["crates", "include", "rust", "tool"] {
+        count += copy_names(&root.join(part), &folder.path(part));
+    }
+    assert!(count > 500, "{count} files");
+    call(&folder, "./vbmodel", ".");
+    let least = |command: &str| {
+        let took = (0..10).map(|_| {
+            let begun = Instant::now();
+            call(&folder, command, ".");
+            begun.elapsed()
+        });
+        took.min().unwrap()
+    };
+    let (through, alone) = (least("./vbmodel"), least("tool/target/release/vbmodel"));
+    println!("the tool {alone:?}, through the wrapper {through:?}");
+    assert!(through.saturating_sub(alone).as_millis() < 100, "{alone:?} {through:?}");
+    assert_eq!(builds(&folder), 1);
+}
+
+/// Empty files of the same names in another folder; how many.
+fn copy_names(from: &Path, to: &Path) -> usize {
+    fs::create_dir_all(to).unwrap();
+    let mut count = 0;
+    for entry in fs::read_dir(from).unwrap().map(|entry| entry.unwrap()) {
+        let (there, here) = (entry.path(), to.join(entry.file_name()));
+        if entry.file_name() == "target" {
+            continue;
+        }
+        if there.is_dir() {
+            count += copy_names(&there, &here);
+        } else if !here.exists() {
+            fs::write(here, b"").unwrap();
+            count += 1;
+        }
+    }
+    count
 }
 
 #[test]

@@ -9,6 +9,8 @@ use libc::{
     PROT_WRITE,
 };
 
+use crate::machine::Buffers;
+
 const PAGE: usize = 4_096;
 
 /// Which end of the buffer touches its fence.
@@ -48,6 +50,13 @@ impl Fenced {
         fenced
     }
 
+    /// A copy that may not be written.
+    pub fn closed(bytes: &[u8], side: Side) -> Fenced {
+        let mut fenced = Fenced::new(bytes, side);
+        fenced.forbid_writing();
+        fenced
+    }
+
     /// From now on a write stops the test.
     pub fn forbid_writing(&mut self) {
         // SAFETY: these are the mapping's usable pages.
@@ -77,5 +86,63 @@ impl Drop for Fenced {
     fn drop(&mut self) {
         // SAFETY: the mapping is this buffer's own and no slice of it is left.
         unsafe { munmap(self.mapping.cast(), self.usable + 2 * PAGE) };
+    }
+}
+
+/// Both sides, each with pak RAM of no, one and more bytes.
+pub fn sides_and_paks() -> impl Iterator<Item = (Side, usize)> {
+    [Side::Start, Side::End].into_iter().flat_map(|side| [0, 1, 64].map(|pak| (side, pak)))
+}
+
+/// Four fenced memories; ROM may not be written.
+pub struct Lent {
+    rom: Fenced,
+    wram: Fenced,
+    vram: Fenced,
+    pak: Fenced,
+}
+
+impl Lent {
+    pub fn new(buffers: &Buffers, side: Side) -> Lent {
+        Lent {
+            rom: Fenced::closed(&buffers.rom, side),
+            wram: Fenced::new(&buffers.wram, side),
+            vram: Fenced::new(&buffers.vram, side),
+            pak: Fenced::new(&buffers.pak, side),
+        }
+    }
+
+    /// Memories that may all not be written.
+    pub fn closed(buffers: &Buffers, side: Side) -> Lent {
+        let mut lent = Lent::new(buffers, side);
+        for memory in [&mut lent.wram, &mut lent.vram, &mut lent.pak] {
+            memory.forbid_writing();
+        }
+        lent
+    }
+
+    pub fn read(&self) -> vbsys::ReadMemories<'_> {
+        vbsys::ReadMemories {
+            rom: self.rom.bytes(),
+            wram: self.wram.bytes(),
+            vram: self.vram.bytes(),
+            pak: self.pak.bytes(),
+        }
+    }
+
+    pub fn write(&mut self) -> vbsys::Memories<'_> {
+        vbsys::Memories {
+            rom: self.rom.bytes(),
+            wram: self.wram.bytes_mut(),
+            vram: self.vram.bytes_mut(),
+            pak: self.pak.bytes_mut(),
+        }
+    }
+
+    pub fn expect_equal(&self, model: &Buffers) {
+        assert!(self.rom.bytes() == &*model.rom, "ROM differs");
+        assert!(self.wram.bytes() == &*model.wram, "WRAM differs");
+        assert!(self.vram.bytes() == &*model.vram, "VRAM differs");
+        assert!(self.pak.bytes() == &*model.pak, "pak RAM differs");
     }
 }

@@ -1,5 +1,7 @@
 //! Machines saved and read back by the library and the model.
 
+#[cfg(target_os = "linux")]
+use crate::fence::{Fenced, Lent, Side};
 use crate::machine::{expect_same_bytes, random_drawing, random_hardware, to_library, Buffers};
 use crate::program::random_processor;
 use crate::random::Random;
@@ -52,10 +54,7 @@ impl State {
 
     /// Writes with the library into room of this length.
     pub fn write(&self, form: Form, room: usize) -> (u32, Box<[u8]>) {
-        let write = match form {
-            Form::One => vbsys::write_state,
-            Form::Two => vbsys::write_state_2,
-        };
+        let write = write_by_library(form);
         let mut bytes = filled(room);
         let memories = self.buffers.lend_library_to_read();
         let processor = processor_to_library(&self.processor);
@@ -112,12 +111,64 @@ impl State {
         (restored.refusal, model)
     }
 
+    /// Writes this state into rooms of its file's length, one byte less and none, and
+    /// reads from as many bytes of the file: no byte outside what is lent is touched,
+    /// and what is only read may not be written.
+    #[cfg(target_os = "linux")]
+    pub fn expect_between_fences(&self, form: Form, side: Side) {
+        let file = self.file(form, "between fences");
+        let write = write_by_library(form);
+        let processor = processor_to_library(&self.processor);
+        let drawing = to_library(&self.drawing);
+        let saved = Lent::closed(&self.buffers, side);
+        let Buffers { rom, wram, vram, pak } = &self.buffers;
+        let mut blank = Buffers::zeroed(rom.len(), wram.len(), vram.len(), pak.len());
+        blank.rom.copy_from_slice(rom);
+        for length in [file.len(), file.len() - 1, 0] {
+            let mut room = Fenced::new(&filled(length), side);
+            let number = write(saved.read(), processor, drawing, room.bytes_mut());
+            assert_eq!(number, if length == file.len() { 0 } else { 9 });
+            assert!(if number == 0 { *room.bytes() == *file } else { is_untouched(room.bytes()) });
+            let source = Fenced::closed(&file[..length], side);
+            let mut read = Lent::new(&blank, side);
+            let restored = vbsys::read_state(&mut read.write(), processor, drawing, source.bytes());
+            assert_eq!(restored.refusal, number);
+            read.expect_equal(if number == 0 { &self.buffers } else { &blank });
+        }
+    }
+
+    /// Rooms and files of these lengths: every one but that of the file itself is
+    /// refused by 9, on both sides.
+    pub fn expect_lengths(&self, form: Form, lengths: &[usize]) {
+        let file = self.file(form, "lengths").into_vec();
+        for &length in lengths.iter().chain(&[0, 1, file.len() - 1, file.len(), file.len() + 1]) {
+            let number = if length == file.len() { 0 } else { 9 };
+            let what = format!("length {length}, pak RAM {}", self.buffers.pak.len());
+            let (found, room) = self.write(form, length);
+            assert_eq!((found, room.len()), (number, length), "{what}");
+            assert_eq!(self.write_by_model(form, length).0, number, "{what}");
+            let mut given = file.clone();
+            given.resize(length, 0);
+            assert_eq!(self.read(&given, &what).0, number, "{what}");
+        }
+    }
+
     /// Stops the test where this state was not read back as `saved`.
     pub fn expect_read(&self, saved: &State, what: &str) {
         assert_eq!((self.processor, self.drawing), (saved.processor, saved.drawing), "{what}");
         assert!(self.buffers.wram == saved.buffers.wram, "WRAM; {what}");
         assert!(self.buffers.vram == saved.buffers.vram, "VRAM; {what}");
         assert!(self.buffers.pak == saved.buffers.pak, "pak RAM; {what}");
+    }
+}
+
+type Write = fn(vbsys::ReadMemories, vbsys::Processor, vbsys::Drawing, &mut [u8]) -> u32;
+
+/// The library's writer of a form.
+fn write_by_library(form: Form) -> Write {
+    match form {
+        Form::One => vbsys::write_state,
+        Form::Two => vbsys::write_state_2,
     }
 }
 

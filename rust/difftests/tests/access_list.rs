@@ -4,6 +4,7 @@
 #![cfg(feature = "processor")]
 
 use difftests::access::{biased_address, biased_value, by_library, timer_address, Call};
+use difftests::broken::Broken;
 use difftests::machine::{
     expect_same_bytes, hardware_to_library, hardware_to_model, to_library, to_model, Buffers,
     Registers,
@@ -338,44 +339,34 @@ fn parts_of_accesses() {
 #[test]
 fn the_order_of_refusals() {
     let mut random = Random::new(0x7006_0000);
-    for (set, way) in (0..128u32).flat_map(|set| (0..2).map(move |way| (set, way))) {
-        let broken = |bit: u32| set >> bit & 1 == 1;
-        let length =
-            |bit: u32, good: usize, bad: [usize; 2]| if broken(bit) { bad[way] } else { good };
-        let mut buffers = Buffers::zeroed(
-            length(0, 1_024, [0, 512]),
-            length(1, 65_536, [0, 65_537]),
-            length(2, 262_144, [0, 262_143]),
-            length(3, 8, [3, 24]),
-        );
+    for broken in Broken::sets(7) {
+        let mut buffers = broken.buffers();
         buffers.pak.fill(0x22);
         let mut registers = Registers::random(&mut random);
-        match (broken(4), way) {
+        match (broken.has(4), broken.way) {
             (true, 0) => registers.hardware.lines |= 0x20,
             (true, _) => registers.drawing.bkcol = 4,
             _ => {}
         }
-        let accesses = if broken(6) && way == 1 { 257 } else { 3 };
+        let accesses = if broken.has(6) && broken.way == 1 { 257 } else { 3 };
         let mut list = random_list(&mut random, accesses, true, 1_024, 8);
-        if broken(6) && way == 0 {
+        if broken.has(6) && broken.way == 0 {
             list[2].size = 3;
         }
         let mut bytes = bytes_of(&list).into_vec();
-        if broken(5) {
+        if broken.has(5) {
             bytes.truncate(bytes.len() - 1);
         }
-        let numbers = [1, 2, 3, 4, 5, vbsys::MISUSE, 11];
-        let first = numbers.into_iter().zip(0..).find(|&(_, bit)| broken(bit));
-        let what = format!("broken {set:07b}, way {way}");
-        match first {
-            Some((number, _)) => expect_refused(&mut buffers, &registers, &bytes, number, &what),
+        let what = broken.to_string();
+        match broken.first(&[1, 2, 3, 4, 5, vbsys::MISUSE, 11]) {
+            Some(number) => expect_refused(&mut buffers, &registers, &bytes, number, &what),
             None => {
                 let made = made_by_library(&mut buffers, &registers, &bytes);
                 assert_eq!(made.refusal, 0, "{what}");
             }
         }
         // the empty list tests 1 to 5 alone
-        let first = (0..5).find(|&bit| broken(bit)).map_or(0, |bit| bit + 1);
+        let first = broken.first(&[1, 2, 3, 4, 5]).unwrap_or(0);
         expect_refused(&mut buffers, &registers, &[], first, &what);
     }
 }
@@ -384,34 +375,22 @@ fn the_order_of_refusals() {
 #[cfg(target_os = "linux")]
 #[test]
 fn between_fences() {
-    use difftests::fence::{Fenced, Side};
+    use difftests::fence::{sides_and_paks, Fenced, Lent};
     let mut random = Random::new(0x7007_0000);
-    for (side, pak) in [Side::Start, Side::End].into_iter().flat_map(|s| [(s, 0), (s, 1), (s, 64)])
-    {
+    for (side, pak) in sides_and_paks() {
         for length in [0, 1, 2, 3, 100, 255, 256, 257] {
             let mut model = Buffers::random(&mut random, 1_024, pak);
             let list = bytes_of(&random_list(&mut random, length, true, 1_024, pak));
             let registers = Registers::random(&mut random);
-            let mut lent = Fenced::new(&list, side);
-            let Buffers { rom, wram, vram, pak } = &model;
-            let mut rom = Fenced::new(rom, side);
-            rom.forbid_writing();
-            let [mut wram, mut vram, mut pak] =
-                [wram, vram, pak].map(|memory| Fenced::new(memory, side));
-            let mut memories = vbsys::Memories {
-                rom: rom.bytes(),
-                wram: wram.bytes_mut(),
-                vram: vram.bytes_mut(),
-                pak: pak.bytes_mut(),
-            };
+            let (mut lent, mut given) = (Lent::new(&model, side), Fenced::new(&list, side));
             let drawing = to_library(&registers.drawing);
             let hardware = hardware_to_library(&registers.hardware);
-            let stored = vbsys::access_bytes(&mut memories, drawing, hardware, lent.bytes_mut());
+            let stored =
+                vbsys::access_bytes(&mut lent.write(), drawing, hardware, given.bytes_mut());
             let expected = made_by_model(&mut model, &registers, &list);
             assert_eq!(stored.refusal, expected.refusal, "{length} accesses");
-            assert!(*lent.bytes() == *expected.list);
-            assert!(*wram.bytes() == *model.wram && *vram.bytes() == *model.vram);
-            assert!(*pak.bytes() == *model.pak);
+            assert!(*given.bytes() == *expected.list);
+            lent.expect_equal(&model);
         }
     }
 }

@@ -209,49 +209,9 @@ fn the_lowest_number_wins() {
     }
 }
 
-/// The 32 rows of the recommended table as 000 prints them.
-const PRINTED: [&str; 32] = [
-    "FE 00 FE 00 FE 00 FE 00 FE 00 FE 00 FE 00 FE 00",
-    "FE 00 FE 00 FE 00 FE 00 FE 00 FE 00 FE 00 FE 00",
-    "FE 00 FE 00 FE 00 FE 00 FE 00 FE 00 FE 00 FE 00",
-    "FE 00 FE 00 FE 00 FE 00 FE 00 FE 00 FE 00 FE 00",
-    "FE 00 FE 00 FE 00 FE 00 FE 00 FE 00 FE 00 FE 00",
-    "FE 00 FE 00 FE 00 FE 00 FE 00 FE 00 FE 00 FE 00",
-    "FE 00 FE 00 FE 00 FE 00 FE 00 FE 00 FE 00 FE 00",
-    "FE 00 FE 00 FE 00 FE 00 FE 00 FE 00 E0 00 BC 00",
-    "A6 00 96 00 8A 00 82 00 7A 00 74 00 6E 00 6A 00",
-    "66 00 62 00 60 00 5C 00 5A 00 58 00 56 00 54 00",
-    "52 00 50 00 50 00 4E 00 4C 00 4C 00 4A 00 4A 00",
-    "48 00 48 00 46 00 46 00 46 00 44 00 44 00 44 00",
-    "42 00 42 00 42 00 40 00 40 00 40 00 40 00 40 00",
-    "3E 00 3E 00 3E 00 3E 00 3E 00 3E 00 3E 00 3C 00",
-    "3C 00 3C 00 3C 00 3C 00 3C 00 3C 00 3C 00 3C 00",
-    "3C 00 3C 00 3C 00 3C 00 3C 00 3C 00 3C 00 3C 00",
-    "3C 00 3C 00 3C 00 3C 00 3C 00 3C 00 3C 00 3C 00",
-    "3C 00 3C 00 3C 00 3C 00 3C 00 3C 00 3C 00 3C 00",
-    "3C 00 3E 00 3E 00 3E 00 3E 00 3E 00 3E 00 3E 00",
-    "40 00 40 00 40 00 40 00 40 00 42 00 42 00 42 00",
-    "44 00 44 00 44 00 46 00 46 00 46 00 48 00 48 00",
-    "4A 00 4A 00 4C 00 4C 00 4E 00 50 00 50 00 52 00",
-    "54 00 56 00 58 00 5A 00 5C 00 60 00 62 00 66 00",
-    "6A 00 6E 00 74 00 7A 00 82 00 8A 00 96 00 A6 00",
-    "BC 00 E0 00 FE 00 FE 00 FE 00 FE 00 FE 00 FE 00",
-    "FE 00 FE 00 FE 00 FE 00 FE 00 FE 00 FE 00 FE 00",
-    "FE 00 FE 00 FE 00 FE 00 FE 00 FE 00 FE 00 FE 00",
-    "FE 00 FE 00 FE 00 FE 00 FE 00 FE 00 FE 00 FE 00",
-    "FE 00 FE 00 FE 00 FE 00 FE 00 FE 00 FE 00 FE 00",
-    "FE 00 FE 00 FE 00 FE 00 FE 00 FE 00 FE 00 FE 00",
-    "FE 00 FE 00 FE 00 FE 00 FE 00 FE 00 FE 00 FE 00",
-    "FE 00 FE 00 FE 00 FE 00 FE 00 FE 00 FE 00 FE 00",
-];
-
 #[test]
 fn the_table_as_printed() {
-    let printed: Vec<u8> = PRINTED
-        .iter()
-        .flat_map(|row| row.split(' '))
-        .map(|byte| u8::from_str_radix(byte, 16).unwrap())
-        .collect();
+    let printed = worked::column_table();
     for number in 0..20 {
         let before = random_bytes(&mut Random::new(0x1106_0000 + number), VRAM);
         let (mut library, mut model) = (before.clone(), before.clone());

@@ -4,7 +4,7 @@
 
 #![cfg(feature = "drawing")]
 
-use difftests::machine::register;
+use difftests::machine::{drawings_about_limits, register, VRAM_LENGTHS};
 use difftests::random::Random;
 use difftests::scene::{crowded, draw_by_library, draw_by_model, Draw};
 use model::DrawingRegisters;
@@ -53,9 +53,7 @@ fn frame_numbers() {
 
 #[test]
 fn vram_lengths() {
-    for (length, expected) in
-        [(0, 3), (1, 3), (131_072, 3), (262_143, 3), (262_144, 0), (262_145, 3), (524_288, 3)]
-    {
+    for (length, expected) in VRAM_LENGTHS {
         expect_number(Draw::Frame { frame: 0 }, length, &ACCEPTED, expected);
         expect_number(Draw::Strip { frame: 1, strip: 0 }, length, &ACCEPTED, expected);
     }
@@ -63,14 +61,9 @@ fn vram_lengths() {
 
 #[test]
 fn register_widths() {
-    for number in 0..13 {
-        for (more, expected) in [(0, 0), (1, 5), (0x7C00, 5)] {
-            let mut drawing = ACCEPTED;
-            let (register, largest) = register(&mut drawing, number);
-            *register = largest + more;
-            expect_number(Draw::Frame { frame: 0 }, 262_144, &drawing, expected);
-            expect_number(Draw::Strip { frame: 0, strip: 3 }, 262_144, &drawing, expected);
-        }
+    for (drawing, expected) in drawings_about_limits(&ACCEPTED) {
+        expect_number(Draw::Frame { frame: 0 }, 262_144, &drawing, expected);
+        expect_number(Draw::Strip { frame: 0, strip: 3 }, 262_144, &drawing, expected);
     }
 }
 

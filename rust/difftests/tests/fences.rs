@@ -4,59 +4,15 @@
 #![cfg(target_os = "linux")]
 
 use difftests::access::{biased_address, biased_value};
-use difftests::fence::{Fenced, Side};
+#[cfg(feature = "drawing")]
+use difftests::fence::Fenced;
+use difftests::fence::{Lent, Side};
 use difftests::machine::{
     hardware_to_library, hardware_to_model, random_drawing, random_hardware, to_library, to_model,
     Buffers,
 };
 use difftests::random::Random;
 use model::{bus, DrawingRegisters, Hardware, Loaded, Memories, ReadMemories, Refusal};
-
-/// Four fenced memories; ROM may not be written.
-struct Lent {
-    rom: Fenced,
-    wram: Fenced,
-    vram: Fenced,
-    pak: Fenced,
-}
-
-impl Lent {
-    fn new(buffers: &Buffers, side: Side) -> Lent {
-        let mut rom = Fenced::new(&buffers.rom, side);
-        rom.forbid_writing();
-        Lent {
-            rom,
-            wram: Fenced::new(&buffers.wram, side),
-            vram: Fenced::new(&buffers.vram, side),
-            pak: Fenced::new(&buffers.pak, side),
-        }
-    }
-
-    fn read(&self) -> vbsys::ReadMemories<'_> {
-        vbsys::ReadMemories {
-            rom: self.rom.bytes(),
-            wram: self.wram.bytes(),
-            vram: self.vram.bytes(),
-            pak: self.pak.bytes(),
-        }
-    }
-
-    fn write(&mut self) -> vbsys::Memories<'_> {
-        vbsys::Memories {
-            rom: self.rom.bytes(),
-            wram: self.wram.bytes_mut(),
-            vram: self.vram.bytes_mut(),
-            pak: self.pak.bytes_mut(),
-        }
-    }
-
-    fn expect_equal(&self, model: &Buffers) {
-        assert!(self.rom.bytes() == &*model.rom, "ROM differs");
-        assert!(self.wram.bytes() == &*model.wram, "WRAM differs");
-        assert!(self.vram.bytes() == &*model.vram, "VRAM differs");
-        assert!(self.pak.bytes() == &*model.pak, "pak RAM differs");
-    }
-}
 
 const LENGTHS: [(usize, usize); 5] =
     [(1_024, 0), (1_024, 1), (2_048, 2), (1_024, 4), (4_096, 8_192)];

@@ -9,25 +9,13 @@ use difftests::program::{biased_psw, half, random_processor, FLOATING, SUB_OPCOD
 use difftests::random::Random;
 use difftests::twin::Twin;
 use model::{Cause, DrawingRegisters, Mode, Processor, StepAnswer, Undefined};
+use worked::floating::*;
 
 /// Pairs of operands of each of the four operations and of the comparison.
 const PAIRS: u32 = 1_000_000;
-/// Words of each conversion in the gate; all 2^32 are tried by
-/// `every_word_converted`, which is asked for by its name.
+/// Words of each conversion, PSW and reg2 random among them; every_word.rs has
+/// words spread over all 2^32, and on demand all.
 const WORDS: u32 = 1_000_000;
-
-const CMPF: u16 = 0b000000;
-const CVT_WS: u16 = 0b000010;
-const CVT_SW: u16 = 0b000011;
-const ADDF: u16 = 0b000100;
-const SUBF: u16 = 0b000101;
-const MULF: u16 = 0b000110;
-const DIVF: u16 = 0b000111;
-const XB: u16 = 0b001000;
-const XH: u16 = 0b001001;
-const REV: u16 = 0b001010;
-const TRNC: u16 = 0b001011;
-const MPYHW: u16 = 0b001100;
 
 /// Where the instruction lies.
 const PC: u32 = 0x0500_0100;
@@ -61,48 +49,10 @@ impl Bench {
     }
 }
 
-/// The request's rows that end: sub-opcode, reg2, reg1, reg2 after, PSW after;
-/// PSW before is 0.
+/// The request's rows that end, from PSW 0.
 #[test]
 fn worked_rows_that_end() {
-    let (z, s, cy, fud) = (1, 2, 8, 0x20);
-    for (sub_opcode, reg2, reg1, after, psw) in [
-        (ADDF, 0x3F80_0000, 0x4000_0000, 0x4040_0000, 0),
-        (ADDF, 0xBF80_0000, 0xC000_0000, 0xC040_0000, s | cy),
-        (ADDF, 0x3F80_0000, 0xBF80_0000, 0x0000_0000, z),
-        (ADDF, 0x8000_0000, 0x8000_0000, 0x8000_0000, z),
-        (ADDF, 0x8000_0000, 0x0000_0000, 0x0000_0000, z),
-        (ADDF, 0x0080_0000, 0x80C0_0000, 0x8000_0000, z | fud),
-        (ADDF, 0x4B80_0000, 0x3F80_0000, 0x4B80_0000, 0),
-        (ADDF, 0x4B80_0001, 0x3F80_0000, 0x4B80_0002, 0),
-        (ADDF, 0x7F7F_FFFF, 0x72FF_FFFF, 0x7F7F_FFFF, 0),
-        (SUBF, 0x8000_0000, 0x0000_0000, 0x8000_0000, z),
-        (SUBF, 0x0000_0000, 0x8000_0000, 0x0000_0000, z),
-        (SUBF, 0x8000_0000, 0x8000_0000, 0x0000_0000, z),
-        (SUBF, 0x0080_0000, 0x00C0_0000, 0x8000_0000, z | fud),
-        (MULF, 0x00FF_FFFF, 0x3F00_0000, 0x0080_0000, 0),
-        (MULF, 0x00FF_FFFE, 0x3F00_0000, 0x0000_0000, z | fud),
-        (MULF, 0x0080_0000, 0xBF00_0000, 0x8000_0000, z | fud),
-        (MULF, 0x8000_0000, 0x4040_0000, 0x8000_0000, z),
-        (MULF, 0x4B7F_FFFF, 0x4B7F_FFFF, 0x577F_FFFE, 0),
-        (DIVF, 0x3F80_0000, 0x4040_0000, 0x3EAA_AAAB, 0),
-        (DIVF, 0x8000_0000, 0x40A0_0000, 0x8000_0000, z),
-        (CMPF, 0x3F80_0000, 0x4000_0000, 0x3F80_0000, s | cy),
-        (CMPF, 0x0000_0000, 0x8000_0000, 0x0000_0000, z),
-        (CVT_WS, 0x1234_5678, 0x8000_0000, 0xCF00_0000, s | cy),
-        (CVT_WS, 0x1234_5678, 0x0100_0001, 0x4B80_0000, 0),
-        (CVT_WS, 0x1234_5678, 0x0100_0003, 0x4B80_0002, 0),
-        (CVT_SW, 0x1234_5678, 0xC020_0000, 0xFFFF_FFFE, s),
-        (CVT_SW, 0x1234_5678, 0x4020_0000, 0x0000_0002, 0),
-        (CVT_SW, 0x1234_5678, 0xBE80_0000, 0x0000_0000, z),
-        (TRNC, 0x1234_5678, 0xC020_0000, 0xFFFF_FFFE, s),
-        (TRNC, 0x1234_5678, 0x8000_0000, 0x0000_0000, z),
-        (XB, 0x1122_3344, 0x5566_7788, 0x1122_4433, 0),
-        (XH, 0x1122_3344, 0x5566_7788, 0x3344_1122, 0),
-        (REV, 0x1234_5678, 0x5566_7788, 0x11EE_66AA, 0),
-        (MPYHW, 0x0000_0003, 0x0001_7FFF, 0xFFFE_7FFD, 0),
-        (MPYHW, 0x0000_0003, 0x0001_0000, 0xFFFD_0000, 0),
-    ] {
+    for (sub_opcode, reg2, reg1, after, psw) in ENDED {
         let mut bench = Bench::new(sub_opcode);
         let what = format!("{sub_opcode:06b} {reg2:08X} {reg1:08X}");
         assert_eq!(bench.step(reg2, reg1, 0), StepAnswer::Ended, "{what}");
@@ -380,27 +330,6 @@ fn floats_to_nearest_words() {
 #[test]
 fn floats_to_truncated_words() {
     conversions(TRNC, 0x4008_0000);
-}
-
-/// All 2^32 words of the three conversions, two threads sharing them:
-///
-///     cargo test --release -p difftests --test floating -- --ignored
-#[test]
-#[ignore = "2^32 words three times, asked for by name"]
-fn every_word_converted() {
-    let convert = |high: std::ops::Range<u32>| {
-        for sub_opcode in [CVT_WS, CVT_SW, TRNC] {
-            let mut bench = Bench::new(sub_opcode);
-            for word in high.clone().flat_map(|high| (0..=0xFFFF).map(move |low| high << 16 | low))
-            {
-                bench.step(0x5A5A_5A5A, word, 0);
-            }
-        }
-    };
-    std::thread::scope(|scope| {
-        scope.spawn(|| convert(0..0x8000));
-        scope.spawn(|| convert(0x8000..0x1_0000));
-    });
 }
 
 /// Each of the 64 sub-opcodes with the ten bits after it clear, set and random,

@@ -5,6 +5,7 @@
 #![cfg(feature = "processor")]
 
 use difftests::access::{by_library, by_model, timer_address, Call, CALLS, LOADS, STORES};
+use difftests::broken::Broken;
 use difftests::machine::{
     hardware_to_library, hardware_to_model, number_of, random_drawing, random_hardware, to_library,
     Buffers, Registers,
@@ -246,15 +247,9 @@ fn the_period() {
 /// The request's worked ticks and writes, by the library.
 #[test]
 fn worked_timers() {
-    for (before, after) in [
-        (hardware(0x00, 2, 5, 0x09), hardware(0x00, 1, 5, 0x09)),
-        (hardware(0x00, 1, 5, 0x09), hardware(0x02, 0, 5, 0x0B)),
-        (hardware(0x02, 0, 5, 0x0B), hardware(0x02, 4, 5, 0x0B)),
-        (hardware(0x00, 1, 5, 0x11), hardware(0x00, 0, 5, 0x13)),
-        (hardware(0x00, 0, 0, 0x01), hardware(0x00, 0, 0, 0x03)),
-        (hardware(0x00, 0, 1, 0x01), hardware(0x00, 0, 1, 0x03)),
-        (hardware(0x1F, 1, 5, 0x08), hardware(0x1F, 1, 5, 0x08)),
-    ] {
+    for row in worked::TICKS {
+        let [before, after] =
+            row.map(|[lines, count, reload, control]| hardware(lines, count, reload, control));
         let ticked = vbsys::tick(hardware_to_library(&before));
         assert_eq!((ticked.refusal, hardware_to_model(&ticked.hardware)), (0, after));
     }
@@ -613,32 +608,20 @@ fn runs_and_steps() {
 #[cfg(target_os = "linux")]
 #[test]
 fn between_fences() {
-    use difftests::fence::{Fenced, Side};
+    use difftests::fence::{sides_and_paks, Lent};
     let mut random = Random::new(0x600A_0000);
-    for (side, pak) in [Side::Start, Side::End].into_iter().flat_map(|s| [(s, 0), (s, 1), (s, 64)])
-    {
+    for (side, pak) in sides_and_paks() {
         for _ in 0..40 {
             let buffers = Buffers::random(&mut random, 1_024, pak);
             let mut twin = Twin::new(buffers, Processor::default(), DrawingRegisters::default());
             load_interrupt_program(&mut random, &mut twin);
-            let Buffers { rom, wram, vram, pak } = &twin.model;
-            let mut rom = Fenced::new(rom, side);
-            rom.forbid_writing();
-            let [mut wram, mut vram, mut pak] =
-                [wram, vram, pak].map(|memory| Fenced::new(memory, side));
-            let mut memories = vbsys::Memories {
-                rom: rom.bytes(),
-                wram: wram.bytes_mut(),
-                vram: vram.bytes_mut(),
-                pak: pak.bytes_mut(),
-            };
+            let mut lent = Lent::new(&twin.model, side);
             let processor = processor_to_library(&twin.processor);
-            let ran = vbsys::run(&mut memories, processor, to_library(&twin.drawing), 200);
+            let ran = vbsys::run(&mut lent.write(), processor, to_library(&twin.drawing), 200);
             let expected = twin.run(200, &|| "between fences".into());
             assert_eq!(ran.count, expected.count);
             assert_eq!(ran.processor, processor_to_library(&twin.processor));
-            assert!(*wram.bytes() == *twin.model.wram && *vram.bytes() == *twin.model.vram);
-            assert!(*pak.bytes() == *twin.model.pak);
+            lent.expect_equal(&twin.model);
         }
     }
 }
@@ -734,44 +717,36 @@ fn limits_of_lines_and_control() {
 fn the_order_of_refusals() {
     let mut random = Random::new(0x600C_0000);
     let drawing = random_drawing(&mut random);
-    for (set, way) in (0..64u32).flat_map(|set| (0..2).map(move |way| (set, way))) {
-        let broken = |bit: u32| set >> bit & 1 == 1;
-        let length =
-            |bit: u32, good: usize, bad: [usize; 2]| if broken(bit) { bad[way] } else { good };
-        let mut buffers = Buffers::zeroed(
-            length(0, 1_024, [0, 512]),
-            length(1, 65_536, [0, 65_537]),
-            length(2, 262_144, [0, 262_143]),
-            length(3, 8, [3, 24]),
-        );
+    for broken in Broken::sets(6) {
+        let mut buffers = broken.buffers();
         buffers.rom.fill(0x11);
         buffers.pak.fill(0x22);
         if buffers.wram.len() > 1 {
             buffers.wram[..2].copy_from_slice(&BIT_STRING.to_le_bytes());
         }
         let mut hardware = hardware(0x10, 1, 2, 0x09);
-        match (broken(4), way) {
+        match (broken.has(4), broken.way) {
             (true, 0) => hardware.lines |= 0x20,
             (true, _) => hardware.control |= 0x04,
             _ => {}
         }
-        let mode = if broken(5) { 3 + way as u32 } else { vbsys::RUNNING };
+        let mode = if broken.has(5) { 3 + broken.way as u32 } else { vbsys::RUNNING };
         let processor = vbsys::Processor {
             pc: 0x0500_0000,
             mode,
             hardware: hardware_to_library(&hardware),
             ..Default::default()
         };
-        let first = (0..5).find(|&bit| broken(bit)).map(|bit| bit + 1);
+        let first = broken.first(&[1, 2, 3, 4, 5]);
         let registers = Registers { drawing, hardware };
         for call in CALLS {
             let before = buffers.clone();
             let answer = by_library(call, &mut buffers, registers, 0x0200_0020, 0xFF);
-            assert_eq!(answer.refusal, first.unwrap_or(0), "{call:?}, broken {set:06b}");
+            assert_eq!(answer.refusal, first.unwrap_or(0), "{call:?}, {broken}");
             assert_eq!(answer, by_model(call, &mut buffers.clone(), registers, 0x0200_0020, 0xFF));
-            buffers.expect_equal(&before, &|| format!("{call:?}, broken {set:06b}"));
+            buffers.expect_equal(&before, &|| format!("{call:?}, {broken}"));
         }
-        let number = first.or(broken(5).then_some(vbsys::MISUSE));
+        let number = first.or(broken.has(5).then_some(vbsys::MISUSE));
         let drawing = to_library(&drawing);
         match number {
             Some(number) => expect_refused(&buffers, &processor, &drawing, number),
@@ -781,7 +756,7 @@ fn the_order_of_refusals() {
             }
         }
         let ticked = vbsys::tick(processor.hardware);
-        assert_eq!(ticked.refusal, if broken(4) { 5 } else { 0 });
+        assert_eq!(ticked.refusal, if broken.has(4) { 5 } else { 0 });
     }
 }
 

@@ -4,7 +4,7 @@
 
 #![cfg(feature = "drawing")]
 
-use difftests::machine::{register, to_library};
+use difftests::machine::{drawings_about_limits, to_library, VRAM_LENGTHS};
 use difftests::random::Random;
 use difftests::scene::{crowded, put_objects, visible_world, Scene};
 use model::answers::{answers, Answers, Covered};
@@ -189,9 +189,7 @@ fn expect_number(length: usize, drawing: &DrawingRegisters, pixel: (u32, u32, u3
 
 #[test]
 fn vram_lengths() {
-    for (length, expected) in
-        [(0, 3), (1, 3), (131_072, 3), (262_143, 3), (262_144, 0), (262_145, 3), (524_288, 3)]
-    {
+    for (length, expected) in VRAM_LENGTHS {
         expect_number(length, &ACCEPTED, (0, 0, 0), expected);
         expect_number(length, &ACCEPTED, (1, 383, 223), expected);
     }
@@ -199,13 +197,8 @@ fn vram_lengths() {
 
 #[test]
 fn register_widths() {
-    for number in 0..13 {
-        for (more, expected) in [(0, 0), (1, 5), (0x7C00, 5)] {
-            let mut drawing = ACCEPTED;
-            let (register, largest) = register(&mut drawing, number);
-            *register = largest + more;
-            expect_number(262_144, &drawing, (1, 7, 9), expected);
-        }
+    for (drawing, expected) in drawings_about_limits(&ACCEPTED) {
+        expect_number(262_144, &drawing, (1, 7, 9), expected);
     }
 }
 

@@ -120,37 +120,16 @@ fn other_regions() {
     pair.expect_equal(&|| "other regions".into());
 }
 
-/// The request's cases: width, address, offset in VRAM or none.
+/// The request's cases.
 #[test]
 fn worked_cases() {
-    use Width::{Byte, Word};
-    for (width, address, offset) in [
-        (Byte, 0x0001_DFFF, None),
-        (Byte, 0x0001_E000, Some(0x1E000)),
-        (Word, 0x0001_FFFF, Some(0x1FFFC)),
-        (Byte, 0x0002_0000, None),
-        (Byte, 0x0003_7FFF, None),
-        (Byte, 0x0003_8000, Some(0x38000)),
-        (Word, 0x0003_BFFF, Some(0x3BFFC)),
-        (Byte, 0x0003_C000, None),
-        (Byte, 0x0005_8000, None),
-        (Byte, 0x0005_F848, None),
-        (Byte, 0x0007_DFFF, None),
-        (Byte, 0x0007_E000, Some(0x1E000)),
-        (Byte, 0x0007_FFFF, Some(0x1FFFF)),
-        (Byte, 0x0009_E000, Some(0x1E000)),
-        (Byte, 0x00FF_E000, Some(0x1E000)),
-        (Byte, 0xF803_8000, Some(0x38000)),
-        (Byte, 0x0103_8000, None),
-        (Byte, 0x0503_8000, None),
-        (Byte, 0x0703_E000, None),
-    ] {
+    for (bytes, address, offset) in worked::PROBES {
+        let width = if bytes == 1 { Width::Byte } else { Width::Word };
         let mut buffers = Buffers::zeroed(1_024, 65_536, 262_144, 0);
         let mut expected = buffers.clone();
         let number = by_library(&mut buffers, width, address, 0x4433_2211);
         assert_eq!(number, if offset.is_some() { 0 } else { 13 }, "0x{address:08X}");
         if let Some(offset) = offset {
-            let bytes = width.bytes() as usize;
             let written = &[0x11, 0x22, 0x33, 0x44][..bytes];
             expected.vram[offset..offset + bytes].copy_from_slice(written);
         }
@@ -230,11 +209,7 @@ fn between_fences() {
     let mut random = Random::new(0x9005_0000);
     for side in [Side::Start, Side::End] {
         let mut model = Buffers::random(&mut random, 1_024, 1);
-        let closed = |bytes: &[u8]| {
-            let mut fenced = Fenced::new(bytes, side);
-            fenced.forbid_writing();
-            fenced
-        };
+        let closed = |bytes: &[u8]| Fenced::closed(bytes, side);
         let (rom, wram, pak) = (closed(&model.rom), closed(&model.wram), closed(&model.pak));
         let mut vram = Fenced::new(&model.vram, side);
         for _ in 0..20_000 {

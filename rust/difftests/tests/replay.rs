@@ -4,6 +4,7 @@
 
 #![cfg(feature = "processor")]
 
+use difftests::broken::Broken;
 use difftests::machine::{random_hardware, to_library, Buffers};
 use difftests::program::{
     half, load_interrupt_program, load_program, BIT_STRING, CAXI, HALT, ILLEGAL, NOP, TRAP,
@@ -342,41 +343,31 @@ fn trace_lengths() {
 /// ways; a line that would be accepted is not looked at before them.
 #[test]
 fn the_order_of_refusals() {
-    for (set, way) in (0..256u32).flat_map(|set| (0..2).map(move |way| (set, way))) {
-        let broken = |bit: u32| set >> bit & 1 == 1;
-        let length =
-            |bit: u32, good: usize, bad: [usize; 2]| if broken(bit) { bad[way] } else { good };
-        let mut buffers = Buffers::zeroed(
-            length(0, 1_024, [0, 512]),
-            length(1, 65_536, [0, 65_537]),
-            length(2, 262_144, [0, 262_143]),
-            length(3, 8, [3, 24]),
-        );
+    for broken in Broken::sets(8) {
+        let mut buffers = broken.buffers();
         buffers.rom.fill(0x11);
         buffers.pak.fill(0x22);
-        let code = if broken(7) { [CAXI, BIT_STRING][way] } else { ADD_ONE };
+        let code = if broken.has(7) { [CAXI, BIT_STRING][broken.way] } else { ADD_ONE };
         if buffers.wram.len() > 1 {
             buffers.wram[..2].copy_from_slice(&code.to_le_bytes());
         }
         let mut processor = vbsys::Processor { pc: 0x0500_0000, ..Default::default() };
         let mut drawing = vbsys::Drawing::default();
-        match (broken(4), way) {
+        match (broken.has(4), broken.way) {
             (true, 0) => processor.hardware.control = 0x20,
             (true, _) => drawing.spt[1] = 0x400,
             _ => {}
         }
-        processor.mode = if broken(5) { 3 } else { vbsys::RUNNING };
+        processor.mode = if broken.has(5) { 3 } else { vbsys::RUNNING };
         let mut trace = bytes_of(&[[0x0500_0000, 0x0500_0002, 0, 1]]).into_vec();
-        if broken(6) {
-            trace.resize([15, 17][way], 0);
+        if broken.has(6) {
+            trace.resize([15, 17][broken.way], 0);
         }
         let before = buffers.clone();
         let replayed = vbsys::replay(&mut buffers.lend_library(), processor, drawing, &trace);
-        let numbers = [1, 2, 3, 4, 5, vbsys::MISUSE, 14, 6];
-        let first = numbers.into_iter().zip(0..).find(|&(_, bit)| broken(bit));
-        let what = format!("broken {set:08b}, way {way}");
-        match first {
-            Some((refusal, _)) => {
+        let what = broken.to_string();
+        match broken.first(&[1, 2, 3, 4, 5, vbsys::MISUSE, 14, 6]) {
+            Some(refusal) => {
                 let expected =
                     vbsys::Replayed { refusal, processor, drawing, ..Default::default() };
                 assert_eq!(replayed, expected, "{what}");
@@ -395,10 +386,9 @@ fn the_order_of_refusals() {
 #[cfg(target_os = "linux")]
 #[test]
 fn between_fences() {
-    use difftests::fence::{Fenced, Side};
+    use difftests::fence::{sides_and_paks, Fenced, Lent};
     let mut random = Random::new(0xA006_0000);
-    for (side, pak) in [Side::Start, Side::End].into_iter().flat_map(|s| [(s, 0), (s, 1), (s, 64)])
-    {
+    for (side, pak) in sides_and_paks() {
         let mut twin = new_twin(&mut random, pak);
         for number in 0..40 {
             load(&mut random, &mut twin);
@@ -410,30 +400,15 @@ fn between_fences() {
             if number % 10 == 9 {
                 trace.push(0);
             }
-            let closed = |bytes: &[u8]| {
-                let mut fenced = Fenced::new(bytes, side);
-                fenced.forbid_writing();
-                fenced
-            };
-            let Buffers { rom, wram, vram, pak } = &twin.model;
-            let (rom, lent) = (closed(rom), closed(&trace));
-            let [mut wram, mut vram, mut pak] =
-                [wram, vram, pak].map(|memory| Fenced::new(memory, side));
-            let mut memories = vbsys::Memories {
-                rom: rom.bytes(),
-                wram: wram.bytes_mut(),
-                vram: vram.bytes_mut(),
-                pak: pak.bytes_mut(),
-            };
+            let (mut lent, given) = (Lent::new(&twin.model, side), Fenced::closed(&trace, side));
             let processor = processor_to_library(&twin.processor);
             let drawing = to_library(&twin.drawing);
-            let replayed = vbsys::replay(&mut memories, processor, drawing, lent.bytes());
+            let replayed = vbsys::replay(&mut lent.write(), processor, drawing, given.bytes());
             let (ending, agreed) = replay(&mut twin, &trace, &|| "between fences".into());
             let (refusal, answer, word) = ending_to_library(ending);
             let found = (replayed.refusal, replayed.answer, replayed.agreed, replayed.word);
             assert_eq!(found, (refusal, answer, agreed, word));
-            assert!(*wram.bytes() == *twin.model.wram && *vram.bytes() == *twin.model.vram);
-            assert!(*pak.bytes() == *twin.model.pak);
+            lent.expect_equal(&twin.model);
         }
     }
 }

@@ -3,9 +3,10 @@
 
 #![cfg(feature = "processor")]
 
-use difftests::machine::{random_hardware, to_library, Buffers};
+use difftests::broken::Broken;
+use difftests::machine::{random_hardware, to_library};
 use difftests::random::Random;
-use difftests::state::{pak_lengths, State};
+use difftests::state::{field_values, pak_lengths, State};
 use difftests::twin::processor_to_library;
 use model::saved::{file_length, Form};
 use model::Hardware;
@@ -69,20 +70,8 @@ fn lengths_of_room_and_file() {
     let mut random = Random::new(0x1004_0000);
     for pak in [0, 1, 2, 4, 32, 8_192] {
         let state = State::at_reset(&mut random, pak);
-        let file = file_of(&state, "lengths").into_vec();
-        let due = file.len();
         let neighbours = [0, 1, pak / 2, 2 * pak].map(|pak| file_length(Form::One, pak));
-        for length in [0, 1, 42, due - 1, due, due + 1].into_iter().chain(neighbours) {
-            let number = if length == due { 0 } else { 9 };
-            let (found, room) = state.write(Form::One, length);
-            assert_eq!((found, room.len()), (number, length), "room {length}, pak RAM {pak}");
-            assert_eq!(state.write_by_model(Form::One, length).0, number);
-            assert!(number == 0 || room.iter().all(|&byte| byte == 0xA5), "room {length}");
-            let mut given = file.clone();
-            given.resize(length, 0);
-            let (found, _) = state.read(&given, "lengths");
-            assert_eq!(found, number, "file {length}, pak RAM {pak}");
-        }
+        state.expect_lengths(Form::One, &[&[42][..], &neighbours].concat());
     }
 }
 
@@ -117,35 +106,12 @@ const SECOND: usize = 214;
 fn every_bit_of_the_records() {
     let state = State::at_reset(&mut Random::new(0x1006_0000), 0);
     let file = file_of(&state, "records");
-    let expect = |at: usize, value: &[u8], legal: bool, what: &str| {
+    for (kind, offset, value, legal) in field_values().into_iter().filter(|field| field.0 <= 2) {
+        let at = offset + if kind == 1 { FIRST } else { SECOND };
         let mut changed = file.clone();
-        changed[at..at + value.len()].copy_from_slice(value);
-        let number = state.read(&changed, what).0;
-        assert_eq!(number, if legal { 0 } else { 10 }, "{what}");
-    };
-    let single = |bits: u32| (0..bits).map(|bit| 1u32 << bit);
-    for word in 0..43 {
-        let values = single(32).chain([0, 0xFFFF_FFFF, 0x8000_0001, 2, 3]);
-        for value in values {
-            let legal = match word {
-                0 => value == 0,
-                32 | 33 | 35 | 39 => value % 2 == 0,
-                34 | 36 | 38 => value & !0x000F_F3FF == 0,
-                41 => value <= 0x8000_0000,
-                42 => value <= 2,
-                _ => true,
-            };
-            let what = format!("word {word} of kind 1 is 0x{value:X}");
-            expect(FIRST + 4 * word, &value.to_le_bytes(), legal, &what);
-        }
-    }
-    for half in 0..13 {
-        let most = [0x3FF, 0xFF, 0xFF, 3][half / 4];
-        for value in single(16).chain([0, most, most + 1, 0xFFFF]) {
-            let what = format!("halfword {half} of kind 2 is 0x{value:X}");
-            let bytes = (value as u16).to_le_bytes();
-            expect(SECOND + 2 * half, &bytes, value <= most, &what);
-        }
+        changed[at..at + value.len()].copy_from_slice(&value);
+        let what = format!("{value:X?} at {offset} of kind {kind}");
+        assert_eq!(state.read(&changed, &what).0, if legal { 0 } else { 10 }, "{what}");
     }
 }
 
@@ -188,52 +154,41 @@ fn the_order_of_refusals() {
     let mut random = Random::new(0x1008_0000);
     let accepted = State::at_reset(&mut random, 8);
     let file = file_of(&accepted, "accepted");
-    for (set, way) in (0..256u32).flat_map(|set| (0..2).map(move |way| (set, way))) {
-        let broken = |bit: u32| set >> bit & 1 == 1;
-        let length =
-            |bit: u32, good: usize, bad: [usize; 2]| if broken(bit) { bad[way] } else { good };
-        let mut buffers = Buffers::zeroed(
-            length(0, 1_024, [0, 512]),
-            length(1, 65_536, [0, 65_537]),
-            length(2, 262_144, [0, 262_143]),
-            length(3, 8, [3, 24]),
-        );
+    for broken in Broken::sets(8) {
+        let mut buffers = broken.buffers();
         buffers.rom.fill(1);
         buffers.wram.fill(2);
         let mut processor = processor_to_library(&accepted.processor);
         let mut drawing = to_library(&accepted.drawing);
-        match (broken(4), way) {
+        match (broken.has(4), broken.way) {
             (true, 0) => processor.pc |= 1,
             (true, _) => drawing.bkcol = 4,
             _ => {}
         }
-        if broken(5) {
+        if broken.has(5) {
             processor.mode = 3;
         }
         let mut given = file.to_vec();
-        if broken(7) {
+        if broken.has(7) {
             given[FIRST + 10] |= 1;
         }
-        if broken(6) {
-            given.resize([file.len() - 1, 0][way], 0);
+        if broken.has(6) {
+            given.resize([file.len() - 1, 0][broken.way], 0);
         }
-        let number = |bits: u32| {
-            let numbers = [1, 2, 3, 4, 5, vbsys::MISUSE, 9, 10];
-            let first = numbers.into_iter().zip(0..bits).find(|&(_, bit)| broken(bit));
-            first.map_or(0, |(number, _)| number)
-        };
+        let numbers = [1, 2, 3, 4, 5, vbsys::MISUSE, 9, 10];
+        let number = |bits: usize| broken.first(&numbers[..bits]).unwrap_or(0);
         let before = buffers.clone();
         let mut room = vec![0xA5; given.len()];
         let read = buffers.lend_library_to_read();
         let written = vbsys::write_state(read, processor, drawing, &mut room);
-        assert_eq!(written, number(7), "writing, broken {set:08b}, way {way}");
-        assert!(written == 0 || room.iter().all(|&byte| byte == 0xA5), "{set:08b}");
+        assert_eq!(written, number(7), "writing, {broken}");
+        assert!(written == 0 || room.iter().all(|&byte| byte == 0xA5), "{broken}");
         let memories = &mut buffers.lend_library();
         let restored = vbsys::read_state(memories, processor, drawing, &given);
-        assert_eq!(restored.refusal, number(8), "reading, broken {set:08b}, way {way}");
+        assert_eq!(restored.refusal, number(8), "reading, {broken}");
         if restored.refusal != 0 {
             assert_eq!((restored.processor, restored.drawing), (processor, drawing));
-            buffers.expect_equal(&before, &|| format!("broken {set:08b}"));
+            buffers.expect_equal(&before, &|| broken.to_string());
         }
     }
 }
@@ -242,47 +197,10 @@ fn the_order_of_refusals() {
 #[cfg(target_os = "linux")]
 #[test]
 fn between_fences() {
-    use difftests::fence::{Fenced, Side};
+    use difftests::fence::sides_and_paks;
     let mut random = Random::new(0x1009_0000);
-    for (side, pak) in [Side::Start, Side::End].into_iter().flat_map(|s| [(s, 0), (s, 1), (s, 64)])
-    {
+    for (side, pak) in sides_and_paks() {
         let state = State::at_reset(&mut random, pak);
-        let file = file_of(&state, "between fences");
-        let closed = |bytes: &[u8]| {
-            let mut fenced = Fenced::new(bytes, side);
-            fenced.forbid_writing();
-            fenced
-        };
-        let Buffers { rom, wram, vram, pak } = &state.buffers;
-        let (rom, wram, vram, pak) = (closed(rom), closed(wram), closed(vram), closed(pak));
-        let memories = vbsys::ReadMemories {
-            rom: rom.bytes(),
-            wram: wram.bytes(),
-            vram: vram.bytes(),
-            pak: pak.bytes(),
-        };
-        let processor = processor_to_library(&state.processor);
-        let drawing = to_library(&state.drawing);
-        for length in [file.len(), file.len() - 1, 0] {
-            let mut room = Fenced::new(&vec![0; length], side);
-            let number = vbsys::write_state(memories, processor, drawing, room.bytes_mut());
-            assert_eq!(number, if length == file.len() { 0 } else { 9 });
-            assert!(number != 0 || *room.bytes() == *file);
-            let source = closed(&file[..length]);
-            let mut filled = [wram.bytes(), vram.bytes(), pak.bytes()]
-                .map(|memory| Fenced::new(&vec![0; memory.len()], side));
-            let [w, v, p] = &mut filled;
-            let mut memories = vbsys::Memories {
-                rom: rom.bytes(),
-                wram: w.bytes_mut(),
-                vram: v.bytes_mut(),
-                pak: p.bytes_mut(),
-            };
-            let restored = vbsys::read_state(&mut memories, processor, drawing, source.bytes());
-            assert_eq!(restored.refusal, number);
-            assert_eq!(filled[0].bytes() == wram.bytes(), number == 0);
-            assert_eq!(filled[1].bytes() == vram.bytes(), number == 0);
-            assert!(number != 0 || filled[2].bytes() == pak.bytes());
-        }
+        state.expect_between_fences(Form::One, side);
     }
 }

@@ -3,6 +3,7 @@
 
 #![cfg(feature = "processor")]
 
+use difftests::broken::Broken;
 use difftests::machine::{expect_same_bytes, to_library, Buffers};
 use difftests::random::Random;
 use difftests::state::{bodies, field_values, filled, is_untouched, pak_lengths, sum, Body, State};
@@ -152,20 +153,9 @@ fn lengths_of_room_and_file() {
     let mut random = Random::new(0x1204_0000);
     for pak in [0, 1, 2, 4, 32, 8_192] {
         let state = State::random(&mut random, pak);
-        let file = state.file(Form::Two, "lengths").into_vec();
-        let due = file.len();
         let neighbours = [0, 1, pak / 2, 2 * pak, 32].map(|pak| file_length(Form::Two, pak));
         let other = file_length(Form::One, pak);
-        let lengths = [0, 1, 2, 76, due - 1, due, due + 1, other].into_iter().chain(neighbours);
-        for length in lengths {
-            let number = if length == due { 0 } else { 9 };
-            assert_eq!(state.write(Form::Two, length).0, number, "room {length}, pak RAM {pak}");
-            assert_eq!(state.write_by_model(Form::Two, length).0, number);
-            let mut given = file.clone();
-            given.resize(length, 0);
-            let (found, _) = state.read(&given, "lengths");
-            assert_eq!(found, number, "file {length}, pak RAM {pak}");
-        }
+        state.expect_lengths(Form::Two, &[&[2, 76, other][..], &neighbours].concat());
     }
 }
 
@@ -308,63 +298,50 @@ fn the_order_of_refusals() {
     let mut random = Random::new(0x120A_0000);
     let accepted = State::random(&mut random, 8);
     let file = accepted.file(Form::Two, "accepted");
-    for (set, way) in (0..512u32).flat_map(|set| (0..2).map(move |way| (set, way))) {
-        let broken = |bit: u32| set >> bit & 1 == 1;
-        let length =
-            |bit: u32, good: usize, bad: [usize; 2]| if broken(bit) { bad[way] } else { good };
-        let mut buffers = Buffers::zeroed(
-            length(0, 1_024, [0, 512]),
-            length(1, 65_536, [0, 65_537]),
-            length(2, 262_144, [0, 262_143]),
-            length(3, 8, [3, 24]),
-        );
+    for broken in Broken::sets(9) {
+        let mut buffers = broken.buffers();
         buffers.rom.fill(1);
         let mut processor = processor_to_library(&accepted.processor);
         let mut drawing = to_library(&accepted.drawing);
         processor.hardware = Default::default();
-        if broken(8) {
+        if broken.has(8) {
             processor.hardware.count = 1;
         }
-        match (broken(4), way) {
+        match (broken.has(4), broken.way) {
             (true, 0) => processor.hardware.lines |= 0x20,
             (true, _) => drawing.bkcol = 4,
             _ => {}
         }
-        if broken(5) {
+        if broken.has(5) {
             processor.mode = 3;
         }
         let mut given = file.to_vec();
-        if broken(7) {
-            given[[100, 44][way]] ^= 1;
+        if broken.has(7) {
+            given[[100, 44][broken.way]] ^= 1;
         }
-        if broken(6) {
-            given.resize([file.len() - 1, 0][way], 0);
+        if broken.has(6) {
+            given.resize([file.len() - 1, 0][broken.way], 0);
         }
-        let numbered = |numbers: &[u32], bits: &[u32]| {
-            let first = numbers.iter().zip(bits).find(|&(_, &bit)| broken(bit));
-            first.map_or(0, |(&number, _)| number)
-        };
         let before = buffers.clone();
-        let what = format!("broken {set:09b}, way {way}");
-        let earlier = [1, 2, 3, 4, 5, vbsys::MISUSE, 9];
+        let what = broken.to_string();
+        let earlier = broken.first(&[1, 2, 3, 4, 5, vbsys::MISUSE, 9]);
+        let or_else = |bit, refusal| earlier.unwrap_or(if broken.has(bit) { refusal } else { 0 });
         // form 2
         let mut room = filled(given.len());
         let read = buffers.lend_library_to_read();
         let written = vbsys::write_state_2(read, processor, drawing, &mut room);
-        assert_eq!(written, numbered(&earlier, &[0, 1, 2, 3, 4, 5, 6]), "form 2, {what}");
+        assert_eq!(written, earlier.unwrap_or(0), "form 2, {what}");
         assert!(written == 0 || is_untouched(&room), "form 2, {what}");
         // form 1
         let due = file_length(Form::One, 8);
-        let mut room = filled(if broken(6) { [due + 1, 0][way] } else { due });
+        let mut room = filled(if broken.has(6) { [due + 1, 0][broken.way] } else { due });
         let written = vbsys::write_state(read, processor, drawing, &mut room);
-        let numbers = [&earlier[..], &[16]].concat();
-        assert_eq!(written, numbered(&numbers, &[0, 1, 2, 3, 4, 5, 6, 8]), "form 1, {what}");
+        assert_eq!(written, or_else(8, 16), "form 1, {what}");
         assert!(written == 0 || is_untouched(&room), "form 1, {what}");
         // reading
         let memories = &mut buffers.lend_library();
         let restored = vbsys::read_state(memories, processor, drawing, &given);
-        let numbers = [&earlier[..], &[10]].concat();
-        assert_eq!(restored.refusal, numbered(&numbers, &[0, 1, 2, 3, 4, 5, 6, 7]), "{what}");
+        assert_eq!(restored.refusal, or_else(7, 10), "{what}");
         if restored.refusal != 0 {
             assert_eq!((restored.processor, restored.drawing), (processor, drawing));
             buffers.expect_equal(&before, &|| what.clone());
@@ -377,10 +354,10 @@ fn the_order_of_refusals() {
 fn the_order_of_a_move() {
     let mut random = Random::new(0x120B_0000);
     for pak in [0, 1, 64] {
-        for set in 0..8u32 {
-            let broken = |bit: u32| set >> bit & 1 == 1;
+        for set in 0..8 {
+            let broken = Broken { set, way: 0 };
             let mut state = State::at_reset(&mut random, pak);
-            if broken(2) {
+            if broken.has(2) {
                 state.processor.hardware = Hardware { control: 0x02, ..Hardware::default() };
             }
             let file = state.file(Form::Two, "a move");
@@ -389,13 +366,12 @@ fn the_order_of_a_move() {
             for at in [4, 8, 44, 100, 300, file.len() - 5] {
                 for room in [due + 1, due - 1, 0, file.len()] {
                     let mut given = file.clone();
-                    if broken(1) {
+                    if broken.has(1) {
                         given[at] ^= 0x40;
                     }
-                    let room = if broken(0) { room } else { due };
-                    let first = [9, 10, 16].into_iter().zip(0..).find(|&(_, bit)| broken(bit));
-                    let what = format!("broken {set:03b}, byte {at}, room {room}, pak RAM {pak}");
-                    let number = first.map_or(0, |(number, _)| number);
+                    let room = if broken.has(0) { room } else { due };
+                    let what = format!("{broken}, byte {at}, room {room}, pak RAM {pak}");
+                    let number = broken.first(&[9, 10, 16]).unwrap_or(0);
                     assert_eq!(moved(&given, room, &what).0, number, "{what}");
                 }
             }
@@ -408,48 +384,13 @@ fn the_order_of_a_move() {
 #[cfg(target_os = "linux")]
 #[test]
 fn between_fences() {
-    use difftests::fence::{Fenced, Side};
+    use difftests::fence::{sides_and_paks, Fenced};
     let mut random = Random::new(0x120C_0000);
-    for (side, pak) in [Side::Start, Side::End].into_iter().flat_map(|s| [(s, 0), (s, 1), (s, 64)])
-    {
+    for (side, pak) in sides_and_paks() {
         let state = State::at_reset(&mut random, pak);
         let one = state.file(Form::One, "between fences");
         let two = state.file(Form::Two, "between fences");
-        let closed = |bytes: &[u8]| {
-            let mut fenced = Fenced::new(bytes, side);
-            fenced.forbid_writing();
-            fenced
-        };
-        let Buffers { rom, wram, vram, pak } = &state.buffers;
-        let (rom, wram, vram, pak) = (closed(rom), closed(wram), closed(vram), closed(pak));
-        let memories = vbsys::ReadMemories {
-            rom: rom.bytes(),
-            wram: wram.bytes(),
-            vram: vram.bytes(),
-            pak: pak.bytes(),
-        };
-        let processor = processor_to_library(&state.processor);
-        let drawing = to_library(&state.drawing);
-        for length in [two.len(), two.len() - 1, 0] {
-            let mut room = Fenced::new(&filled(length), side);
-            let number = vbsys::write_state_2(memories, processor, drawing, room.bytes_mut());
-            assert_eq!(number, if length == two.len() { 0 } else { 9 });
-            assert!(number != 0 || *room.bytes() == *two);
-            let source = closed(&two[..length]);
-            let mut filled = [wram.bytes(), vram.bytes(), pak.bytes()]
-                .map(|memory| Fenced::new(&vec![0; memory.len()], side));
-            let [w, v, p] = &mut filled;
-            let mut memories = vbsys::Memories {
-                rom: rom.bytes(),
-                wram: w.bytes_mut(),
-                vram: v.bytes_mut(),
-                pak: p.bytes_mut(),
-            };
-            let restored = vbsys::read_state(&mut memories, processor, drawing, source.bytes());
-            assert_eq!(restored.refusal, number);
-            assert_eq!(filled[0].bytes() == wram.bytes(), number == 0);
-            assert!(number != 0 || filled[2].bytes() == pak.bytes());
-        }
+        state.expect_between_fences(Form::Two, side);
         for (file, other) in [(&one, &two), (&two, &one)] {
             for (length, room) in [
                 (file.len(), other.len()),
@@ -460,7 +401,7 @@ fn between_fences() {
                 (file.len() - 1, other.len()),
                 (file.len(), other.len() - 1),
             ] {
-                let source = closed(&file[..length]);
+                let source = Fenced::closed(&file[..length], side);
                 let mut room = Fenced::new(&filled(room), side);
                 let number = vbsys::move_state(source.bytes(), room.bytes_mut());
                 let fits = (length, room.bytes().len()) == (file.len(), other.len());

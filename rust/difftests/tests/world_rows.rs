@@ -117,27 +117,11 @@ fn opaque(kind: u16, gy: i32, h: i32) -> Scene {
     scene
 }
 
-/// The request's table: GY, H, the rows of normal and H-bias worlds, and of
-/// affine ones. The rows that the library lights are counted by themselves.
+/// The request's table. The rows that the library lights are counted by
+/// themselves.
 #[test]
 fn worked_rows() {
-    for (gy, h, rows, affine_rows) in [
-        (3, 1, 5, 2),
-        (3, 2, 5, 3),
-        (3, 4, 5, 5),
-        (3, 5, 6, 6),
-        (0, 0, 8, 1),
-        (7, 0, 1, 1),
-        (7, -5, 1, 0),
-        (8, 6, 8, 7),
-        (216, -32_768, 8, 0),
-        (223, 0, 1, 1),
-        (223, 32_767, 1, 1),
-        (-1, 0, 8, 1),
-        (-1, -1, 0, 0),
-        (224, 0, 0, 0),
-        (224, 32_767, 0, 0),
-    ] {
+    for (gy, h, rows, affine_rows) in worked::HEIGHTS {
         for (kind, rows) in [(NORMAL, rows), (H_BIAS, rows), (AFFINE, affine_rows)] {
             let mut scene = opaque(kind, gy, h);
             assert_eq!(

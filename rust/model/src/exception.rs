@@ -51,7 +51,7 @@ impl Cause {
 
     /// W4: a trap "sets its flag alone before PSW is saved"; other causes set
     /// none.
-    fn flag(self) -> u32 {
+    pub fn flag(self) -> u32 {
         match self {
             Cause::Floating(Trap::ReservedOperand) => FRO,
             Cause::Floating(Trap::InvalidOperation) => FIV,

@@ -1,33 +1,20 @@
 //! A list of accesses (W7).
 
-use model::access_list::{access_list, Access, ACCESS_LENGTH};
-use model::{DrawingRegisters, Hardware, Memories, Refusal};
+mod common;
 
-struct Machine {
-    wram: Vec<u8>,
-    vram: Vec<u8>,
-    pak: Vec<u8>,
-    drawing: DrawingRegisters,
-    hardware: Hardware,
+use common::Machine;
+use model::access_list::{access_list, Access, ACCESS_LENGTH};
+use model::Refusal;
+
+fn machine(pak: usize) -> Machine {
+    let mut machine = Machine::zeroed(pak);
+    machine.rom.fill(7);
+    machine
 }
 
-impl Machine {
-    fn new(pak: usize) -> Machine {
-        let (drawing, hardware) = Default::default();
-        Machine {
-            wram: vec![0; 65_536],
-            vram: vec![0; 262_144],
-            pak: vec![0; pak],
-            drawing,
-            hardware,
-        }
-    }
-
-    fn make(&mut self, list: &mut [Access]) -> Result<(), Refusal> {
-        let (wram, vram, pak) = (&mut self.wram, &mut self.vram, &mut self.pak);
-        let mut memories = Memories { rom: &[7; 1_024], wram, vram, pak };
-        access_list(&mut memories, &mut self.drawing, &mut self.hardware, list)
-    }
+fn make(machine: &mut Machine, list: &mut [Access]) -> Result<(), Refusal> {
+    let (mut memories, processor, drawing) = machine.lend();
+    access_list(&mut memories, drawing, &mut processor.hardware, list)
 }
 
 fn read(size: u32, address: u32) -> Access {
@@ -40,7 +27,7 @@ fn write(size: u32, address: u32, value: u32) -> Access {
 
 #[test]
 fn reads_see_the_writes_before_them() {
-    let mut machine = Machine::new(2);
+    let mut machine = machine(2);
     let mut list = [
         read(4, 0x0500_0003),
         write(4, 0x0501_0001, 0x1234_5678),
@@ -55,7 +42,7 @@ fn reads_see_the_writes_before_them() {
         read(1, 0x0700_0000),
     ];
     let before = list;
-    machine.make(&mut list).unwrap();
+    make(&mut machine, &mut list).unwrap();
     for (number, value, undefined) in [
         (0, 0, 0),
         (2, 0x1234, 0),
@@ -72,40 +59,40 @@ fn reads_see_the_writes_before_them() {
         assert_eq!(list[number], before[number], "a write stays as given");
     }
     assert_eq!(machine.drawing.spt[0], 0x3FF);
-    assert_eq!((machine.hardware.count, machine.hardware.reload), (0x34, 0x34));
+    assert_eq!((machine.processor.hardware.count, machine.processor.hardware.reload), (0x34, 0x34));
     assert_eq!(machine.pak, [0x33, 0x44]);
 }
 
 #[test]
 fn any_number_but_0_writes() {
-    let mut machine = Machine::new(0);
+    let mut machine = machine(0);
     for (number, word) in [1, 2, 0x8000_0000, 0xFFFF_FFFF].into_iter().enumerate() {
         let address = 0x0500_0000 + number as u32;
         let access = Access { address, size: 1, write: word, value: 0xA5, undefined: 0 };
-        machine.make(&mut [access]).unwrap();
+        make(&mut machine, &mut [access]).unwrap();
         assert_eq!(machine.wram[number], 0xA5);
     }
 }
 
 #[test]
 fn refused_lists() {
-    let mut machine = Machine::new(0);
-    assert_eq!(machine.make(&mut []), Ok(()));
+    let mut machine = machine(0);
+    assert_eq!(make(&mut machine, &mut []), Ok(()));
     let good = write(4, 0x0500_0000, 0x1111_1111);
-    assert_eq!(machine.make(&mut [read(1, 0); 256]), Ok(()));
-    assert_eq!(machine.make(&mut [good; 257]), Err(Refusal::AccessList));
+    assert_eq!(make(&mut machine, &mut [read(1, 0); 256]), Ok(()));
+    assert_eq!(make(&mut machine, &mut [good; 257]), Err(Refusal::AccessList));
     for size in [0, 3, 5, 8, 0xFFFF_FFFF] {
         for bad in [read(size, 0x0500_0000), write(size, 0x0500_0000, 0)] {
             let mut list = [good, good, bad];
-            assert_eq!(machine.make(&mut list), Err(Refusal::AccessList), "size {size}");
+            assert_eq!(make(&mut machine, &mut list), Err(Refusal::AccessList), "size {size}");
             assert_eq!(list, [good, good, bad]);
             assert_eq!(machine.wram[0], 0);
         }
     }
-    machine.hardware.control = 4;
-    assert_eq!(machine.make(&mut [good; 257]), Err(Refusal::Register));
+    machine.processor.hardware.control = 4;
+    assert_eq!(make(&mut machine, &mut [good; 257]), Err(Refusal::Register));
     machine.pak = vec![0; 3];
-    assert_eq!(machine.make(&mut [good; 257]), Err(Refusal::PakLength));
+    assert_eq!(make(&mut machine, &mut [good; 257]), Err(Refusal::PakLength));
 }
 
 #[test]

@@ -1,63 +1,10 @@
 //! 01's worked rows about the bus, and facts of 000's memory map.
 
-use model::bus::{
-    is_undefined, load_byte, load_half, load_word, place_of, store_byte, store_half, store_word,
-    Place,
-};
-use model::{DrawingRegisters, Hardware, Loaded, Memories, ReadMemories, Refusal};
+mod common;
 
-struct Machine {
-    rom: Vec<u8>,
-    wram: Vec<u8>,
-    vram: Vec<u8>,
-    pak: Vec<u8>,
-    drawing: DrawingRegisters,
-    hardware: Hardware,
-}
-
-impl Machine {
-    fn new(rom: usize, pak: usize) -> Machine {
-        Machine {
-            rom: vec![0; rom],
-            wram: vec![0; 65_536],
-            vram: vec![0; 262_144],
-            pak: vec![0; pak],
-            drawing: DrawingRegisters::default(),
-            hardware: Hardware::default(),
-        }
-    }
-
-    fn read(&self) -> ReadMemories<'_> {
-        ReadMemories { rom: &self.rom, wram: &self.wram, vram: &self.vram, pak: &self.pak }
-    }
-
-    fn byte(&self, address: u32) -> u32 {
-        load_byte(&self.read(), &self.drawing, &self.hardware, address).unwrap().value
-    }
-
-    fn half(&self, address: u32) -> u32 {
-        load_half(&self.read(), &self.drawing, &self.hardware, address).unwrap().value
-    }
-
-    fn word(&self, address: u32) -> u32 {
-        load_word(&self.read(), &self.drawing, &self.hardware, address).unwrap().value
-    }
-
-    fn store(&mut self, bytes: u32, address: u32, value: u32) {
-        let mut memories = Memories {
-            rom: &self.rom,
-            wram: &mut self.wram,
-            vram: &mut self.vram,
-            pak: &mut self.pak,
-        };
-        let call = match bytes {
-            1 => store_byte,
-            2 => store_half,
-            _ => store_word,
-        };
-        call(&mut memories, &mut self.drawing, &mut self.hardware, address, value).unwrap();
-    }
-}
+use common::Machine;
+use model::bus::{is_undefined, load_byte, load_half, load_word, place_of, Place};
+use model::{DrawingRegisters, Loaded, ReadMemories, Refusal};
 
 #[test]
 fn rows_of_the_worked_table() {
@@ -68,11 +15,11 @@ fn rows_of_the_worked_table() {
 
 #[test]
 fn a_halfword_at_an_odd_address_is_the_one_before() {
-    let mut machine = Machine::new(1_024, 0);
+    let mut machine = Machine::zeroed(0);
     machine.store(2, 0x0500_0001, 0xABCD);
     assert_eq!(machine.wram[..3], [0xCD, 0xAB, 0]);
-    assert_eq!(machine.half(0x0500_0001), 0xABCD);
-    assert_eq!(machine.word(0x0500_0003), 0xABCD);
+    assert_eq!(machine.load(2, 0x0500_0001).value, 0xABCD);
+    assert_eq!(machine.load(4, 0x0500_0003).value, 0xABCD);
 }
 
 #[test]
@@ -105,22 +52,22 @@ fn unmapped_ranges_and_regions() {
 
 #[test]
 fn registers_keep_their_widths() {
-    let mut machine = Machine::new(1_024, 0);
+    let mut machine = Machine::zeroed(0);
     for address in (0x5E000..0x60000).step_by(2) {
         machine.store(2, address, 0xFFFF);
     }
     let full = DrawingRegisters { spt: [0x3FF; 4], gplt: [0xFF; 4], jplt: [0xFF; 4], bkcol: 3 };
     assert_eq!(machine.drawing, full);
     assert!(machine.drawing.within_widths());
-    assert_eq!(machine.half(0x5F844), 2);
-    assert_eq!(machine.half(0x5F802), 0);
-    assert_eq!(machine.word(0x5F848), 0x03FF_03FF);
-    assert_eq!(machine.byte(0x5F849), 3);
+    assert_eq!(machine.load(2, 0x5F844).value, 2);
+    assert_eq!(machine.load(2, 0x5F802).value, 0);
+    assert_eq!(machine.load(4, 0x5F848).value, 0x03FF_03FF);
+    assert_eq!(machine.load(1, 0x5F849).value, 3);
 }
 
 #[test]
 fn a_byte_write_to_a_register_takes_sixteen_bits_of_the_source() {
-    let mut machine = Machine::new(1_024, 0);
+    let mut machine = Machine::zeroed(0);
     machine.store(1, 0x5F84A, 0xFFFF_FE56);
     assert_eq!(machine.drawing.spt[1], 0x256);
     machine.store(1, 0x5F84D, 0x0000_0123);
@@ -131,24 +78,24 @@ fn a_byte_write_to_a_register_takes_sixteen_bits_of_the_source() {
 
 #[test]
 fn pak_ram_of_one_and_two_bytes() {
-    let mut machine = Machine::new(1_024, 1);
+    let mut machine = Machine::zeroed(1);
     machine.store(4, 0x0600_0000, 0x4433_2211);
     assert_eq!(machine.pak, [0x44]);
-    assert_eq!(machine.word(0x06AB_CDEC), 0x4444_4444);
-    let mut machine = Machine::new(1_024, 2);
+    assert_eq!(machine.load(4, 0x06AB_CDEC).value, 0x4444_4444);
+    let mut machine = Machine::zeroed(2);
     machine.store(4, 0x0600_0000, 0x4433_2211);
     assert_eq!(machine.pak, [0x33, 0x44]);
-    assert_eq!(machine.byte(0x0600_0003), 0x44);
-    let mut machine = Machine::new(1_024, 0);
+    assert_eq!(machine.load(1, 0x0600_0003).value, 0x44);
+    let mut machine = Machine::zeroed(0);
     machine.store(4, 0x0600_0000, 0x4433_2211);
-    assert_eq!(machine.word(0x0600_0000), 0);
+    assert_eq!(machine.load(4, 0x0600_0000).value, 0);
 }
 
 #[test]
 fn rom_is_read_only() {
-    let mut machine = Machine::new(1_024, 0);
+    let mut machine = Machine::zeroed(0);
     machine.store(4, 0x0700_0000, 0xFFFF_FFFF);
-    assert_eq!(machine.word(0x0700_0000), 0);
+    assert_eq!(machine.load(4, 0x0700_0000).value, 0);
 }
 
 /// The request's table of which bytes of the VIP are defined, row by row: the
@@ -208,7 +155,7 @@ fn masks_of_words_and_halfwords() {
 /// The request's worked loads: size, address, value, undefined bytes.
 #[test]
 fn worked_loads() {
-    let mut machine = Machine::new(1_024, 0);
+    let mut machine = Machine::zeroed(0);
     machine.vram[0x3FFFF] = 0x77;
     for (size, address, value, undefined) in [
         (1, 0x0003_FFFF, 0x77, 0),
@@ -229,10 +176,10 @@ fn worked_loads() {
             2 => load_half,
             _ => load_word,
         };
-        let loaded = load(&machine.read(), &machine.drawing, &machine.hardware, address);
+        let loaded = load(&machine.read(), &machine.drawing, &machine.processor.hardware, address);
         assert_eq!(loaded, Ok(Loaded { value, undefined }), "{size} bytes at {address:08X}");
     }
     let short = ReadMemories { wram: &[], ..machine.read() };
-    let refused = load_byte(&short, &machine.drawing, &machine.hardware, 0x0004_0000);
+    let refused = load_byte(&short, &machine.drawing, &machine.processor.hardware, 0x0004_0000);
     assert_eq!(refused, Err(Refusal::WramLength));
 }

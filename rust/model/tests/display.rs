@@ -5,50 +5,9 @@ use model::display::{column_table, display, entry_address, load_column_table, RO
 use model::world::Eye;
 use model::Refusal;
 
-/// The 32 rows of the recommended table as 000 prints them.
-const PRINTED: [&str; 32] = [
-    "FE 00 FE 00 FE 00 FE 00 FE 00 FE 00 FE 00 FE 00",
-    "FE 00 FE 00 FE 00 FE 00 FE 00 FE 00 FE 00 FE 00",
-    "FE 00 FE 00 FE 00 FE 00 FE 00 FE 00 FE 00 FE 00",
-    "FE 00 FE 00 FE 00 FE 00 FE 00 FE 00 FE 00 FE 00",
-    "FE 00 FE 00 FE 00 FE 00 FE 00 FE 00 FE 00 FE 00",
-    "FE 00 FE 00 FE 00 FE 00 FE 00 FE 00 FE 00 FE 00",
-    "FE 00 FE 00 FE 00 FE 00 FE 00 FE 00 FE 00 FE 00",
-    "FE 00 FE 00 FE 00 FE 00 FE 00 FE 00 E0 00 BC 00",
-    "A6 00 96 00 8A 00 82 00 7A 00 74 00 6E 00 6A 00",
-    "66 00 62 00 60 00 5C 00 5A 00 58 00 56 00 54 00",
-    "52 00 50 00 50 00 4E 00 4C 00 4C 00 4A 00 4A 00",
-    "48 00 48 00 46 00 46 00 46 00 44 00 44 00 44 00",
-    "42 00 42 00 42 00 40 00 40 00 40 00 40 00 40 00",
-    "3E 00 3E 00 3E 00 3E 00 3E 00 3E 00 3E 00 3C 00",
-    "3C 00 3C 00 3C 00 3C 00 3C 00 3C 00 3C 00 3C 00",
-    "3C 00 3C 00 3C 00 3C 00 3C 00 3C 00 3C 00 3C 00",
-    "3C 00 3C 00 3C 00 3C 00 3C 00 3C 00 3C 00 3C 00",
-    "3C 00 3C 00 3C 00 3C 00 3C 00 3C 00 3C 00 3C 00",
-    "3C 00 3E 00 3E 00 3E 00 3E 00 3E 00 3E 00 3E 00",
-    "40 00 40 00 40 00 40 00 40 00 42 00 42 00 42 00",
-    "44 00 44 00 44 00 46 00 46 00 46 00 48 00 48 00",
-    "4A 00 4A 00 4C 00 4C 00 4E 00 50 00 50 00 52 00",
-    "54 00 56 00 58 00 5A 00 5C 00 60 00 62 00 66 00",
-    "6A 00 6E 00 74 00 7A 00 82 00 8A 00 96 00 A6 00",
-    "BC 00 E0 00 FE 00 FE 00 FE 00 FE 00 FE 00 FE 00",
-    "FE 00 FE 00 FE 00 FE 00 FE 00 FE 00 FE 00 FE 00",
-    "FE 00 FE 00 FE 00 FE 00 FE 00 FE 00 FE 00 FE 00",
-    "FE 00 FE 00 FE 00 FE 00 FE 00 FE 00 FE 00 FE 00",
-    "FE 00 FE 00 FE 00 FE 00 FE 00 FE 00 FE 00 FE 00",
-    "FE 00 FE 00 FE 00 FE 00 FE 00 FE 00 FE 00 FE 00",
-    "FE 00 FE 00 FE 00 FE 00 FE 00 FE 00 FE 00 FE 00",
-    "FE 00 FE 00 FE 00 FE 00 FE 00 FE 00 FE 00 FE 00",
-];
-
-fn printed_bytes() -> Vec<u8> {
-    let bytes = PRINTED.iter().flat_map(|row| row.split(' '));
-    bytes.map(|byte| u8::from_str_radix(byte, 16).unwrap()).collect()
-}
-
 #[test]
 fn the_table_as_printed() {
-    let printed = printed_bytes();
+    let printed = worked::column_table();
     let table = column_table();
     assert_eq!(table.len(), 256);
     let bytes: Vec<u8> = table.iter().flat_map(|entry| entry.to_le_bytes()).collect();
@@ -67,7 +26,7 @@ fn the_table_as_printed() {
 fn loading_changes_the_tables_alone() {
     let mut vram = vec![0x55; 262_144];
     load_column_table(&mut vram).unwrap();
-    let printed = printed_bytes();
+    let printed = worked::column_table();
     assert_eq!(vram[0x3DC00..0x3DE00], printed);
     assert_eq!(vram[0x3DE00..0x3E000], printed);
     assert!(vram[..0x3DC00].iter().chain(&vram[0x3E000..]).all(|&byte| byte == 0x55));

@@ -62,29 +62,9 @@ fn a_negative_start_stays_negative() {
     assert_eq!(lit_columns(&vram, Eye::Left, 0), [0, 1, 2]);
 }
 
-/// W3's worked rows: GY, H, the rows of a normal or H-bias world, and of an
-/// affine one.
-const WORKED_ROWS: [(i32, i32, i32, i32); 15] = [
-    (3, 1, 5, 2),
-    (3, 2, 5, 3),
-    (3, 4, 5, 5),
-    (3, 5, 6, 6),
-    (0, 0, 8, 1),
-    (7, 0, 1, 1),
-    (7, -5, 1, 0),
-    (8, 6, 8, 7),
-    (216, -32_768, 8, 0),
-    (223, 0, 1, 1),
-    (223, 32_767, 32_768, 32_768),
-    (-1, 0, 8, 1),
-    (-1, -1, 0, 0),
-    (224, 0, 8, 1),
-    (224, -1, 0, 0),
-];
-
 #[test]
 fn heights_of_worlds() {
-    for (gy, h, rows, affine_rows) in WORKED_ROWS {
+    for (gy, h, rows, affine_rows) in worked::HEIGHTS {
         for (flags, rows) in [(0xC000, rows), (0xD000, rows), (0xE000, affine_rows)] {
             let halves = [flags, 0, 0, gy as u16, 0, 0, 0, 383, h as u16, 0x9000, 0];
             let mut vram = one_world(&halves);

@@ -1,26 +1,11 @@
 //! W4's worked rows, and the floating instructions against exact arithmetic.
 
+use model::arithmetic::Z;
 use model::floating::{execute, is_reserved, Ended, Floating, Trap, FIV, FOV, FRO, FUD, FZD};
 use model::instruction::{decode, Decoded, Instruction};
 use model::processor::step;
 use model::{Cause, DrawingRegisters, Memories, Mode, Processor, StepAnswer};
-
-const Z: u32 = 1;
-const S: u32 = 2;
-const CY: u32 = 8;
-
-const CMPF: u16 = 0b000000;
-const CVT_WS: u16 = 0b000010;
-const CVT_SW: u16 = 0b000011;
-const ADDF: u16 = 0b000100;
-const SUBF: u16 = 0b000101;
-const MULF: u16 = 0b000110;
-const DIVF: u16 = 0b000111;
-const XB: u16 = 0b001000;
-const XH: u16 = 0b001001;
-const REV: u16 = 0b001010;
-const TRNC: u16 = 0b001011;
-const MPYHW: u16 = 0b001100;
+use worked::floating::*;
 
 /// A step of a format VII instruction with reg2 5 and reg1 6.
 fn stepped(sub_opcode: u16, reg2: u32, reg1: u32, psw: u32) -> (StepAnswer, Processor) {
@@ -35,45 +20,6 @@ fn stepped(sub_opcode: u16, reg2: u32, reg1: u32, psw: u32) -> (StepAnswer, Proc
     let answer = step(&mut memories, &mut processor, &mut DrawingRegisters::default());
     (answer.unwrap().answer, processor)
 }
-
-/// The rows that end: sub-opcode, reg2, reg1, reg2 after, PSW after (0 before).
-const ENDED: [(u16, u32, u32, u32, u32); 35] = [
-    (ADDF, 0x3F80_0000, 0x4000_0000, 0x4040_0000, 0),
-    (ADDF, 0xBF80_0000, 0xC000_0000, 0xC040_0000, S | CY),
-    (ADDF, 0x3F80_0000, 0xBF80_0000, 0x0000_0000, Z),
-    (ADDF, 0x8000_0000, 0x8000_0000, 0x8000_0000, Z),
-    (ADDF, 0x8000_0000, 0x0000_0000, 0x0000_0000, Z),
-    (ADDF, 0x0080_0000, 0x80C0_0000, 0x8000_0000, Z | FUD),
-    (ADDF, 0x4B80_0000, 0x3F80_0000, 0x4B80_0000, 0),
-    (ADDF, 0x4B80_0001, 0x3F80_0000, 0x4B80_0002, 0),
-    (ADDF, 0x7F7F_FFFF, 0x72FF_FFFF, 0x7F7F_FFFF, 0),
-    (SUBF, 0x8000_0000, 0x0000_0000, 0x8000_0000, Z),
-    (SUBF, 0x0000_0000, 0x8000_0000, 0x0000_0000, Z),
-    (SUBF, 0x8000_0000, 0x8000_0000, 0x0000_0000, Z),
-    (SUBF, 0x0080_0000, 0x00C0_0000, 0x8000_0000, Z | FUD),
-    (MULF, 0x00FF_FFFF, 0x3F00_0000, 0x0080_0000, 0),
-    (MULF, 0x00FF_FFFE, 0x3F00_0000, 0x0000_0000, Z | FUD),
-    (MULF, 0x0080_0000, 0xBF00_0000, 0x8000_0000, Z | FUD),
-    (MULF, 0x8000_0000, 0x4040_0000, 0x8000_0000, Z),
-    (MULF, 0x4B7F_FFFF, 0x4B7F_FFFF, 0x577F_FFFE, 0),
-    (DIVF, 0x3F80_0000, 0x4040_0000, 0x3EAA_AAAB, 0),
-    (DIVF, 0x8000_0000, 0x40A0_0000, 0x8000_0000, Z),
-    (CMPF, 0x3F80_0000, 0x4000_0000, 0x3F80_0000, S | CY),
-    (CMPF, 0x0000_0000, 0x8000_0000, 0x0000_0000, Z),
-    (CVT_WS, 0x1234_5678, 0x8000_0000, 0xCF00_0000, S | CY),
-    (CVT_WS, 0x1234_5678, 0x0100_0001, 0x4B80_0000, 0),
-    (CVT_WS, 0x1234_5678, 0x0100_0003, 0x4B80_0002, 0),
-    (CVT_SW, 0x1234_5678, 0xC020_0000, 0xFFFF_FFFE, S),
-    (CVT_SW, 0x1234_5678, 0x4020_0000, 0x0000_0002, 0),
-    (CVT_SW, 0x1234_5678, 0xBE80_0000, 0x0000_0000, Z),
-    (TRNC, 0x1234_5678, 0xC020_0000, 0xFFFF_FFFE, S),
-    (TRNC, 0x1234_5678, 0x8000_0000, 0x0000_0000, Z),
-    (XB, 0x1122_3344, 0x5566_7788, 0x1122_4433, 0),
-    (XH, 0x1122_3344, 0x5566_7788, 0x3344_1122, 0),
-    (REV, 0x1234_5678, 0x5566_7788, 0x11EE_66AA, 0),
-    (MPYHW, 0x0000_0003, 0x0001_7FFF, 0xFFFE_7FFD, 0),
-    (MPYHW, 0x0000_0003, 0x0001_0000, 0xFFFD_0000, 0),
-];
 
 /// The rows that trap: sub-opcode, reg2, reg1, why, code, flag.
 const TRAPPED: [(u16, u32, u32, Trap, u32, u32); 8] = [

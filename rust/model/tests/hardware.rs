@@ -1,89 +1,31 @@
 //! Request lines and timer (W6): the worked steps, ticks and writes, and region 2.
 
+mod common;
+
+use common::{Machine, NOP};
 use model::bus::Place;
-use model::bus::{load_byte, load_half, load_word, place_of, store_byte, store_half, store_word};
+use model::bus::{load_byte, place_of};
 use model::exception::{interrupt_code, interrupt_handler};
 use model::hardware::{tick, timer_register_at, TimerRegister};
-use model::processor::{reset, run, step};
+use model::processor::reset;
 use model::{
-    DrawingRegisters, Hardware, Loaded, Memories, Mode, Processor, ReadMemories, Refusal,
-    StepAnswer, Stepped, Undefined,
+    Hardware, Loaded, Mode, Processor, ReadMemories, Refusal, StepAnswer, Stepped, Undefined,
 };
 
 const fn hardware(lines: u16, count: u16, reload: u16, control: u16) -> Hardware {
     Hardware { lines, count, reload, control }
 }
 
-/// A machine whose program starts in WRAM; ROM is NOPs, so the handlers are too.
-struct Machine {
-    rom: Vec<u8>,
-    wram: Vec<u8>,
-    vram: Vec<u8>,
-    processor: Processor,
-    drawing: DrawingRegisters,
-}
-
-const NOP: u16 = 0x9A00;
 const HALT: u16 = 0b011010 << 10;
 const CLI: u16 = 0b010110 << 10;
 const CAXI: u16 = 0b111010 << 10;
 
-impl Machine {
-    fn new(program: &[u16], psw: u32, lines: u16) -> Machine {
-        let bytes = |halves: &[u16]| -> Vec<u8> {
-            halves.iter().flat_map(|half| half.to_le_bytes()).collect()
-        };
-        let mut wram = bytes(program);
-        wram.resize(65_536, 0);
-        Machine {
-            rom: bytes(&[NOP; 512]),
-            wram,
-            vram: vec![0; 262_144],
-            processor: Processor {
-                pc: 0x0500_0000,
-                psw,
-                hardware: hardware(lines, 0, 0, 0),
-                ..Processor::default()
-            },
-            drawing: DrawingRegisters::default(),
-        }
-    }
-
-    fn step(&mut self) -> Result<Stepped, Refusal> {
-        let (rom, wram, vram) = (&self.rom, &mut self.wram, &mut self.vram);
-        let mut memories = Memories { rom, wram, vram, pak: &mut [] };
-        step(&mut memories, &mut self.processor, &mut self.drawing)
-    }
-
-    fn run(&mut self, budget: u64) -> (u64, Option<Refusal>) {
-        let (rom, wram, vram) = (&self.rom, &mut self.wram, &mut self.vram);
-        let mut memories = Memories { rom, wram, vram, pak: &mut [] };
-        let ran = run(&mut memories, &mut self.processor, &mut self.drawing, budget);
-        (ran.count, ran.refusal)
-    }
-
-    fn store(&mut self, size: u32, address: u32, value: u32) {
-        let (rom, wram, vram) = (&self.rom, &mut self.wram, &mut self.vram);
-        let mut memories = Memories { rom, wram, vram, pak: &mut [] };
-        let store = match size {
-            1 => store_byte,
-            2 => store_half,
-            _ => store_word,
-        };
-        let hardware = &mut self.processor.hardware;
-        store(&mut memories, &mut self.drawing, hardware, address, value).unwrap();
-    }
-
-    fn load(&self, size: u32, address: u32) -> Loaded {
-        let memories =
-            ReadMemories { rom: &self.rom, wram: &self.wram, vram: &self.vram, pak: &[] };
-        let load = match size {
-            1 => load_byte,
-            2 => load_half,
-            _ => load_word,
-        };
-        load(&memories, &self.drawing, &self.processor.hardware, address).unwrap()
-    }
+/// A machine whose program starts in WRAM; its handlers are NOPs.
+fn machine_of(program: &[u16], psw: u32, lines: u16) -> Machine {
+    let mut machine = Machine::with_handlers(program);
+    machine.processor.psw = psw;
+    machine.processor.hardware.lines = lines;
+    machine
 }
 
 /// The step accepts this level: every field of the record afterwards, and nothing
@@ -92,7 +34,7 @@ fn expect_accepted(mut machine: Machine, level: u32, psw: u32) {
     let (before, wram) = (machine.processor, machine.wram.clone());
     let stepped =
         Stepped { answer: StepAnswer::Interrupted(level), undefined: Undefined::default() };
-    assert_eq!(machine.step(), Ok(stepped));
+    assert_eq!(machine.stepped(), Ok(stepped));
     let expected = Processor {
         pc: 0xFFFF_FE00 + 16 * level,
         eipc: before.pc,
@@ -108,15 +50,15 @@ fn expect_accepted(mut machine: Machine, level: u32, psw: u32) {
 
 #[test]
 fn worked_steps() {
-    let mut machine = Machine::new(&[], 0, 0x12);
+    let mut machine = machine_of(&[], 0, 0x12);
     machine.processor.pc = 0x0700_0100;
     machine.processor.ecr = 0x1234_5678;
     expect_accepted(machine, 4, 0x0005_5000);
-    expect_accepted(Machine::new(&[NOP], 0x2_0000, 0x06), 2, 0x0003_5000);
-    let mut machine = Machine::new(&[NOP], 0x2000, 0x01);
+    expect_accepted(machine_of(&[NOP], 0x2_0000, 0x06), 2, 0x0003_5000);
+    let mut machine = machine_of(&[NOP], 0x2000, 0x01);
     machine.processor.mode = Mode::Halted;
     expect_accepted(machine, 0, 0x0001_5000);
-    expect_accepted(Machine::new(&[CAXI], 0, 0x10), 4, 0x0005_5000);
+    expect_accepted(machine_of(&[CAXI], 0, 0x10), 4, 0x0005_5000);
     for (psw, lines) in [
         (0x2_0000, 0x02),
         (0x1000, 0x1F),
@@ -126,15 +68,15 @@ fn worked_steps() {
         (0xF_0000, 0x1F),
         (0, 0),
     ] {
-        let mut machine = Machine::new(&[NOP], psw, lines);
-        assert_eq!(machine.step().unwrap().answer, StepAnswer::Ended, "{psw:X} {lines:X}");
-        let mut machine = Machine::new(&[NOP], psw, lines);
+        let mut machine = machine_of(&[NOP], psw, lines);
+        assert_eq!(machine.stepped().unwrap().answer, StepAnswer::Ended, "{psw:X} {lines:X}");
+        let mut machine = machine_of(&[NOP], psw, lines);
         machine.processor.mode = Mode::Halted;
-        assert_eq!(machine.step().unwrap().answer, StepAnswer::WasHalted, "{psw:X} {lines:X}");
+        assert_eq!(machine.stepped().unwrap().answer, StepAnswer::WasHalted, "{psw:X} {lines:X}");
     }
-    let mut machine = Machine::new(&[NOP], 0, 0x1F);
+    let mut machine = machine_of(&[NOP], 0, 0x1F);
     machine.processor.mode = Mode::Fatal;
-    assert_eq!(machine.step().unwrap().answer, StepAnswer::WasFatal);
+    assert_eq!(machine.stepped().unwrap().answer, StepAnswer::WasFatal);
 }
 
 #[test]
@@ -148,18 +90,18 @@ fn codes_and_handlers() {
 
 #[test]
 fn worked_runs() {
-    let mut machine = Machine::new(&[], 0, 0x10);
+    let mut machine = machine_of(&[], 0, 0x10);
     machine.processor.mode = Mode::Halted;
     assert_eq!(machine.run(2), (2, None));
     assert_eq!(machine.processor.mode, Mode::Running);
     assert_eq!(machine.processor.pc, 0xFFFF_FE42);
 
-    let mut machine = Machine::new(&[HALT], 0, 0);
+    let mut machine = machine_of(&[HALT], 0, 0);
     assert_eq!(machine.run(1), (1, None));
     assert_eq!((machine.processor.mode, machine.processor.pc), (Mode::Halted, 0x0500_0002));
     assert_eq!(machine.run(5), (0, None));
 
-    let mut machine = Machine::new(&[CAXI], 0, 0x10);
+    let mut machine = machine_of(&[CAXI], 0, 0x10);
     let before = machine.processor;
     assert_eq!(machine.run(0), (0, None));
     assert_eq!(machine.processor, before);
@@ -167,22 +109,16 @@ fn worked_runs() {
     assert_eq!(machine.run(3), (3, None));
 
     // a CLI lets the line in before the next instruction
-    let mut machine = Machine::new(&[CLI, CAXI], 0x1000, 0x04);
+    let mut machine = machine_of(&[CLI, CAXI], 0x1000, 0x04);
     assert_eq!(machine.run(2), (2, None));
     assert_eq!((machine.processor.eipc, machine.processor.pc), (0x0500_0002, 0xFFFF_FE20));
 }
 
 #[test]
 fn worked_ticks() {
-    for (before, after) in [
-        (hardware(0x00, 2, 5, 0x09), hardware(0x00, 1, 5, 0x09)),
-        (hardware(0x00, 1, 5, 0x09), hardware(0x02, 0, 5, 0x0B)),
-        (hardware(0x02, 0, 5, 0x0B), hardware(0x02, 4, 5, 0x0B)),
-        (hardware(0x00, 1, 5, 0x11), hardware(0x00, 0, 5, 0x13)),
-        (hardware(0x00, 0, 0, 0x01), hardware(0x00, 0, 0, 0x03)),
-        (hardware(0x00, 0, 1, 0x01), hardware(0x00, 0, 1, 0x03)),
-        (hardware(0x1F, 1, 5, 0x08), hardware(0x1F, 1, 5, 0x08)),
-    ] {
+    for row in worked::TICKS {
+        let [before, after] =
+            row.map(|[lines, count, reload, control]| hardware(lines, count, reload, control));
         let mut found = before;
         tick(&mut found).unwrap();
         assert_eq!(found, after, "{before:X?}");
@@ -217,7 +153,7 @@ fn worked_writes() {
         (hardware(0x1F, 7, 9, 0x1B), 0x120, 0x00, hardware(0x1F, 7, 9, 0x1B)),
     ] {
         for region in [0x0200_0000, 0x0A00_0000, 0xFA00_0000] {
-            let mut machine = Machine::new(&[], 0, 0);
+            let mut machine = machine_of(&[], 0, 0);
             machine.processor.hardware = before;
             machine.store(1, region + address, 0xAABB_CC00 | value);
             assert_eq!(machine.processor.hardware, after, "{value:X} at {address:X}");
@@ -229,7 +165,7 @@ fn worked_writes() {
 /// writes the low byte of the source.
 #[test]
 fn wide_accesses() {
-    let mut machine = Machine::new(&[], 0, 0);
+    let mut machine = machine_of(&[], 0, 0);
     machine.processor.hardware = hardware(0x1F, 0x1234, 0x5678, 0x1B);
     for (address, value) in [(0x18, 0x34), (0x1C, 0x12), (0x20, 0xFF), (0x24, 0), (0x14, 0)] {
         for size in [1, 2, 4] {
@@ -255,7 +191,7 @@ fn wide_accesses() {
 fn reset_timer() {
     let (processor, _) = reset();
     assert_eq!(processor.hardware, Hardware::default());
-    let machine = Machine::new(&[], 0, 0);
+    let machine = machine_of(&[], 0, 0);
     assert_eq!(machine.load(1, 0x0200_0020).value, 0xE4);
 }
 
@@ -298,10 +234,10 @@ fn refused_records() {
         assert_eq!(given.check(), expected, "{given:X?}");
         assert_eq!(tick(&mut given.clone()), expected);
         // with ID set, so that nothing is accepted
-        let mut machine = Machine::new(&[NOP], 0x1000, 0);
+        let mut machine = machine_of(&[NOP], 0x1000, 0);
         machine.processor.hardware = given;
         let before = machine.processor;
-        assert_eq!(machine.step().map(|_| ()), expected);
+        assert_eq!(machine.stepped().map(|_| ()), expected);
         assert_eq!(machine.processor == before, !legal);
         let memories = ReadMemories { rom: &machine.rom, wram: &[], vram: &[], pak: &[] };
         let loaded = load_byte(&memories, &machine.drawing, &given, 0);
@@ -314,7 +250,7 @@ fn refused_records() {
 fn a_program_lowers_its_line() {
     // ST.B r1, 0x20[r2]: clears Tim-Z-Int, and with it line 1
     let store = 0b110100 << 10 | 1 << 5 | 2;
-    let mut machine = Machine::new(&[store, 0x20, CLI, NOP], 0x1000, 0x02);
+    let mut machine = machine_of(&[store, 0x20, CLI, NOP], 0x1000, 0x02);
     machine.processor.hardware.control = 0x0B;
     machine.processor.registers[1] = 0x01;
     machine.processor.registers[2] = 0x0200_0000;

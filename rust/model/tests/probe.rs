@@ -6,28 +6,8 @@ use model::Refusal;
 
 #[test]
 fn worked_cases() {
-    use Width::{Byte, Word};
-    for (width, address, expected) in [
-        (Byte, 0x0001_DFFF, None),
-        (Byte, 0x0001_E000, Some(0x1E000)),
-        (Word, 0x0001_FFFF, Some(0x1FFFC)),
-        (Byte, 0x0002_0000, None),
-        (Byte, 0x0003_7FFF, None),
-        (Byte, 0x0003_8000, Some(0x38000)),
-        (Word, 0x0003_BFFF, Some(0x3BFFC)),
-        (Byte, 0x0003_C000, None),
-        (Byte, 0x0005_8000, None),
-        (Byte, 0x0005_F848, None),
-        (Byte, 0x0007_DFFF, None),
-        (Byte, 0x0007_E000, Some(0x1E000)),
-        (Byte, 0x0007_FFFF, Some(0x1FFFF)),
-        (Byte, 0x0009_E000, Some(0x1E000)),
-        (Byte, 0x00FF_E000, Some(0x1E000)),
-        (Byte, 0xF803_8000, Some(0x38000)),
-        (Byte, 0x0103_8000, None),
-        (Byte, 0x0503_8000, None),
-        (Byte, 0x0703_E000, None),
-    ] {
+    for (bytes, address, expected) in worked::PROBES {
+        let width = if bytes == 1 { Width::Byte } else { Width::Word };
         assert_eq!(target(address, width), expected, "{width:?} 0x{address:08X}");
     }
 }

@@ -1,55 +1,14 @@
 //! 01's worked rows about the processor, and facts of 000's tables.
 
+mod common;
+
+use common::Machine;
 use model::arithmetic::{condition_holds, CY, EP, ID, NP, OV, S, Z};
 use model::instruction::{
     decode, has_second_half, Decoded, Instruction, Operand, Operation, Width,
 };
-use model::processor::{reset, run, step};
-use model::{
-    Cause, DrawingRegisters, Memories, Mode, Processor, Refusal, StepAnswer, Stepped, Undefined,
-};
-
-/// A machine whose program starts in WRAM.
-struct Machine {
-    rom: Vec<u8>,
-    wram: Vec<u8>,
-    vram: Vec<u8>,
-    processor: Processor,
-    drawing: DrawingRegisters,
-}
-
-impl Machine {
-    fn new(program: &[u16]) -> Machine {
-        let mut wram = vec![0; 65_536];
-        for (at, half) in program.iter().enumerate() {
-            wram[2 * at..2 * at + 2].copy_from_slice(&half.to_le_bytes());
-        }
-        Machine {
-            rom: vec![0; 1_024],
-            wram,
-            vram: vec![0; 262_144],
-            processor: Processor { pc: 0x0500_0000, ..Processor::default() },
-            drawing: DrawingRegisters::default(),
-        }
-    }
-
-    fn stepped(&mut self) -> Result<Stepped, Refusal> {
-        let (rom, wram, vram) = (&self.rom, &mut self.wram, &mut self.vram);
-        let mut memories = Memories { rom, wram, vram, pak: &mut [] };
-        step(&mut memories, &mut self.processor, &mut self.drawing)
-    }
-
-    fn step(&mut self) -> Result<StepAnswer, Refusal> {
-        self.stepped().map(|stepped| stepped.answer)
-    }
-
-    fn run(&mut self, budget: u64) -> (u64, Option<Refusal>) {
-        let (rom, wram, vram) = (&self.rom, &mut self.wram, &mut self.vram);
-        let mut memories = Memories { rom, wram, vram, pak: &mut [] };
-        let ran = run(&mut memories, &mut self.processor, &mut self.drawing, budget);
-        (ran.count, ran.refusal)
-    }
-}
+use model::processor::reset;
+use model::{Cause, DrawingRegisters, Mode, Processor, Refusal, StepAnswer, Undefined};
 
 const fn format_i(opcode: u16, reg2: u16, reg1: u16) -> u16 {
     opcode << 10 | reg2 << 5 | reg1

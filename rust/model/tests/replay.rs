@@ -1,45 +1,21 @@
 //! Replay of a recorded trace (W10): each row of what a step beside a record gives.
 
-use model::arithmetic::NP;
-use model::replay::{record_bytes, record_of, replay, Ending, Replayed};
-use model::{DrawingRegisters, Hardware, Memories, Mode, Processor, Refusal};
+mod common;
 
-const NOP: u16 = 0x9A00;
+use common::{Machine, NOP};
+use model::arithmetic::NP;
+use model::replay::{record_bytes, record_of, Ending, Replayed};
+use model::{Hardware, Mode, Processor, Refusal};
+
 const HALT: u16 = 0b011010 << 10;
 const ILLEGAL: u16 = 0b011011 << 10;
 const CAXI: u16 = 0b111010 << 10;
 /// ADD 1, r1.
 const ADD_ONE: u16 = 0b010001 << 10 | 1 << 5 | 1;
 
-struct Machine {
-    rom: Vec<u8>,
-    wram: Vec<u8>,
-    vram: Vec<u8>,
-    processor: Processor,
-    drawing: DrawingRegisters,
-}
-
-impl Machine {
-    fn new(program: &[u16]) -> Machine {
-        let bytes = |halves: &[u16]| -> Vec<u8> {
-            halves.iter().flat_map(|half| half.to_le_bytes()).collect()
-        };
-        let mut wram = bytes(program);
-        wram.resize(65_536, 0);
-        Machine {
-            rom: bytes(&[NOP; 512]),
-            wram,
-            vram: vec![0; 262_144],
-            processor: Processor { pc: 0x0500_0000, ..Processor::default() },
-            drawing: DrawingRegisters::default(),
-        }
-    }
-
-    fn replay(&mut self, trace: &[u8]) -> Replayed {
-        let (rom, wram, vram) = (&self.rom, &mut self.wram, &mut self.vram);
-        let mut memories = Memories { rom, wram, vram, pak: &mut [] };
-        replay(&mut memories, &mut self.processor, &mut self.drawing, trace)
-    }
+fn replay(machine: &mut Machine, trace: &[u8]) -> Replayed {
+    let (mut memories, processor, drawing) = machine.lend();
+    model::replay::replay(&mut memories, processor, drawing, trace)
 }
 
 fn trace(records: &[[u32; 4]]) -> Vec<u8> {
@@ -51,11 +27,11 @@ const SECOND: [u32; 4] = [0x0500_0002, 0x0500_0004, 0, 2];
 
 #[test]
 fn all_agreed() {
-    let mut machine = Machine::new(&[ADD_ONE, ADD_ONE, NOP]);
-    let replayed = machine.replay(&trace(&[FIRST, SECOND]));
+    let mut machine = Machine::with_handlers(&[ADD_ONE, ADD_ONE, NOP]);
+    let replayed = replay(&mut machine, &trace(&[FIRST, SECOND]));
     assert_eq!(replayed, Replayed { ending: Ending::Agreed, agreed: 2 });
     assert_eq!((machine.processor.pc, machine.processor.registers[1]), (0x0500_0004, 2));
-    let replayed = machine.replay(&[]);
+    let replayed = replay(&mut machine, &[]);
     assert_eq!(replayed, Replayed { ending: Ending::Agreed, agreed: 0 });
 }
 
@@ -67,9 +43,9 @@ fn differing_words() {
         for (word, value) in wrong.iter_mut().enumerate() {
             *value ^= (set >> word & 1) * 0x1000;
         }
-        let mut machine = Machine::new(&[ADD_ONE, ADD_ONE, ADD_ONE]);
+        let mut machine = Machine::with_handlers(&[ADD_ONE, ADD_ONE, ADD_ONE]);
         let third = [0x0500_0004, 0x0500_0006, 0, 3];
-        let replayed = machine.replay(&trace(&[FIRST, wrong, third]));
+        let replayed = replay(&mut machine, &trace(&[FIRST, wrong, third]));
         let ending = Ending::Differed(set.trailing_zeros());
         assert_eq!(replayed, Replayed { ending, agreed: 1 });
         assert_eq!((machine.processor.pc, machine.processor.registers[1]), (0x0500_0004, 2));
@@ -85,14 +61,18 @@ fn told_first() {
         (ILLEGAL, NP, Ending::TurnedFatal),
     ] {
         for last in [SECOND, [0; 4], [0x0500_0002; 4]] {
-            let mut machine = Machine::new(&[ADD_ONE, code]);
+            let mut machine = Machine::with_handlers(&[ADD_ONE, code]);
             machine.processor.psw = psw;
             let first = [0x0500_0000, 0x0500_0002, psw, 1];
             let halt = [0x0500_0002, 0x0500_0004, 0, 1];
             let before = if code == HALT { vec![first, halt] } else { vec![first] };
             let agreed = before.len() as u64;
             let records = [&before[..], &[last]].concat();
-            assert_eq!(machine.replay(&trace(&records)), Replayed { ending, agreed }, "{code:X}");
+            assert_eq!(
+                replay(&mut machine, &trace(&records)),
+                Replayed { ending, agreed },
+                "{code:X}"
+            );
             let mode = match code {
                 HALT => Mode::Halted,
                 ILLEGAL => Mode::Fatal,
@@ -103,26 +83,26 @@ fn told_first() {
             assert_eq!((machine.processor.pc, machine.processor.registers[1]), (pc, 1));
         }
     }
-    let mut machine = Machine::new(&[ADD_ONE]);
+    let mut machine = Machine::with_handlers(&[ADD_ONE]);
     machine.processor.mode = Mode::Fatal;
-    let replayed = machine.replay(&trace(&[FIRST]));
+    let replayed = replay(&mut machine, &trace(&[FIRST]));
     assert_eq!(replayed, Replayed { ending: Ending::WasFatal, agreed: 0 });
-    assert_eq!(machine.replay(&[]).ending, Ending::Agreed);
+    assert_eq!(replay(&mut machine, &[]).ending, Ending::Agreed);
 }
 
 /// A trap and an acceptance, one that wakes too, have one record each.
 #[test]
 fn completed_steps() {
-    let mut machine = Machine::new(&[ILLEGAL]);
+    let mut machine = Machine::with_handlers(&[ILLEGAL]);
     let entered = [0x0500_0000, 0xFFFF_FF90, 0x5000, 0];
-    let replayed = machine.replay(&trace(&[entered]));
+    let replayed = replay(&mut machine, &trace(&[entered]));
     assert_eq!(replayed, Replayed { ending: Ending::Agreed, agreed: 1 });
     for mode in [Mode::Running, Mode::Halted] {
-        let mut machine = Machine::new(&[CAXI]);
+        let mut machine = Machine::with_handlers(&[CAXI]);
         machine.processor.mode = mode;
         machine.processor.hardware = Hardware { lines: 0x10, ..Hardware::default() };
         let accepted = [0x0500_0000, 0xFFFF_FE40, 0x0005_5000, 0];
-        let replayed = machine.replay(&trace(&[accepted]));
+        let replayed = replay(&mut machine, &trace(&[accepted]));
         assert_eq!(replayed, Replayed { ending: Ending::Agreed, agreed: 1 });
     }
 }
@@ -139,11 +119,11 @@ fn the_sum_wraps() {
 #[test]
 fn trace_lengths() {
     for length in [1, 15, 17, 31] {
-        let mut machine = Machine::new(&[CAXI]);
+        let mut machine = Machine::with_handlers(&[CAXI]);
         let ending = Ending::Refused(Refusal::TraceLength);
-        assert_eq!(machine.replay(&vec![0; length]), Replayed { ending, agreed: 0 });
+        assert_eq!(replay(&mut machine, &vec![0; length]), Replayed { ending, agreed: 0 });
         machine.processor.pc = 1;
         let ending = Ending::Refused(Refusal::Register);
-        assert_eq!(machine.replay(&vec![0; length]), Replayed { ending, agreed: 0 });
+        assert_eq!(replay(&mut machine, &vec![0; length]), Replayed { ending, agreed: 0 });
     }
 }

@@ -112,6 +112,23 @@ pub(crate) fn lengths(memories: &Memories) -> [usize; 4] {
     [memories.rom.len(), memories.wram.len(), memories.vram.len(), memories.pak.len()]
 }
 
+/// Stores of each width, all alike but for the boundary's call, which has the same name.
+macro_rules! stores {
+    ($($(#[$about:meta])* $store:ident;)*) => {$(
+        $(#[$about])*
+        pub fn $store(
+            &mut self,
+            memories: &mut Memories,
+            address: u32,
+            value: u32,
+        ) -> Result<(), Refusal> {
+            let (drawing, hardware) = ((&self.drawing).into(), self.hardware());
+            let stored = vbsys::$store(memories, drawing, hardware, address, value);
+            self.stored(memories, stored)
+        }
+    )*};
+}
+
 impl Machine {
     /// The state after reset; no memory is touched.
     pub fn reset() -> Machine {
@@ -171,40 +188,13 @@ impl Machine {
         Given { lengths, processor: None, drawing: &self.drawing, hardware }.refusal(number, &[])
     }
 
-    /// Stores the low byte of `value`; at a register of the VIP its low halfword.
-    pub fn store_byte(
-        &mut self,
-        memories: &mut Memories,
-        address: u32,
-        value: u32,
-    ) -> Result<(), Refusal> {
-        let stored =
-            vbsys::store_byte(memories, (&self.drawing).into(), self.hardware(), address, value);
-        self.stored(memories, stored)
-    }
-
-    /// Stores the low halfword of `value`.
-    pub fn store_half(
-        &mut self,
-        memories: &mut Memories,
-        address: u32,
-        value: u32,
-    ) -> Result<(), Refusal> {
-        let stored =
-            vbsys::store_half(memories, (&self.drawing).into(), self.hardware(), address, value);
-        self.stored(memories, stored)
-    }
-
-    /// Stores a word.
-    pub fn store_word(
-        &mut self,
-        memories: &mut Memories,
-        address: u32,
-        value: u32,
-    ) -> Result<(), Refusal> {
-        let stored =
-            vbsys::store_word(memories, (&self.drawing).into(), self.hardware(), address, value);
-        self.stored(memories, stored)
+    stores! {
+        /// Stores the low byte of `value`; at a register of the VIP its low halfword.
+        store_byte;
+        /// Stores the low halfword of `value`.
+        store_half;
+        /// Stores a word.
+        store_word;
     }
 
     fn stored(&mut self, memories: &Memories, stored: vbsys::Stored) -> Result<(), Refusal> {

@@ -228,68 +228,41 @@ impl Drawing {
     }
 }
 
-/// The boundary's form of the records.
-impl From<&Processor> for vbsys::Processor {
-    fn from(p: &Processor) -> Self {
-        vbsys::Processor {
-            regs: p.regs,
-            pc: p.pc,
-            eipc: p.eipc,
-            eipsw: p.eipsw,
-            fepc: p.fepc,
-            fepsw: p.fepsw,
-            ecr: p.ecr,
-            psw: p.psw,
-            sr25: p.sr25,
-            sr29: p.sr29,
-            sr31: p.sr31,
-            mode: p.mode.number(),
-            hardware: (&p.hardware).into(),
+/// A record and the boundary's form of it, of the same fields, each way; fields after `;` are turned too.
+macro_rules! alike {
+    ($record:ident: $($field:ident),*; $($turned:ident),*) => {
+        impl From<&$record> for vbsys::$record {
+            fn from(record: &$record) -> Self {
+                vbsys::$record {
+                    $($field: record.$field,)*
+                    $($turned: (&record.$turned).into(),)*
+                }
+            }
         }
+
+        impl From<&vbsys::$record> for $record {
+            fn from(record: &vbsys::$record) -> Self {
+                $record { $($field: record.$field,)* $($turned: (&record.$turned).into(),)* }
+            }
+        }
+    };
+}
+
+alike!(
+    Processor: regs, pc, eipc, eipsw, fepc, fepsw, ecr, psw, sr25, sr29, sr31; mode, hardware
+);
+alike!(Hardware: lines, count, reload, control;);
+alike!(Drawing: spt, gplt, jplt, bkcol;);
+
+impl From<&Mode> for u32 {
+    fn from(mode: &Mode) -> u32 {
+        mode.number()
     }
 }
 
-impl From<&vbsys::Processor> for Processor {
+impl From<&u32> for Mode {
     /// The library gives back no mode but 0 to 2.
-    fn from(p: &vbsys::Processor) -> Self {
-        Processor {
-            regs: p.regs,
-            pc: p.pc,
-            eipc: p.eipc,
-            eipsw: p.eipsw,
-            fepc: p.fepc,
-            fepsw: p.fepsw,
-            ecr: p.ecr,
-            psw: p.psw,
-            sr25: p.sr25,
-            sr29: p.sr29,
-            sr31: p.sr31,
-            mode: Mode::of(p.mode).expect("a mode of vb.h"),
-            hardware: (&p.hardware).into(),
-        }
-    }
-}
-
-impl From<&Hardware> for vbsys::Hardware {
-    fn from(h: &Hardware) -> Self {
-        vbsys::Hardware { lines: h.lines, count: h.count, reload: h.reload, control: h.control }
-    }
-}
-
-impl From<&vbsys::Hardware> for Hardware {
-    fn from(h: &vbsys::Hardware) -> Self {
-        Hardware { lines: h.lines, count: h.count, reload: h.reload, control: h.control }
-    }
-}
-
-impl From<&Drawing> for vbsys::Drawing {
-    fn from(d: &Drawing) -> Self {
-        vbsys::Drawing { spt: d.spt, gplt: d.gplt, jplt: d.jplt, bkcol: d.bkcol }
-    }
-}
-
-impl From<&vbsys::Drawing> for Drawing {
-    fn from(d: &vbsys::Drawing) -> Self {
-        Drawing { spt: d.spt, gplt: d.gplt, jplt: d.jplt, bkcol: d.bkcol }
+    fn from(number: &u32) -> Mode {
+        Mode::of(*number).expect("a mode of vb.h")
     }
 }

@@ -3,50 +3,13 @@
 
 use vb::{display, load_column_table, Refusal, View, ROOM_LENGTH};
 
-/// The recommended column table, the 32 rows as they are printed.
-const PRINTED: &str = "
-FE 00 FE 00 FE 00 FE 00  FE 00 FE 00 FE 00 FE 00
-FE 00 FE 00 FE 00 FE 00  FE 00 FE 00 FE 00 FE 00
-FE 00 FE 00 FE 00 FE 00  FE 00 FE 00 FE 00 FE 00
-FE 00 FE 00 FE 00 FE 00  FE 00 FE 00 FE 00 FE 00
-FE 00 FE 00 FE 00 FE 00  FE 00 FE 00 FE 00 FE 00
-FE 00 FE 00 FE 00 FE 00  FE 00 FE 00 FE 00 FE 00
-FE 00 FE 00 FE 00 FE 00  FE 00 FE 00 FE 00 FE 00
-FE 00 FE 00 FE 00 FE 00  FE 00 FE 00 E0 00 BC 00
-A6 00 96 00 8A 00 82 00  7A 00 74 00 6E 00 6A 00
-66 00 62 00 60 00 5C 00  5A 00 58 00 56 00 54 00
-52 00 50 00 50 00 4E 00  4C 00 4C 00 4A 00 4A 00
-48 00 48 00 46 00 46 00  46 00 44 00 44 00 44 00
-42 00 42 00 42 00 40 00  40 00 40 00 40 00 40 00
-3E 00 3E 00 3E 00 3E 00  3E 00 3E 00 3E 00 3C 00
-3C 00 3C 00 3C 00 3C 00  3C 00 3C 00 3C 00 3C 00
-3C 00 3C 00 3C 00 3C 00  3C 00 3C 00 3C 00 3C 00
-3C 00 3C 00 3C 00 3C 00  3C 00 3C 00 3C 00 3C 00
-3C 00 3C 00 3C 00 3C 00  3C 00 3C 00 3C 00 3C 00
-3C 00 3E 00 3E 00 3E 00  3E 00 3E 00 3E 00 3E 00
-40 00 40 00 40 00 40 00  40 00 42 00 42 00 42 00
-44 00 44 00 44 00 46 00  46 00 46 00 48 00 48 00
-4A 00 4A 00 4C 00 4C 00  4E 00 50 00 50 00 52 00
-54 00 56 00 58 00 5A 00  5C 00 60 00 62 00 66 00
-6A 00 6E 00 74 00 7A 00  82 00 8A 00 96 00 A6 00
-BC 00 E0 00 FE 00 FE 00  FE 00 FE 00 FE 00 FE 00
-FE 00 FE 00 FE 00 FE 00  FE 00 FE 00 FE 00 FE 00
-FE 00 FE 00 FE 00 FE 00  FE 00 FE 00 FE 00 FE 00
-FE 00 FE 00 FE 00 FE 00  FE 00 FE 00 FE 00 FE 00
-FE 00 FE 00 FE 00 FE 00  FE 00 FE 00 FE 00 FE 00
-FE 00 FE 00 FE 00 FE 00  FE 00 FE 00 FE 00 FE 00
-FE 00 FE 00 FE 00 FE 00  FE 00 FE 00 FE 00 FE 00
-FE 00 FE 00 FE 00 FE 00  FE 00 FE 00 FE 00 FE 00
-";
-
 const TABLES: std::ops::Range<usize> = 0x3DC00..0x3E000;
 
 const LEFT: View = View { frame: 0, eye: 0, start: 95, durations: [1, 2, 3] };
 
 #[test]
 fn the_table_is_the_printed_one_for_both_eyes() {
-    let printed: Vec<u8> =
-        PRINTED.split_whitespace().map(|byte| u8::from_str_radix(byte, 16).unwrap()).collect();
+    let printed = worked::column_table();
     assert_eq!(printed.len(), 512);
     let mut vram: Vec<u8> = (0..262_144u32).map(|i| (i * 7 % 251) as u8).collect();
     let before = vram.clone();

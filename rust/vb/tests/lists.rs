@@ -1,28 +1,9 @@
 //! Lists of accesses through the library: against single calls, and every refusal.
 
-use vb::{read, write, Access, Machine, Memories, ReadMemories, Refusal};
+mod common;
 
-struct Bench {
-    rom: Vec<u8>,
-    wram: Vec<u8>,
-    vram: Vec<u8>,
-    pak: Vec<u8>,
-}
-
-impl Bench {
-    fn of(pak: usize) -> Bench {
-        let some = |n: usize| (0..n).map(|i| (i * 31 + 7) as u8).collect();
-        Bench { rom: some(1024), wram: some(65_536), vram: some(262_144), pak: some(pak) }
-    }
-
-    fn lent(&mut self) -> Memories<'_> {
-        Memories { rom: &self.rom, wram: &mut self.wram, vram: &mut self.vram, pak: &mut self.pak }
-    }
-
-    fn bytes(&self) -> [&[u8]; 4] {
-        [&self.rom, &self.wram, &self.vram, &self.pak]
-    }
-}
+use common::Bench;
+use vb::{read, write, Access, Machine, ReadMemories, Refusal};
 
 /// The access made by a single call.
 fn single(machine: &mut Machine, bench: &mut Bench, access: &mut Access) {
@@ -58,7 +39,7 @@ fn a_list_is_its_single_calls() {
         }
     }
     for pak in [0, 1, 2, 8_192] {
-        let (mut first, mut second) = (Bench::of(pak), Bench::of(pak));
+        let (mut first, mut second) = (Bench::of(pak, 7), Bench::of(pak, 7));
         let (mut one, mut other) = (Machine::reset(), Machine::reset());
         let mut singles = list.clone();
         singles.iter_mut().for_each(|access| single(&mut other, &mut second, access));
@@ -71,7 +52,7 @@ fn a_list_is_its_single_calls() {
 
 #[test]
 fn a_read_sees_the_writes_before_it() {
-    let mut bench = Bench::of(0);
+    let mut bench = Bench::of(0, 7);
     let mut list = [
         write(0x0500_0010, 4, 0x1122_3344),
         read(0x0501_0011, 2),
@@ -84,7 +65,7 @@ fn a_read_sees_the_writes_before_it() {
 
 #[test]
 fn refusals_are_told_and_nothing_changes() {
-    let mut bench = Bench::of(0);
+    let mut bench = Bench::of(0, 7);
     let before = bench.bytes().map(<[u8]>::to_vec);
     let mut machine = Machine::reset();
     let given = vec![write(0x0500_0000, 4, 1); 257];

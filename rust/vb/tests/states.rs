@@ -1,36 +1,17 @@
 //! Saved states through the library: the contents as the papers lay them out, read back, and every refusal.
 
+mod common;
+
+use common::Bench;
 use vb::{
-    move_state, salvage_state, state_2_bytes, state_bytes, Hardware, Machine, Memories, Mode,
-    ReadMemories, Refusal, Salvaged,
+    move_state, salvage_state, state_2_bytes, state_bytes, Hardware, Machine, Mode, Refusal,
+    Salvaged,
 };
 
 const WITHOUT_PAK: &str = "04 00 01 00 2A 00 00 00 AC 00 00 00 02 00 D6 00 00 00 1A 00 00 00 \
                            03 00 F0 00 00 00 00 00 01 00 04 00 F0 00 01 00 00 00 04 00";
 const WITH_PAK: &str = "05 00 01 00 34 00 00 00 AC 00 00 00 02 00 E0 00 00 00 1A 00 00 00 03 00 FA 00 00 00 00 00 01 00 \
                         04 00 FA 00 01 00 00 00 04 00 05 00 FA 00 05 00 00 20 00 00";
-
-struct Bench {
-    rom: Vec<u8>,
-    wram: Vec<u8>,
-    vram: Vec<u8>,
-    pak: Vec<u8>,
-}
-
-impl Bench {
-    fn of(pak: usize, seed: usize) -> Bench {
-        let some = |n: usize| (0..n).map(|i| (i * 31 + seed) as u8).collect();
-        Bench { rom: some(1024), wram: some(65_536), vram: some(262_144), pak: some(pak) }
-    }
-
-    fn read(&self) -> ReadMemories<'_> {
-        ReadMemories { rom: &self.rom, wram: &self.wram, vram: &self.vram, pak: &self.pak }
-    }
-
-    fn lent(&mut self) -> Memories<'_> {
-        Memories { rom: &self.rom, wram: &mut self.wram, vram: &mut self.vram, pak: &mut self.pak }
-    }
-}
 
 fn machine() -> Machine {
     let mut machine = Machine::reset();

@@ -50,15 +50,9 @@ fn hardware(lines: u16, count: u16, reload: u16, control: u16) -> Hardware {
 
 #[test]
 fn worked_ticks() {
-    for (before, after) in [
-        (hardware(0x00, 2, 5, 0x09), hardware(0x00, 1, 5, 0x09)),
-        (hardware(0x00, 1, 5, 0x09), hardware(0x02, 0, 5, 0x0B)),
-        (hardware(0x02, 0, 5, 0x0B), hardware(0x02, 4, 5, 0x0B)),
-        (hardware(0x00, 1, 5, 0x11), hardware(0x00, 0, 5, 0x13)),
-        (hardware(0x00, 0, 0, 0x01), hardware(0x00, 0, 0, 0x03)),
-        (hardware(0x00, 0, 1, 0x01), hardware(0x00, 0, 1, 0x03)),
-        (hardware(0x1F, 1, 5, 0x08), hardware(0x1F, 1, 5, 0x08)),
-    ] {
+    for row in worked::TICKS {
+        let [before, after] =
+            row.map(|[lines, count, reload, control]| hardware(lines, count, reload, control));
         let mut machine = Bench::new(before).machine;
         machine.tick().expect("not refused");
         assert_eq!(machine.processor.hardware, after);

@@ -3,7 +3,7 @@
 
 use std::collections::BTreeMap;
 
-const SOURCE: &str = include_str!("../src/lib.rs");
+const SOURCE: &str = include_str!("../src/raw.rs");
 const HEADER: &str = include_str!("../../../include/vb.h");
 
 /// The answer's type, then each argument's type and name, in C's words.
@@ -45,7 +45,7 @@ fn c_type(rust: &str) -> String {
 
 fn rust_signatures(declarations: &str, into: &mut Signatures) {
     for declaration in declarations.split(';').map(words).filter(|text| !text.is_empty()) {
-        let text = declaration.strip_prefix("fn ").expect("a function");
+        let text = declaration.strip_prefix("pub fn ").expect("a function");
         let (name, _) = text.split_once('(').expect("arguments");
         let arguments = block(text, 0, '(', ')').split(',').map(str::trim);
         let arguments = arguments.filter(|text| !text.is_empty()).map(|argument| {
@@ -58,23 +58,25 @@ fn rust_signatures(declarations: &str, into: &mut Signatures) {
     }
 }
 
-/// What this crate declares: in its macros, once for each use, and directly.
+/// What this crate declares: by its macro, and directly.
 fn declared() -> Signatures {
     let mut signatures = Signatures::new();
-    let mut direct = SOURCE.to_string();
-    for name in ["load", "on_memories", "probe"] {
-        let at = SOURCE.find(&format!("macro_rules! {name} ")).expect("the macro");
-        let body = block(SOURCE, at, '{', '}');
-        direct = direct.replace(body, "");
-        let inside = block(body, body.find("extern \"C\"").expect("declarations"), '{', '}');
-        for (at, _) in SOURCE.match_indices(&format!("{name}!(")) {
-            let used = words(block(SOURCE, at, '(', ')'));
-            let (_, function) = used.split_once(", ").expect("wrapper, function");
-            let named = function.split(['(', ' ']).next().expect("a name");
-            let mut text = inside.replace("$function", named);
-            if let Some((head, answer)) = function.split_once("->") {
-                text = text.replace("$($name: $kind),*", block(head, 0, '(', ')'));
-                text = text.replace("$answer", answer.trim());
+    let at = SOURCE.find("macro_rules! on_memories").expect("the macro");
+    let body = block(SOURCE, at, '{', '}');
+    let each = block(body, body.find("extern \"C\"").expect("declarations"), '{', '}').trim();
+    let each = each.strip_prefix("$(").and_then(|text| text.strip_suffix(")*")).expect("a call");
+    let direct = SOURCE.replace(body, "");
+    for (at, _) in direct.match_indices("on_memories! {") {
+        let used = words(block(&direct, at, '{', '}'));
+        let (memories, calls) = used.split_once(']').expect("how memories are lent");
+        for call in calls.split(';').map(str::trim).filter(|text| !text.is_empty()) {
+            let (head, answer) = call.split_once("->").expect("an answer");
+            let (name, _) = head.split_once('(').expect("arguments");
+            let mut text = each.replace("$function", name).replace("$answer", answer.trim());
+            text = text.replace("$($name: $kind),*", block(head, 0, '(', ')'));
+            for memory in memories.trim_start_matches('[').split(',') {
+                let (memory, way) = memory.trim().split_once(": ").expect("memory: way");
+                text = text.replace(&format!("${memory}"), way);
             }
             rust_signatures(&text, &mut signatures);
         }
@@ -132,7 +134,12 @@ fn declarations_are_those_of_the_header() {
 
 #[test]
 fn no_other_module_has_foreign_functions() {
-    for text in [include_str!("../../vb/src/lib.rs"), include_str!("../../model/src/lib.rs")] {
+    for text in [
+        include_str!("../src/lib.rs"),
+        include_str!("../src/calls.rs"),
+        include_str!("../../vb/src/lib.rs"),
+        include_str!("../../model/src/lib.rs"),
+    ] {
         assert!(!text.contains("extern \"C\""));
     }
     assert!(include_str!("../../vb/src/lib.rs").contains("#![forbid(unsafe_code)]"));

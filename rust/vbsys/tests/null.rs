@@ -2,40 +2,11 @@
 
 use std::ptr::{null, null_mut};
 
+use vbsys::raw::*;
 use vbsys::{Drawing, Hardware, Loaded, Stored};
 
 /// The four memories of a call, for reading.
 type Pointers = [(*const u8, usize); 4];
-
-extern "C" {
-    fn vb_load_word(
-        rom: *const u8,
-        rom_len: usize,
-        wram: *const u8,
-        wram_len: usize,
-        vram: *const u8,
-        vram_len: usize,
-        pak: *const u8,
-        pak_len: usize,
-        drawing: Drawing,
-        hardware: Hardware,
-        address: u32,
-    ) -> Loaded;
-    fn vb_store_word(
-        rom: *const u8,
-        rom_len: usize,
-        wram: *mut u8,
-        wram_len: usize,
-        vram: *mut u8,
-        vram_len: usize,
-        pak: *mut u8,
-        pak_len: usize,
-        drawing: Drawing,
-        hardware: Hardware,
-        address: u32,
-        value: u32,
-    ) -> Stored;
-}
 
 fn load(memories: Pointers, address: u32) -> Loaded {
     let [rom, wram, vram, pak] = memories;
@@ -108,10 +79,6 @@ fn null_memories_of_length_0_are_refused() {
 #[cfg(feature = "drawing")]
 #[test]
 fn null_vram_of_length_0_is_refused() {
-    extern "C" {
-        fn vb_draw_frame(vram: *mut u8, vram_len: usize, drawing: Drawing, frame: u32) -> u32;
-        fn vb_character(vram: *const u8, vram_len: usize, character: u32) -> vbsys::Part;
-    }
     // SAFETY: null is passed with length 0.
     let (frame, part) = unsafe {
         (vb_draw_frame(null_mut(), 0, Drawing::default(), 2), vb_character(null(), 0, 0))
@@ -123,18 +90,6 @@ fn null_vram_of_length_0_is_refused() {
 #[cfg(feature = "drawing")]
 #[test]
 fn a_null_room_of_length_0_takes_no_address() {
-    extern "C" {
-        fn vb_pixel_bytes(
-            vram: *const u8,
-            vram_len: usize,
-            drawing: Drawing,
-            eye: u32,
-            x: u32,
-            y: u32,
-            room: *mut u32,
-            room_len: usize,
-        ) -> vbsys::Listed;
-    }
     let vram = vec![0xFFu8; 262_144];
     // SAFETY: null is passed with length 0; VRAM is lent with its length.
     let (none, listed) = unsafe {
@@ -151,21 +106,6 @@ fn a_null_room_of_length_0_takes_no_address() {
 #[cfg(feature = "drawing")]
 #[test]
 fn null_buffers_of_the_display_unit_are_refused() {
-    extern "C" {
-        fn vb_display(
-            vram: *const u8,
-            vram_len: usize,
-            frame: u32,
-            eye: u32,
-            start: u32,
-            brta: u8,
-            brtb: u8,
-            brtc: u8,
-            room: *mut u8,
-            room_len: usize,
-        ) -> u32;
-        fn vb_load_column_table(vram: *mut u8, vram_len: usize) -> u32;
-    }
     let vram = vec![9u8; 262_144];
     // SAFETY: null is passed with length 0; VRAM is lent with its length.
     let (both, room, loaded) = unsafe {
@@ -180,20 +120,6 @@ fn null_buffers_of_the_display_unit_are_refused() {
 
 #[test]
 fn a_probe_may_be_lent_null_memories_of_length_0() {
-    extern "C" {
-        fn vb_probe_word(
-            rom: *const u8,
-            rom_len: usize,
-            wram: *const u8,
-            wram_len: usize,
-            vram: *mut u8,
-            vram_len: usize,
-            pak: *const u8,
-            pak_len: usize,
-            address: u32,
-            value: u32,
-        ) -> u32;
-    }
     let (rom, wram, mut vram) = (vec![7u8; 1_024], vec![8u8; 65_536], vec![9u8; 262_144]);
     // SAFETY: each pointer is null with length 0 or lent with its length.
     let probe = |wram: (*const u8, usize), vram: (*mut u8, usize)| unsafe {

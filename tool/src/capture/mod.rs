@@ -62,24 +62,17 @@ impl Capture {
 
     /// Reads 384 by 224 pixels, each a square of the same number of PNG pixels, in four shades of red or grey.
     fn of_png(bytes: &[u8], threshold: u8) -> Result<Capture, String> {
-        let samples = Samples::read(bytes, size_fits)?;
-        let scale = samples.width / COLUMNS;
-        let mut levels: Vec<Level> = (0..4).map(Level::of).collect();
-        let mut values = Vec::with_capacity(COLUMNS * ROWS);
-        for y in 0..ROWS {
-            // rows that are stored alike are looked at once
-            let alike = samples.rows_alike(scale * y, scale);
-            let rows = if alike { 1 } else { scale };
-            for x in 0..COLUMNS {
-                let square = Square { samples: &samples, scale, rows, x, y, allowed: ALLOWED };
-                let colour = if threshold == 0 { square.exact()? } else { square.mean()? };
-                let value =
-                    value_of(colour, threshold).ok_or_else(|| square.wrong(colour, threshold))?;
-                levels[value as usize].count(colour[0]);
-                values.push(value);
-            }
-        }
-        let levels = (threshold > 0).then_some(levels);
+        let seen = each_square(bytes, ALLOWED, |square| {
+            let colour = if threshold == 0 { square.exact()? } else { square.mean()? };
+            let value = value_of(colour, threshold).ok_or_else(|| square.wrong(colour, threshold));
+            Ok((value?, colour[0]))
+        })?;
+        let levels = (threshold > 0).then(|| {
+            let mut levels: Vec<Level> = (0..4).map(Level::of).collect();
+            seen.iter().for_each(|&(value, red)| levels[value as usize].count(red));
+            levels
+        });
+        let values = seen.into_iter().map(|(value, _)| value).collect();
         Ok(Capture { picture: Picture::of_values(values), levels })
     }
 }
@@ -90,18 +83,51 @@ pub fn exact_values(
     value: impl Fn([u8; 3]) -> Option<u8>,
     allowed: &str,
 ) -> Result<Vec<u8>, String> {
+    each_square(bytes, allowed, |square| {
+        let colour = square.exact()?;
+        value(colour).ok_or_else(|| square.wrong(colour, 0))
+    })
+}
+
+/// How many colours are remembered. A clean capture has four.
+const MOST_KNOWN: usize = 8;
+
+/// What `of` gives for the square of each pixel, row by row. It is asked once for a colour that is stored alike in
+/// whole squares, for the first few of them.
+fn each_square<T: Copy>(
+    bytes: &[u8],
+    allowed: &str,
+    of: impl Fn(&Square) -> Result<T, String>,
+) -> Result<Vec<T>, String> {
     let samples = Samples::read(bytes, size_fits)?;
     let scale = samples.width / COLUMNS;
-    let mut values = Vec::with_capacity(COLUMNS * ROWS);
+    let mut known: Vec<(u32, T)> = Vec::with_capacity(MOST_KNOWN);
+    let mut all = Vec::with_capacity(COLUMNS * ROWS);
     for y in 0..ROWS {
+        // rows that are stored alike are looked at once
         let rows = if samples.rows_alike(scale * y, scale) { 1 } else { scale };
+        let stored = if rows == 1 { samples.stored(scale * y) } else { None };
         for x in 0..COLUMNS {
-            let square = Square { samples: &samples, scale, rows, x, y, allowed };
-            let colour = square.exact()?;
-            values.push(value(colour).ok_or_else(|| square.wrong(colour, 0))?);
+            let one = stored.as_deref().and_then(|row| alike(&row[scale * x..scale * (x + 1)]));
+            let before = one.and_then(|one| known.iter().find(|before| before.0 == one));
+            if let Some(&(_, found)) = before {
+                all.push(found);
+                continue;
+            }
+            let found = of(&Square { samples: &samples, scale, rows, x, y, allowed })?;
+            if let Some(one) = one.filter(|_| known.len() < MOST_KNOWN) {
+                known.push((one, found));
+            }
+            all.push(found);
         }
     }
-    Ok(values)
+    Ok(all)
+}
+
+/// The one number of them all.
+fn alike(numbers: &[u32]) -> Option<u32> {
+    let (&first, others) = numbers.split_first()?;
+    others.iter().all(|&other| other == first).then_some(first)
 }
 
 fn size_fits(width: usize, height: usize) -> Result<(), String> {

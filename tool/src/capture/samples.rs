@@ -92,6 +92,21 @@ impl Samples {
         (first + 1..first + count).all(|y| row(y) == row(first))
     }
 
+    /// What is stored for each pixel of a row, as a number: pixels with the same number have the same colour. None where
+    /// a sample has not eight bits.
+    pub fn stored(&self, y: usize) -> Option<Vec<u32>> {
+        let row = &self.data[y * self.line..(y + 1) * self.line];
+        let number = |pixel: &[u8]| pixel.iter().fold(0, |all, &byte| all << 8 | u32::from(byte));
+        // lengths that the compiler knows make it a loop without calls
+        match (self.depth, self.colour.samples()) {
+            (8, 1) => Some(row.iter().map(|&byte| u32::from(byte)).collect()),
+            (8, 2) => Some(row.chunks_exact(2).map(number).collect()),
+            (8, 3) => Some(row.chunks_exact(3).map(number).collect()),
+            (8, _) => Some(row.chunks_exact(4).map(number).collect()),
+            _ => None,
+        }
+    }
+
     /// Sample n of a row as it is stored.
     fn sample(&self, y: usize, n: usize) -> u16 {
         let row = &self.data[y * self.line..];

@@ -31,7 +31,7 @@ const LISTED: usize = 10;
 #[command(after_help = "Example: a picture against the model's, then the pixel that differs
   vbmodel demo
   vbmodel compare --vram out/vram.bin --drawing out/drawing.bin --frame 1 --left out/frame0-left.png --why
-  vbmodel why left 220 40 --vram out/vram.bin --drawing out/drawing.bin
+  vbmodel why left 297 9 --vram out/vram.bin --drawing out/drawing.bin
 
 A capture is a raw frame buffer of 24,576 bytes (rows 224 to 255 are not compared), a whole VRAM of 262,144 bytes, or a
 PNG of 384 by 224 pixels, or 2 to 16 times that, in opaque red or grey of 00, 55, AA and FF for the values 0 to 3. With

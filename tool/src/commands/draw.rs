@@ -99,11 +99,13 @@ pub struct Views {
 
 impl Views {
     pub fn of(vram: &[u8], frame: u32) -> Views {
-        let picture = |eye: u32| {
-            let offset = image_offset(frame, eye);
-            Picture::of_image(&vram[offset..offset + IMAGE_LENGTH])
-        };
-        Views { left: picture(0), right: picture(1) }
+        Views { left: Views::one(vram, frame, 0), right: Views::one(vram, frame, 1) }
+    }
+
+    /// One eye's picture.
+    pub fn one(vram: &[u8], frame: u32, eye: u32) -> Picture {
+        let offset = image_offset(frame, eye);
+        Picture::of_image(&vram[offset..offset + IMAGE_LENGTH])
     }
 
     /// The files `frameN-left.png` and so on.

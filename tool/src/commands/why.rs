@@ -5,7 +5,7 @@ use model::world::Eye;
 use vb::{image_offset, COLUMNS, ROWS};
 
 use super::Report;
-use crate::explain::{explain, Question};
+use crate::explain::{explain, Explanation, Question};
 use crate::failure::Failure;
 use crate::number;
 use crate::scene::{Read, Scene};
@@ -65,11 +65,31 @@ pub fn run(options: &Options) -> Result<Report, Failure> {
     let (vram, drawing) = (scene.vram.bytes.as_slice(), &scene.drawing);
     let every_object = options.objects;
     let told = explain(&Question { vram, drawing, eye, x, y, library_value, every_object })?;
-    Ok(Report::new(told.text(), &told, if told.agree { 0 } else { FAULT }))
+    Ok(report(&told))
+}
+
+fn report(told: &Explanation) -> Report {
+    Report::new(told.text(), told, if told.agree { 0 } else { FAULT })
 }
 
 /// The library's value of the pixel; its refusals come first.
 fn drawn_by_library(scene: &Read, eye: Eye, x: u32, y: u32) -> Result<u8, Failure> {
     let vram = scene.drawn(0)?;
     Ok(vb::pixel(&vram[image_offset(0, eye.number())..], x as usize, y as usize))
+}
+
+#[cfg(test)]
+mod tests {
+    use super::*;
+
+    #[test]
+    fn wrong_7_a_disagreement_of_model_and_library_has_its_own_status() {
+        let (vram, drawing) = (vec![0; vb::VRAM_LENGTH], vb::Drawing::default());
+        for (library_value, status) in [(0, 0), (1, 3)] {
+            let (vram, drawing, eye) = (vram.as_slice(), &drawing, Eye::Left);
+            let asked =
+                Question { vram, drawing, eye, x: 3, y: 5, library_value, every_object: false };
+            assert_eq!(report(&explain(&asked).unwrap()).status, status);
+        }
+    }
 }

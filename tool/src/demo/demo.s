@@ -1,6 +1,7 @@
 ; The demo: a pier by night. It fills characters, background maps, worlds of all four kinds, their parameters and
 ; objects, then halts for each frame, as a program of this console waits for its frame interrupt.
-; After the interrupt it goes on with the next frame: the pier, the sea, the ball and the boat have moved.
+; After the interrupt it goes on with the next frame: the pier, the sea, the ball and the boat have moved, and the moon
+; has turned. The moon's turn and the pier's distances are worked out by floating instructions.
 
     .equ vram_maps,   0x20000
     .equ sky_map,     0x20000
@@ -11,6 +12,7 @@
     .equ text_map,    0x2C000
     .equ pier_rows,   0x38000      ; parameters, 16 bytes a row
     .equ title_rows,  0x39000
+    .equ moon_rows,   0x39800
     .equ sea_rows,    0x3A000      ; parameters, 4 bytes a row
     .equ blank_cell,  0x3B000      ; the overplane's cell
     .equ world_table, 0x3D800
@@ -231,6 +233,10 @@ world_half:
     ST.H r0, 0x70[r25]             ; BKCOL black
     LI wram, r23
     ST.W r0, 0x100[r23]            ; the frame's number
+    MOV 1, r10
+    CVT.WS r10, r10
+    ST.W r10, 0x104[r23]           ; the moon's turn: cosine 1, sine 0
+    ST.W r0, 0x108[r23]
 
 ; What moves. r21 is the frame's number, read through a mirror of WRAM.
 frame:
@@ -248,6 +254,7 @@ frame:
     SUB r15, r14
     LI 76800, r15
     LI 144000, r16
+    CVT.WS r16, r16
     MOVEA 203, r0, r17
 pier_row:
     MOV r15, r10
@@ -259,8 +266,10 @@ pier_row:
     MOVEA 2048, r0, r12
     SUB r11, r12
     ST.H r12, 0[r7]                ; MX
+    CVT.WS r8, r13
     MOV r16, r11
-    DIVU r8, r11
+    DIVF.S r13, r11
+    TRNC.SW r11, r11
     MOV r14, r12
     SUB r11, r12
     ST.H r12, 4[r7]                ; MY
@@ -275,6 +284,71 @@ pier_row:
     MOVEA 112, r0, r11
     CMP r11, r8
     BNZ pier_row
+
+; The moon: with each frame it turns by the angle whose cosine is 12/13 and whose sine is 5/13, about 22.6 degrees.
+    MOV 13, r10
+    CVT.WS r10, r10
+    MOV 12, r11
+    CVT.WS r11, r11
+    DIVF.S r10, r11
+    MOV 5, r12
+    CVT.WS r12, r12
+    DIVF.S r10, r12
+    LD.W 0x104[r23], r13
+    LD.W 0x108[r23], r14
+    MOV r13, r15
+    MULF.S r11, r15
+    MOV r14, r16
+    MULF.S r12, r16
+    SUBF.S r16, r15                ; cosine c
+    MULF.S r12, r13
+    MULF.S r11, r14
+    ADDF.S r13, r14                ; sine s
+    ST.W r15, 0x104[r23]
+    ST.W r14, 0x108[r23]
+
+; Its 64 rows of 64 columns, turned about their middle:
+;   step  DX = 512 * c, DY = 512 * s
+;   source  MX = 256 - 252 * c - (8 * j - 252) * s      MY = 256 - 252 * s + (8 * j - 252) * c      each the nearest
+    MOVEA 512, r0, r10
+    CVT.WS r10, r10
+    MOV r15, r17
+    MULF.S r10, r17
+    CVT.SW r17, r17                ; DX
+    MULF.S r14, r10
+    CVT.SW r10, r18                ; DY
+    MOVEA 252, r0, r9
+    CVT.WS r9, r9
+    MOVEA 256, r0, r19
+    CVT.WS r19, r19
+    MOV r19, r20
+    MOV r9, r10
+    MULF.S r15, r10
+    SUBF.S r10, r19                ; 256 - 252 * c
+    MULF.S r14, r9
+    SUBF.S r9, r20                 ; 256 - 252 * s
+    LI moon_rows, r7
+    MOVEA -252, r0, r8
+moon_row:
+    CVT.WS r8, r9
+    MOV r9, r10
+    MULF.S r14, r10
+    MOV r19, r11
+    SUBF.S r10, r11
+    CVT.SW r11, r11
+    ST.H r11, 0[r7]                ; MX
+    ST.H r0, 2[r7]                 ; MP
+    MULF.S r15, r9
+    ADDF.S r20, r9
+    CVT.SW r9, r9
+    ST.H r9, 4[r7]                 ; MY
+    ST.H r17, 6[r7]
+    ST.H r18, 8[r7]
+    ADDI 16, r7, r7
+    ADD 8, r8
+    MOVEA 260, r0, r10
+    CMP r10, r8
+    BNZ moon_row
 
 ; The sea: 112 rows, j below the horizon. Waves of 1 + j / 14 columns; t = 12 - 17 * j / 128 columns between the eyes.
     LI sea_rows, r7
@@ -442,7 +516,7 @@ gulls_done:
 ; Flags, GX, GP, GY, MX, MP, MY, W, H, parameter base, overplane; world 31, the furthest, first.
 worlds:
     .half 0xC000,   0,  0,   0,   0, -7,  0, 383, 111, 0, 0           ; normal: the sky
-    .half 0xC001, 276,  6,   8,   0,  0,  0,  63,  63, 0, 0           ; normal: the moon
+    .half 0xE081, 276,  6,   8,   0,  0,  0,  63,  63, 0xCC00, 0xD800 ; affine: the moon
     .half 0xC003,   0,  0,  80,  64, -6,  0, 383,  31, 0, 0           ; normal: the mountains
     .half 0xD002,   0,  0, 112,  64,  0,  0, 383, 111, 0xD000, 0      ; H-bias: the sea
     .half 0xF000,   0,  0,   0,   0,  0,  0,   0,   0, 0, 0           ; objects: boat and gulls
@@ -483,6 +557,9 @@ characters:
     MOVEA 0xFFFF, r0, r26
     ST.H r26, 4[r24]               ; INTCLR
     RETI
+    .org 0x0700FF60
+floating:
+    BR floating
     .org 0x0700FF80
 zero_divisor:
     BR zero_divisor

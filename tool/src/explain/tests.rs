@@ -17,7 +17,7 @@ fn wrong_7_a_disagreement_of_model_and_library_is_said_in_its_own_words() {
 }
 
 #[test]
-fn the_lists_are_held_against_each_other() {
+fn deliver_4_lists_that_differ_are_told() {
     let of = |library: &[u32]| Lists { model: vec![1, 2], library: library.to_vec() };
     assert!(of(&[1, 2]).head().ends_with("2, proved; the independent model's are the same:"));
     for other in [&[1][..], &[1, 3], &[2, 1], &[1, 2, 2]] {

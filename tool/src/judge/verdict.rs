@@ -122,13 +122,13 @@ impl Judged {
         (self.vram, self.drawing) = (Some(scene.vram.name()), Some(scene.drawing_file.name()));
         self.read.extend(scene.vram.identity);
         self.read.extend(scene.drawing_file.identity);
-        let views = Views::of(&scene.drawn(self.frame)?, self.frame);
+        let drawn = scene.drawn(self.frame)?;
         for (eye, input) in captures(part)? {
             self.read.extend(input.identity);
             let threshold = part.threshold.unwrap_or(0);
             let wanted = Wanted { frame: self.frame, eye: eye.number(), threshold };
             let capture = Capture::read(&input, wanted)?;
-            let expected = if eye == Eye::Left { &views.left } else { &views.right };
+            let expected = Views::one(&drawn, self.frame, eye.number());
             self.eyes.push(judge_eye(&scene, eye, input.name(), expected, capture, wish)?);
         }
         Ok(())
@@ -170,12 +170,11 @@ fn judge_eye(
     scene: &Read,
     eye: Eye,
     name: String,
-    expected: &Picture,
+    expected: Picture,
     capture: Capture,
     wish: Wish,
 ) -> Result<EyeJudged, Failure> {
-    let seen = &capture.picture;
-    let found = differences(expected, seen);
+    let found = differences(&expected, &capture.picture);
     let bounds = Bounds::of(&found);
     let mut judged = EyeJudged {
         eye: eye_name(eye),
@@ -187,7 +186,7 @@ fn judge_eye(
         first: Vec::new(),
         levels: capture.levels,
         agree: true,
-        shown: wish.pictures.then(|| (expected.clone(), seen.clone())),
+        shown: wish.pictures.then_some((expected, capture.picture)),
         pictures: None,
     };
     if let Some(bounds) = bounds {

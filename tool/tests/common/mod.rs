@@ -82,6 +82,32 @@ impl Folder {
         Ran::of(output)
     }
 
+    /// What a line of shell shows here on a terminal, which `script` stands in for; none where that is not installed. The
+    /// tool's path is in $VB.
+    pub fn terminal(&self, line: &str) -> Option<String> {
+        let shown = Command::new("script")
+            .args(["-qec", line, "/dev/null"])
+            .env("VB", env!("CARGO_BIN_EXE_vbmodel"))
+            .current_dir(&self.0)
+            .output();
+        shown.ok().map(|shown| String::from_utf8(shown.stdout).unwrap())
+    }
+
+    /// A folder with `a.rom`: code at the reset address, and handlers of the five levels of interrupts.
+    pub fn with_rom(name: &str, code: &[u16], handler: &[u16]) -> Folder {
+        let folder = Folder::new(name);
+        let mut rom = vec![0; 1024];
+        let mut put = |at: usize, code: &[u16]| {
+            for (room, half) in rom[at..].chunks_mut(2).zip(code) {
+                room.copy_from_slice(&half.to_le_bytes());
+            }
+        };
+        put(0x3F0, code);
+        (0..5).for_each(|level| put(0x200 + 16 * level, handler));
+        folder.write("a.rom", &rom);
+        folder
+    }
+
     /// Runs the demo into `out` and leaves its files there.
     pub fn with_demo(name: &str) -> Folder {
         let folder = Folder::new(name);
