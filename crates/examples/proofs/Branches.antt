@@ -1,16 +1,16 @@
 -- The laws of specs/Branches, proved: the fetched halfword is decoded by its row of the table, and the condition is that
 -- row's, true or false in every PSW.
-use Prim.Native.Nat.{ℕ, _+_, _-_, _%_, _^_, _<_}
+use Prim.Native.Nat.{ℕ, _+_, _-_, _%_, _^_}
 use mathlib.Core.Bool.{false}
 use mathlib.Core.List.{List}
-use mathlib.Core.Path.{_≡_, refl, ap, _∙_}
+use mathlib.Core.Path.{_≡_, ap, _∙_}
 use native.Mathlib.Omega.{arith}
 use Rattle.word.specs.Extend.{extendOf}
 use Rattle.bus.specs.Memory.{Memory, loadOf}
 use Rattle.processor_arithmetic.specs.Condition.{conditionOf}
 use Rattle.processor_decode.specs.Opcode.{decodeOf, shortRows, branchRows, longRows}
 use Rattle.processor_decode.specs.declared.Instruction.the-variants.{Bcond}
-use Rattle.processor_machine.specs.State.{Stepped, stateOf, steppedOf}
+use Rattle.processor_machine.specs.State.{stateOf, steppedOf}
 use Rattle.processor_machine.specs.declared.Mode.the-variants.{Running}
 use Rattle.processor_machine.specs.declared.Answer.the-variants.{Ended}
 use Rattle.processor_execute.specs.Execute.{executeOf}

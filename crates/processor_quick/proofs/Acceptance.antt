@@ -1,5 +1,4 @@
--- Acceptance inside a stretch: PSW above its four flags decides of it, SEI lets nothing through, and SEI and CLI leave the
--- flags as they are.
+-- Acceptance inside a stretch: PSW above its four flags decides of it, and SEI lets nothing through.
 use Prim.Native.Nat.{ℕ, _+_, _-_, _*_, _/_, _%_, _^_}
 use mathlib.Core.Bool.{Bool, true, false}
 use mathlib.Core.Path.{_≡_, refl, sym, ap, _∙_}
@@ -8,8 +7,8 @@ use borrow.Author.Tests.{eq-eqb}
 use lib.Dec.{eqb}
 use lib.Pow.{shr-shr}
 use Rattle.word.specs.Choose.{pick}
-use Rattle.processor_arithmetic.specs.Flag.{flagOf, signOf, zeroOf, setIdOf, clearIdOf, flagsOf}
-use Rattle.processor_flags.specs.Packed.{valueOf, carryOf, overflowOf, packedOf}
+use Rattle.processor_arithmetic.specs.Flag.{flagOf, setIdOf}
+use Rattle.processor_flags.specs.Packed.{packedOf}
 use Rattle.processor_flags.specs.declared.Flags.{Flags}
 use Rattle.processor_flags.proofs.Kept.{packed-high}
 use Rattle.processor_interrupt.specs.Interrupt.{levelOf, maskingLevelOf, allowsOf, acceptsOf}
@@ -47,40 +46,3 @@ pub accepts-id : (lines psw : ℕ) → acceptsOf lines (setIdOf psw) Running ≡
 unfolding acceptsOf allowsOf
 accepts-id lines psw =
     simp (eq-eqb (flagOf 4096 (setIdOf psw)) 1 (id-set psw), pick-false)
-
--- a number of IDs more is as many more above the flags
-lift : (y n : ℕ) → (y + n * 4096) / 16 ≡ y / 16 + n * 256
-lift y n = omega arith
-
--- p is PSW with other flags
-module _ (psw p low : ℕ) (e : p ≡ psw / 16 * 16 + low) (high : p / 4096 ≡ psw / 4096) where
-  without : psw / 16 ≡ (psw - psw / 4096 % 2 * 4096) / 16 + psw / 4096 % 2 * 256
-  without =
-      let k : psw - psw / 4096 % 2 * 4096 + psw / 4096 % 2 * 4096 ≡ psw = omega arith in
-      rw k at (lift (psw - psw / 4096 % 2 * 4096) (psw / 4096 % 2))
-
-  clear-low : (psw - psw / 4096 % 2 * 4096) / 16 * 16 + low ≡ p - p / 4096 % 2 * 4096
-  clear-low = rw high (omega (arith, without, e))
-
-  set-low : (psw - psw / 4096 % 2 * 4096 + 4096) / 16 * 16 + low ≡ p - p / 4096 % 2 * 4096 + 4096
-  set-low = omega (arith, clear-low, lift (psw - psw / 4096 % 2 * 4096) 1)
-
--- the flags stay
-module _ (psw : ℕ) (g : Flags) where
-  abbrev low : ℕ
-  low = carryOf g * 8 + overflowOf g * 4 + signOf (valueOf g) * 2 + zeroOf (valueOf g)
-
-  same : packedOf psw g ≡ psw / 16 * 16 + low
-  unfolding packedOf flagsOf
-  same = omega arith
-
-  high : packedOf psw g / 4096 ≡ psw / 4096
-  high = above 8 (packedOf psw g) psw (packed-high psw g)
-
-  pub set-packed : packedOf (setIdOf psw) g ≡ setIdOf (packedOf psw g)
-  unfolding packedOf flagsOf setIdOf
-  set-packed = omega (arith, set-low psw (packedOf psw g) low same high)
-
-  pub clear-packed : packedOf (clearIdOf psw) g ≡ clearIdOf (packedOf psw g)
-  unfolding packedOf flagsOf clearIdOf
-  clear-packed = omega (arith, clear-low psw (packedOf psw g) low same high)

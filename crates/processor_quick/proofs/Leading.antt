@@ -1,5 +1,6 @@
 -- One instruction more of a stretch: what the dispatch did is the step of the definition.
-use Prim.Native.Nat.{ℕ, zero, suc, _+_, _-_, _%_, _^_, _<_, _≤_}
+use Prim.Native.Nat.{ℕ, zero, suc, _+_, _-_, _/_, _%_, _^_, _<_, _≤_}
+use mathlib.Core.Bool.{Bool}
 use mathlib.Core.List.{List}
 use mathlib.Core.Path.{_≡_, refl, sym, ap, subst, _∙_}
 use native.Mathlib.Omega.{arith}
@@ -14,18 +15,16 @@ use Rattle.processor_machine.specs.State.{State, stateOf, steppedOf}
 use Rattle.processor_machine.specs.declared.Mode.the-variants.{Running}
 use Rattle.processor_step.specs.Step.{nextOf, performOf, secondOf, runningStepOf}
 use Rattle.processor_quick_compute.specs.Quick.{addressOf, machineOf, Does, Dispatches}
-use Rattle.processor_quick.specs.Controlled.{Quiet, ControlsCode}
 use Rattle.processor_quick.specs.Leads.{Stays, Leads, none, more, Stretched}
 use Rattle.processor_quick_compute.specs.declared.Quick.{Quick}
 use Rattle.processor_quick_compute.specs.declared.Quick.the-variants.{Done, Other}
-use Rattle.processor_quick.specs.declared.Controlled as controlled
 use Rattle.processor_quick.proofs.Acceptance.{accepts-packed}
 
 -- what stays in the middle of a stretch
-pub stays-here : (regs₀ regs sys₀ sys rom wram₀ wram vram₀ vram pak device : List ℕ) (pc psw above base x : ℕ) (g : Flags) → Quiet (getD device 13 0) psw above
-    → Stays (stateOf regs₀ sys₀ pc psw Running) (memoryOf rom wram₀ vram₀ pak device) (machineOf regs sys base x above g) (memoryOf rom wram vram pak device)
-stays-here regs₀ regs sys₀ sys rom wram₀ wram vram₀ vram pak device pc psw above base x g quiet =
-    record { mode = refl; unaccepted = λ u. accepts-packed (getD device 13 0) above g Running ∙ quiet u }
+pub stays-here : (regs₀ regs sys rom wram₀ wram vram₀ vram pak device : List ℕ) (pc psw base x : ℕ) (g : Flags)
+    → Stays (stateOf regs₀ sys pc psw Running) (memoryOf rom wram₀ vram₀ pak device) (machineOf regs sys base x psw g) (memoryOf rom wram vram pak device)
+stays-here regs₀ regs sys rom wram₀ wram vram₀ vram pak device pc psw base x g =
+    record { mode = refl; unaccepted = λ u. accepts-packed (getD device 13 0) psw g Running ∙ u }
 
 -- the step at an index, from the halfwords there
 step-at : (regs sys : List ℕ) (base x psw f s : ℕ) (g : Flags) (m : Memory) → loadOf m 2 (addressOf base x) ≡ f → loadOf m 2 ((addressOf base x + 2) % 2 ^ 32) ≡ s
@@ -47,23 +46,11 @@ module _ (s₀ : State) (m₀ : Memory) (n : ℕ) (regs regs' sys : List ℕ) (b
   pub aligned-more : (to wide ov : ℕ) → r ≡ Done to wide ov → to % 2 ≡ 0
   aligned-more to wide ov e = (rw e at (dispatched psw sys even aligned)) .1
 
-  -- it was left, and is one on the system registers
-  module _ (left : r ≡ Other) (lines : ℕ) (q : controlled.Controlled) (regs'' sys' : List ℕ) (controls : ControlsCode lines f q psw g regs' sys regs'' sys') where
-    pub control-more : Stays s₀ m₀ (machineOf regs sys base x psw g) m → (p k : ℕ) → q ≡ controlled.the-variants.Done p → k ≡ suc n
-        → Leads s₀ m₀ k (machineOf regs'' sys' base ((x + 2) % 2 ^ 32) p g) m'
-    control-more stays p k e h =
-        let d = rw left at (dispatched psw sys even aligned) in
-        let t = rw e at (controls m base x s) in
-        rw (h, d .1) (more before stays ((rw (d .0) at (t .0)) ∙ step-at regs sys base x psw f s g m first second))
-
-    pub control-quiet : (p : ℕ) → q ≡ controlled.the-variants.Done p → Quiet lines psw p
-    control-quiet p e = (rw e at (controls m base x s)) .1
-
-    pub control-same : q ≡ controlled.the-variants.Other → Leads s₀ m₀ n (machineOf regs'' sys' base x psw g) m'
-    control-same e =
-        let d = rw left at (dispatched psw sys even aligned) in
-        let t = rw e at (controls m base x s) in
-        rw (t .0, t .1, d .0, d .1) before
+  -- it was left
+  pub leads-same : r ≡ Other → Leads s₀ m₀ n (machineOf regs' sys base x psw g) m'
+  leads-same e =
+      let d = rw e at (dispatched psw sys even aligned) in
+      rw (d .0, d .1) before
 
 -- before the first
 pub leads-none : (regs sys : List ℕ) (pc psw base x : ℕ) (g : Flags) (m : Memory) (n : ℕ) → (x + base) % 2 ^ 32 ≡ pc → packedOf psw g ≡ psw → n ≡ 0
@@ -76,16 +63,16 @@ pub start-even : (pc base x : ℕ) → x < 2 ^ 32 → pc % 2 ≡ 0 → base % 2 
 start-even pc base x h p b e = omega arith
 
 -- where a stretch ends
-pub ends : (budget left : ℕ) (regs₀ regs sys₀ sys rom wram₀ wram vram₀ vram pak device : List ℕ) (pc psw above base x to status : ℕ) (g : Flags) → Quiet (getD device 13 0) psw above
-    → to ≡ addressOf base x → status ≡ packedOf above g
-    → Leads (stateOf regs₀ sys₀ pc psw Running) (memoryOf rom wram₀ vram₀ pak device) (budget - left) (machineOf regs sys base x above g) (memoryOf rom wram vram pak device)
-    → Stretched budget (stateOf regs₀ sys₀ pc psw Running) (memoryOf rom wram₀ vram₀ pak device) (budget - left) (stateOf regs sys to status Running) (memoryOf rom wram vram pak device)
-ends budget left regs₀ regs sys₀ sys rom wram₀ wram vram₀ vram pak device pc psw above base x to status g quiet e h l =
+pub ends : (budget left : ℕ) (regs₀ regs sys rom wram₀ wram vram₀ vram pak device : List ℕ) (pc psw base x to status : ℕ) (g : Flags)
+    → to ≡ addressOf base x → status ≡ packedOf psw g
+    → Leads (stateOf regs₀ sys pc psw Running) (memoryOf rom wram₀ vram₀ pak device) (budget - left) (machineOf regs sys base x psw g) (memoryOf rom wram vram pak device)
+    → Stretched budget (stateOf regs₀ sys pc psw Running) (memoryOf rom wram₀ vram₀ pak device) (budget - left) (stateOf regs sys to status Running) (memoryOf rom wram vram pak device)
+ends budget left regs₀ regs sys rom wram₀ wram vram₀ vram pak device pc psw base x to status g e h l =
     rw (e, h)
     (record {
       within = omega arith;
       leads = l;
-      stays = stays-here regs₀ regs sys₀ sys rom wram₀ wram vram₀ vram pak device pc psw above base x g quiet;
+      stays = stays-here regs₀ regs sys rom wram₀ wram vram₀ vram pak device pc psw base x g;
     })
 
 -- none at all

@@ -1,4 +1,5 @@
 mod Acceptance
 mod Fetches
 mod Leading
+mod Stretches
 mod Written

@@ -27,7 +27,7 @@ pub record Stretched (budget : ℕ) (s₀ : State) (m₀ : Memory) (n : ℕ) (s 
   pub leads : Leads s₀ m₀ n s m
   pub stays : Stays s₀ m₀ s m
 
--- the same put together from the lent registers and memories and what the code returns
-abbrev pub stretchedBy : ℕ → List ℕ → List ℕ → ℕ → ℕ → Memory → List ℕ → List ℕ → Progress → Memory → Type 0
-stretchedBy budget regs₀ sys₀ pc psw m₀ regs sys r m =
-    Stretched budget (stateOf regs₀ sys₀ pc psw Running) m₀ (r .count) (stateOf regs sys (r .pc) (r .psw) Running) m
+-- the same put together from the lent registers and memories and what the code returns, for all system registers
+abbrev pub stretchedBy : ℕ → List ℕ → ℕ → ℕ → Memory → List ℕ → Progress → Memory → Type 0
+stretchedBy budget regs₀ pc psw m₀ regs r m =
+    (sys : List ℕ) → Stretched budget (stateOf regs₀ sys pc psw Running) m₀ (r .count) (stateOf regs sys (r .pc) (r .psw) Running) m

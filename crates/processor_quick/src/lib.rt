@@ -6,8 +6,7 @@ mod position;
 pub mod stretch;
 mod system;
 
-// What an instruction on the system registers did: it goes on at the following one, with this PSW above the flags; or
-// nothing.
+// What an instruction on the system registers did: it goes on at the following one, with this PSW; or nothing.
 pub enum Controlled {
     Done { psw: u32 },
     Other,

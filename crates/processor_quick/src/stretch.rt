@@ -1,20 +1,20 @@
-// At most `budget` of the common instructions. `above` is PSW above its flags, which are kept beside it.
-use crate::Controlled;
+// At most `budget` of the common instructions.
 use crate::Progress;
 use crate::dispatch::dispatch;
 use crate::position::fetch;
-use crate::system::control;
+use crate::system::controls;
 use bus::Device;
 use processor_flags::Flags;
 use processor_flags::status;
 use processor_quick_compute::Quick;
-use processor_quick_compute::field::after_one;
 ghost use lib.ListN.{length};
 ghost use mathlib.Core.Path.{_≡_};
 ghost use Prim.Native.Nat.{_%_};
 ghost use Rattle.bus.specs.Memory.{memoryOf, Lengths};
+ghost use Rattle.processor_machine.specs.State.{stateOf};
+ghost use Rattle.processor_machine.specs.declared.Mode.{Mode};
 ghost use Rattle.processor_quick.specs.Stands.{Stands};
-ghost use Rattle.processor_quick.specs.Leads.{stretchedBy};
+ghost use Rattle.processor_quick.specs.Leads.{stretchedBy, Stretched};
 
 // Code from `base` on: as long as it stays below index `last`.
 fn inside(
@@ -24,7 +24,6 @@ fn inside(
     pak: &[u8],
     device: &Device,
     regs: &mut [u32; 32],
-    sys: &mut [u32; 8],
     pc: u32,
     psw: u32,
     budget: u64,
@@ -33,10 +32,9 @@ fn inside(
     last: u32,
 ) -> Progress
     requires { ⌜ Lengths (length (now rom)) (length (now wram)) (length (now vram)) (length (now pak)) × Stands (length (now rom)) in_rom base last × (pc % 2 ≡ 0) × (psw % 4 ≡ 3 → ⊥) ⌝ }
-    ensures { λ r. ⌜ stretchedBy budget (now (regs .entry)) (now (sys .entry)) pc psw (memoryOf (now (rom .entry)) (now (wram .entry)) (now (vram .entry)) (now (pak .entry)) (now (device .entry))) (now (regs .exit)) (now (sys .exit)) r (memoryOf (now (rom .entry)) (now (wram .exit)) (now (vram .exit)) (now (pak .entry)) (now (device .entry))) ⌝ }
+    ensures { λ r. ⌜ stretchedBy budget (now (regs .entry)) pc psw (memoryOf (now (rom .entry)) (now (wram .entry)) (now (vram .entry)) (now (pak .entry)) (now (device .entry))) (now (regs .exit)) r (memoryOf (now (rom .entry)) (now (wram .exit)) (now (vram .exit)) (now (pak .entry)) (now (device .entry))) ⌝ }
 {
     let mut x = std::num::wrapping_sub_u32(pc, base);
-    let mut above = psw;
     let mut flags = status::unpacked(psw);
     let mut left = budget;
     while 0 < left {
@@ -44,7 +42,7 @@ fn inside(
             return Progress {
                 count: budget - left,
                 pc: std::num::wrapping_add_u32(base, x),
-                psw: status::packed(above, flags),
+                psw: status::packed(psw, flags),
             };
         }
         let w = fetch(rom, wram, in_rom, x as usize);
@@ -67,44 +65,35 @@ fn inside(
                 left -= 1;
             }
             Quick::Other => {
-                match control(device, regs, sys, w % 65536, above, flags) {
-                    Controlled::Done { psw: p } => {
-                        x = after_one(x);
-                        above = p;
-                        left -= 1;
-                    }
-                    Controlled::Other => {
-                        return Progress {
-                            count: budget - left,
-                            pc: std::num::wrapping_add_u32(base, x),
-                            psw: status::packed(above, flags),
-                        };
-                    }
-                }
+                return Progress {
+                    count: budget - left,
+                    pc: std::num::wrapping_add_u32(base, x),
+                    psw: status::packed(psw, flags),
+                };
             }
         }
     }
     Progress {
         count: budget - left,
         pc: std::num::wrapping_add_u32(base, x),
-        psw: status::packed(above, flags),
+        psw: status::packed(psw, flags),
     }
 }
 
-pub fn stretch(
+// The common instructions at PC, as long as there are any.
+fn common(
     rom: &[u8],
     wram: &mut [u8],
     vram: &mut [u8],
     pak: &[u8],
     device: &Device,
     regs: &mut [u32; 32],
-    sys: &mut [u32; 8],
     pc: u32,
     psw: u32,
     budget: u64,
 ) -> Progress
     requires { ⌜ Lengths (length (now rom)) (length (now wram)) (length (now vram)) (length (now pak)) ⌝ }
-    ensures { λ r. ⌜ stretchedBy budget (now (regs .entry)) (now (sys .entry)) pc psw (memoryOf (now (rom .entry)) (now (wram .entry)) (now (vram .entry)) (now (pak .entry)) (now (device .entry))) (now (regs .exit)) (now (sys .exit)) r (memoryOf (now (rom .entry)) (now (wram .exit)) (now (vram .exit)) (now (pak .entry)) (now (device .entry))) ⌝ }
+    ensures { λ r. ⌜ stretchedBy budget (now (regs .entry)) pc psw (memoryOf (now (rom .entry)) (now (wram .entry)) (now (vram .entry)) (now (pak .entry)) (now (device .entry))) (now (regs .exit)) r (memoryOf (now (rom .entry)) (now (wram .exit)) (now (vram .exit)) (now (pak .entry)) (now (device .entry))) ⌝ }
 {
     if pc % 2 != 0 {
         return Progress { count: 0, pc, psw };
@@ -123,7 +112,6 @@ pub fn stretch(
             pak,
             device,
             regs,
-            sys,
             pc,
             psw,
             budget,
@@ -141,7 +129,6 @@ pub fn stretch(
             pak,
             device,
             regs,
-            sys,
             pc,
             psw,
             budget,
@@ -151,4 +138,58 @@ pub fn stretch(
         );
     }
     Progress { count: 0, pc, psw }
+}
+
+// The common instructions and those on the system registers, in turn.
+pub fn stretch(
+    rom: &[u8],
+    wram: &mut [u8],
+    vram: &mut [u8],
+    pak: &[u8],
+    device: &Device,
+    regs: &mut [u32; 32],
+    sys: &mut [u32; 8],
+    pc: u32,
+    psw: u32,
+    budget: u64,
+) -> Progress
+    requires { ⌜ Lengths (length (now rom)) (length (now wram)) (length (now vram)) (length (now pak)) ⌝ }
+    ensures { λ r. ⌜ Stretched budget (stateOf (now (regs .entry)) (now (sys .entry)) pc psw Mode.Running) (memoryOf (now (rom .entry)) (now (wram .entry)) (now (vram .entry)) (now (pak .entry)) (now (device .entry))) (r .count) (stateOf (now (regs .exit)) (now (sys .exit)) (r .pc) (r .psw) Mode.Running) (memoryOf (now (rom .entry)) (now (wram .exit)) (now (vram .exit)) (now (pak .entry)) (now (device .entry))) ⌝ }
+{
+    let mut at = pc;
+    let mut status = psw;
+    let mut n: u64 = 0;
+    while n < budget {
+        let q = common(rom, wram, vram, pak, device, regs, at, status, budget - n);
+        at = q.pc;
+        status = q.psw;
+        n += q.count;
+        let c = controls(
+            rom,
+            wram,
+            vram,
+            pak,
+            device,
+            regs,
+            sys,
+            at,
+            status,
+            budget - n,
+        );
+        at = c.pc;
+        status = c.psw;
+        n += c.count;
+        if c.count == 0 {
+            return Progress {
+                count: n,
+                pc: at,
+                psw: status,
+            };
+        }
+    }
+    Progress {
+        count: n,
+        pc: at,
+        psw: status,
+    }
 }

@@ -1,8 +1,7 @@
 -- `processor_quick::system::cli`: its own case, where nothing is accepted after it.
 use mathlib.Core.Path.{sym, _∙_}
 use Rattle.processor_execute.specs.Execute.{executeOf}
-use Rattle.processor_quick_compute.proofs.Results.{after-one}
-use Rattle.processor_quick.proofs.Acceptance.{clear-packed}
+use Rattle.processor_step.specs.Step.{nextOf}
 use borrow.Author.Needs.{needs}
 use Rattle.processor_quick.proofs.system.cli.Statement.{statement}
 use Rattle.processor_quick.proofs.system.cli.Tie as tie
@@ -17,11 +16,8 @@ returns : tie.Need-returns
 returns c = search needs
 
 returns-2 : tie.Need-returns-2
-unfolding executeOf
-returns-2 c = λ regs sys m base x.
-    let a = c .before .before .before .args in
-    let e = c .before .before .clear-id .ensures in
-    (rw (e, after-one base x, clear-packed (a .psw) (a .flags)), λ u. sym (c .before .accepts .ensures) ∙ c .if1 .left)
+unfolding executeOf nextOf
+returns-2 c = λ regs sys m pc. (rw (c .before .before .clear-id .ensures), λ u. sym (c .before .accepts .ensures) ∙ c .if1 .left)
 
 pub cli-spec : {M : Type 1} → statement M
 cli-spec = tie.close (tie.spec clear-id-requires accepts-requires returns returns-2)

@@ -1,6 +1,5 @@
 -- `processor_quick::system::control`: each arm is the row of its opcode.
 use denote.Ref.{now}
-use mathlib.Core.Path.{refl}
 use Rattle.processor_decode.specs.Opcode.{decodeOf, shortRows, branchRows, longRows}
 use borrow.Author.Needs.{needs}
 use Rattle.processor_quick.proofs.system.control.Statement.{statement}
@@ -25,21 +24,21 @@ returns : tie.Need-returns
 unfolding decodeOf shortRows
 returns c =
     let a = c .before .before .before .args in
-    rw (c .before .before .match .keys1) (λ m base x s. c .cli .ensures (now (a .regs)) (now (a .sys)) m base x)
+    rw (c .before .before .match .keys1) (λ m pc s. c .cli .ensures (now (a .regs)) (now (a .sys)) m pc)
 
 returns-2 : tie.Need-returns-2
 unfolding decodeOf shortRows
-returns-2 c = rw (c .before .before .before .match .keys2) (λ m base x s. c .ldsr .ensures _ m base x)
+returns-2 c = rw (c .before .before .before .match .keys2) (λ m pc s. c .ldsr .ensures _ m pc)
 
 returns-3 : tie.Need-returns-3
 unfolding decodeOf shortRows
-returns-3 c = rw (c .before .before .before .match .keys3) (λ m base x s. c .stsr .ensures _ m base x)
+returns-3 c = rw (c .before .before .before .match .keys3) (λ m pc s. c .stsr .ensures _ m pc)
 
 returns-4 : tie.Need-returns-4
 unfolding decodeOf shortRows
 returns-4 c =
     let a = c .before .before .args in
-    rw (c .before .match .keys4) (λ m base x s. c .sei .ensures _ (now (a .regs)) (now (a .sys)) m base x)
+    rw (c .before .match .keys4) (λ m pc s. c .sei .ensures _ (now (a .regs)) (now (a .sys)) m pc)
 
 returns-5 : tie.Need-returns-5
 returns-5 c = search needs

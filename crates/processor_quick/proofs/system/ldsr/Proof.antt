@@ -1,5 +1,6 @@
 -- `processor_quick::system::ldsr`: its own case, but for registers 24 and 5, PSW.
 use borrow.Author.Tests.{ne-eqb}
+use Rattle.processor_step.specs.Step.{nextOf}
 use Rattle.processor_quick.proofs.Written.{written-does}
 use borrow.Author.Needs.{needs}
 use Rattle.processor_quick.proofs.system.ldsr.Statement.{statement}
@@ -14,21 +15,16 @@ returns-2 c = search needs
 reg2-requires : tie.Need-reg2-requires
 reg2-requires c κs = search needs
 
-packed-requires : tie.Need-packed-requires
-packed-requires c κs = search needs
-
 write-requires : tie.Need-write-requires
 write-requires c κs = search needs
 
 returns-3 : tie.Need-returns-3
-returns-3 c = λ lines m base x.
-    let a = c .before .before .before .before .before .before .args in (
-      rw (ne-eqb _ _ (c .before .before .before .before .before .if1 .left))
-          (written-does base x (a .psw) _ _ _ _ _ _ (a .flags) m (c .before .before .before .before .if2 .left)
-          (rw (c .before .before .packed .ensures, c .before .before .before .reg2 .ensures) at (c .write .ensures))),
-      λ u. u,
-    )
+unfolding nextOf
+returns-3 c = λ lines m pc. (
+  rw (ne-eqb _ _ (c .before .before .before .before .if1 .left))
+      (written-does pc _ _ _ _ _ _ _ _ m (c .before .before .before .if2 .left) (rw (c .before .before .reg2 .ensures) at (c .write .ensures))),
+  λ u. u,
+)
 
 pub ldsr-spec : {M : Type 1} → statement M
-ldsr-spec =
-    tie.close (tie.spec returns returns-2 reg2-requires packed-requires write-requires returns-3)
+ldsr-spec = tie.close (tie.spec returns returns-2 reg2-requires write-requires returns-3)

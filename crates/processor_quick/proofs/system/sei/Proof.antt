@@ -1,7 +1,7 @@
 -- `processor_quick::system::sei`: its own case.
 use Rattle.processor_execute.specs.Execute.{executeOf}
-use Rattle.processor_quick_compute.proofs.Results.{after-one}
-use Rattle.processor_quick.proofs.Acceptance.{accepts-id, set-packed}
+use Rattle.processor_step.specs.Step.{nextOf}
+use Rattle.processor_quick.proofs.Acceptance.{accepts-id}
 use borrow.Author.Needs.{needs}
 use Rattle.processor_quick.proofs.system.sei.Statement.{statement}
 use Rattle.processor_quick.proofs.system.sei.Tie as tie
@@ -10,11 +10,8 @@ set-id-requires : tie.Need-set-id-requires
 set-id-requires c κs = search needs
 
 returns : tie.Need-returns
-unfolding executeOf
-returns c = λ lines regs sys m base x.
-    let a = c .before .args in
-    let e = c .set-id .ensures in
-    (rw (e, after-one base x, set-packed (a .psw) (a .flags)), λ u. rw e (accepts-id lines (a .psw)))
+unfolding executeOf nextOf
+returns c = λ lines regs sys m pc. (rw (c .set-id .ensures), λ u. rw (c .set-id .ensures) (accepts-id lines (c .before .args .psw)))
 
 pub sei-spec : {M : Type 1} → statement M
 sei-spec = tie.close (tie.spec set-id-requires returns)
