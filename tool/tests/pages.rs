@@ -4,28 +4,14 @@ mod common;
 
 use common::Folder;
 
-const COMMANDS: [&str; 12] = [
-    "demo",
-    "run",
-    "step",
-    "draw",
-    "compare",
-    "judge",
-    "why",
-    "asm",
-    "disasm",
-    "state",
-    "completions",
-    "man",
-];
-
 #[test]
 fn deliver_8_completions_know_every_command() {
     let folder = Folder::new("pages-completions");
+    let commands = folder.commands();
     for shell in ["bash", "zsh", "fish"] {
         let made = folder.vbmodel(&format!("completions {shell}"));
         assert_eq!((made.status, made.error.as_str()), (0, ""));
-        for command in COMMANDS {
+        for command in &commands {
             assert!(made.text.contains(command), "{shell}: {command}");
         }
         assert!(made.text.contains("threshold"), "{shell}");
@@ -45,7 +31,8 @@ fn deliver_8_the_manual_page_has_every_command_and_option() {
     let page = folder.vbmodel("man");
     assert_eq!((page.status, page.error.as_str()), (0, ""));
     assert!(page.text.starts_with(".TH VBMODEL 1 "), "{}", page.text);
-    for command in COMMANDS.into_iter().chain(["state show"]) {
+    let inner = ["state show", "state move", "state salvage"].map(str::to_string);
+    for command in folder.commands().into_iter().chain(inner) {
         assert!(
             page.text.contains(&format!("\n.SH VBMODEL {}\n", command.to_uppercase())),
             "{command}"

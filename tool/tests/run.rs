@@ -198,10 +198,9 @@ fn usage_mistakes_have_status_2() {
 #[test]
 fn help_has_an_example_for_each_command() {
     let folder = Folder::new("help");
-    let all = folder.vbmodel("--help");
-    assert_eq!(all.status, 0);
-    for command in ["demo", "run", "step", "draw", "compare", "judge", "why"] {
-        assert!(all.text.contains(&format!("  {command} ")), "{}", all.text);
+    let inner = ["state show", "state move", "state salvage"].map(str::to_string);
+    let commands = folder.commands().into_iter().filter(|command| command != "state");
+    for command in commands.chain(inner) {
         let help = folder.vbmodel(&format!("{command} --help"));
         assert_eq!(help.status, 0);
         let example = format!("\n  vbmodel {command} ");

@@ -6,19 +6,19 @@ use mathlib.Core.Path.{_≡_, refl, sym, ap, _∙_}
 use native.Mathlib.Omega.{arith}
 use borrow.Author.Tests.{not-true, not-false}
 use lib.ListN.{length}
-use Rattle.refusal.specs.Number.{unless}
+use Rattle.refusal.specs.Number.{unless, thenOf}
 use Rattle.refusal.specs.declared.Refusal.{Refusal}
 use Rattle.refusal.specs.declared.Refusal.the-variants.{AccessList}
 use Rattle.refusal.specs.declared.Verdict.{Verdict}
 use Rattle.refusal.specs.declared.Verdict.the-variants.{Accepted, Refused}
 use Rattle.bus_timer.specs.declared.Hardware.{Hardware}
-use Rattle.bus.specs.Registers.{drawingIn, hardwareIn, deviceOf}
+use Rattle.bus.specs.Registers.{deviceLength, drawingIn, hardwareIn, deviceOf}
 use Rattle.bus.specs.Memory.{Memory, Lengths, withRegs, verdictAt, verdictOf}
 use Rattle.bus.proofs.Devices.{device-whole}
 use Rattle.bus.proofs.Accepted.{unless-passed, accepted-lengths}
 use Rattle.access_list.specs.List.{countOf, Made, madeOf, accessesOf, listOk}
 use Rattle.access_list.proofs.Registers.{accesses-registers}
-use Rattle.access_list.specs.Calls.{thenOf, listVerdictAt, listVerdictOf, accessListOf}
+use Rattle.access_list.specs.Calls.{listVerdictAt, listVerdictOf, accessListOf}
 
 then-passed : (v later : Verdict) → thenOf v later ≡ Accepted → (v ≡ Accepted) × (later ≡ Accepted)
 then-passed Accepted later e = (refl, e)
@@ -61,13 +61,13 @@ module _ (m : Memory) (xs : List ℕ) (v : Verdict) (e : v ≡ listVerdictOf m x
   list-left h t f = rw (← e, h) f
 
   -- with the device registers lent
-  pub list-lent : v ≡ Accepted → length (m .regs) ≡ 17 → (lent : List ℕ) → lent ≡ m .regs
+  pub list-lent : v ≡ Accepted → length (m .regs) ≡ deviceLength → (lent : List ℕ) → lent ≡ m .regs
       → (t : Made) → t ≡ accessesOf (countOf xs) 0 (withRegs m lent) xs
       → (drawn : List ℕ) (timer : Hardware) → drawn ≡ drawingIn (t .memory .regs) → timer ≡ hardwareIn (t .memory .regs)
       → madeOf (withRegs (t .memory) (deviceOf drawn timer)) (t .list) ≡ accessListOf m xs
   list-lent h l lent f t g drawn timer p q =
       let same : t ≡ accessesOf (countOf xs) 0 m xs = g ∙ ap (λ (d : List ℕ). accessesOf (countOf xs) 0 (withRegs m d) xs) f in
-      let whole : length (t .memory .regs) ≡ 17 = ap (λ (u : Made). length (u .memory .regs)) same ∙ (accesses-registers (countOf xs) 0 m xs ∙ l) in
+      let whole : length (t .memory .regs) ≡ deviceLength = ap (λ (u : Made). length (u .memory .regs)) same ∙ (accesses-registers (countOf xs) 0 m xs ∙ l) in
       let parts : deviceOf drawn timer ≡ t .memory .regs = rw (p, q) (device-whole (t .memory .regs) whole) in
       ap (λ (d : List ℕ). madeOf (withRegs (t .memory) d) (t .list)) parts ∙ list-left h t same
 

@@ -3,17 +3,12 @@
 use Prim.Native.Nat.{ℕ}
 use mathlib.Core.List.{List}
 use lib.ListN.{length}
-use Rattle.refusal.specs.Number.{unless}
+use Rattle.refusal.specs.Number.{unless, thenOf}
 use Rattle.refusal.specs.declared.Verdict.{Verdict}
 use Rattle.refusal.specs.declared.Verdict.the-variants.{Accepted, Refused}
 use Rattle.refusal.specs.declared.Refusal.the-variants.{AccessList}
 use Rattle.bus.specs.Memory.{Memory, verdictAt}
 use Rattle.access_list.specs.List.{countOf, Made, madeOf, accessesOf, listOk}
-
--- what comes after the bus's verdict
-abbrev pub thenOf : Verdict → Verdict → Verdict
-thenOf Accepted later = later
-thenOf (Refused n) later = Refused n
 
 -- the verdict by the memories' lengths, the registers and the list
 unfoldable pub listVerdictAt : ℕ → ℕ → ℕ → ℕ → List ℕ → List ℕ → Verdict

@@ -1,5 +1,6 @@
--- A list against single calls (paper 02, W7: "One call over the list leaves the same memory, registers and answers as the
--- accesses made one by one, in order"): the statements. Their proofs are `one-by-one` and `none-refused` in proofs/Singles.
+-- A list against single calls (paper 02, W7: "One call over the list leaves the same memory, registers and answers as
+-- the accesses made one by one, in order"): the statements. Their proofs are `one-by-one` and `none-refused` in
+-- proofs/Singles.
 use Prim.Native.Nat.{ℕ, zero, suc, _+_}
 use mathlib.Core.List.{List}
 use mathlib.Core.Path.{_≡_}

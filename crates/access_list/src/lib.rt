@@ -17,10 +17,11 @@ ghost use mathlib.Core.Bool.{true};
 ghost use Prim.Native.Nat.{_+_, _*_, _<_, _≤_};
 ghost use lib.ListN.{length};
 ghost use Rattle.bus.specs.Registers.{deviceOf};
-ghost use Rattle.bus.specs.Memory.{memoryOf, Lengths, loadOf, storeOf};
-ghost use Rattle.bus_calls.specs.Access.{entering, leaving};
+ghost use Rattle.bus.specs.Memory.{Lengths, loadOf, storeOf};
+ghost use Rattle.bus.specs.Lent.{entering, leaving, enteringWith, leavingWith};
 ghost use Rattle.bus_defined.specs.Defined.{undefinedOf};
-ghost use Rattle.access_list.specs.List.{countOf, sizeAt, answeredOf, madeOf, accessOf, accessesOf, sizeOk, sizesOk, listOk};
+ghost use Rattle.access_list.specs.List.{countOf, sizeAt, answeredOf, madeOf, accessOf, accessesOf, sizeOk};
+ghost use Rattle.access_list.specs.List.{sizesOk, listOk};
 ghost use Rattle.access_list.specs.Calls.{listVerdictAt, listVerdictOf, accessListOf};
 
 // Whether an access may have this size.
@@ -72,7 +73,9 @@ fn verdict(
     hardware: Hardware,
     list: &[u8],
 ) -> Verdict
-    ensures { λ r. ⌜ r ≡ listVerdictAt rom wram vram pak (deviceOf (now (drawing .entry)) hardware) (now (list .entry)) ⌝ }
+    ensures { λ r. ⌜
+        r ≡ listVerdictAt rom wram vram pak (deviceOf (now (drawing .entry)) hardware) (now (list .entry))
+        ⌝ }
 {
     match refusals::call_verdict(rom, wram, vram, pak, drawing, hardware) {
         Verdict::Refused(n) => Verdict::Refused(n),
@@ -95,9 +98,11 @@ fn read(
     size: u32,
     address: u32,
 ) -> Reading
-    requires { ⌜ Lengths (length (now rom)) (length (now wram)) (length (now vram)) (length (now pak)) × (sizeOk size ≡ true) ⌝ }
-    ensures value { λ r. ⌜ r .value ≡ loadOf (memoryOf (now (rom .entry)) (now (wram .entry)) (now (vram .entry)) (now (pak .entry)) (now (device .entry))) size address ⌝ }
-    ensures undefined { λ r. ⌜ r .undefined ≡ undefinedOf (memoryOf (now (rom .entry)) (now (wram .entry)) (now (vram .entry)) (now (pak .entry)) (now (device .entry))) size address ⌝ }
+    requires { ⌜
+        Lengths (length (now rom)) (length (now wram)) (length (now vram)) (length (now pak)) × (sizeOk size ≡ true)
+        ⌝ }
+    ensures value { λ r. ⌜ r .value ≡ loadOf (entering rom wram vram pak device) size address ⌝ }
+    ensures undefined { λ r. ⌜ r .undefined ≡ undefinedOf (entering rom wram vram pak device) size address ⌝ }
 {
     if size == 1 {
         let undefined = bus_defined::byte(address);
@@ -128,8 +133,12 @@ fn write(
     address: u32,
     value: u32,
 )
-    requires { ⌜ Lengths (length (now rom)) (length (now wram)) (length (now vram)) (length (now pak)) × (sizeOk size ≡ true) ⌝ }
-    ensures { λ r. ⌜ memoryOf (now (rom .entry)) (now (wram .exit)) (now (vram .exit)) (now (pak .exit)) (now (device .exit)) ≡ storeOf (memoryOf (now (rom .entry)) (now (wram .entry)) (now (vram .entry)) (now (pak .entry)) (now (device .entry))) size address value ⌝ }
+    requires { ⌜
+        Lengths (length (now rom)) (length (now wram)) (length (now vram)) (length (now pak)) × (sizeOk size ≡ true)
+        ⌝ }
+    ensures { λ r. ⌜
+        leaving rom wram vram pak device ≡ storeOf (entering rom wram vram pak device) size address value
+        ⌝ }
 {
     if size == 1 {
         store::byte(rom, wram, vram, pak, device, address, value);
@@ -162,8 +171,14 @@ fn access(
     list: &mut [u8],
     k: usize,
 )
-    requires { ⌜ Lengths (length (now rom)) (length (now wram)) (length (now vram)) (length (now pak)) × (20 * k + 19 < length (now list)) × (sizeOk (sizeAt (now list) k) ≡ true) ⌝ }
-    ensures { λ r. ⌜ madeOf (memoryOf (now (rom .entry)) (now (wram .exit)) (now (vram .exit)) (now (pak .exit)) (now (device .exit))) (now (list .exit)) ≡ accessOf k (memoryOf (now (rom .entry)) (now (wram .entry)) (now (vram .entry)) (now (pak .entry)) (now (device .entry))) (now (list .entry)) ⌝ }
+    requires { ⌜
+        Lengths (length (now rom)) (length (now wram)) (length (now vram)) (length (now pak))
+        × (20 * k + 19 < length (now list)) × (sizeOk (sizeAt (now list) k) ≡ true)
+        ⌝ }
+    ensures { λ r. ⌜
+        madeOf (leaving rom wram vram pak device) (now (list .exit))
+        ≡ accessOf k (entering rom wram vram pak device) (now (list .entry))
+        ⌝ }
 {
     let i = 20 * k;
     let address = word::word_at(list, i);
@@ -186,8 +201,14 @@ fn accesses(
     device: &mut Device,
     list: &mut [u8],
 )
-    requires { ⌜ Lengths (length (now rom)) (length (now wram)) (length (now vram)) (length (now pak)) × (listOk (now list) ≡ true) ⌝ }
-    ensures { λ r. ⌜ madeOf (memoryOf (now (rom .entry)) (now (wram .exit)) (now (vram .exit)) (now (pak .exit)) (now (device .exit))) (now (list .exit)) ≡ accessesOf (countOf (now (list .entry))) 0 (memoryOf (now (rom .entry)) (now (wram .entry)) (now (vram .entry)) (now (pak .entry)) (now (device .entry))) (now (list .entry)) ⌝ }
+    requires { ⌜
+        Lengths (length (now rom)) (length (now wram)) (length (now vram)) (length (now pak))
+        × (listOk (now list) ≡ true)
+        ⌝ }
+    ensures { λ r. ⌜
+        madeOf (leaving rom wram vram pak device) (now (list .exit))
+        ≡ accessesOf (countOf (now (list .entry))) 0 (entering rom wram vram pak device) (now (list .entry))
+        ⌝ }
 {
     let count = list.len() / 20;
     let mut k = 0;
@@ -207,8 +228,14 @@ pub fn access_list(
     hardware: Hardware,
     list: &mut [u8],
 ) -> Stored
-    ensures verdict { λ r. ⌜ r .verdict ≡ listVerdictOf (entering rom wram vram pak (drawing .regs) hardware) (now (list .entry)) ⌝ }
-    ensures made { λ r. ⌜ madeOf (leaving rom wram vram pak (r .drawing .regs) (r .hardware)) (now (list .exit)) ≡ accessListOf (entering rom wram vram pak (drawing .regs) hardware) (now (list .entry)) ⌝ }
+    ensures verdict { λ r. ⌜
+        r .verdict ≡ listVerdictOf (enteringWith rom wram vram pak (deviceOf (drawing .regs) hardware))
+        (now (list .entry))
+        ⌝ }
+    ensures made { λ r. ⌜
+        madeOf (leavingWith rom wram vram pak (deviceOf (r .drawing .regs) (r .hardware))) (now (list .exit))
+        ≡ accessListOf (enteringWith rom wram vram pak (deviceOf (drawing .regs) hardware)) (now (list .entry))
+        ⌝ }
 {
     let verdict = verdict(
         rom.len(),

@@ -2,3 +2,4 @@ pub mod Refusal
 pub mod Registers
 pub mod Place
 pub mod Memory
+pub mod Lent

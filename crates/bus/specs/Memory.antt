@@ -9,8 +9,9 @@ use lib.ListN.{getD, set, length}
 use Rattle.word.specs.LittleEndian.{littleEndian}
 use Rattle.bus_timer.specs.Ports.{portByteOf, portWrittenOf}
 use Rattle.bus.specs.Registers.{version, keptOf, hardwareIn, withHardware, registersOk}
-use Rattle.bus.specs.Place.{Place, vramAt, wramAt, pakAt, romAt, drawingAt, versionAt, silent, unlisted, unmapped, hardwareAt, soundUnit, nothing, expansion, placeOf}
-use Rattle.bus.specs.Refusal.{romOk, wramOk, vramOk, pakOk}
+use Rattle.bus.specs.Place.{Place, vramAt, wramAt, pakAt, romAt, drawingAt, versionAt, silent, unlisted, unmapped}
+use Rattle.bus.specs.Place.{hardwareAt, soundUnit, nothing, expansion, placeOf}
+use Rattle.bus.specs.Refusal.{wramBytes, vramBytes, romOk, wramOk, vramOk, pakOk}
 use Rattle.refusal.specs.Number.{unless}
 use Rattle.refusal.specs.declared.Verdict.{Verdict}
 use Rattle.refusal.specs.declared.Verdict.the-variants.{Accepted}
@@ -57,8 +58,8 @@ verdictOf m = verdictAt (length (m .rom)) (length (m .wram)) (length (m .vram)) 
 -- the lengths that refusals 1 to 4 accept
 pub record Lengths (rom wram vram pak : ℕ) : Type 0 where
   pub rom-ok : romOk rom ≡ true
-  pub wram-ok : wram ≡ 65536
-  pub vram-ok : vram ≡ 262144
+  pub wram-ok : wram ≡ wramBytes
+  pub vram-ok : vram ≡ vramBytes
   pub pak-ok : pakOk pak ≡ true
 
 -- the place of an address in a memory
@@ -147,8 +148,8 @@ putRegister m a v = putDrawing m (placeIn m a) (v % 65536)
 unfoldable pub putHalfword : Memory → ℕ → ℕ → Memory
 putHalfword m a v = putRegister (putByte (putByte m a v) (a + 1) (v / 256)) a v
 
--- the n low bytes of v stored from an address on, by halfwords, the low one first; of a byte alone memory and the timer take
--- the low 8 bits of the source, a VIP register its low 16 bits
+-- the n low bytes of v stored from an address on, by halfwords, the low one first; of a byte alone memory and the timer
+-- take the low 8 bits of the source, a VIP register its low 16 bits
 abbrev pub putFrom : Memory → ℕ → ℕ → ℕ → Memory
 putFrom m a zero v = m
 putFrom m a (suc zero) v = putRegister (putByte m a v) a v

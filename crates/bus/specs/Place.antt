@@ -1,6 +1,6 @@
--- Where the byte at an address leads: paper 01, "Addresses"; paper 02, W6 (region 2). The place tells apart what reads alike, so that
--- later requests can speak of it: a register of 000 that the model keeps silent, an address of the register
--- range where 000 lists none, and the ranges of the VIP with nothing behind them.
+-- Where the byte at an address leads: paper 01, "Addresses"; paper 02, W6 (region 2). The place tells apart what reads
+-- alike, so that later requests can speak of it: a register of 000 that the model keeps silent, an address of the
+-- register range where 000 lists none, and the ranges of the VIP with nothing behind them.
 use Prim.Native.Nat.{ℕ, _+_, _-_, _*_, _/_, _%_, _^_}
 use mathlib.Core.List.{[], _∷_}
 use lib.ListN.{getD}

@@ -1,6 +1,6 @@
--- Paper 01, "Refusal numbers": the conditions of 1 to 4. The numbers and "lowest number first" are those of the crate refusal.
--- The condition of 5 that concerns the drawing registers is `drawingOk` of Registers; `registersOk` is that with the
--- request lines and the timer (paper 02, W6).
+-- Paper 01, "Refusal numbers": the conditions of 1 to 4. The numbers and "lowest number first" are those of the crate
+-- refusal. The condition of 5 that concerns the drawing registers is `drawingOk` of Registers; `registersOk` is that
+-- with the request lines and the timer (paper 02, W6).
 use Prim.Native.Nat.{ℕ}
 use mathlib.Core.Bool.{Bool, true, false}
 use mathlib.Core.List.{List, [], _∷_}
@@ -36,12 +36,18 @@ unfoldable pub romOk : ℕ → Bool
 romOk n = member n romLengths
 
 -- 2: WRAM length
+abbrev pub wramBytes : ℕ
+wramBytes = 65536
+
 unfoldable pub wramOk : ℕ → Bool
-wramOk n = eqb n 65536
+wramOk n = eqb n wramBytes
 
 -- 3: VRAM length
+abbrev pub vramBytes : ℕ
+vramBytes = 262144
+
 unfoldable pub vramOk : ℕ → Bool
-vramOk n = eqb n 262144
+vramOk n = eqb n vramBytes
 
 -- 4: pak RAM length
 unfoldable pub pakOk : ℕ → Bool

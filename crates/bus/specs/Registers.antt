@@ -1,5 +1,5 @@
--- The device registers, a list of 17 halfwords: the 13 drawing registers SPT0 to SPT3, GPLT0 to GPLT3, JPLT0 to JPLT3 and
--- BKCOL, then the request lines and the timer's count, reload and control bits. Paper 01, "Addresses" (widths) and
+-- The device registers, a list of 17 halfwords: the 13 drawing registers SPT0 to SPT3, GPLT0 to GPLT3, JPLT0 to JPLT3
+-- and BKCOL, then the request lines and the timer's count, reload and control bits. Paper 01, "Addresses" (widths) and
 -- refusal 5; paper 000, "I/O Registers" (addresses); paper 02, W6 (lines and timer). The drawing calls are given the
 -- first 13 alone.
 use Prim.Native.Nat.{ℕ, zero, suc, _+_, _%_, _^_}
@@ -53,7 +53,8 @@ versionAddress = 0x5F844
 abbrev pub version : ℕ
 version = 2
 
--- the registers of 000 that read 0 and ignore writes: INTPND, INTENB, INTCLR, DPSTTS, DPCTRL, BRTA, BRTB, BRTC, REST, FRMCYC, CTA, XPSTTS, XPCTRL
+-- the registers of 000 that read 0 and ignore writes: INTPND, INTENB, INTCLR, DPSTTS, DPCTRL, BRTA, BRTB, BRTC, REST,
+-- FRMCYC, CTA, XPSTTS, XPCTRL
 abbrev pub silentAddresses : List ℕ
 silentAddresses =
     0x5F800
@@ -88,6 +89,10 @@ withinFrom d k (suc n) = pick (ltb (getD d k 0) (2 ^ widthOf k)) (withinFrom d (
 unfoldable pub drawingOk : List ℕ → Bool
 drawingOk d = withinFrom d 0 13
 
+-- how many halfwords the device registers are
+abbrev pub deviceLength : ℕ
+deviceLength = 17
+
 -- where the request lines and the timer stand among the device registers
 abbrev pub linesPlace : ℕ
 linesPlace = 13
@@ -117,7 +122,8 @@ hardwareIn d = hardwareOf (getD d linesPlace 0) (getD d countPlace 0) (getD d re
 -- the device registers with other request lines and another timer
 unfoldable pub withHardware : List ℕ → Hardware → List ℕ
 withHardware d h =
-    set (set (set (set d linesPlace (h .lines)) countPlace (h .count)) reloadPlace (h .reload)) controlPlace (h .control)
+    set (set (set (set d linesPlace (h .lines)) countPlace (h .count)) reloadPlace (h .reload))
+    controlPlace (h .control)
 
 -- the device registers of 13 drawing registers, the request lines and the timer
 unfoldable pub deviceOf : List ℕ → Hardware → List ℕ

@@ -10,13 +10,20 @@ ghost use Prim.Native.Nat.{ℕ, _+_, _-_, _/_, _%_, _<_, _≤_};
 ghost use mathlib.Core.Bool.{true};
 ghost use lib.ListN.{length};
 ghost use Rattle.bus.specs.Place.{regionOf};
-ghost use Rattle.bus.specs.Refusal.{romOk, pakOk};
+ghost use Rattle.bus.specs.Refusal.{romOk, pakOk, vramBytes};
 ghost use Rattle.bus.specs.Memory.{memoryOf, Lengths, Reads};
+ghost use Rattle.bus.specs.Lent.{entering};
 
 // A byte, a halfword and a word that stand neither in WRAM nor in ROM: of the VIP, of pak RAM, of the timer, or 0.
 fn byte_elsewhere(vram: &[u8], pak: &[u8], regs: &Device, address: u32) -> u32
-    requires { ⌜ (length (now vram) ≡ 262144) × (pakOk (length (now pak)) ≡ true) × (regionOf address ≡ 5 → ⊥) × (regionOf address ≡ 7 → ⊥) ⌝ }
-    ensures { λ r. ⌜ ((rom wram : List ℕ) → Reads (memoryOf rom wram (now (vram .entry)) (now (pak .entry)) (now (regs .entry))) 1 address r) ⌝ }
+    requires { ⌜
+        (length (now vram) ≡ vramBytes) × (pakOk (length (now pak)) ≡ true) × (regionOf address ≡ 5 → ⊥)
+        × (regionOf address ≡ 7 → ⊥)
+        ⌝ }
+    ensures { λ r. ⌜
+        ((rom wram : List ℕ)
+        → Reads (memoryOf rom wram (now (vram .entry)) (now (pak .entry)) (now (regs .entry))) 1 address r)
+        ⌝ }
 {
     let region = address / 16777216 % 8;
     if region == 0 {
@@ -32,8 +39,14 @@ fn byte_elsewhere(vram: &[u8], pak: &[u8], regs: &Device, address: u32) -> u32
 }
 
 fn half_elsewhere(vram: &[u8], pak: &[u8], regs: &Device, address: u32) -> u32
-    requires { ⌜ (length (now vram) ≡ 262144) × (pakOk (length (now pak)) ≡ true) × (regionOf address ≡ 5 → ⊥) × (regionOf address ≡ 7 → ⊥) ⌝ }
-    ensures { λ r. ⌜ ((rom wram : List ℕ) → Reads (memoryOf rom wram (now (vram .entry)) (now (pak .entry)) (now (regs .entry))) 2 address r) ⌝ }
+    requires { ⌜
+        (length (now vram) ≡ vramBytes) × (pakOk (length (now pak)) ≡ true) × (regionOf address ≡ 5 → ⊥)
+        × (regionOf address ≡ 7 → ⊥)
+        ⌝ }
+    ensures { λ r. ⌜
+        ((rom wram : List ℕ)
+        → Reads (memoryOf rom wram (now (vram .entry)) (now (pak .entry)) (now (regs .entry))) 2 address r)
+        ⌝ }
 {
     let region = address / 16777216 % 8;
     if region == 0 {
@@ -49,8 +62,14 @@ fn half_elsewhere(vram: &[u8], pak: &[u8], regs: &Device, address: u32) -> u32
 }
 
 fn word_elsewhere(vram: &[u8], pak: &[u8], regs: &Device, address: u32) -> u32
-    requires { ⌜ (length (now vram) ≡ 262144) × (pakOk (length (now pak)) ≡ true) × (regionOf address ≡ 5 → ⊥) × (regionOf address ≡ 7 → ⊥) ⌝ }
-    ensures { λ r. ⌜ ((rom wram : List ℕ) → Reads (memoryOf rom wram (now (vram .entry)) (now (pak .entry)) (now (regs .entry))) 4 address r) ⌝ }
+    requires { ⌜
+        (length (now vram) ≡ vramBytes) × (pakOk (length (now pak)) ≡ true) × (regionOf address ≡ 5 → ⊥)
+        × (regionOf address ≡ 7 → ⊥)
+        ⌝ }
+    ensures { λ r. ⌜
+        ((rom wram : List ℕ)
+        → Reads (memoryOf rom wram (now (vram .entry)) (now (pak .entry)) (now (regs .entry))) 4 address r)
+        ⌝ }
 {
     let region = address / 16777216 % 8;
     if region == 0 {
@@ -67,8 +86,15 @@ fn word_elsewhere(vram: &[u8], pak: &[u8], regs: &Device, address: u32) -> u32
 
 // One of these, by its bytes `address` to `last`. It stands apart from the ways to WRAM and ROM, which are short.
 fn elsewhere(vram: &[u8], pak: &[u8], regs: &Device, address: u32, last: u32) -> u32
-    requires { ⌜ (length (now vram) ≡ 262144) × (pakOk (length (now pak)) ≡ true) × (regionOf address ≡ 5 → ⊥) × (regionOf address ≡ 7 → ⊥) × (address ≤ last) × (last - address < 4) × (last - address ≡ 2 → ⊥) ⌝ }
-    ensures { λ r. ⌜ ((rom wram : List ℕ) → Reads (memoryOf rom wram (now (vram .entry)) (now (pak .entry)) (now (regs .entry))) (last - address + 1) address r) ⌝ }
+    requires { ⌜
+        (length (now vram) ≡ vramBytes) × (pakOk (length (now pak)) ≡ true) × (regionOf address ≡ 5 → ⊥)
+        × (regionOf address ≡ 7 → ⊥) × (address ≤ last) × (last - address < 4) × (last - address ≡ 2 → ⊥)
+        ⌝ }
+    ensures { λ r. ⌜
+        ((rom wram : List ℕ)
+        → Reads (memoryOf rom wram (now (vram .entry)) (now (pak .entry)) (now (regs .entry)))
+        (last - address + 1) address r)
+        ⌝ }
 {
     let more = last - address;
     if more == 0 {
@@ -83,7 +109,10 @@ fn elsewhere(vram: &[u8], pak: &[u8], regs: &Device, address: u32, last: u32) ->
 // A halfword of WRAM, and one of ROM, where the address is in its region.
 pub fn wram_half(wram: &[u8], address: u32) -> u32
     requires { ⌜ (length (now wram) ≡ 65536) × (address / 16777216 % 8 ≡ 5) ⌝ }
-    ensures { λ r. ⌜ ((rom vram pak regs : List ℕ) → Reads (memoryOf rom (now (wram .entry)) vram pak regs) 2 address r) × (r < 65536) ⌝ }
+    ensures { λ r. ⌜
+        ((rom vram pak regs : List ℕ) → Reads (memoryOf rom (now (wram .entry)) vram pak regs) 2 address r)
+        × (r < 65536)
+        ⌝ }
 {
     let i = (address % 65536 - address % 2) as usize;
     word::half_at(wram, i)
@@ -91,7 +120,10 @@ pub fn wram_half(wram: &[u8], address: u32) -> u32
 
 pub fn rom_half(rom: &[u8], address: u32) -> u32
     requires { ⌜ (romOk (length (now rom)) ≡ true) × (address / 16777216 % 8 ≡ 7) ⌝ }
-    ensures { λ r. ⌜ ((wram vram pak regs : List ℕ) → Reads (memoryOf (now (rom .entry)) wram vram pak regs) 2 address r) × (r < 65536) ⌝ }
+    ensures { λ r. ⌜
+        ((wram vram pak regs : List ℕ) → Reads (memoryOf (now (rom .entry)) wram vram pak regs) 2 address r)
+        × (r < 65536)
+        ⌝ }
 {
     let i = pak::masked(address - address % 2, rom.len());
     word::half_at(rom, i)
@@ -99,7 +131,7 @@ pub fn rom_half(rom: &[u8], address: u32) -> u32
 
 pub fn byte(rom: &[u8], wram: &[u8], vram: &[u8], pak: &[u8], regs: &Device, address: u32) -> Loaded
     requires { ⌜ Lengths (length (now rom)) (length (now wram)) (length (now vram)) (length (now pak)) ⌝ }
-    ensures { λ r. ⌜ Reads (memoryOf (now (rom .entry)) (now (wram .entry)) (now (vram .entry)) (now (pak .entry)) (now (regs .entry))) 1 address (r .value) ⌝ }
+    ensures { λ r. ⌜ Reads (entering rom wram vram pak regs) 1 address (r .value) ⌝ }
 {
     let region = address / 16777216 % 8;
     if region == 5 {
@@ -121,7 +153,7 @@ pub fn byte(rom: &[u8], wram: &[u8], vram: &[u8], pak: &[u8], regs: &Device, add
 
 pub fn half(rom: &[u8], wram: &[u8], vram: &[u8], pak: &[u8], regs: &Device, address: u32) -> Loaded
     requires { ⌜ Lengths (length (now rom)) (length (now wram)) (length (now vram)) (length (now pak)) ⌝ }
-    ensures { λ r. ⌜ Reads (memoryOf (now (rom .entry)) (now (wram .entry)) (now (vram .entry)) (now (pak .entry)) (now (regs .entry))) 2 address (r .value) ⌝ }
+    ensures { λ r. ⌜ Reads (entering rom wram vram pak regs) 2 address (r .value) ⌝ }
 {
     let region = address / 16777216 % 8;
     if region == 5 {
@@ -141,7 +173,7 @@ pub fn half(rom: &[u8], wram: &[u8], vram: &[u8], pak: &[u8], regs: &Device, add
 
 pub fn word(rom: &[u8], wram: &[u8], vram: &[u8], pak: &[u8], regs: &Device, address: u32) -> Loaded
     requires { ⌜ Lengths (length (now rom)) (length (now wram)) (length (now vram)) (length (now pak)) ⌝ }
-    ensures { λ r. ⌜ Reads (memoryOf (now (rom .entry)) (now (wram .entry)) (now (vram .entry)) (now (pak .entry)) (now (regs .entry))) 4 address (r .value) ⌝ }
+    ensures { λ r. ⌜ Reads (entering rom wram vram pak regs) 4 address (r .value) ⌝ }
 {
     let region = address / 16777216 % 8;
     if region == 5 {

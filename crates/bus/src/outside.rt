@@ -12,8 +12,14 @@ ghost use Rattle.bus.specs.Memory.{memoryOf, Reads, storeOf};
 
 // A byte, a halfword and a word there.
 pub fn byte(rom: &[u8], wram: &[u8], pak: &[u8], address: u32) -> u32
-    requires { ⌜ (romOk (length (now rom)) ≡ true) × (length (now wram) ≡ 65536) × (pakOk (length (now pak)) ≡ true) × (2 < address / 16777216 % 8) ⌝ }
-    ensures { λ r. ⌜ ((vram regs : List ℕ) → Reads (memoryOf (now (rom .entry)) (now (wram .entry)) vram (now (pak .entry)) regs) 1 address r) ⌝ }
+    requires { ⌜
+        (romOk (length (now rom)) ≡ true) × (length (now wram) ≡ 65536) × (pakOk (length (now pak)) ≡ true)
+        × (2 < address / 16777216 % 8)
+        ⌝ }
+    ensures { λ r. ⌜
+        ((vram regs : List ℕ)
+        → Reads (memoryOf (now (rom .entry)) (now (wram .entry)) vram (now (pak .entry)) regs) 1 address r)
+        ⌝ }
 {
     let region = address / 16777216 % 8;
     if region == 5 {
@@ -31,8 +37,14 @@ pub fn byte(rom: &[u8], wram: &[u8], pak: &[u8], address: u32) -> u32
 }
 
 pub fn half(rom: &[u8], wram: &[u8], pak: &[u8], address: u32) -> u32
-    requires { ⌜ (romOk (length (now rom)) ≡ true) × (length (now wram) ≡ 65536) × (pakOk (length (now pak)) ≡ true) × (2 < address / 16777216 % 8) ⌝ }
-    ensures { λ r. ⌜ ((vram regs : List ℕ) → Reads (memoryOf (now (rom .entry)) (now (wram .entry)) vram (now (pak .entry)) regs) 2 address r) ⌝ }
+    requires { ⌜
+        (romOk (length (now rom)) ≡ true) × (length (now wram) ≡ 65536) × (pakOk (length (now pak)) ≡ true)
+        × (2 < address / 16777216 % 8)
+        ⌝ }
+    ensures { λ r. ⌜
+        ((vram regs : List ℕ)
+        → Reads (memoryOf (now (rom .entry)) (now (wram .entry)) vram (now (pak .entry)) regs) 2 address r)
+        ⌝ }
 {
     let region = address / 16777216 % 8;
     if region == 5 {
@@ -48,8 +60,14 @@ pub fn half(rom: &[u8], wram: &[u8], pak: &[u8], address: u32) -> u32
 }
 
 pub fn word(rom: &[u8], wram: &[u8], pak: &[u8], address: u32) -> u32
-    requires { ⌜ (romOk (length (now rom)) ≡ true) × (length (now wram) ≡ 65536) × (pakOk (length (now pak)) ≡ true) × (2 < address / 16777216 % 8) ⌝ }
-    ensures { λ r. ⌜ ((vram regs : List ℕ) → Reads (memoryOf (now (rom .entry)) (now (wram .entry)) vram (now (pak .entry)) regs) 4 address r) ⌝ }
+    requires { ⌜
+        (romOk (length (now rom)) ≡ true) × (length (now wram) ≡ 65536) × (pakOk (length (now pak)) ≡ true)
+        × (2 < address / 16777216 % 8)
+        ⌝ }
+    ensures { λ r. ⌜
+        ((vram regs : List ℕ)
+        → Reads (memoryOf (now (rom .entry)) (now (wram .entry)) vram (now (pak .entry)) regs) 4 address r)
+        ⌝ }
 {
     let region = address / 16777216 % 8;
     if region == 5 {
@@ -69,7 +87,11 @@ pub fn word(rom: &[u8], wram: &[u8], pak: &[u8], address: u32) -> u32
 // A byte, a halfword and a word stored there: to WRAM, to pak RAM, or nowhere.
 pub fn put_byte(wram: &mut [u8], pak: &mut [u8], address: u32, value: u32)
     requires { ⌜ (length (now wram) ≡ 65536) × (pakOk (length (now pak)) ≡ true) × (2 < address / 16777216 % 8) ⌝ }
-    ensures { λ r. ⌜ ((rom vram regs : List ℕ) → memoryOf rom (now (wram .exit)) vram (now (pak .exit)) regs ≡ storeOf (memoryOf rom (now (wram .entry)) vram (now (pak .entry)) regs) 1 address value) ⌝ }
+    ensures { λ r. ⌜
+        ((rom vram regs : List ℕ)
+        → memoryOf rom (now (wram .exit)) vram (now (pak .exit)) regs
+        ≡ storeOf (memoryOf rom (now (wram .entry)) vram (now (pak .entry)) regs) 1 address value)
+        ⌝ }
 {
     let region = address / 16777216 % 8;
     if region == 5 {
@@ -84,7 +106,11 @@ pub fn put_byte(wram: &mut [u8], pak: &mut [u8], address: u32, value: u32)
 
 pub fn put_half(wram: &mut [u8], pak: &mut [u8], address: u32, value: u32)
     requires { ⌜ (length (now wram) ≡ 65536) × (pakOk (length (now pak)) ≡ true) × (2 < address / 16777216 % 8) ⌝ }
-    ensures { λ r. ⌜ ((rom vram regs : List ℕ) → memoryOf rom (now (wram .exit)) vram (now (pak .exit)) regs ≡ storeOf (memoryOf rom (now (wram .entry)) vram (now (pak .entry)) regs) 2 address value) ⌝ }
+    ensures { λ r. ⌜
+        ((rom vram regs : List ℕ)
+        → memoryOf rom (now (wram .exit)) vram (now (pak .exit)) regs
+        ≡ storeOf (memoryOf rom (now (wram .entry)) vram (now (pak .entry)) regs) 2 address value)
+        ⌝ }
 {
     let region = address / 16777216 % 8;
     if region == 5 {
@@ -99,7 +125,11 @@ pub fn put_half(wram: &mut [u8], pak: &mut [u8], address: u32, value: u32)
 
 pub fn put_word(wram: &mut [u8], pak: &mut [u8], address: u32, value: u32)
     requires { ⌜ (length (now wram) ≡ 65536) × (pakOk (length (now pak)) ≡ true) × (2 < address / 16777216 % 8) ⌝ }
-    ensures { λ r. ⌜ ((rom vram regs : List ℕ) → memoryOf rom (now (wram .exit)) vram (now (pak .exit)) regs ≡ storeOf (memoryOf rom (now (wram .entry)) vram (now (pak .entry)) regs) 4 address value) ⌝ }
+    ensures { λ r. ⌜
+        ((rom vram regs : List ℕ)
+        → memoryOf rom (now (wram .exit)) vram (now (pak .exit)) regs
+        ≡ storeOf (memoryOf rom (now (wram .entry)) vram (now (pak .entry)) regs) 4 address value)
+        ⌝ }
 {
     let region = address / 16777216 % 8;
     if region == 5 {

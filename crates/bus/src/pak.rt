@@ -19,7 +19,9 @@ pub fn masked(address: u32, length: usize) -> usize
 // A byte, a halfword and a word of pak RAM; empty pak RAM reads 0.
 pub fn byte(pak: &[u8], address: u32) -> u32
     requires { ⌜ (regionOf address ≡ 6) × (pakOk (length (now pak)) ≡ true) ⌝ }
-    ensures { λ r. ⌜ ((rom wram vram regs : List ℕ) → Reads (memoryOf rom wram vram (now (pak .entry)) regs) 1 address r) ⌝ }
+    ensures { λ r. ⌜
+        ((rom wram vram regs : List ℕ) → Reads (memoryOf rom wram vram (now (pak .entry)) regs) 1 address r)
+        ⌝ }
 {
     if pak.len() == 0 {
         return 0;
@@ -29,7 +31,9 @@ pub fn byte(pak: &[u8], address: u32) -> u32
 
 pub fn half(pak: &[u8], address: u32) -> u32
     requires { ⌜ (regionOf address ≡ 6) × (pakOk (length (now pak)) ≡ true) ⌝ }
-    ensures { λ r. ⌜ ((rom wram vram regs : List ℕ) → Reads (memoryOf rom wram vram (now (pak .entry)) regs) 2 address r) ⌝ }
+    ensures { λ r. ⌜
+        ((rom wram vram regs : List ℕ) → Reads (memoryOf rom wram vram (now (pak .entry)) regs) 2 address r)
+        ⌝ }
 {
     let a = address - address % 2;
     byte(pak, a) + 256 * byte(pak, a + 1)
@@ -37,7 +41,9 @@ pub fn half(pak: &[u8], address: u32) -> u32
 
 pub fn word(pak: &[u8], address: u32) -> u32
     requires { ⌜ (regionOf address ≡ 6) × (pakOk (length (now pak)) ≡ true) ⌝ }
-    ensures { λ r. ⌜ ((rom wram vram regs : List ℕ) → Reads (memoryOf rom wram vram (now (pak .entry)) regs) 4 address r) ⌝ }
+    ensures { λ r. ⌜
+        ((rom wram vram regs : List ℕ) → Reads (memoryOf rom wram vram (now (pak .entry)) regs) 4 address r)
+        ⌝ }
 {
     let a = address - address % 4;
     half(pak, a) + 65536 * half(pak, a + 2)
@@ -46,7 +52,11 @@ pub fn word(pak: &[u8], address: u32) -> u32
 // A byte, a halfword and a word stored in pak RAM, lowest byte first.
 pub fn put_byte(pak: &mut [u8], address: u32, value: u32)
     requires { ⌜ (regionOf address ≡ 6) × (pakOk (length (now pak)) ≡ true) ⌝ }
-    ensures { λ r. ⌜ ((rom wram vram regs : List ℕ) → memoryOf rom wram vram (now (pak .exit)) regs ≡ storeOf (memoryOf rom wram vram (now (pak .entry)) regs) 1 address value) ⌝ }
+    ensures { λ r. ⌜
+        ((rom wram vram regs : List ℕ)
+        → memoryOf rom wram vram (now (pak .exit)) regs
+        ≡ storeOf (memoryOf rom wram vram (now (pak .entry)) regs) 1 address value)
+        ⌝ }
 {
     if pak.len() == 0 {
         return;
@@ -57,7 +67,11 @@ pub fn put_byte(pak: &mut [u8], address: u32, value: u32)
 
 pub fn put_half(pak: &mut [u8], address: u32, value: u32)
     requires { ⌜ (regionOf address ≡ 6) × (pakOk (length (now pak)) ≡ true) ⌝ }
-    ensures { λ r. ⌜ ((rom wram vram regs : List ℕ) → memoryOf rom wram vram (now (pak .exit)) regs ≡ storeOf (memoryOf rom wram vram (now (pak .entry)) regs) 2 address value) ⌝ }
+    ensures { λ r. ⌜
+        ((rom wram vram regs : List ℕ)
+        → memoryOf rom wram vram (now (pak .exit)) regs
+        ≡ storeOf (memoryOf rom wram vram (now (pak .entry)) regs) 2 address value)
+        ⌝ }
 {
     let a = address - address % 2;
     put_byte(pak, a, value);
@@ -66,7 +80,11 @@ pub fn put_half(pak: &mut [u8], address: u32, value: u32)
 
 pub fn put_word(pak: &mut [u8], address: u32, value: u32)
     requires { ⌜ (regionOf address ≡ 6) × (pakOk (length (now pak)) ≡ true) ⌝ }
-    ensures { λ r. ⌜ ((rom wram vram regs : List ℕ) → memoryOf rom wram vram (now (pak .exit)) regs ≡ storeOf (memoryOf rom wram vram (now (pak .entry)) regs) 4 address value) ⌝ }
+    ensures { λ r. ⌜
+        ((rom wram vram regs : List ℕ)
+        → memoryOf rom wram vram (now (pak .exit)) regs
+        ≡ storeOf (memoryOf rom wram vram (now (pak .entry)) regs) 4 address value)
+        ⌝ }
 {
     let a = address - address % 4;
     put_half(pak, a, value);

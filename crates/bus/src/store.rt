@@ -10,13 +10,18 @@ ghost use mathlib.Core.List.{List};
 ghost use Prim.Native.Nat.{ℕ, _+_, _%_, _^_};
 ghost use lib.ListN.{length};
 ghost use Rattle.bus.specs.Place.{regionOf};
-ghost use Rattle.bus.specs.Refusal.{pakOk};
+ghost use Rattle.bus.specs.Refusal.{pakOk, vramBytes};
 ghost use Rattle.bus.specs.Memory.{memoryOf, Lengths, storeOf};
+ghost use Rattle.bus.specs.Lent.{entering, leaving};
 
 // A byte, a halfword and a word that do not go to WRAM: to the VIP, to pak RAM, to the timer, or nowhere.
 fn byte_elsewhere(vram: &mut [u8], pak: &mut [u8], regs: &mut Device, address: u32, value: u32)
-    requires { ⌜ (length (now vram) ≡ 262144) × (pakOk (length (now pak)) ≡ true) × (regionOf address ≡ 5 → ⊥) ⌝ }
-    ensures { λ r. ⌜ ((rom wram : List ℕ) → memoryOf rom wram (now (vram .exit)) (now (pak .exit)) (now (regs .exit)) ≡ storeOf (memoryOf rom wram (now (vram .entry)) (now (pak .entry)) (now (regs .entry))) 1 address value) ⌝ }
+    requires { ⌜ (length (now vram) ≡ vramBytes) × (pakOk (length (now pak)) ≡ true) × (regionOf address ≡ 5 → ⊥) ⌝ }
+    ensures { λ r. ⌜
+        ((rom wram : List ℕ)
+        → memoryOf rom wram (now (vram .exit)) (now (pak .exit)) (now (regs .exit))
+        ≡ storeOf (memoryOf rom wram (now (vram .entry)) (now (pak .entry)) (now (regs .entry))) 1 address value)
+        ⌝ }
 {
     let region = address / 16777216 % 8;
     if region == 0 {
@@ -33,8 +38,12 @@ fn byte_elsewhere(vram: &mut [u8], pak: &mut [u8], regs: &mut Device, address: u
 }
 
 fn half_elsewhere(vram: &mut [u8], pak: &mut [u8], regs: &mut Device, address: u32, value: u32)
-    requires { ⌜ (length (now vram) ≡ 262144) × (pakOk (length (now pak)) ≡ true) × (regionOf address ≡ 5 → ⊥) ⌝ }
-    ensures { λ r. ⌜ ((rom wram : List ℕ) → memoryOf rom wram (now (vram .exit)) (now (pak .exit)) (now (regs .exit)) ≡ storeOf (memoryOf rom wram (now (vram .entry)) (now (pak .entry)) (now (regs .entry))) 2 address value) ⌝ }
+    requires { ⌜ (length (now vram) ≡ vramBytes) × (pakOk (length (now pak)) ≡ true) × (regionOf address ≡ 5 → ⊥) ⌝ }
+    ensures { λ r. ⌜
+        ((rom wram : List ℕ)
+        → memoryOf rom wram (now (vram .exit)) (now (pak .exit)) (now (regs .exit))
+        ≡ storeOf (memoryOf rom wram (now (vram .entry)) (now (pak .entry)) (now (regs .entry))) 2 address value)
+        ⌝ }
 {
     let region = address / 16777216 % 8;
     if region == 0 {
@@ -51,8 +60,12 @@ fn half_elsewhere(vram: &mut [u8], pak: &mut [u8], regs: &mut Device, address: u
 }
 
 fn word_elsewhere(vram: &mut [u8], pak: &mut [u8], regs: &mut Device, address: u32, value: u32)
-    requires { ⌜ (length (now vram) ≡ 262144) × (pakOk (length (now pak)) ≡ true) × (regionOf address ≡ 5 → ⊥) ⌝ }
-    ensures { λ r. ⌜ ((rom wram : List ℕ) → memoryOf rom wram (now (vram .exit)) (now (pak .exit)) (now (regs .exit)) ≡ storeOf (memoryOf rom wram (now (vram .entry)) (now (pak .entry)) (now (regs .entry))) 4 address value) ⌝ }
+    requires { ⌜ (length (now vram) ≡ vramBytes) × (pakOk (length (now pak)) ≡ true) × (regionOf address ≡ 5 → ⊥) ⌝ }
+    ensures { λ r. ⌜
+        ((rom wram : List ℕ)
+        → memoryOf rom wram (now (vram .exit)) (now (pak .exit)) (now (regs .exit))
+        ≡ storeOf (memoryOf rom wram (now (vram .entry)) (now (pak .entry)) (now (regs .entry))) 4 address value)
+        ⌝ }
 {
     let region = address / 16777216 % 8;
     if region == 0 {
@@ -77,10 +90,25 @@ fn elsewhere(
     last: u32,
     value: u32,
 )
-    requires { ⌜ (length (now vram) ≡ 262144) × (pakOk (length (now pak)) ≡ true) × (regionOf address ≡ 5 → ⊥) ⌝ }
-    ensures byte { λ r. ⌜ (last ≡ address → ((rom wram : List ℕ) → memoryOf rom wram (now (vram .exit)) (now (pak .exit)) (now (regs .exit)) ≡ storeOf (memoryOf rom wram (now (vram .entry)) (now (pak .entry)) (now (regs .entry))) 1 address value)) ⌝ }
-    ensures half { λ r. ⌜ (last ≡ (address + 1) % 2 ^ 32 → ((rom wram : List ℕ) → memoryOf rom wram (now (vram .exit)) (now (pak .exit)) (now (regs .exit)) ≡ storeOf (memoryOf rom wram (now (vram .entry)) (now (pak .entry)) (now (regs .entry))) 2 address value)) ⌝ }
-    ensures word { λ r. ⌜ (last ≡ (address + 3) % 2 ^ 32 → ((rom wram : List ℕ) → memoryOf rom wram (now (vram .exit)) (now (pak .exit)) (now (regs .exit)) ≡ storeOf (memoryOf rom wram (now (vram .entry)) (now (pak .entry)) (now (regs .entry))) 4 address value)) ⌝ }
+    requires { ⌜ (length (now vram) ≡ vramBytes) × (pakOk (length (now pak)) ≡ true) × (regionOf address ≡ 5 → ⊥) ⌝ }
+    ensures byte { λ r. ⌜
+        (last ≡ address
+        → ((rom wram : List ℕ)
+        → memoryOf rom wram (now (vram .exit)) (now (pak .exit)) (now (regs .exit))
+        ≡ storeOf (memoryOf rom wram (now (vram .entry)) (now (pak .entry)) (now (regs .entry))) 1 address value))
+        ⌝ }
+    ensures half { λ r. ⌜
+        (last ≡ (address + 1) % 2 ^ 32
+        → ((rom wram : List ℕ)
+        → memoryOf rom wram (now (vram .exit)) (now (pak .exit)) (now (regs .exit))
+        ≡ storeOf (memoryOf rom wram (now (vram .entry)) (now (pak .entry)) (now (regs .entry))) 2 address value))
+        ⌝ }
+    ensures word { λ r. ⌜
+        (last ≡ (address + 3) % 2 ^ 32
+        → ((rom wram : List ℕ)
+        → memoryOf rom wram (now (vram .exit)) (now (pak .exit)) (now (regs .exit))
+        ≡ storeOf (memoryOf rom wram (now (vram .entry)) (now (pak .entry)) (now (regs .entry))) 4 address value))
+        ⌝ }
 {
     if last == address {
         byte_elsewhere(vram, pak, regs, address, value);
@@ -103,7 +131,7 @@ pub fn byte(
     value: u32,
 )
     requires { ⌜ Lengths (length (now rom)) (length (now wram)) (length (now vram)) (length (now pak)) ⌝ }
-    ensures { λ r. ⌜ memoryOf (now (rom .entry)) (now (wram .exit)) (now (vram .exit)) (now (pak .exit)) (now (regs .exit)) ≡ storeOf (memoryOf (now (rom .entry)) (now (wram .entry)) (now (vram .entry)) (now (pak .entry)) (now (regs .entry))) 1 address value ⌝ }
+    ensures { λ r. ⌜ leaving rom wram vram pak regs ≡ storeOf (entering rom wram vram pak regs) 1 address value ⌝ }
 {
     let region = address / 16777216 % 8;
     if region == 5 {
@@ -124,7 +152,7 @@ pub fn half(
     value: u32,
 )
     requires { ⌜ Lengths (length (now rom)) (length (now wram)) (length (now vram)) (length (now pak)) ⌝ }
-    ensures { λ r. ⌜ memoryOf (now (rom .entry)) (now (wram .exit)) (now (vram .exit)) (now (pak .exit)) (now (regs .exit)) ≡ storeOf (memoryOf (now (rom .entry)) (now (wram .entry)) (now (vram .entry)) (now (pak .entry)) (now (regs .entry))) 2 address value ⌝ }
+    ensures { λ r. ⌜ leaving rom wram vram pak regs ≡ storeOf (entering rom wram vram pak regs) 2 address value ⌝ }
 {
     let region = address / 16777216 % 8;
     if region == 5 {
@@ -152,7 +180,7 @@ pub fn word(
     value: u32,
 )
     requires { ⌜ Lengths (length (now rom)) (length (now wram)) (length (now vram)) (length (now pak)) ⌝ }
-    ensures { λ r. ⌜ memoryOf (now (rom .entry)) (now (wram .exit)) (now (vram .exit)) (now (pak .exit)) (now (regs .exit)) ≡ storeOf (memoryOf (now (rom .entry)) (now (wram .entry)) (now (vram .entry)) (now (pak .entry)) (now (regs .entry))) 4 address value ⌝ }
+    ensures { λ r. ⌜ leaving rom wram vram pak regs ≡ storeOf (entering rom wram vram pak regs) 4 address value ⌝ }
 {
     let region = address / 16777216 % 8;
     if region == 5 {

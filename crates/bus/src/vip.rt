@@ -5,6 +5,7 @@ ghost use mathlib.Core.Path.{_≡_};
 ghost use mathlib.Core.List.{List};
 ghost use Prim.Native.Nat.{ℕ, _+_, _%_, _<_, _≤_};
 ghost use lib.ListN.{length};
+ghost use Rattle.bus.specs.Refusal.{vramBytes};
 ghost use Rattle.bus.specs.Place.{vramAt, vipPlace, regionOf};
 ghost use Rattle.bus.specs.Memory.{memoryOf, Reads, putRegister, storeOf};
 
@@ -34,8 +35,12 @@ fn wide(x: u16) -> u32
 
 // The halfword of the register range at an even address: a drawing register, VER, or 0.
 fn register(regs: &Device, address: u32) -> u32
-    requires { ⌜ (regionOf address ≡ 0) × (262144 ≤ address % 524288) × (address % 524288 < 491520) × (address % 2 ≡ 0) ⌝ }
-    ensures { λ r. ⌜ ((rom wram vram pak : List ℕ) → Reads (memoryOf rom wram vram pak (now (regs .entry))) 2 address r) ⌝ }
+    requires { ⌜
+        (regionOf address ≡ 0) × (262144 ≤ address % 524288) × (address % 524288 < 491520) × (address % 2 ≡ 0)
+        ⌝ }
+    ensures { λ r. ⌜
+        ((rom wram vram pak : List ℕ) → Reads (memoryOf rom wram vram pak (now (regs .entry))) 2 address r)
+        ⌝ }
 {
     let h = address % 524288;
     let k = registers::index(h);
@@ -50,8 +55,10 @@ fn register(regs: &Device, address: u32) -> u32
 
 // A byte, a halfword and a word of the VIP.
 pub fn byte(vram: &[u8], regs: &Device, address: u32) -> u32
-    requires { ⌜ (regionOf address ≡ 0) × (length (now vram) ≡ 262144) ⌝ }
-    ensures { λ r. ⌜ ((rom wram pak : List ℕ) → Reads (memoryOf rom wram (now (vram .entry)) pak (now (regs .entry))) 1 address r) ⌝ }
+    requires { ⌜ (regionOf address ≡ 0) × (length (now vram) ≡ vramBytes) ⌝ }
+    ensures { λ r. ⌜
+        ((rom wram pak : List ℕ) → Reads (memoryOf rom wram (now (vram .entry)) pak (now (regs .entry))) 1 address r)
+        ⌝ }
 {
     let v = address % 524288;
     let i = vram_index(v);
@@ -66,8 +73,10 @@ pub fn byte(vram: &[u8], regs: &Device, address: u32) -> u32
 }
 
 pub fn half(vram: &[u8], regs: &Device, address: u32) -> u32
-    requires { ⌜ (regionOf address ≡ 0) × (length (now vram) ≡ 262144) ⌝ }
-    ensures { λ r. ⌜ ((rom wram pak : List ℕ) → Reads (memoryOf rom wram (now (vram .entry)) pak (now (regs .entry))) 2 address r) ⌝ }
+    requires { ⌜ (regionOf address ≡ 0) × (length (now vram) ≡ vramBytes) ⌝ }
+    ensures { λ r. ⌜
+        ((rom wram pak : List ℕ) → Reads (memoryOf rom wram (now (vram .entry)) pak (now (regs .entry))) 2 address r)
+        ⌝ }
 {
     let a = address - address % 2;
     let i = vram_index(a % 524288);
@@ -78,8 +87,10 @@ pub fn half(vram: &[u8], regs: &Device, address: u32) -> u32
 }
 
 pub fn word(vram: &[u8], regs: &Device, address: u32) -> u32
-    requires { ⌜ (regionOf address ≡ 0) × (length (now vram) ≡ 262144) ⌝ }
-    ensures { λ r. ⌜ ((rom wram pak : List ℕ) → Reads (memoryOf rom wram (now (vram .entry)) pak (now (regs .entry))) 4 address r) ⌝ }
+    requires { ⌜ (regionOf address ≡ 0) × (length (now vram) ≡ vramBytes) ⌝ }
+    ensures { λ r. ⌜
+        ((rom wram pak : List ℕ) → Reads (memoryOf rom wram (now (vram .entry)) pak (now (regs .entry))) 4 address r)
+        ⌝ }
 {
     let a = address - address % 4;
     let i = vram_index(a % 524288);
@@ -92,7 +103,11 @@ pub fn word(vram: &[u8], regs: &Device, address: u32) -> u32
 // The low 16 bits of a value written to the register that holds an address, where there is one.
 fn put_register(regs: &mut Device, address: u32, value: u32)
     requires { ⌜ (regionOf address ≡ 0) × (262144 ≤ address % 524288) × (address % 524288 < 491520) ⌝ }
-    ensures { λ r. ⌜ ((rom wram vram pak : List ℕ) → memoryOf rom wram vram pak (now (regs .exit)) ≡ putRegister (memoryOf rom wram vram pak (now (regs .entry))) address value) ⌝ }
+    ensures { λ r. ⌜
+        ((rom wram vram pak : List ℕ)
+        → memoryOf rom wram vram pak (now (regs .exit))
+        ≡ putRegister (memoryOf rom wram vram pak (now (regs .entry))) address value)
+        ⌝ }
 {
     let v = address % 524288;
     let k = registers::index(v - v % 2);
@@ -103,8 +118,12 @@ fn put_register(regs: &mut Device, address: u32, value: u32)
 
 // A byte, a halfword and a word stored in the VIP.
 pub fn put_byte(vram: &mut [u8], regs: &mut Device, address: u32, value: u32)
-    requires { ⌜ (regionOf address ≡ 0) × (length (now vram) ≡ 262144) ⌝ }
-    ensures { λ r. ⌜ ((rom wram pak : List ℕ) → memoryOf rom wram (now (vram .exit)) pak (now (regs .exit)) ≡ storeOf (memoryOf rom wram (now (vram .entry)) pak (now (regs .entry))) 1 address value) ⌝ }
+    requires { ⌜ (regionOf address ≡ 0) × (length (now vram) ≡ vramBytes) ⌝ }
+    ensures { λ r. ⌜
+        ((rom wram pak : List ℕ)
+        → memoryOf rom wram (now (vram .exit)) pak (now (regs .exit))
+        ≡ storeOf (memoryOf rom wram (now (vram .entry)) pak (now (regs .entry))) 1 address value)
+        ⌝ }
 {
     let i = vram_index(address % 524288);
     if i < 262144 {
@@ -115,8 +134,12 @@ pub fn put_byte(vram: &mut [u8], regs: &mut Device, address: u32, value: u32)
 }
 
 pub fn put_half(vram: &mut [u8], regs: &mut Device, address: u32, value: u32)
-    requires { ⌜ (regionOf address ≡ 0) × (length (now vram) ≡ 262144) ⌝ }
-    ensures { λ r. ⌜ ((rom wram pak : List ℕ) → memoryOf rom wram (now (vram .exit)) pak (now (regs .exit)) ≡ storeOf (memoryOf rom wram (now (vram .entry)) pak (now (regs .entry))) 2 address value) ⌝ }
+    requires { ⌜ (regionOf address ≡ 0) × (length (now vram) ≡ vramBytes) ⌝ }
+    ensures { λ r. ⌜
+        ((rom wram pak : List ℕ)
+        → memoryOf rom wram (now (vram .exit)) pak (now (regs .exit))
+        ≡ storeOf (memoryOf rom wram (now (vram .entry)) pak (now (regs .entry))) 2 address value)
+        ⌝ }
 {
     let a = address - address % 2;
     let i = vram_index(a % 524288);
@@ -128,8 +151,12 @@ pub fn put_half(vram: &mut [u8], regs: &mut Device, address: u32, value: u32)
 }
 
 pub fn put_word(vram: &mut [u8], regs: &mut Device, address: u32, value: u32)
-    requires { ⌜ (regionOf address ≡ 0) × (length (now vram) ≡ 262144) ⌝ }
-    ensures { λ r. ⌜ ((rom wram pak : List ℕ) → memoryOf rom wram (now (vram .exit)) pak (now (regs .exit)) ≡ storeOf (memoryOf rom wram (now (vram .entry)) pak (now (regs .entry))) 4 address value) ⌝ }
+    requires { ⌜ (regionOf address ≡ 0) × (length (now vram) ≡ vramBytes) ⌝ }
+    ensures { λ r. ⌜
+        ((rom wram pak : List ℕ)
+        → memoryOf rom wram (now (vram .exit)) pak (now (regs .exit))
+        ≡ storeOf (memoryOf rom wram (now (vram .entry)) pak (now (regs .entry))) 4 address value)
+        ⌝ }
 {
     let a = address - address % 4;
     let i = vram_index(a % 524288);

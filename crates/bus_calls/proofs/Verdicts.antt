@@ -8,7 +8,7 @@ use Rattle.refusal.specs.declared.Refusal.{Refusal}
 use Rattle.refusal.specs.declared.Verdict.{Verdict}
 use Rattle.refusal.specs.declared.Verdict.the-variants.{Accepted, Refused}
 use Rattle.bus_timer.specs.declared.Hardware.{Hardware}
-use Rattle.bus.specs.Registers.{drawingIn, hardwareIn, deviceOf}
+use Rattle.bus.specs.Registers.{deviceLength, drawingIn, hardwareIn, deviceOf}
 use Rattle.bus.specs.Memory.{Memory, Lengths, withRegs, verdictAt, verdictOf, Reads, storeOf}
 use Rattle.bus.proofs.Devices.{device-whole}
 use Rattle.bus.proofs.Kept.{store-shape}
@@ -50,11 +50,11 @@ module _ (m : Memory) (size a : ℕ) (found : Verdict) (e : found ≡ verdictOf 
       unfolding checkedStoreOf
       store-past left p = (sym h ∙ e, p ∙ sym (rw (sym e ∙ h)))
 
-      pub store-lent : length (m .regs) ≡ 17 → (lent : List ℕ) → lent ≡ m .regs → (left : Memory) → left ≡ storeOf (withRegs m lent) size a v
+      pub store-lent : length (m .regs) ≡ deviceLength → (lent : List ℕ) → lent ≡ m .regs → (left : Memory) → left ≡ storeOf (withRegs m lent) size a v
           → (drawn : List ℕ) → drawn ≡ drawingIn (left .regs) → (timer : Hardware) → timer ≡ hardwareIn (left .regs)
           → Answers Accepted (withRegs left (deviceOf drawn timer))
       store-lent l lent same left p drawn d timer t =
           let after : left ≡ storeOf m size a v = p ∙ ap (λ (x : List ℕ). storeOf (withRegs m x) size a v) same in
-          let whole : length (left .regs) ≡ 17 = ap (λ (n : Memory). length (n .regs)) after ∙ (store-shape m size a v .same-regs ∙ l) in
+          let whole : length (left .regs) ≡ deviceLength = ap (λ (n : Memory). length (n .regs)) after ∙ (store-shape m size a v .same-regs ∙ l) in
           let parts : deviceOf drawn timer ≡ left .regs = rw (d, t) (device-whole (left .regs) whole) in
           subst (Answers Accepted) (sym (ap (withRegs left) parts)) (store-past left after)

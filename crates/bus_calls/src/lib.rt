@@ -1,6 +1,6 @@
 // The bus's public calls: each tests refusals 1 to 5 and then loads or stores. They take the drawing registers and the
-// request lines with the timer by value, and a store gives both back. Only accesses to regions 0 to 2, where the VIP and
-// the timer are, are lent a copy of them as device registers.
+// request lines with the timer by value, and a store gives both back. Only accesses to regions 0 to 2, where the VIP
+// and the timer are, are lent a copy of them as device registers.
 use bus::Drawing;
 use bus::device;
 use bus::load;
@@ -12,9 +12,12 @@ use refusal::Refusal;
 use refusal::Verdict;
 ghost use mathlib.Core.Path.{_≡_};
 ghost use Rattle.bus.specs.Memory.{verdictOf, storeOf};
-ghost use Rattle.bus_calls.specs.Access.{entering, leaving, checkedLoadOf, checkedStoreOf};
+ghost use Rattle.bus.specs.Lent.{enteringWith, leavingWith};
+ghost use Rattle.bus.specs.Registers.{deviceOf};
+ghost use Rattle.bus_calls.specs.Access.{checkedLoadOf, checkedStoreOf};
 
-// What a load read: its value, and bit k of `undefined` set where byte k, counted from the aligned address, is undefined.
+// What a load read: its value, and bit k of `undefined` set where byte k, counted from the aligned address, is
+// undefined.
 pub struct Reading {
     pub value: u32,
     pub undefined: u32,
@@ -43,7 +46,9 @@ pub fn load_byte(
     hardware: Hardware,
     address: u32,
 ) -> Load
-    ensures { λ r. ⌜ r ≡ checkedLoadOf (entering rom wram vram pak (drawing .regs) hardware) 1 address ⌝ }
+    ensures { λ r. ⌜
+        r ≡ checkedLoadOf (enteringWith rom wram vram pak (deviceOf (drawing .regs) hardware)) 1 address
+        ⌝ }
 {
     let verdict = refusals::call_verdict(
         rom.len(),
@@ -80,7 +85,9 @@ pub fn load_half(
     hardware: Hardware,
     address: u32,
 ) -> Load
-    ensures { λ r. ⌜ r ≡ checkedLoadOf (entering rom wram vram pak (drawing .regs) hardware) 2 address ⌝ }
+    ensures { λ r. ⌜
+        r ≡ checkedLoadOf (enteringWith rom wram vram pak (deviceOf (drawing .regs) hardware)) 2 address
+        ⌝ }
 {
     let verdict = refusals::call_verdict(
         rom.len(),
@@ -117,7 +124,9 @@ pub fn load_word(
     hardware: Hardware,
     address: u32,
 ) -> Load
-    ensures { λ r. ⌜ r ≡ checkedLoadOf (entering rom wram vram pak (drawing .regs) hardware) 4 address ⌝ }
+    ensures { λ r. ⌜
+        r ≡ checkedLoadOf (enteringWith rom wram vram pak (deviceOf (drawing .regs) hardware)) 4 address
+        ⌝ }
 {
     let verdict = refusals::call_verdict(
         rom.len(),
@@ -155,8 +164,14 @@ pub fn store_byte(
     address: u32,
     value: u32,
 ) -> Stored
-    ensures verdict { λ r. ⌜ r .verdict ≡ verdictOf (entering rom wram vram pak (drawing .regs) hardware) ⌝ }
-    ensures memory { λ r. ⌜ (let m = entering rom wram vram pak (drawing .regs) hardware in leaving rom wram vram pak (r .drawing .regs) (r .hardware) ≡ checkedStoreOf m (storeOf m 1 address value)) ⌝ }
+    ensures verdict { λ r. ⌜
+        r .verdict ≡ verdictOf (enteringWith rom wram vram pak (deviceOf (drawing .regs) hardware))
+        ⌝ }
+    ensures memory { λ r. ⌜
+        (let m = enteringWith rom wram vram pak (deviceOf (drawing .regs) hardware) in
+        leavingWith rom wram vram pak (deviceOf (r .drawing .regs) (r .hardware))
+        ≡ checkedStoreOf m (storeOf m 1 address value))
+        ⌝ }
 {
     let verdict = refusals::call_verdict(
         rom.len(),
@@ -206,8 +221,14 @@ pub fn store_half(
     address: u32,
     value: u32,
 ) -> Stored
-    ensures verdict { λ r. ⌜ r .verdict ≡ verdictOf (entering rom wram vram pak (drawing .regs) hardware) ⌝ }
-    ensures memory { λ r. ⌜ (let m = entering rom wram vram pak (drawing .regs) hardware in leaving rom wram vram pak (r .drawing .regs) (r .hardware) ≡ checkedStoreOf m (storeOf m 2 address value)) ⌝ }
+    ensures verdict { λ r. ⌜
+        r .verdict ≡ verdictOf (enteringWith rom wram vram pak (deviceOf (drawing .regs) hardware))
+        ⌝ }
+    ensures memory { λ r. ⌜
+        (let m = enteringWith rom wram vram pak (deviceOf (drawing .regs) hardware) in
+        leavingWith rom wram vram pak (deviceOf (r .drawing .regs) (r .hardware))
+        ≡ checkedStoreOf m (storeOf m 2 address value))
+        ⌝ }
 {
     let verdict = refusals::call_verdict(
         rom.len(),
@@ -257,8 +278,14 @@ pub fn store_word(
     address: u32,
     value: u32,
 ) -> Stored
-    ensures verdict { λ r. ⌜ r .verdict ≡ verdictOf (entering rom wram vram pak (drawing .regs) hardware) ⌝ }
-    ensures memory { λ r. ⌜ (let m = entering rom wram vram pak (drawing .regs) hardware in leaving rom wram vram pak (r .drawing .regs) (r .hardware) ≡ checkedStoreOf m (storeOf m 4 address value)) ⌝ }
+    ensures verdict { λ r. ⌜
+        r .verdict ≡ verdictOf (enteringWith rom wram vram pak (deviceOf (drawing .regs) hardware))
+        ⌝ }
+    ensures memory { λ r. ⌜
+        (let m = enteringWith rom wram vram pak (deviceOf (drawing .regs) hardware) in
+        leavingWith rom wram vram pak (deviceOf (r .drawing .regs) (r .hardware))
+        ≡ checkedStoreOf m (storeOf m 4 address value))
+        ⌝ }
 {
     let verdict = refusals::call_verdict(
         rom.len(),

@@ -4,7 +4,8 @@ use Prim.Native.Nat.{ℕ, zero, suc, _+_, _^_}
 use mathlib.Core.Bool.{Bool, true, false}
 use mathlib.Core.List.{List, [], _∷_}
 use Rattle.word.specs.Choose.{pick}
-use Rattle.bus.specs.Place.{Place, vramAt, wramAt, pakAt, romAt, drawingAt, versionAt, silent, unlisted, unmapped, hardwareAt, soundUnit, nothing, expansion}
+use Rattle.bus.specs.Place.{Place, vramAt, wramAt, pakAt, romAt, drawingAt, versionAt, silent, unlisted, unmapped}
+use Rattle.bus.specs.Place.{hardwareAt, soundUnit, nothing, expansion}
 use Rattle.bus.specs.Memory.{Memory, placeIn, alignedOf}
 
 -- whether a byte of a place is defined
@@ -36,8 +37,8 @@ maskFrom m a k (suc n) = pick (definedOf m a) 0 (2 ^ k) + maskFrom m (a + 1) (k 
 unfoldable pub undefinedOf : Memory → ℕ → ℕ → ℕ
 undefinedOf m size a = maskFrom m (alignedOf size a) 0 size
 
--- the VIP's registers by their even addresses, as 000 lists them: INTPND, INTENB, INTCLR; DPSTTS, DPCTRL, BRTA, BRTB, BRTC,
--- REST; FRMCYC, CTA; XPSTTS, XPCTRL, VER; SPT0 to SPT3; GPLT0 to GPLT3, JPLT0 to JPLT3, BKCOL
+-- the VIP's registers by their even addresses, as 000 lists them: INTPND, INTENB, INTCLR; DPSTTS, DPCTRL, BRTA, BRTB,
+-- BRTC, REST; FRMCYC, CTA; XPSTTS, XPCTRL, VER; SPT0 to SPT3; GPLT0 to GPLT3, JPLT0 to JPLT3, BKCOL
 abbrev pub registerAddresses : List ℕ
 registerAddresses =
     0x5F800

@@ -1,6 +1,6 @@
--- Worked values of the mask of a load, each a size, an address and the mask: both sides of each border, the five aligned
--- words with both kinds of bytes, mirrors, and regions that read 0 and are defined. `worked` is the one statement about
--- the list; it holds whatever the memories are.
+-- Worked values of the mask of a load, each a size, an address and the mask: both sides of each border, the five
+-- aligned words with both kinds of bytes, mirrors, and regions that read 0 and are defined. `worked` is the one
+-- statement about the list; it holds whatever the memories are.
 use Prim.Native.Nat.{ℕ}
 use mathlib.Core.List.{List, [], _∷_, map}
 use mathlib.Core.Path.{_≡_, refl}
@@ -42,6 +42,7 @@ rows =
     ∷ row 4 0x06000000 0
     ∷ []
 
-pub worked : (m : Memory) → map (λ (r : Row). undefinedOf m (r .size) (r .address)) rows ≡ map (λ (r : Row). r .mask) rows
+pub worked :
+    (m : Memory) → map (λ (r : Row). undefinedOf m (r .size) (r .address)) rows ≡ map (λ (r : Row). r .mask) rows
 unfolding undefinedOf definedOf placeOf vipPlace registerPlace mirrorOf regionOf
 worked m = refl

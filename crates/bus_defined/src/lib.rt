@@ -1,6 +1,6 @@
 // Which bytes of an access are undefined (paper 02, W2): a mask with bit k set where byte k, counted from the aligned
-// address, is undefined. The address alone decides, so no memory is read for it, and the loads and stores of the crate bus
-// and a run of instructions carry no masks. These functions are `pub` for the crates above.
+// address, is undefined. The address alone decides, so no memory is read for it, and the loads and stores of the crate
+// bus and a run of instructions carry no masks. These functions are `pub` for the crates above.
 ghost use mathlib.Core.Path.{_≡_};
 ghost use Prim.Native.Nat.{_≤_};
 ghost use Rattle.word.specs.Choose.{member};

@@ -10,7 +10,7 @@ use lib.Bits.{bitAnd, and-block, and-mask}
 use lib.Dec.{eqb, ltb}
 use lib.Pow.{split}
 use Rattle.word.specs.Choose.{pick}
-use Rattle.bus_timer.specs.Timer.{hardwareOf, bitAt, hasBit, setBitOf, clearBitOf, tEnb, timZInt, tClkSel, zStat, zStatClr, startOf, tickedCountOf, reachedZeroOf, countedOf, tickOf}
+use Rattle.bus_timer.specs.Timer.{hardwareOf, bitOfMask, hasBit, setBitOf, clearBitOf, tEnb, timZInt, tClkSel, zStat, zStatClr, startOf, tickedCountOf, reachedZeroOf, countedOf, tickOf}
 use Rattle.bus_timer.specs.Ports.{tlr, thr, tcr, controlBitsOf, reloadWrittenOf, lowWrittenOf, highWrittenOf, controlWrittenOf, lineAfterControl, tcrWrittenOf, portWrittenOf, hardwareOk}
 use Rattle.bus_timer.specs.Accepted.{TickAccepted, WriteAccepted, Means, AcceptedMeans, MeansAccepted, Halfwords, TickHalfwords, WriteHalfwords}
 use Rattle.bus_timer.specs.declared.Hardware.{Hardware}
@@ -59,9 +59,9 @@ set-control c e =
 written-control : (c v : ℕ) → controlBitsOf (controlWrittenOf c v) ≡ controlWrittenOf c v
 unfolding controlWrittenOf
 written-control c v =
-    pick-each (λ z. controlBitsOf (bitAt tEnb v + bitAt timZInt v * timZInt + bitAt tClkSel v * tClkSel + z) ≡ bitAt tEnb v + bitAt timZInt v * timZInt + bitAt tClkSel v * tClkSel + z) (hasBit zStatClr v) 0 (bitAt zStat c * zStat)
-    (kept (bitAt tEnb v) 0 (bitAt timZInt v) (bitAt tClkSel v) (omega arith) (omega arith) (omega arith) (omega arith))
-    (kept (bitAt tEnb v) (bitAt zStat c) (bitAt timZInt v) (bitAt tClkSel v) (omega arith) (omega arith) (omega arith) (omega arith))
+    pick-each (λ z. controlBitsOf (bitOfMask tEnb v + bitOfMask timZInt v * timZInt + bitOfMask tClkSel v * tClkSel + z) ≡ bitOfMask tEnb v + bitOfMask timZInt v * timZInt + bitOfMask tClkSel v * tClkSel + z) (hasBit zStatClr v) 0 (bitOfMask zStat c * zStat)
+    (kept (bitOfMask tEnb v) 0 (bitOfMask timZInt v) (bitOfMask tClkSel v) (omega arith) (omega arith) (omega arith) (omega arith))
+    (kept (bitOfMask tEnb v) (bitOfMask zStat c) (bitOfMask timZInt v) (bitOfMask tClkSel v) (omega arith) (omega arith) (omega arith) (omega arith))
 
 -- what holds of the control bits as they were and with Z-Stat set holds after a tick
 tick-control-each : (P : ℕ → Type 0) (h : Hardware) → P (h .control) → P (setBitOf zStat (h .control)) → P (tickOf h .control)

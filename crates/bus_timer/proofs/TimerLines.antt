@@ -7,16 +7,16 @@ use native.Mathlib.Omega.{arith}
 use lib.Dec.{eqb}
 use lib.Pow.{pow-add}
 use Rattle.word.specs.Choose.{pick}
-use Rattle.bus_timer.specs.Timer.{hardwareOf, hasBit, bitAt, setBitOf, clearBitOf, timerLine, tEnb, timZInt, zStatClr, tickedCountOf, reachedZeroOf, countedOf, tickOf}
+use Rattle.bus_timer.specs.Timer.{hardwareOf, hasBit, bitOfMask, setBitOf, clearBitOf, timerLine, tEnb, timZInt, zStatClr, tickedCountOf, reachedZeroOf, countedOf, tickOf}
 use Rattle.bus_timer.specs.Ports.{tlr, thr, tcr, reloadWrittenOf, lowWrittenOf, highWrittenOf, lineAfterControl, tcrWrittenOf, portWrittenOf}
-use Rattle.bus_timer.specs.Lines.{lineOf, TickLines, TickKeepsLine, WriteLines, WriteKeepsDown}
+use Rattle.bus_timer.specs.Lines.{hardwareLineOf, TickLines, TickKeepsLine, WriteLines, WriteKeepsDown}
 use Rattle.bus_timer.specs.declared.Hardware.{Hardware}
 use Rattle.bus_timer.proofs.Choices.{pick-each}
 use Rattle.bus_timer.proofs.Digits.{set-second, set-first, set-above, clear-second, clear-first, clear-above}
 
 -- numbers that agree but for bit 1
 record Beside (y x : ℕ) : Type 0 where
-  first : bitAt 1 y ≡ bitAt 1 x
+  first : bitOfMask 1 y ≡ bitOfMask 1 x
   above : y / 4 ≡ x / 4
 
 beside-same : (x : ℕ) → Beside x x
@@ -29,12 +29,12 @@ beside-clear : (x : ℕ) → Beside (clearBitOf 2 x) x
 beside-clear x = record { first = clear-first x; above = clear-above x }
 
 -- a bit above 1 is one of the rest
-rest-bit : (n x : ℕ) → bitAt (2 ^ suc (suc n)) x ≡ bitAt (2 ^ n) (x / 4)
+rest-bit : (n x : ℕ) → bitOfMask (2 ^ suc (suc n)) x ≡ bitOfMask (2 ^ n) (x / 4)
 rest-bit n x =
     let two : suc (suc n) ≡ 2 + n = omega arith in
     rw (two, pow-add 2 2 n, div-div-eq-div-mul x 4 (2 ^ n))
 
-beside-bit : (n y x : ℕ) → (n ≡ 1 → ⊥) → Beside y x → bitAt (2 ^ n) y ≡ bitAt (2 ^ n) x
+beside-bit : (n y x : ℕ) → (n ≡ 1 → ⊥) → Beside y x → bitOfMask (2 ^ n) y ≡ bitOfMask (2 ^ n) x
 beside-bit zero y x other b = b .first
 beside-bit (suc zero) y x other b = absurd (other refl)
 beside-bit (suc (suc n)) y x other b = rw (rest-bit n y, rest-bit n x, b .above)
@@ -75,7 +75,7 @@ tick-lines n h other =
 
 pub tick-keeps-line : TickKeepsLine
 tick-keeps-line h =
-    tick-each (λ l. bitAt 2 (h .lines) ≤ bitAt 2 l) h (omega arith) (omega (arith, set-second (h .lines)))
+    tick-each (λ l. bitOfMask 2 (h .lines) ≤ bitOfMask 2 l) h (omega arith) (omega (arith, set-second (h .lines)))
 
 pub write-lines : WriteLines
 write-lines n h o v other =
@@ -84,4 +84,4 @@ write-lines n h o v other =
 
 pub write-keeps-down : WriteKeepsDown
 write-keeps-down h o v =
-    write-each (λ l. bitAt 2 l ≤ bitAt 2 (h .lines)) h (omega arith) o v (omega (arith, clear-second (h .lines)))
+    write-each (λ l. bitOfMask 2 l ≤ bitOfMask 2 (h .lines)) h (omega arith) o v (omega (arith, clear-second (h .lines)))

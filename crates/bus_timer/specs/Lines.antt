@@ -3,24 +3,24 @@
 -- `write-lines` and `write-keeps-down` in proofs/TimerLines.
 use Prim.Native.Nat.{ℕ, _≤_, _^_}
 use mathlib.Core.Path.{_≡_}
-use Rattle.bus_timer.specs.Timer.{bitAt, timerLine, tickOf}
+use Rattle.bus_timer.specs.Timer.{bitOfMask, timerLine, tickOf}
 use Rattle.bus_timer.specs.Ports.{portWrittenOf}
 use Rattle.bus_timer.specs.declared.Hardware.{Hardware}
 
 -- the line of level n
-abbrev pub lineOf : ℕ → Hardware → ℕ
-lineOf n h = bitAt (2 ^ n) (h .lines)
+abbrev pub hardwareLineOf : ℕ → Hardware → ℕ
+hardwareLineOf n h = bitOfMask (2 ^ n) (h .lines)
 
 -- a tick leaves every line but the timer's, and never lowers that
 abbrev pub TickLines : Type 0
-TickLines = (n : ℕ) (h : Hardware) → (n ≡ 1 → ⊥) → lineOf n (tickOf h) ≡ lineOf n h
+TickLines = (n : ℕ) (h : Hardware) → (n ≡ 1 → ⊥) → hardwareLineOf n (tickOf h) ≡ hardwareLineOf n h
 
 abbrev pub TickKeepsLine : Type 0
-TickKeepsLine = (h : Hardware) → lineOf 1 h ≤ lineOf 1 (tickOf h)
+TickKeepsLine = (h : Hardware) → hardwareLineOf 1 h ≤ hardwareLineOf 1 (tickOf h)
 
 -- a write leaves every line but the timer's, and never raises that
 abbrev pub WriteLines : Type 0
-WriteLines = (n : ℕ) (h : Hardware) (o v : ℕ) → (n ≡ 1 → ⊥) → lineOf n (portWrittenOf h o v) ≡ lineOf n h
+WriteLines = (n : ℕ) (h : Hardware) (o v : ℕ) → (n ≡ 1 → ⊥) → hardwareLineOf n (portWrittenOf h o v) ≡ hardwareLineOf n h
 
 abbrev pub WriteKeepsDown : Type 0
-WriteKeepsDown = (h : Hardware) (o v : ℕ) → lineOf 1 (portWrittenOf h o v) ≤ lineOf 1 h
+WriteKeepsDown = (h : Hardware) (o v : ℕ) → hardwareLineOf 1 (portWrittenOf h o v) ≤ hardwareLineOf 1 h

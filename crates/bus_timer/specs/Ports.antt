@@ -1,10 +1,11 @@
--- The timer's registers among the addresses of region 2 (paper 02, W6): TLR, THR and TCR are bytes, and every other byte
--- there reads 0 and ignores writes. What a write leaves is the project's own, as in Timer.
+-- The timer's registers among the addresses of region 2 (paper 02, W6): TLR, THR and TCR are bytes, and every other
+-- byte there reads 0 and ignores writes. What a write leaves is the project's own, as in Timer.
 use Prim.Native.Nat.{ℕ, _+_, _*_, _/_, _%_, _^_}
 use mathlib.Core.Bool.{Bool, false}
 use lib.Dec.{eqb, ltb}
 use Rattle.word.specs.Choose.{pick}
-use Rattle.bus_timer.specs.Timer.{hardwareOf, bitAt, hasBit, clearBitOf, timerLine, tEnb, zStat, zStatClr, timZInt, tClkSel}
+use Rattle.bus_timer.specs.Timer.{hardwareOf, bitOfMask, hasBit, clearBitOf, timerLine, tEnb, zStat, zStatClr}
+use Rattle.bus_timer.specs.Timer.{timZInt, tClkSel}
 use Rattle.bus_timer.specs.declared.Hardware.{Hardware}
 
 -- T1: where the registers stand in region 2
@@ -45,8 +46,8 @@ highWrittenOf reload v = reload % 256 + 256 * v
 -- Z-Stat-Clr is set, which is never stored
 unfoldable pub controlWrittenOf : ℕ → ℕ → ℕ
 controlWrittenOf control v =
-    bitAt tEnb v + bitAt timZInt v * timZInt + bitAt tClkSel v * tClkSel
-    + pick (hasBit zStatClr v) 0 (bitAt zStat control * zStat)
+    bitOfMask tEnb v + bitOfMask timZInt v * timZInt + bitOfMask tClkSel v * tClkSel
+    + pick (hasBit zStatClr v) 0 (bitOfMask zStat control * zStat)
 
 -- T7, T8: the lines after a byte written to TCR: the timer's is lowered if Z-Stat-Clr is set or Tim-Z-Int is clear
 unfoldable pub lineAfterControl : ℕ → ℕ → ℕ

@@ -3,7 +3,8 @@ use Prim.Native.Nat.{ℕ}
 use mathlib.Core.List.{List, [], _∷_, map}
 use mathlib.Core.Path.{_≡_, refl}
 use Rattle.bus_timer.specs.Timer.{hardwareOf, startOf, reachedZeroOf, tickedCountOf, countedOf, tickOf}
-use Rattle.bus_timer.specs.Ports.{tlr, tcr, controlBitsOf, portByteOf, controlWrittenOf, lineAfterControl, tcrWrittenOf, portWrittenOf}
+use Rattle.bus_timer.specs.Ports.{tlr, tcr, controlBitsOf, portByteOf, controlWrittenOf, lineAfterControl}
+use Rattle.bus_timer.specs.Ports.{tcrWrittenOf, portWrittenOf}
 use Rattle.bus_timer.specs.declared.Hardware.{Hardware}
 
 -- a row: the record before, the byte written, the record after

@@ -1,7 +1,7 @@
 -- The timer and the request lines (paper 02, W6). This copy of document 000 has no Timer section, so what a tick and a
--- write do is the project's own (docs/DECISIONS.md, T1 to T13), each choice in one definition here. From the papers: the
--- timer's line is that of level 1, raised when "the timer counter reached zero" (000, "List of Exceptions"); the timer
--- advances "only when the bench tells of a tick" (02).
+-- write do is the project's own (docs/DECISIONS.md, T1 to T13), each choice in one definition here. From the papers:
+-- the timer's line is that of level 1, raised when "the timer counter reached zero" (000, "List of Exceptions"); the
+-- timer advances "only when the bench tells of a tick" (02).
 use Prim.Native.Nat.{ℕ, _+_, _-_, _*_, _/_, _%_}
 use mathlib.Core.Bool.{Bool}
 use lib.Dec.{eqb}
@@ -13,14 +13,14 @@ hardwareOf lines count reload control =
     record { lines = lines; count = count; reload = reload; control = control }
 
 -- the bit of weight w; whether it is set; the number with it cleared, and set
-abbrev pub bitAt : ℕ → ℕ → ℕ
-bitAt w x = x / w % 2
+abbrev pub bitOfMask : ℕ → ℕ → ℕ
+bitOfMask w x = x / w % 2
 
 abbrev pub hasBit : ℕ → ℕ → Bool
-hasBit w x = eqb (bitAt w x) 1
+hasBit w x = eqb (bitOfMask w x) 1
 
 abbrev pub clearBitOf : ℕ → ℕ → ℕ
-clearBitOf w x = x - bitAt w x * w
+clearBitOf w x = x - bitOfMask w x * w
 
 abbrev pub setBitOf : ℕ → ℕ → ℕ
 setBitOf w x = clearBitOf w x + w

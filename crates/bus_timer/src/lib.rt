@@ -5,8 +5,8 @@ mod bits;
 pub mod ports;
 pub mod timer;
 
-// The request lines (bit n is the line of level n), the timer's count, what it is reloaded with, and its control bits at
-// their places in TCR.
+// The request lines (bit n is the line of level n), the timer's count, what it is reloaded with, and its control bits
+// at their places in TCR.
 pub struct Hardware {
     pub lines: u16,
     pub count: u16,

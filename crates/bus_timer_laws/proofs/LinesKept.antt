@@ -5,10 +5,10 @@ use mathlib.Core.Path.{_≡_, refl, _∙_}
 use native.Mathlib.Omega.{arith}
 use lib.ListN.{length}
 use Rattle.bus_timer.specs.Ports.{portWrittenOf}
-use Rattle.bus_timer.specs.Lines.{lineOf}
+use Rattle.bus_timer.specs.Lines.{hardwareLineOf}
 use Rattle.bus_timer.specs.declared.Hardware.{Hardware}
 use Rattle.bus_timer.proofs.TimerLines.{write-lines, write-keeps-down}
-use Rattle.bus.specs.Registers.{keptOf}
+use Rattle.bus.specs.Registers.{deviceLength, keptOf}
 use Rattle.bus.specs.Place.{Place, vramAt, wramAt, pakAt, romAt, drawingAt, versionAt, silent, unlisted, unmapped, hardwareAt, soundUnit, nothing, expansion}
 use Rattle.bus.specs.Memory.{Memory, putPlace, putDrawing, placeIn, putByte, putRegister, putHalfword, putFrom, storeOf}
 use Rattle.bus.proofs.Devices.{hardware-with}
@@ -18,8 +18,8 @@ use Rattle.bus_timer_laws.specs.Writing.{timerIn, LinesKept, LineNeverRi
 
 -- what a step of a store leaves of the lines
 pub record Lowered (g h : Hardware) : Type 0 where
-  pub others : (n : ℕ) → (n ≡ 1 → ⊥) → lineOf n h ≡ lineOf n g
-  pub down : lineOf 1 h ≤ lineOf 1 g
+  pub others : (n : ℕ) → (n ≡ 1 → ⊥) → hardwareLineOf n h ≡ hardwareLineOf n g
+  pub down : hardwareLineOf 1 h ≤ hardwareLineOf 1 g
 
 same : (h : Hardware) → Lowered h h
 same h = record { others = λ n other. refl; down = omega arith }
@@ -37,7 +37,7 @@ both g h i p q =
 written : (h : Hardware) (o v : ℕ) → Lowered h (portWrittenOf h o v)
 written h o v = record { others = λ n other. write-lines n h o v other; down = write-keeps-down h o v }
 
-place-lowered : (m : Memory) (p : Place) (b : ℕ) → length (m .regs) ≡ 17 → Lowered (timerIn m) (timerIn (putPlace m p b))
+place-lowered : (m : Memory) (p : Place) (b : ℕ) → length (m .regs) ≡ deviceLength → Lowered (timerIn m) (timerIn (putPlace m p b))
 place-lowered m (vramAt i) b l = same (timerIn m)
 place-lowered m (wramAt i) b l = same (timerIn m)
 place-lowered m (pakAt i) b l = same (timerIn m)
@@ -68,7 +68,7 @@ drawing-lowered m soundUnit v less = same (timerIn m)
 drawing-lowered m nothing v less = same (timerIn m)
 drawing-lowered m expansion v less = same (timerIn m)
 
-byte-lowered : (m : Memory) (a v : ℕ) → length (m .regs) ≡ 17 → Lowered (timerIn m) (timerIn (putByte m a v))
+byte-lowered : (m : Memory) (a v : ℕ) → length (m .regs) ≡ deviceLength → Lowered (timerIn m) (timerIn (putByte m a v))
 unfolding putByte
 byte-lowered m a v l = place-lowered m (placeIn m a) (v % 256) l
 
@@ -77,7 +77,7 @@ unfolding putRegister
 register-lowered m a v =
     drawing-lowered m (placeIn m a) (v % 65536) (place-proper (length (m .rom)) (length (m .pak)) a)
 
-halfword-lowered : (m : Memory) (a v : ℕ) → length (m .regs) ≡ 17 → Lowered (timerIn m) (timerIn (putHalfword m a v))
+halfword-lowered : (m : Memory) (a v : ℕ) → length (m .regs) ≡ deviceLength → Lowered (timerIn m) (timerIn (putHalfword m a v))
 unfolding putHalfword
 halfword-lowered m a v l =
     let n = putByte m a v in
@@ -87,7 +87,7 @@ halfword-lowered m a v l =
     (byte-lowered n (a + 1) (v / 256) (byte-shape m a v .same-regs ∙ l)))
     (register-lowered o a v)
 
-from-lowered : (m : Memory) (a size v : ℕ) → length (m .regs) ≡ 17 → Lowered (timerIn m) (timerIn (putFrom m a size v))
+from-lowered : (m : Memory) (a size v : ℕ) → length (m .regs) ≡ deviceLength → Lowered (timerIn m) (timerIn (putFrom m a size v))
 from-lowered m a zero v l = same (timerIn m)
 from-lowered m a (suc zero) v l =
     both (timerIn m) (timerIn (putByte m a v)) _ (byte-lowered m a v l) (register-lowered (putByte m a v) a v)
@@ -97,7 +97,7 @@ from-lowered m a (suc (suc n)) v l =
     (from-lowered h (a + 2) n (v / 65536) (halfword-shape m a v .same-regs ∙ l))
 
 -- a store of any size, at any address
-pub store-lowered : (m : Memory) (size a v : ℕ) → length (m .regs) ≡ 17 → Lowered (timerIn m) (timerIn (storeOf m size a v))
+pub store-lowered : (m : Memory) (size a v : ℕ) → length (m .regs) ≡ deviceLength → Lowered (timerIn m) (timerIn (storeOf m size a v))
 unfolding storeOf
 store-lowered m size a v l = from-lowered m (a - a % size) size v l
 

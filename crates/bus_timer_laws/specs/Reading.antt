@@ -21,7 +21,8 @@ ThrReads = (m : Memory) (a : ℕ) → At thr a → byteOf m a ≡ hardwareIn (m 
 
 -- the control bits, with bits 7 to 5 and bit 2 set
 abbrev pub TcrReads : Type 0
-TcrReads = (m : Memory) (a : ℕ) → At tcr a → registersOk (m .regs) ≡ true → byteOf m a ≡ 0xE4 + hardwareIn (m .regs) .control
+TcrReads =
+    (m : Memory) (a : ℕ) → At tcr a → registersOk (m .regs) ≡ true → byteOf m a ≡ 0xE4 + hardwareIn (m .regs) .control
 
 -- every other byte of region 2 reads 0
 abbrev pub RestReads : Type 0

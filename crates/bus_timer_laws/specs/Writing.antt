@@ -1,15 +1,15 @@
--- What stores do in region 2 and to the request lines (paper 02, W6; docs/DECISIONS.md, T4 to T8, T13, W6.1 to W6.3): the
--- statements. Their proofs are `tlr-stores`, `thr-stores`, `tcr-stores`, `rest-stores`, `half-stores`, `word-stores` and
--- `timed-hardware` in proofs/Writings, `lines-kept` and `line-never-rises` in proofs/LinesKept. A memory's registers
--- are the bus's list of 17.
+-- What stores do in region 2 and to the request lines (paper 02, W6; docs/DECISIONS.md, T4 to T8, T13, W6.1 to W6.3):
+-- the statements. Their proofs are `tlr-stores`, `thr-stores`, `tcr-stores`, `rest-stores`, `half-stores`,
+-- `word-stores` and `timed-hardware` in proofs/Writings, `lines-kept` and `line-never-rises` in proofs/LinesKept. A
+-- memory's registers are the bus's list of 17.
 use Prim.Native.Nat.{ℕ, _%_, _≤_}
 use mathlib.Core.Path.{_≡_}
 use lib.ListN.{length}
 use Rattle.bus_timer.specs.Ports.{tlr, thr, tcr, lowWrittenOf, highWrittenOf, reloadWrittenOf, tcrWrittenOf}
-use Rattle.bus_timer.specs.Lines.{lineOf}
+use Rattle.bus_timer.specs.Lines.{hardwareLineOf}
 use Rattle.bus_timer.specs.declared.Hardware.{Hardware}
 use Rattle.bus.specs.Place.{regionOf}
-use Rattle.bus.specs.Registers.{hardwareIn, withHardware}
+use Rattle.bus.specs.Registers.{deviceLength, hardwareIn, withHardware}
 use Rattle.bus.specs.Memory.{Memory, withRegs, alignedOf, storeOf}
 use Rattle.bus_timer_laws.specs.Reading.{At}
 
@@ -21,7 +21,8 @@ timerIn m = hardwareIn (m .regs)
 abbrev pub timed : Memory → Hardware → Memory
 timed m h = withRegs m (withHardware (m .regs) h)
 
--- the low 8 bits of the source go to the low or the high byte of reload, and the count becomes reload; to TCR; or nowhere
+-- the low 8 bits of the source go to the low or the high byte of reload, and the count becomes reload; to TCR; or
+-- nowhere
 abbrev pub TlrStores : Type 0
 TlrStores =
     (m : Memory) (a v : ℕ) → At tlr a
@@ -48,15 +49,15 @@ WordStores = (m : Memory) (a v : ℕ) → regionOf a ≡ 2 → storeOf m 4 a v �
 
 -- what a memory with other lines and another timer holds
 abbrev pub TimedHardware : Type 0
-TimedHardware = (m : Memory) (h : Hardware) → length (m .regs) ≡ 17 → timerIn (timed m h) ≡ h
+TimedHardware = (m : Memory) (h : Hardware) → length (m .regs) ≡ deviceLength → timerIn (timed m h) ≡ h
 
 -- no store, of any size and at any address, changes a line but the timer's, and none raises that
 abbrev pub LinesKept : Type 0
 LinesKept =
-    (m : Memory) (size a v n : ℕ) → length (m .regs) ≡ 17 → (n ≡ 1 → ⊥)
-    → lineOf n (timerIn (storeOf m size a v)) ≡ lineOf n (timerIn m)
+    (m : Memory) (size a v n : ℕ) → length (m .regs) ≡ deviceLength → (n ≡ 1 → ⊥)
+    → hardwareLineOf n (timerIn (storeOf m size a v)) ≡ hardwareLineOf n (timerIn m)
 
 abbrev pub LineNeverRises : Type 0
 LineNeverRises =
-    (m : Memory) (size a v : ℕ) → length (m .regs) ≡ 17
-    → lineOf 1 (timerIn (storeOf m size a v)) ≤ lineOf 1 (timerIn m)
+    (m : Memory) (size a v : ℕ) → length (m .regs) ≡ deviceLength
+    → hardwareLineOf 1 (timerIn (storeOf m size a v)) ≤ hardwareLineOf 1 (timerIn m)

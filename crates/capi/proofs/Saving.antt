@@ -9,7 +9,7 @@ use Rattle.refusal.specs.declared.Verdict.{Verdict}
 use Rattle.processor.specs.Acceptance.{acceptanceIn}
 use Rattle.processor.specs.declared.Processor.{Processor}
 use Rattle.saved_layout.specs.declared.Form.{Form}
-use Rattle.saved.specs.Calls.{writeVerdictOf, writtenOf, Restored, readOf}
+use Rattle.saved.specs.Calls.{writeVerdictOf, writtenRoomOf, Restored, readBackOf}
 use Rattle.capi.specs.Execution.{processorIn, misuseNumber}
 use Rattle.capi.specs.States.{writeNumberAt, writtenAt, restoredGives, restoredDone, readAt}
 use Rattle.capi.specs.declared.execution.VbProcessor.{VbProcessor}
@@ -20,7 +20,7 @@ module _ (p : VbProcessor) (m : Memory) (file : List ℕ) (q : Processor) (e : q
   unfolding writeNumberAt writtenAt
   write-misused form v f h = (rw (f, e) (simp (lt-ltb 2 (p .mode) h)), simp (lt-ltb 2 (p .mode) h))
 
-  pub write-done : (form : Form) → p .mode ≤ 2 → (v : Verdict) (after : List ℕ) → v ≡ writeVerdictOf form q m file → after ≡ writtenOf form q m file
+  pub write-done : (form : Form) → p .mode ≤ 2 → (v : Verdict) (after : List ℕ) → v ≡ writeVerdictOf form q m file → after ≡ writtenRoomOf form q m file
       → (verdictNumber v ≡ writeNumberAt form p m file) × (after ≡ writtenAt form p m file)
   unfolding writeNumberAt writtenAt
   write-done form h v after f g =
@@ -30,6 +30,6 @@ module _ (p : VbProcessor) (m : Memory) (file : List ℕ) (q : Processor) (e : q
   unfolding readAt
   read-misused v f h = rw (f, e) (simp (lt-ltb 2 (p .mode) h))
 
-  pub read-done : p .mode ≤ 2 → (r : Restored) → r ≡ readOf q m file → restoredDone r ≡ readAt p m file
+  pub read-done : p .mode ≤ 2 → (r : Restored) → r ≡ readBackOf q m file → restoredDone r ≡ readAt p m file
   unfolding readAt
   read-done h r f = simp (le-ltb 2 (p .mode) h) (ap restoredDone (rw e at f))

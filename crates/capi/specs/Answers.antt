@@ -14,13 +14,13 @@ use Rattle.capi.specs.declared.ticks.VbTicked.{VbTicked}
 use Rattle.drawing_pixel.specs.Character.{characterAddressOf}
 
 -- a load's answer: its refusal, its value and the mask of its undefined bytes
-abbrev pub loadedOf : Load → VbLoaded
-loadedOf (Value l) = record { refusal = 0; value = l .value; undefined = l .undefined }
-loadedOf (LoadRefused n) = record { refusal = numberOf n; value = 0; undefined = 0 }
+abbrev pub loadOut : Load → VbLoaded
+loadOut (Value l) = record { refusal = 0; value = l .value; undefined = l .undefined }
+loadOut (LoadRefused n) = record { refusal = numberOf n; value = 0; undefined = 0 }
 
 -- a store's answer: its refusal and both records
-abbrev pub storedOf : Stored → VbStored
-storedOf s =
+abbrev pub storeOut : Stored → VbStored
+storeOut s =
     record {
       refusal = verdictNumber (s .verdict);
       drawing = record { regs = s .drawing .regs };
@@ -28,8 +28,8 @@ storedOf s =
     }
 
 -- a tick's answer: its refusal, and the request lines and the timer
-abbrev pub tickedOf : Ticked → VbTicked
-tickedOf t = record { refusal = verdictNumber (t .verdict); hardware = hardwareOut (t .hardware) }
+abbrev pub tickOut : Ticked → VbTicked
+tickOut t = record { refusal = verdictNumber (t .verdict); hardware = hardwareOut (t .hardware) }
 
 -- where a character's part begins, 0 where it was refused
 abbrev pub partOffset : Verdict → ℕ → ℕ

@@ -11,7 +11,8 @@ use Rattle.processor_machine.specs.Exception.{codeOf}
 use Rattle.processor_machine.specs.declared.Mode.{Mode}
 use Rattle.processor_machine.specs.declared.Mode.the-variants.{Running, Halted, Fatal}
 use Rattle.processor_machine.specs.declared.Answer.{Answer}
-use Rattle.processor_machine.specs.declared.Answer.the-variants.{Ended, Trapped, Interrupted, TurnedFatal, WasHalted, WasFatal, Refused}
+use Rattle.processor_machine.specs.declared.Answer.the-variants.{Ended, Trapped, Interrupted, TurnedFatal, WasHalted}
+use Rattle.processor_machine.specs.declared.Answer.the-variants.{WasFatal, Refused}
 use Rattle.processor_interrupt.specs.Interrupt.{interruptCodeOf}
 use Rattle.processor_reads.specs.Reads.{noneOf}
 use Rattle.processor_reads.specs.declared.Undefined.{Undefined}
@@ -122,7 +123,8 @@ stepGives refusal answer code u p m =
 
 abbrev pub stepDone : Done → StepAtBoundary
 stepDone d =
-    stepGives (answerRefusal (d .answer)) (answerNumber (d .answer)) (answerCode (d .answer)) (undefinedOut (d .undefined)) (processorOut (d .processor)) (d .memory)
+    stepGives (answerRefusal (d .answer)) (answerNumber (d .answer)) (answerCode (d .answer))
+    (undefinedOut (d .undefined)) (processorOut (d .processor)) (d .memory)
 
 unfoldable pub stepAt : VbProcessor → Memory → StepAtBoundary
 stepAt p m =

@@ -1,5 +1,5 @@
--- What the C boundary gives for a replay (include/vb.h): the papers' refusal number or VB_MISUSE, which comes after 1 to 5
--- and before 14, how it ended as a number, and the first wrong word where it differed.
+-- What the C boundary gives for a replay (include/vb.h): the papers' refusal number or VB_MISUSE, which comes after 1
+-- to 5 and before 14, how it ended as a number, and the first wrong word where it differed.
 use Prim.Native.Nat.{ℕ}
 use mathlib.Core.List.{List}
 use lib.Dec.{ltb}
@@ -55,7 +55,8 @@ replayGives refusal answer agreed word p m =
 
 abbrev pub replayDone : Replayed → ReplayAtBoundary
 replayDone r =
-    replayGives (endRefusal (r .end)) (endNumber (r .end)) (r .agreed) (endWord (r .end)) (processorOut (r .processor)) (r .memory)
+    replayGives (endRefusal (r .end)) (endNumber (r .end)) (r .agreed) (endWord (r .end))
+    (processorOut (r .processor)) (r .memory)
 
 unfoldable pub replayAt : VbProcessor → Memory → List ℕ → ReplayAtBoundary
 replayAt p m trace =

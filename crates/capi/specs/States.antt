@@ -1,5 +1,6 @@
--- What the C boundary gives for a saved state (include/vb.h): the papers' refusal number or VB_MISUSE, which comes after 1 to 5 and
--- before 9, 10 and 16, the room or the records and memories afterwards; and for a move and a salvage, which are given a file and a room.
+-- What the C boundary gives for a saved state (include/vb.h): the papers' refusal number or VB_MISUSE, which comes
+-- after 1 to 5 and before 9, 10 and 16, the room or the records and memories afterwards; and for a move and a salvage,
+-- which are given a file and a room.
 use Prim.Native.Nat.{ℕ}
 use mathlib.Core.Bool.{Bool}
 use mathlib.Core.List.{List}
@@ -9,7 +10,7 @@ use Rattle.refusal.specs.Number.{verdictNumber}
 use Rattle.bus.specs.Memory.{Memory}
 use Rattle.processor.specs.Acceptance.{acceptanceIn}
 use Rattle.saved_layout.specs.declared.Form.{Form}
-use Rattle.saved.specs.Calls.{writeVerdictOf, writtenOf, Restored, readOf}
+use Rattle.saved.specs.Calls.{writeVerdictOf, writtenRoomOf, Restored, readBackOf}
 use Rattle.capi.specs.Execution.{processorIn, processorOut, misuseNumber}
 use Rattle.saved_salvage.specs.declared.Salvaged.{Salvaged}
 use Rattle.capi.specs.declared.states.VbSalvaged.{VbSalvaged}
@@ -18,10 +19,11 @@ use Rattle.capi.specs.declared.execution.VbProcessor.{VbProcessor}
 -- what vb_write_state (form 1) and vb_write_state_2 (form 2) answer, and the room afterwards
 unfoldable pub writeNumberAt : Form → VbProcessor → Memory → List ℕ → ℕ
 writeNumberAt form p m room =
-    pick (ltb 2 (p .mode)) (misuseNumber (acceptanceIn (processorIn p) m)) (verdictNumber (writeVerdictOf form (processorIn p) m room))
+    pick (ltb 2 (p .mode)) (misuseNumber (acceptanceIn (processorIn p) m))
+    (verdictNumber (writeVerdictOf form (processorIn p) m room))
 
 unfoldable pub writtenAt : Form → VbProcessor → Memory → List ℕ → List ℕ
-writtenAt form p m room = pick (ltb 2 (p .mode)) room (writtenOf form (processorIn p) m room)
+writtenAt form p m room = pick (ltb 2 (p .mode)) room (writtenRoomOf form (processorIn p) m room)
 
 -- what vb_read_state gives
 pub record RestoredAtBoundary : Type 0 where
@@ -38,7 +40,7 @@ restoredDone r = restoredGives (verdictNumber (r .verdict)) (processorOut (r .pr
 unfoldable pub readAt : VbProcessor → Memory → List ℕ → RestoredAtBoundary
 readAt p m file =
     pick (ltb 2 (p .mode)) (restoredGives (misuseNumber (acceptanceIn (processorIn p) m)) p m)
-    (restoredDone (readOf (processorIn p) m file))
+    (restoredDone (readBackOf (processorIn p) m file))
 
 -- what vb_salvage_state gives: the number, the kinds replaced, and 1 where the contents differ
 unfoldable pub salvagedAt : Salvaged → VbSalvaged

@@ -10,9 +10,11 @@ use refusal::verdict_number;
 ghost use mathlib.Core.Path.{_≡_};
 ghost use Rattle.refusal.specs.Number.{verdictNumber};
 ghost use Rattle.bus.specs.Memory.{verdictOf, storeOf};
-ghost use Rattle.bus_calls.specs.Access.{entering, leaving, checkedLoadOf, checkedStoreOf};
+ghost use Rattle.bus.specs.Lent.{enteringWith, leavingWith};
+ghost use Rattle.bus.specs.Registers.{deviceOf};
+ghost use Rattle.bus_calls.specs.Access.{checkedLoadOf, checkedStoreOf};
 ghost use Rattle.capi.specs.Hardware.{hardwareGiven};
-ghost use Rattle.capi.specs.Answers.{loadedOf, storedOf};
+ghost use Rattle.capi.specs.Answers.{loadOut, storeOut};
 
 // The drawing registers: SPT0 to SPT3, GPLT0 to GPLT3, JPLT0 to JPLT3, BKCOL.
 #[repr(C)]
@@ -37,7 +39,7 @@ pub struct VbStored {
 
 // A load's answer at the boundary.
 fn loaded(answer: Load) -> VbLoaded
-    ensures { λ r. ⌜ r ≡ loadedOf answer ⌝ }
+    ensures { λ r. ⌜ r ≡ loadOut answer ⌝ }
 {
     match answer {
         Load::Value(l) => VbLoaded {
@@ -55,7 +57,7 @@ fn loaded(answer: Load) -> VbLoaded
 
 // A store's answer at the boundary.
 fn stored(answer: Stored) -> VbStored
-    ensures { λ r. ⌜ r ≡ storedOf answer ⌝ }
+    ensures { λ r. ⌜ r ≡ storeOut answer ⌝ }
 {
     let verdict = answer.verdict;
     let after = answer.drawing.regs;
@@ -77,7 +79,10 @@ pub extern "C" fn vb_load_byte(
     hardware: VbHardware,
     address: u32,
 ) -> VbLoaded
-    ensures { λ r. ⌜ r ≡ loadedOf (checkedLoadOf (entering rom wram vram pak (drawing .regs) (hardwareGiven hardware)) 1 address) ⌝ }
+    ensures { λ r. ⌜
+        r ≡ loadOut
+        (checkedLoadOf (enteringWith rom wram vram pak (deviceOf (drawing .regs) (hardwareGiven hardware))) 1 address)
+        ⌝ }
 {
     let regs = drawing.regs;
     let given = hardware_given(hardware);
@@ -94,7 +99,10 @@ pub extern "C" fn vb_load_half(
     hardware: VbHardware,
     address: u32,
 ) -> VbLoaded
-    ensures { λ r. ⌜ r ≡ loadedOf (checkedLoadOf (entering rom wram vram pak (drawing .regs) (hardwareGiven hardware)) 2 address) ⌝ }
+    ensures { λ r. ⌜
+        r ≡ loadOut
+        (checkedLoadOf (enteringWith rom wram vram pak (deviceOf (drawing .regs) (hardwareGiven hardware))) 2 address)
+        ⌝ }
 {
     let regs = drawing.regs;
     let given = hardware_given(hardware);
@@ -111,7 +119,10 @@ pub extern "C" fn vb_load_word(
     hardware: VbHardware,
     address: u32,
 ) -> VbLoaded
-    ensures { λ r. ⌜ r ≡ loadedOf (checkedLoadOf (entering rom wram vram pak (drawing .regs) (hardwareGiven hardware)) 4 address) ⌝ }
+    ensures { λ r. ⌜
+        r ≡ loadOut
+        (checkedLoadOf (enteringWith rom wram vram pak (deviceOf (drawing .regs) (hardwareGiven hardware))) 4 address)
+        ⌝ }
 {
     let regs = drawing.regs;
     let given = hardware_given(hardware);
@@ -129,8 +140,15 @@ pub extern "C" fn vb_store_byte(
     address: u32,
     value: u32,
 ) -> VbStored
-    ensures refusal { λ r. ⌜ r .refusal ≡ verdictNumber (verdictOf (entering rom wram vram pak (drawing .regs) (hardwareGiven hardware))) ⌝ }
-    ensures memory { λ r. ⌜ (let m = entering rom wram vram pak (drawing .regs) (hardwareGiven hardware) in leaving rom wram vram pak (r .drawing .regs) (hardwareGiven (r .hardware)) ≡ checkedStoreOf m (storeOf m 1 address value)) ⌝ }
+    ensures refusal { λ r. ⌜
+        r .refusal ≡ verdictNumber
+        (verdictOf (enteringWith rom wram vram pak (deviceOf (drawing .regs) (hardwareGiven hardware))))
+        ⌝ }
+    ensures memory { λ r. ⌜
+        (let m = enteringWith rom wram vram pak (deviceOf (drawing .regs) (hardwareGiven hardware)) in
+        leavingWith rom wram vram pak (deviceOf (r .drawing .regs) (hardwareGiven (r .hardware)))
+        ≡ checkedStoreOf m (storeOf m 1 address value))
+        ⌝ }
 {
     let regs = drawing.regs;
     let given = hardware_given(hardware);
@@ -157,8 +175,15 @@ pub extern "C" fn vb_store_half(
     address: u32,
     value: u32,
 ) -> VbStored
-    ensures refusal { λ r. ⌜ r .refusal ≡ verdictNumber (verdictOf (entering rom wram vram pak (drawing .regs) (hardwareGiven hardware))) ⌝ }
-    ensures memory { λ r. ⌜ (let m = entering rom wram vram pak (drawing .regs) (hardwareGiven hardware) in leaving rom wram vram pak (r .drawing .regs) (hardwareGiven (r .hardware)) ≡ checkedStoreOf m (storeOf m 2 address value)) ⌝ }
+    ensures refusal { λ r. ⌜
+        r .refusal ≡ verdictNumber
+        (verdictOf (enteringWith rom wram vram pak (deviceOf (drawing .regs) (hardwareGiven hardware))))
+        ⌝ }
+    ensures memory { λ r. ⌜
+        (let m = enteringWith rom wram vram pak (deviceOf (drawing .regs) (hardwareGiven hardware)) in
+        leavingWith rom wram vram pak (deviceOf (r .drawing .regs) (hardwareGiven (r .hardware)))
+        ≡ checkedStoreOf m (storeOf m 2 address value))
+        ⌝ }
 {
     let regs = drawing.regs;
     let given = hardware_given(hardware);
@@ -185,8 +210,15 @@ pub extern "C" fn vb_store_word(
     address: u32,
     value: u32,
 ) -> VbStored
-    ensures refusal { λ r. ⌜ r .refusal ≡ verdictNumber (verdictOf (entering rom wram vram pak (drawing .regs) (hardwareGiven hardware))) ⌝ }
-    ensures memory { λ r. ⌜ (let m = entering rom wram vram pak (drawing .regs) (hardwareGiven hardware) in leaving rom wram vram pak (r .drawing .regs) (hardwareGiven (r .hardware)) ≡ checkedStoreOf m (storeOf m 4 address value)) ⌝ }
+    ensures refusal { λ r. ⌜
+        r .refusal ≡ verdictNumber
+        (verdictOf (enteringWith rom wram vram pak (deviceOf (drawing .regs) (hardwareGiven hardware))))
+        ⌝ }
+    ensures memory { λ r. ⌜
+        (let m = enteringWith rom wram vram pak (deviceOf (drawing .regs) (hardwareGiven hardware)) in
+        leavingWith rom wram vram pak (deviceOf (r .drawing .regs) (hardwareGiven (r .hardware)))
+        ≡ checkedStoreOf m (storeOf m 4 address value))
+        ⌝ }
 {
     let regs = drawing.regs;
     let given = hardware_given(hardware);

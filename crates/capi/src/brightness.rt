@@ -17,8 +17,13 @@ pub extern "C" fn vb_display(
     brtc: u8,
     room: &mut [u8],
 ) -> u32
-    ensures refusal { λ r. ⌜ r ≡ verdictNumber (displayVerdictOf (now (vram .entry)) (viewOf frame eye start) (now (room .entry))) ⌝ }
-    ensures room { λ _. ⌜ now (room .exit) ≡ displayOf (now (vram .entry)) (viewOf frame eye start) (durationsOf brta brtb brtc) (now (room .entry)) ⌝ }
+    ensures refusal { λ r. ⌜
+        r ≡ verdictNumber (displayVerdictOf (now (vram .entry)) (viewOf frame eye start) (now (room .entry)))
+        ⌝ }
+    ensures room { λ _. ⌜
+        now (room .exit) ≡ displayOf (now (vram .entry)) (viewOf frame eye start)
+        (durationsOf brta brtb brtc) (now (room .entry))
+        ⌝ }
 {
     let view = View { frame, eye, start };
     let durations = Durations { brta, brtb, brtc };

@@ -12,9 +12,11 @@ use refusal::Verdict;
 use refusal::number;
 use refusal::verdict_number;
 ghost use mathlib.Core.Path.{_≡_};
-ghost use Rattle.bus.specs.Memory.{memoryOf};
+ghost use Rattle.bus.specs.Lent.{enteringWith, leavingWith};
 ghost use Rattle.processor.specs.Calls.{resetOf};
-ghost use Rattle.capi.specs.Execution.{answerRefusal, answerNumber, answerCode, modeNumber, modeIn, processorIn, processorOut, undefinedOut, misuseNumber, stepGives, stepAt, runGives, runAt};
+ghost use Rattle.capi.specs.Execution.{answerRefusal, answerNumber, answerCode, modeNumber, modeIn, processorIn};
+ghost use Rattle.capi.specs.Execution.{processorOut, undefinedOut, misuseNumber, stepGives, stepAt, runGives};
+ghost use Rattle.capi.specs.Execution.{runAt};
 
 // The processor's record; mode is 0 running, 1 halted, 2 fatal. The request lines and the timer are its last member.
 #[repr(C)]
@@ -209,7 +211,11 @@ pub extern "C" fn vb_step(
     processor: VbProcessor,
     drawing: VbDrawing,
 ) -> VbStepped
-    ensures { λ r. ⌜ stepGives (r .refusal) (r .answer) (r .code) (r .undefined) (r .processor) (memoryOf (now (rom .entry)) (now (wram .exit)) (now (vram .exit)) (now (pak .exit)) (r .drawing .regs)) ≡ stepAt processor (memoryOf (now (rom .entry)) (now (wram .entry)) (now (vram .entry)) (now (pak .entry)) (drawing .regs)) ⌝ }
+    ensures { λ r. ⌜
+        stepGives (r .refusal) (r .answer) (r .code) (r .undefined) (r .processor)
+        (leavingWith rom wram vram pak (r .drawing .regs))
+        ≡ stepAt processor (enteringWith rom wram vram pak (drawing .regs))
+        ⌝ }
 {
     let regs = drawing.regs;
     let p = processor_in(processor);
@@ -254,7 +260,10 @@ pub extern "C" fn vb_run(
     drawing: VbDrawing,
     budget: u64,
 ) -> VbRan
-    ensures { λ r. ⌜ runGives (r .refusal) (r .count) (r .processor) (memoryOf (now (rom .entry)) (now (wram .exit)) (now (vram .exit)) (now (pak .exit)) (r .drawing .regs)) ≡ runAt budget processor (memoryOf (now (rom .entry)) (now (wram .entry)) (now (vram .entry)) (now (pak .entry)) (drawing .regs)) ⌝ }
+    ensures { λ r. ⌜
+        runGives (r .refusal) (r .count) (r .processor) (leavingWith rom wram vram pak (r .drawing .regs))
+        ≡ runAt budget processor (enteringWith rom wram vram pak (drawing .regs))
+        ⌝ }
 {
     let regs = drawing.regs;
     let p = processor_in(processor);
@@ -282,7 +291,9 @@ pub extern "C" fn vb_run(
 
 #[no_mangle]
 pub extern "C" fn vb_reset() -> VbMachine
-    ensures { λ r. ⌜ (r .processor ≡ processorOut (resetOf .processor)) × (r .drawing .regs ≡ resetOf .drawing .regs) ⌝ }
+    ensures { λ r. ⌜
+        (r .processor ≡ processorOut (resetOf .processor)) × (r .drawing .regs ≡ resetOf .drawing .regs)
+        ⌝ }
 {
     let m = processor::calls::reset();
     let p = m.processor;

@@ -9,10 +9,11 @@ use bus::Drawing;
 use bus::refusals;
 use refusal::verdict_number;
 ghost use mathlib.Core.Path.{_≡_};
-ghost use Rattle.bus_calls.specs.Access.{entering, leaving};
 ghost use Rattle.access_list.specs.List.{madeOf};
 ghost use Rattle.capi.specs.Hardware.{hardwareGiven};
 ghost use Rattle.capi.specs.Lists.{listNumberAt, listLeftAt};
+ghost use Rattle.bus.specs.Lent.{enteringWith, leavingWith};
+ghost use Rattle.bus.specs.Registers.{deviceOf};
 
 #[no_mangle]
 pub extern "C" fn vb_access_list(
@@ -24,8 +25,16 @@ pub extern "C" fn vb_access_list(
     hardware: VbHardware,
     list: &mut [u8],
 ) -> VbStored
-    ensures refusal { λ r. ⌜ r .refusal ≡ listNumberAt (entering rom wram vram pak (drawing .regs) (hardwareGiven hardware)) (now (list .entry)) ⌝ }
-    ensures made { λ r. ⌜ madeOf (leaving rom wram vram pak (r .drawing .regs) (hardwareGiven (r .hardware))) (now (list .exit)) ≡ listLeftAt (entering rom wram vram pak (drawing .regs) (hardwareGiven hardware)) (now (list .entry)) ⌝ }
+    ensures refusal { λ r. ⌜
+        r .refusal ≡ listNumberAt (enteringWith rom wram vram pak (deviceOf (drawing .regs) (hardwareGiven hardware)))
+        (now (list .entry))
+        ⌝ }
+    ensures made { λ r. ⌜
+        madeOf (leavingWith rom wram vram pak (deviceOf (r .drawing .regs) (hardwareGiven (r .hardware))))
+        (now (list .exit))
+        ≡ listLeftAt (enteringWith rom wram vram pak (deviceOf (drawing .regs) (hardwareGiven hardware)))
+        (now (list .entry))
+        ⌝ }
 {
     let regs = drawing.regs;
     let given = hardware_given(hardware);

@@ -7,7 +7,8 @@ use refusal::verdict_number;
 ghost use mathlib.Core.Path.{_≡_};
 ghost use lib.ListN.{length};
 ghost use Rattle.refusal.specs.Number.{verdictNumber};
-ghost use Rattle.drawing.specs.Calls.{stripVerdictOf, drawStripOf, frameVerdictOf, drawFrameOf, characterVerdictOf, characterOf};
+ghost use Rattle.drawing.specs.Calls.{stripVerdictOf, drawStripOf, frameVerdictOf, drawFrameOf, characterVerdictOf};
+ghost use Rattle.drawing.specs.Calls.{characterOf};
 ghost use Rattle.capi.specs.Answers.{partOffset};
 
 // Where a character's bytes lie in VRAM.

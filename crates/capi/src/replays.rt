@@ -8,7 +8,7 @@ use bus::Drawing;
 use refusal::number;
 use replay::End;
 ghost use mathlib.Core.Path.{_≡_};
-ghost use Rattle.bus.specs.Memory.{memoryOf};
+ghost use Rattle.bus.specs.Lent.{enteringWith, leavingWith};
 ghost use Rattle.capi.specs.Replays.{endRefusal, endNumber, endWord, replayGives, replayAt};
 
 #[repr(C)]
@@ -70,7 +70,11 @@ pub extern "C" fn vb_replay(
     drawing: VbDrawing,
     trace: &[u8],
 ) -> VbReplayed
-    ensures { λ r. ⌜ replayGives (r .refusal) (r .answer) (r .agreed) (r .word) (r .processor) (memoryOf (now (rom .entry)) (now (wram .exit)) (now (vram .exit)) (now (pak .exit)) (r .drawing .regs)) ≡ replayAt processor (memoryOf (now (rom .entry)) (now (wram .entry)) (now (vram .entry)) (now (pak .entry)) (drawing .regs)) (now (trace .entry)) ⌝ }
+    ensures { λ r. ⌜
+        replayGives (r .refusal) (r .answer) (r .agreed) (r .word) (r .processor)
+        (leavingWith rom wram vram pak (r .drawing .regs))
+        ≡ replayAt processor (enteringWith rom wram vram pak (drawing .regs)) (now (trace .entry))
+        ⌝ }
 {
     let regs = drawing.regs;
     let p = processor_in(processor);

@@ -7,7 +7,7 @@ use crate::execution::processor_out;
 use bus::Drawing;
 use saved_salvage::Salvaged;
 ghost use mathlib.Core.Path.{_≡_};
-ghost use Rattle.bus.specs.Memory.{memoryOf};
+ghost use Rattle.bus.specs.Lent.{enteringWith, leavingWith};
 ghost use Rattle.refusal.specs.Number.{verdictNumber};
 ghost use Rattle.saved_layout.specs.declared.Form.the-variants.{One, Two};
 ghost use Rattle.saved_move.specs.Move.{moveVerdictOf, movedOf};
@@ -39,8 +39,12 @@ pub extern "C" fn vb_write_state(
     drawing: VbDrawing,
     room: &mut [u8],
 ) -> u32
-    ensures refusal { λ r. ⌜ r ≡ writeNumberAt One processor (memoryOf (now (rom .entry)) (now (wram .entry)) (now (vram .entry)) (now (pak .entry)) (drawing .regs)) (now (room .entry)) ⌝ }
-    ensures room { λ _. ⌜ now (room .exit) ≡ writtenAt One processor (memoryOf (now (rom .entry)) (now (wram .entry)) (now (vram .entry)) (now (pak .entry)) (drawing .regs)) (now (room .entry)) ⌝ }
+    ensures refusal { λ r. ⌜
+        r ≡ writeNumberAt One processor (enteringWith rom wram vram pak (drawing .regs)) (now (room .entry))
+        ⌝ }
+    ensures room { λ _. ⌜
+        now (room .exit) ≡ writtenAt One processor (enteringWith rom wram vram pak (drawing .regs)) (now (room .entry))
+        ⌝ }
 {
     let regs = drawing.regs;
     let p = processor_in(processor);
@@ -62,8 +66,12 @@ pub extern "C" fn vb_write_state_2(
     drawing: VbDrawing,
     room: &mut [u8],
 ) -> u32
-    ensures refusal { λ r. ⌜ r ≡ writeNumberAt Two processor (memoryOf (now (rom .entry)) (now (wram .entry)) (now (vram .entry)) (now (pak .entry)) (drawing .regs)) (now (room .entry)) ⌝ }
-    ensures room { λ _. ⌜ now (room .exit) ≡ writtenAt Two processor (memoryOf (now (rom .entry)) (now (wram .entry)) (now (vram .entry)) (now (pak .entry)) (drawing .regs)) (now (room .entry)) ⌝ }
+    ensures refusal { λ r. ⌜
+        r ≡ writeNumberAt Two processor (enteringWith rom wram vram pak (drawing .regs)) (now (room .entry))
+        ⌝ }
+    ensures room { λ _. ⌜
+        now (room .exit) ≡ writtenAt Two processor (enteringWith rom wram vram pak (drawing .regs)) (now (room .entry))
+        ⌝ }
 {
     let regs = drawing.regs;
     let p = processor_in(processor);
@@ -85,7 +93,10 @@ pub extern "C" fn vb_read_state(
     drawing: VbDrawing,
     file: &[u8],
 ) -> VbRestored
-    ensures { λ r. ⌜ restoredGives (r .refusal) (r .processor) (memoryOf (now (rom .entry)) (now (wram .exit)) (now (vram .exit)) (now (pak .exit)) (r .drawing .regs)) ≡ readAt processor (memoryOf (now (rom .entry)) (now (wram .entry)) (now (vram .entry)) (now (pak .entry)) (drawing .regs)) (now (file .entry)) ⌝ }
+    ensures { λ r. ⌜
+        restoredGives (r .refusal) (r .processor) (leavingWith rom wram vram pak (r .drawing .regs))
+        ≡ readAt processor (enteringWith rom wram vram pak (drawing .regs)) (now (file .entry))
+        ⌝ }
 {
     let regs = drawing.regs;
     let p = processor_in(processor);

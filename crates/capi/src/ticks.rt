@@ -6,7 +6,7 @@ use refusal::verdict_number;
 ghost use mathlib.Core.Path.{_≡_};
 ghost use Rattle.bus_tick.specs.Tick.{checkedTickOf};
 ghost use Rattle.capi.specs.Hardware.{hardwareGiven};
-ghost use Rattle.capi.specs.Answers.{tickedOf};
+ghost use Rattle.capi.specs.Answers.{tickOut};
 
 #[repr(C)]
 pub struct VbTicked {
@@ -16,7 +16,7 @@ pub struct VbTicked {
 
 #[no_mangle]
 pub extern "C" fn vb_tick(hardware: VbHardware) -> VbTicked
-    ensures { λ r. ⌜ r ≡ tickedOf (checkedTickOf (hardwareGiven hardware)) ⌝ }
+    ensures { λ r. ⌜ r ≡ tickOut (checkedTickOf (hardwareGiven hardware)) ⌝ }
 {
     let ticked = bus_tick::tick(hardware_given(hardware));
     let verdict = ticked.verdict;

@@ -9,7 +9,7 @@ use native.Mathlib.Decide.{decLt}
 use Rattle.word.specs.LittleEndian.{halfAt}
 use Rattle.drawing_pixel.proofs.Lists.{length-list, getD-list}
 use Rattle.refusal.specs.declared.Verdict.the-variants.{Accepted}
-use Rattle.display.specs.Brightness.{timeOf, entryOf, repeatsOf, levelOf, columnEntryOf, brightnessOf}
+use Rattle.display.specs.Brightness.{timeOf, tableEntryOf, repeatsOf, lampLevelOf, columnEntryOf, brightnessOf}
 use Rattle.display.specs.ColumnTable.{columnTable, tableByteOf, inTablesOf, loadedByteOf, tableLoadedOf}
 use Rattle.display.specs.Calls.{displayVerdictOf, shownOf, displayOf, loadTableOf}
 use Rattle.display.specs.Shown.{BrightnessAt, Loads, TableLoaded}
@@ -33,7 +33,7 @@ high-byte : (vram : List ℕ) (a i : ℕ) → getD vram a 0 < 256 → i ≡ a + 
 high-byte vram a i h e = rw e (omega arith)
 
 pub brightness-at : BrightnessAt
-unfolding displayOf brightnessOf levelOf repeatsOf entryOf columnEntryOf
+unfolding displayOf brightnessOf lampLevelOf repeatsOf tableEntryOf columnEntryOf
 brightness-at vram room view d x y e b h l =
     rw e
     (shown-at vram view d x y h l
@@ -56,8 +56,8 @@ module _ (vram : List ℕ) (l : length vram ≡ 262144) where
   unfolding loadedByteOf
   in-table a e b u h p q = byte-at a (omega arith) ∙ rw (in-tables a u h, p, q)
 
-  entry : (eye e : ℕ) → eye < 2 → e < 256 → entryOf (tableLoadedOf vram) eye e ≡ getD columnTable e 0
-  unfolding entryOf tableByteOf
+  entry : (eye e : ℕ) → eye < 2 → e < 256 → tableEntryOf (tableLoadedOf vram) eye e ≡ getD columnTable e 0
+  unfolding tableEntryOf tableByteOf
   entry eye e f h =
       let a : ℕ = 0x3DC00 + 0x200 * eye + 2 * e in
       rw (

@@ -7,11 +7,11 @@ use mathlib.Core.List.{List}
 use lib.ListN.{length, getD, set, length-set}
 use lib.Seq.{getD-set-same, getD-set-other, ext-getD}
 use Rattle.word.specs.LittleEndian.{halfAt}
-use Rattle.drawing_pixel.specs.Character.{pairOf}
+use Rattle.drawing_pixel.specs.Character.{twoBitsOf}
 use Rattle.drawing_pixel.specs.Strip.{imageOf, storedPixelOf}
 use Rattle.drawing_pixel.proofs.Pairs.{pair-lt}
 use Rattle.drawing_pixel.proofs.Lists.{length-list, getD-list}
-use Rattle.display.specs.Brightness.{entryOf, repeatsOf, levelOf, columnEntryOf, brightnessOf}
+use Rattle.display.specs.Brightness.{tableEntryOf, repeatsOf, lampLevelOf, columnEntryOf, brightnessOf}
 use Rattle.display.specs.Calls.{shownOf}
 use Rattle.display.specs.Room.{Levels, Column, Columns, Strips, pixelIn}
 use Rattle.display.specs.declared.View.{View}
@@ -70,7 +70,7 @@ module _ (strip n : ℕ) (f : ℕ → ℕ → ℕ) (g : ℕ → ℕ) (a b c : Li
 -- a column's pixels are those of the image
 module _ (vram levels : List ℕ) (base strip x h group : ℕ) where
   pub column-pixels : h ≡ halfAt vram (base + 64 * x + 2 * strip) → group ≡ x - x % 4 → (r : ℕ) → r < 8
-      → getD levels (group + pairOf h r) 0 ≡ pixelIn vram levels base x (8 * strip + r)
+      → getD levels (group + twoBitsOf h r) 0 ≡ pixelIn vram levels base x (8 * strip + r)
   unfolding pixelIn
   column-pixels e g r l =
       let p : (8 * strip + r) / 8 ≡ strip = omega arith in
@@ -101,8 +101,8 @@ module _ (n : ℕ) (f : ℕ → ℕ → ℕ) (a b : List ℕ) where
 module _ (vram levels : List ℕ) (view : View) (d : Durations) (base table start : ℕ) where
   module _ (b : base ≡ 32768 * view .frame + 65536 * view .eye) (t : table ≡ 252928 + 512 * view .eye) (s : start ≡ view .start) where
     pixel-level : Levels vram d table start 384 levels → (x v : ℕ) → x < 384 → v < 4
-        → getD levels (x - x % 4 + v) 0 ≡ levelOf d v (repeatsOf (entryOf vram (view .eye) (columnEntryOf (view .start) x)))
-    unfolding entryOf columnEntryOf
+        → getD levels (x - x % 4 + v) 0 ≡ lampLevelOf d v (repeatsOf (tableEntryOf vram (view .eye) (columnEntryOf (view .start) x)))
+    unfolding tableEntryOf columnEntryOf
     pixel-level l x v h w =
         let p : (x - x % 4 + v) % 4 ≡ v = omega arith in
         let q : (x - x % 4 + v) / 4 ≡ x / 4 = omega arith in

@@ -8,7 +8,7 @@ use mathlib.Core.List.{List}
 use lib.ListN.{length, getD, set, replicate, length-set, length-replicate}
 use lib.Seq.{getD-set-same, getD-set-other}
 use Rattle.word.specs.LittleEndian.{halfAt}
-use Rattle.display.specs.Brightness.{timeOf, repeatsOf, levelOf}
+use Rattle.display.specs.Brightness.{timeOf, repeatsOf, lampLevelOf}
 use Rattle.display.specs.Room.{Levels}
 use Rattle.display.specs.declared.Durations.{Durations}
 
@@ -17,12 +17,12 @@ pub light-small : (t e : ℕ) → t ≤ 765 → e < 65536 → t * (e / 256 + 1) 
 light-small t e a b = mul-le-mul {n₂ = 765} {m₂ = 256} a (omega arith)
 
 module _ (d : Durations) (shade entry t e : ℕ) (time : t ≡ timeOf d shade) (same : e ≡ entry) where
-  pub level-full : 128 < t * (e / 256 + 1) → 128 ≡ levelOf d shade (repeatsOf entry)
-  unfolding levelOf repeatsOf
+  pub level-full : 128 < t * (e / 256 + 1) → 128 ≡ lampLevelOf d shade (repeatsOf entry)
+  unfolding lampLevelOf repeatsOf
   level-full h = rw (← time, ← same) (sym (min-eq-left (omega arith)))
 
-  pub level-less : t * (e / 256 + 1) ≤ 128 → t * (e / 256 + 1) ≡ levelOf d shade (repeatsOf entry)
-  unfolding levelOf repeatsOf
+  pub level-less : t * (e / 256 + 1) ≤ 128 → t * (e / 256 + 1) ≡ lampLevelOf d shade (repeatsOf entry)
+  unfolding lampLevelOf repeatsOf
   level-less h = rw (← time, ← same) (sym (min-eq-right h))
 
 -- no level yet, and one more
@@ -32,7 +32,7 @@ module _ (vram : List ℕ) (d : Durations) (table start : ℕ) where
 
   module _ (n : ℕ) (xs : List ℕ) (entry v : ℕ) where
     pub levels-more : Levels vram d table start n xs → n < 384 → entry ≡ halfAt vram (table + 2 * (start - n / 4))
-        → v ≡ levelOf d (n % 4) (repeatsOf entry)
+        → v ≡ lampLevelOf d (n % 4) (repeatsOf entry)
         → Levels vram d table start (n + 1) (set xs n v)
     levels-more l few e f =
         record {
@@ -40,10 +40,10 @@ module _ (vram : List ℕ) (d : Durations) (table start : ℕ) where
           each = each;
         }
       where
-        at : (k : ℕ) → k ≡ n → getD (set xs n v) k 0 ≡ levelOf d (k % 4) (repeatsOf (halfAt vram (table + 2 * (start - k / 4))))
-        at k p = rw p (getD-set-same xs n v 0 (omega (arith, l .size)) ∙ (f ∙ ap (λ (i : ℕ). levelOf d (n % 4) (repeatsOf i)) e))
+        at : (k : ℕ) → k ≡ n → getD (set xs n v) k 0 ≡ lampLevelOf d (k % 4) (repeatsOf (halfAt vram (table + 2 * (start - k / 4))))
+        at k p = rw p (getD-set-same xs n v 0 (omega (arith, l .size)) ∙ (f ∙ ap (λ (i : ℕ). lampLevelOf d (n % 4) (repeatsOf i)) e))
 
-        each : (k : ℕ) → k < n + 1 → getD (set xs n v) k 0 ≡ levelOf d (k % 4) (repeatsOf (halfAt vram (table + 2 * (start - k / 4))))
+        each : (k : ℕ) → k < n + 1 → getD (set xs n v) k 0 ≡ lampLevelOf d (k % 4) (repeatsOf (halfAt vram (table + 2 * (start - k / 4))))
         each k h =
             elim (ℕ-discrete k n) [
               | yes p ↦ at k p

@@ -10,7 +10,7 @@ use lib.Dec.{T, eqb, leb, eqb→eq, leb→le}
 use borrow.Author.Tests.{lt-leb}
 use lib.ListN.{length, getD}
 use Rattle.word.specs.Choose.{pick}
-use Rattle.display.specs.ColumnTable.{joinedOf, printedRows, columnTable}
+use Rattle.display.specs.ColumnTable.{joinedRows, printedRows, columnTable}
 use Rattle.display.specs.Shown.{TableMirrored, TableFalls, HighBytesClear}
 
 abbrev pub both : Bool → Bool → Bool
@@ -42,11 +42,11 @@ at f xs t k h = subst (λ (m : ℕ). T (f m (getD xs k 0))) (zero-add k) (from f
 
 -- the three rules at entry i, which is x
 mirrored : ℕ → ℕ → Bool
-unfolding joinedOf printedRows columnTable
+unfolding joinedRows printedRows columnTable
 mirrored i x = eqb x (getD columnTable (255 - i) 0)
 
 falls : ℕ → ℕ → Bool
-unfolding joinedOf printedRows columnTable
+unfolding joinedRows printedRows columnTable
 falls i x = pick (leb 127 i) true (leb (getD columnTable (i + 1) 0) x)
 
 clear : ℕ → ℕ → Bool
@@ -56,7 +56,7 @@ rules : ℕ → ℕ → Bool
 rules i x = both (mirrored i x) (both (falls i x) (clear i x))
 
 all : (i : ℕ) → i < 256 → T (rules i (getD columnTable i 0))
-unfolding joinedOf printedRows columnTable mirrored falls clear rules
+unfolding joinedRows printedRows columnTable mirrored falls clear rules
 all i h = at rules columnTable tt i h
 
 pub table-mirrored : TableMirrored

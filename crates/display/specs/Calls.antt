@@ -5,7 +5,7 @@ use mathlib.Core.Bool.{Bool, _&&_}
 use mathlib.Core.List.{List}
 use lib.ListN.{length}
 use lib.Dec.{eqb, ltb, leb}
-use Rattle.refusal.specs.Number.{unless}
+use Rattle.refusal.specs.Number.{unless, whenAccepted}
 use Rattle.refusal.specs.declared.Verdict.{Verdict}
 use Rattle.refusal.specs.declared.Verdict.the-variants.{Accepted, Refused}
 use Rattle.refusal.specs.declared.Refusal.the-variants.{VramLength, Frame, Display}
@@ -15,11 +15,6 @@ use Rattle.display.specs.Brightness.{brightnessOf}
 use Rattle.display.specs.ColumnTable.{tableLoadedOf}
 use Rattle.display.specs.declared.View.{View}
 use Rattle.display.specs.declared.Durations.{Durations}
-
--- a list by a verdict: the second where accepted, else the first
-abbrev pub whenAccepted : Verdict → List ℕ → List ℕ → List ℕ
-whenAccepted Accepted refused accepted = accepted
-whenAccepted (Refused n) refused accepted = refused
 
 -- 15: the eye is 0 or 1, start is from 95 to 255, and the room has 86,016 bytes
 unfoldable pub displayOk : View → ℕ → Bool

@@ -1,5 +1,5 @@
--- The recommended column table as document 000 prints it, 256 halfwords in 32 rows of eight, and VRAM after it was loaded
--- for both eyes (paper 02, W11). Its rules are stated in Shown.
+-- The recommended column table as document 000 prints it, 256 halfwords in 32 rows of eight, and VRAM after it was
+-- loaded for both eyes (paper 02, W11). Its rules are stated in Shown.
 use Prim.Native.Nat.{ℕ, _/_, _%_, _^_}
 use mathlib.Core.Bool.{Bool, _&&_}
 use mathlib.Core.List.{List, [], _∷_, _++_}
@@ -9,9 +9,9 @@ use Rattle.word.specs.Choose.{pick}
 use Rattle.drawing_pixel.specs.Strip.{listOf}
 
 -- rows joined to one list
-unfoldable pub joinedOf : List (List ℕ) → List ℕ
-joinedOf [] = []
-joinedOf (row ∷ rows) = row ++ joinedOf rows
+unfoldable pub joinedRows : List (List ℕ) → List ℕ
+joinedRows [] = []
+joinedRows (row ∷ rows) = row ++ joinedRows rows
 
 -- the rows at +000, +010, .., +1F0
 unfoldable pub printedRows : List (List ℕ)
@@ -51,7 +51,7 @@ printedRows =
     ∷ []
 
 unfoldable pub columnTable : List ℕ
-columnTable = joinedOf printedRows
+columnTable = joinedRows printedRows
 
 -- byte b, 0 or 1, of entry e
 unfoldable pub tableByteOf : ℕ → ℕ → ℕ

@@ -4,19 +4,20 @@ use mathlib.Core.Path.{_≡_}
 use mathlib.Core.List.{List}
 use lib.ListN.{length, getD}
 use Rattle.word.specs.LittleEndian.{halfAt}
-use Rattle.drawing_pixel.specs.Character.{pairOf}
-use Rattle.display.specs.Brightness.{repeatsOf, levelOf}
+use Rattle.drawing_pixel.specs.Character.{twoBitsOf}
+use Rattle.display.specs.Brightness.{repeatsOf, lampLevelOf}
 use Rattle.display.specs.ColumnTable.{tableByteOf}
 use Rattle.display.specs.declared.Durations.{Durations}
 
 -- the first n levels: that of shade v in columns 4g to 4g + 3 stands at 4g + v
 pub record Levels (vram : List ℕ) (d : Durations) (table start n : ℕ) (levels : List ℕ) : Type 0 where
   pub size : length levels ≡ 384
-  pub each : (k : ℕ) → k < n → getD levels k 0 ≡ levelOf d (k % 4) (repeatsOf (halfAt vram (table + 2 * (start - k / 4))))
+  pub each :
+      (k : ℕ) → k < n → getD levels k 0 ≡ lampLevelOf d (k % 4) (repeatsOf (halfAt vram (table + 2 * (start - k / 4))))
 
 -- the level of pixel (x, y) of the image that begins at `base`
 unfoldable pub pixelIn : List ℕ → List ℕ → ℕ → ℕ → ℕ → ℕ
-pixelIn vram levels base x y = getD levels (x - x % 4 + pairOf (halfAt vram (base + 64 * x + 2 * (y / 8))) (y % 8)) 0
+pixelIn vram levels base x y = getD levels (x - x % 4 + twoBitsOf (halfAt vram (base + 64 * x + 2 * (y / 8))) (y % 8)) 0
 
 -- n pixels stand from byte `at` down, one a row, and nothing else changed
 pub record Column (at n : ℕ) (f : ℕ → ℕ) (before after : List ℕ) : Type 0 where

@@ -7,9 +7,10 @@ use drawing_pixel::wide;
 ghost use mathlib.Core.Path.{_≡_};
 ghost use Prim.Native.Nat.{ℕ, _+_, _-_, _*_, _/_, _%_, _<_, _≤_};
 ghost use lib.ListN.{length, getD};
+ghost use Rattle.bus.specs.Refusal.{vramBytes};
 ghost use Rattle.word.specs.LittleEndian.{halfAt};
-ghost use Rattle.drawing_pixel.specs.Character.{pairOf};
-ghost use Rattle.display.specs.Brightness.{timeOf, levelOf, repeatsOf};
+ghost use Rattle.drawing_pixel.specs.Character.{twoBitsOf};
+ghost use Rattle.display.specs.Brightness.{timeOf, lampLevelOf, repeatsOf};
 ghost use Rattle.display.specs.Calls.{shownOf};
 ghost use Rattle.display.specs.Room.{Levels, Column, Columns, pixelIn};
 
@@ -31,7 +32,7 @@ fn time(durations: Durations, shade: usize) -> usize
 
 // What a shade looks like in the columns that use an entry of the column table.
 fn level(durations: Durations, shade: usize, entry: u16) -> u8
-    ensures { λ r. ⌜ r ≡ levelOf durations shade (repeatsOf entry) ⌝ }
+    ensures { λ r. ⌜ r ≡ lampLevelOf durations shade (repeatsOf entry) ⌝ }
 {
     let light = time(durations, shade) * (wide(entry) / 256 + 1);
     if 128 < light {
@@ -43,7 +44,7 @@ fn level(durations: Durations, shade: usize, entry: u16) -> u8
 // The levels of the four shades for each group of four columns: that of shade v in columns 4g to 4g + 3 at 4g + v.
 // The eye's column table begins at `table`.
 fn levels(vram: &[u8], durations: Durations, table: usize, start: usize) -> [u8; 384]
-    requires { ⌜ (length (now vram) ≡ 262144) × ((table ≤ 253440) × ((95 ≤ start) × (start < 256))) ⌝ }
+    requires { ⌜ (length (now vram) ≡ vramBytes) × ((table ≤ 253440) × ((95 ≤ start) × (start < 256))) ⌝ }
     ensures { λ r. ⌜ Levels (now (vram .entry)) durations table start 384 r ⌝ }
 {
     let mut levels = [0u8; 384];
@@ -59,7 +60,9 @@ fn levels(vram: &[u8], durations: Durations, table: usize, start: usize) -> [u8;
 // Eight pixels of a column, whose levels are the four from `group` on, into the room from byte `at` down.
 fn show_column(room: &mut [u8], levels: &[u8; 384], at: usize, group: usize, column: usize)
     requires { ⌜ (at + 2688 < length (now room)) × (group ≤ 380) ⌝ }
-    ensures { λ _. ⌜ Column at 8 (λ r. getD (now (levels .entry)) (group + pairOf column r) 0) (now (room .entry)) (now (room .exit)) ⌝ }
+    ensures { λ _. ⌜
+        Column at 8 (λ r. getD (now (levels .entry)) (group + twoBitsOf column r) 0) (now (room .entry)) (now (room .exit))
+        ⌝ }
 {
     let mut r = 0;
     while r < 8 {
@@ -70,8 +73,11 @@ fn show_column(room: &mut [u8], levels: &[u8; 384], at: usize, group: usize, col
 
 // The 384 columns of a strip of the image that begins at `base`.
 fn show_strip(vram: &[u8], room: &mut [u8], levels: &[u8; 384], base: usize, strip: usize)
-    requires { ⌜ (length (now vram) ≡ 262144) × ((length (now room) ≡ 86016) × ((base ≤ 98304) × (strip < 28))) ⌝ }
-    ensures { λ _. ⌜ Columns strip 384 (pixelIn (now (vram .entry)) (now (levels .entry)) base) (now (room .entry)) (now (room .exit)) ⌝ }
+    requires { ⌜ (length (now vram) ≡ vramBytes) × ((length (now room) ≡ 86016) × ((base ≤ 98304) × (strip < 28))) ⌝ }
+    ensures { λ _. ⌜
+        Columns strip 384 (pixelIn (now (vram .entry)) (now (levels .entry)) base)
+        (now (room .entry)) (now (room .exit))
+        ⌝ }
 {
     let mut x = 0;
     while x < 384 {
@@ -83,7 +89,10 @@ fn show_strip(vram: &[u8], room: &mut [u8], levels: &[u8; 384], base: usize, str
 
 // All pixels of a view.
 pub fn show(vram: &[u8], room: &mut [u8], view: View, durations: Durations)
-    requires { ⌜ (length (now vram) ≡ 262144) × ((view .frame < 2) × ((view .eye < 2) × ((95 ≤ view .start) × (view .start < 256)))) ⌝ }
+    requires { ⌜
+        (length (now vram) ≡ vramBytes)
+        × ((view .frame < 2) × ((view .eye < 2) × ((95 ≤ view .start) × (view .start < 256))))
+        ⌝ }
     requires { ⌜ length (now room) ≡ 86016 ⌝ }
     ensures { λ _. ⌜ now (room .exit) ≡ shownOf (now (vram .entry)) view durations ⌝ }
 {

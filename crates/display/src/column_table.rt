@@ -3,6 +3,7 @@ use drawing_pixel::wide;
 ghost use mathlib.Core.Path.{_≡_};
 ghost use Prim.Native.Nat.{_/_, _%_, _<_};
 ghost use lib.ListN.{length, getD};
+ghost use Rattle.bus.specs.Refusal.{vramBytes};
 ghost use Rattle.display.specs.ColumnTable.{columnTable, tableByteOf, tableLoadedOf};
 
 const COLUMN_TABLE: [u16; 256] = [
@@ -285,7 +286,7 @@ fn byte(k: usize) -> u8
 
 // The table into VRAM, for both eyes.
 pub fn load(vram: &mut [u8])
-    requires { ⌜ length (now vram) ≡ 262144 ⌝ }
+    requires { ⌜ length (now vram) ≡ vramBytes ⌝ }
     ensures { λ _. ⌜ now (vram .exit) ≡ tableLoadedOf (now (vram .entry)) ⌝ }
 {
     let mut k = 0;

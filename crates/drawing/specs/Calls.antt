@@ -5,18 +5,13 @@ use mathlib.Core.List.{List, []}
 use lib.ListN.{length, take, drop}
 use lib.Dec.{ltb}
 use Rattle.bus.specs.Refusal.{vramOk}
-use Rattle.refusal.specs.Number.{unless}
+use Rattle.refusal.specs.Number.{unless, whenAccepted}
 use Rattle.bus.specs.Registers.{drawingOk}
 use Rattle.refusal.specs.declared.Verdict.{Verdict}
 use Rattle.refusal.specs.declared.Verdict.the-variants.{Accepted, Refused}
 use Rattle.refusal.specs.declared.Refusal.the-variants.{VramLength, State, Frame, Index}
 use Rattle.drawing_pixel.specs.Character.{characterAddressOf}
 use Rattle.drawing_pixel.specs.Strip.{stripOf, frameOf}
-
--- a list by a verdict: the second where accepted, else the first
-abbrev pub whenAccepted : Verdict → List ℕ → List ℕ → List ℕ
-whenAccepted Accepted refused accepted = accepted
-whenAccepted (Refused n) refused accepted = refused
 
 -- the strip call's verdict: 3, 5, 7, 8
 unfoldable pub stripVerdictOf : List ℕ → List ℕ → ℕ → ℕ → Verdict
@@ -26,7 +21,8 @@ stripVerdictOf vram regs frame strip =
 
 -- VRAM after the strip call
 unfoldable pub drawStripOf : List ℕ → List ℕ → ℕ → ℕ → List ℕ
-drawStripOf vram regs frame strip = whenAccepted (stripVerdictOf vram regs frame strip) vram (stripOf vram regs frame strip)
+drawStripOf vram regs frame strip =
+    whenAccepted (stripVerdictOf vram regs frame strip) vram (stripOf vram regs frame strip)
 
 -- the frame call's verdict: 3, 5, 7
 unfoldable pub frameVerdictOf : List ℕ → List ℕ → ℕ → Verdict

@@ -7,7 +7,8 @@ ghost use mathlib.Core.Path.{_≡_};
 ghost use Prim.Native.Nat.{_+_};
 ghost use denote.Ref.{ptr};
 ghost use Rattle.drawing_pixel.specs.Character.{characterAddressOf};
-ghost use Rattle.drawing.specs.Calls.{stripVerdictOf, drawStripOf, frameVerdictOf, drawFrameOf, characterVerdictOf, characterOf};
+ghost use Rattle.drawing.specs.Calls.{stripVerdictOf, drawStripOf, frameVerdictOf, drawFrameOf};
+ghost use Rattle.drawing.specs.Calls.{characterVerdictOf, characterOf};
 
 // Draws strip `strip` of a frame into the images of both eyes.
 pub fn draw_strip(vram: &mut [u8], drawing: Drawing, frame: u32, strip: u32) -> Verdict
@@ -54,7 +55,10 @@ pub fn draw_frame(vram: &mut [u8], drawing: Drawing, frame: u32) -> Verdict
 // `character_refusal` refuses.
 pub fn character(vram: &[u8], c: u32) -> &[u8]
     ensures bytes { λ r. ⌜ now r ≡ characterOf (now (vram .entry)) c ⌝ }
-    ensures place { λ r. ⌜ (characterVerdictOf (now (vram .entry)) c ≡ Verdict.Accepted → (ptr r .0 ≡ ptr (vram .entry) .0) × (ptr r .1 ≡ ptr (vram .entry) .1 + characterAddressOf c)) ⌝ }
+    ensures place { λ r. ⌜
+        (characterVerdictOf (now (vram .entry)) c ≡ Verdict.Accepted
+        → (ptr r .0 ≡ ptr (vram .entry) .0) × (ptr r .1 ≡ ptr (vram .entry) .1 + characterAddressOf c))
+        ⌝ }
 {
     if vram.len() != 262144 {
         return &vram[..0];

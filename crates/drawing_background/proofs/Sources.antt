@@ -7,8 +7,8 @@ use mathlib.Core.List.{List}
 use lib.ListN.{getD}
 use Rattle.word.specs.LittleEndian.{halfAt}
 use Rattle.bus.specs.Registers.{gpltOf}
-use Rattle.drawing_pixel.specs.Signed.{bitOf}
-use Rattle.drawing_pixel.specs.Character.{shadeOf, valueOf, flippedOf, rowAddressOf, cellPixelOf, pairOf}
+use Rattle.drawing_pixel.specs.Signed.{bitSet}
+use Rattle.drawing_pixel.specs.Character.{shadeOf, pixelValueOf, flippedOf, rowAddressOf, cellPixelOf, twoBitsOf}
 use Rattle.drawing_pixel.specs.Background.{cellAddressOf, sourceCellAddressOf, sourcePixelOf, affineFloorOf}
 use Rattle.drawing_pixel.specs.Buffer.{repaintedOf, Block}
 use Rattle.drawing_background.specs.Row.{CellAt}
@@ -17,11 +17,11 @@ use Rattle.drawing_pixel.proofs.Blocks.{block-change}
 -- a function that agrees at the pixel of a row repaints it alike
 pub repainted-change : (r : ℕ) (f g : ℕ → ℕ) (h : ℕ) → ((v : ℕ) → f v ≡ g v) → repaintedOf r f h ≡ repaintedOf r g h
 unfolding repaintedOf
-repainted-change r f g h e = rw (e (pairOf h r))
+repainted-change r f g h e = rw (e (twoBitsOf h r))
 
 module _ (vram regs w : List ℕ) (sx sy cell row palette : ℕ) where
   module _ (e : cell ≡ halfAt vram (cellAddressOf w (sx / 8) (sy / 8))) (f : row ≡ halfAt vram (rowAddressOf cell (sy % 8))) (g : palette ≡ getD regs (4 + cell / 16384) 0) where
-    pub source-pixel-along : (k : ℕ) → sx % 8 + k < 8 → (v : ℕ) → shadeOf palette (valueOf cell row (sx % 8 + k)) v ≡ sourcePixelOf vram regs w (sx + k) sy v
+    pub source-pixel-along : (k : ℕ) → sx % 8 + k < 8 → (v : ℕ) → shadeOf palette (pixelValueOf cell row (sx % 8 + k)) v ≡ sourcePixelOf vram regs w (sx + k) sy v
     unfolding sourcePixelOf sourceCellAddressOf cellPixelOf gpltOf
     source-pixel-along k h v =
         let d : (sx + k) / 8 ≡ sx / 8 = omega arith in
@@ -31,7 +31,7 @@ module _ (vram regs w : List ℕ) (sx sy cell row palette : ℕ) where
 -- a source pixel k columns and j rows further in the same cell
 module _ (vram regs w : List ℕ) (sx sy cell palette : ℕ) (e : cell ≡ halfAt vram (cellAddressOf w (sx / 8) (sy / 8))) (g : palette ≡ getD regs (4 + cell / 16384) 0) where
   pub source-pixel-near : (k j : ℕ) → sx % 8 + k < 8 → sy % 8 + j < 8 → (v : ℕ)
-      → shadeOf palette (valueOf cell (halfAt vram (rowAddressOf cell (sy % 8 + j))) (sx % 8 + k)) v ≡ sourcePixelOf vram regs w (sx + k) (sy + j) v
+      → shadeOf palette (pixelValueOf cell (halfAt vram (rowAddressOf cell (sy % 8 + j))) (sx % 8 + k)) v ≡ sourcePixelOf vram regs w (sx + k) (sy + j) v
   unfolding sourcePixelOf sourceCellAddressOf cellPixelOf gpltOf
   source-pixel-near k j h l v =
       let d : (sx + k) / 8 ≡ sx / 8 = omega arith in
@@ -43,33 +43,33 @@ module _ (vram regs w : List ℕ) (sx sy cell palette : ℕ) (e : cell ≡ halfA
 -- a block that was painted from one cell shows source pixels
 module _ (vram regs w : List ℕ) (top bottom from to sx sy half address cell palette : ℕ) (a b : List ℕ) where
   module _ (c : cell ≡ half) (d : half ≡ halfAt vram address) (e : address ≡ cellAddressOf w (sx / 8) (sy / 8)) (g : palette ≡ getD regs (4 + cell / 16384) 0) (across : sx % 8 + (to - from) ≤ 8) (down : sy % 8 + (bottom - top) ≤ 8) where
-    pub block-of-part : Block top bottom from to (λ x r. shadeOf palette (valueOf cell (halfAt vram (rowAddressOf cell (sy % 8 + (r - top)))) (sx % 8 + (x - from)))) a b
+    pub block-of-part : Block top bottom from to (λ x r. shadeOf palette (pixelValueOf cell (halfAt vram (rowAddressOf cell (sy % 8 + (r - top)))) (sx % 8 + (x - from)))) a b
         → Block top bottom from to (λ x r. sourcePixelOf vram regs w (sx + (x - from)) (sy + (r - top))) a b
     block-of-part s =
         block-change top bottom from to _ _ a b
         (λ x r v l h t u. source-pixel-near vram regs w sx sy cell palette (c ∙ (d ∙ ap (halfAt vram) e)) g (x - from) (r - top) (omega arith) (omega arith) v)
         s
 
-    pub block-of-whole : from + 8 ≡ to → Block top bottom from (from + 8) (λ x r. shadeOf palette (valueOf cell (halfAt vram (rowAddressOf cell (sy % 8 + (r - top)))) (x - from))) a b
+    pub block-of-whole : from + 8 ≡ to → Block top bottom from (from + 8) (λ x r. shadeOf palette (pixelValueOf cell (halfAt vram (rowAddressOf cell (sy % 8 + (r - top)))) (x - from))) a b
         → Block top bottom from to (λ x r. sourcePixelOf vram regs w (sx + (x - from)) (sy + (r - top))) a b
     block-of-whole q s = block-of-part (block-change top bottom from to _ _ a b zero (rw q at s))
       where
         zero : (x r v : ℕ) → from ≤ x → x < to → top ≤ r → r < bottom
-            → shadeOf palette (valueOf cell (halfAt vram (rowAddressOf cell (sy % 8 + (r - top)))) (x - from)) v
-            ≡ shadeOf palette (valueOf cell (halfAt vram (rowAddressOf cell (sy % 8 + (r - top)))) (sx % 8 + (x - from))) v
+            → shadeOf palette (pixelValueOf cell (halfAt vram (rowAddressOf cell (sy % 8 + (r - top)))) (x - from)) v
+            ≡ shadeOf palette (pixelValueOf cell (halfAt vram (rowAddressOf cell (sy % 8 + (r - top)))) (sx % 8 + (x - from))) v
         zero x r v l h t u =
             let z : x - from ≡ sx % 8 + (x - from) = omega arith in
-            ap (λ n. shadeOf palette (valueOf cell (halfAt vram (rowAddressOf cell (sy % 8 + (r - top)))) n) v) z
+            ap (λ n. shadeOf palette (pixelValueOf cell (halfAt vram (rowAddressOf cell (sy % 8 + (r - top)))) n) v) z
 
 -- a column painted by a pixel of the cell there, from its palette and where its character begins
 pub source-repainted : (vram regs w : List ℕ) (q sx sy u v cell palette character h : ℕ) → u ≡ sx / 8 → v ≡ sy / 8
     → CellAt vram regs w u v cell palette character
-    → repaintedOf q (shadeOf palette (valueOf cell (halfAt vram (character + 2 * flippedOf (bitOf 12 cell) (sy % 8))) (sx % 8))) h
+    → repaintedOf q (shadeOf palette (pixelValueOf cell (halfAt vram (character + 2 * flippedOf (bitSet 12 cell) (sy % 8))) (sx % 8))) h
     ≡ repaintedOf q (sourcePixelOf vram regs w sx sy) h
 unfolding sourcePixelOf sourceCellAddressOf cellPixelOf rowAddressOf
 source-repainted vram regs w q sx sy u v cell palette character h e f c =
     repainted-change q
-    (shadeOf palette (valueOf cell (halfAt vram (character + 2 * flippedOf (bitOf 12 cell) (sy % 8))) (sx % 8)))
+    (shadeOf palette (pixelValueOf cell (halfAt vram (character + 2 * flippedOf (bitSet 12 cell) (sy % 8))) (sx % 8)))
     (sourcePixelOf vram regs w sx sy) h (λ p. rw (c .shades, c .begins, c .same, e, f))
 
 -- a parameter's index wraps at 16 bits, however it is reduced before

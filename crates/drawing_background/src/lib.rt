@@ -1,5 +1,6 @@
 // Background worlds: paints what a normal, H-bias or affine world shows of a strip over what is there.
-// `world`, `cell` and `source` are `pub` for the crates above; none of their functions is a call of the library's users.
+// `world`, `cell` and `source` are `pub` for the crates above; none of their functions is a call of the library's
+// users.
 pub mod cell;
 mod paint;
 pub mod source;

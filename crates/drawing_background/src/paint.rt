@@ -3,9 +3,10 @@ use bus::DrawingRegisters;
 ghost use mathlib.Core.Path.{_≡_};
 ghost use Prim.Native.Nat.{_+_, _-_, _*_, _/_, _%_, _<_, _≤_};
 ghost use lib.ListN.{length, getD};
+ghost use Rattle.bus.specs.Refusal.{vramBytes};
 ghost use Rattle.word.specs.LittleEndian.{halfAt};
-ghost use Rattle.drawing_pixel.specs.Character.{rowAddressOf, flippedOf, valueOf, shadeOf};
-ghost use Rattle.drawing_pixel.specs.Signed.{bitOf};
+ghost use Rattle.drawing_pixel.specs.Character.{rowAddressOf, flippedOf, pixelValueOf, shadeOf};
+ghost use Rattle.drawing_pixel.specs.Signed.{bitSet};
 ghost use Rattle.drawing_pixel.specs.Background.{cellAddressOf, sourcePixelOf, affineFloorOf};
 ghost use Rattle.drawing_pixel.specs.Buffer.{repaintedOf, Span, Block};
 ghost use Rattle.drawing_background.specs.Row.{CellAt};
@@ -22,7 +23,8 @@ use drawing_pixel::value;
 use drawing_pixel::whole;
 use drawing_pixel::wide;
 
-// What a source pixel is picked from, and its seven neighbours of the same cell row: the cell, its character row and its palette.
+// What a source pixel is picked from, and its seven neighbours of the same cell row: the cell, its character row and
+// its palette.
 pub struct Fetched {
     pub cell: usize,
     pub row: usize,
@@ -37,8 +39,12 @@ pub fn fetch(
     sx: usize,
     sy: usize,
 ) -> Fetched
-    requires { ⌜ length (now vram) ≡ 262144 ⌝ }
-    ensures { λ r. ⌜ (r .cell ≡ halfAt (now (vram .entry)) (cellAddressOf (now (w .entry)) (sx / 8) (sy / 8))) × ((r .row ≡ halfAt (now (vram .entry)) (rowAddressOf (r .cell) (sy % 8))) × (r .palette ≡ getD (now (registers .entry)) (4 + r .cell / 16384) 0)) ⌝ }
+    requires { ⌜ length (now vram) ≡ vramBytes ⌝ }
+    ensures { λ r. ⌜
+        (r .cell ≡ halfAt (now (vram .entry)) (cellAddressOf (now (w .entry)) (sx / 8) (sy / 8)))
+        × ((r .row ≡ halfAt (now (vram .entry)) (rowAddressOf (r .cell) (sy % 8)))
+        × (r .palette ≡ getD (now (registers .entry)) (4 + r .cell / 16384) 0))
+        ⌝ }
 {
     let cell = wide(half(vram, cell_address(w, sx / 8, sy / 8)));
     let row = wide(half(vram, row_address(cell, sy % 8)));
@@ -59,8 +65,14 @@ pub fn cell_span(
     sy: usize,
 )
     requires { ⌜ length (now buffer) ≡ 384 ⌝ }
-    requires { ⌜ (length (now vram) ≡ 262144) × ((from ≤ to) × ((to ≤ 384) × ((r < 8) × (sx % 8 + (to - from) ≤ 8)))) ⌝ }
-    ensures { λ _. ⌜ Span r from to (λ x. sourcePixelOf (now (vram .entry)) (now (registers .entry)) (now (w .entry)) (sx + (x - from)) sy) (now (buffer .entry)) (now (buffer .exit)) ⌝ }
+    requires { ⌜
+        (length (now vram) ≡ vramBytes) × ((from ≤ to) × ((to ≤ 384) × ((r < 8) × (sx % 8 + (to - from) ≤ 8))))
+        ⌝ }
+    ensures { λ _. ⌜
+        Span r from to
+        (λ x. sourcePixelOf (now (vram .entry)) (now (registers .entry)) (now (w .entry)) (sx + (x - from)) sy)
+        (now (buffer .entry)) (now (buffer .exit))
+        ⌝ }
 {
     let f = fetch(vram, registers, w, sx, sy);
     span(buffer, from, to, r, f.cell, f.row, f.palette, sx % 8);
@@ -79,8 +91,12 @@ pub fn plain_span(
     sy: usize,
 )
     requires { ⌜ length (now buffer) ≡ 384 ⌝ }
-    requires { ⌜ (length (now vram) ≡ 262144) × ((from ≤ to) × ((to ≤ 384) × ((r < 8) × (sx < 33554432)))) ⌝ }
-    ensures { λ _. ⌜ Span r from to (λ x. sourcePixelOf (now (vram .entry)) (now (registers .entry)) (now (w .entry)) (sx + (x - from)) sy) (now (buffer .entry)) (now (buffer .exit)) ⌝ }
+    requires { ⌜ (length (now vram) ≡ vramBytes) × ((from ≤ to) × ((to ≤ 384) × ((r < 8) × (sx < 33554432)))) ⌝ }
+    ensures { λ _. ⌜
+        Span r from to
+        (λ x. sourcePixelOf (now (vram .entry)) (now (registers .entry)) (now (w .entry)) (sx + (x - from)) sy)
+        (now (buffer .entry)) (now (buffer .exit))
+        ⌝ }
 {
     let mut x = from;
     while x < to {
@@ -103,8 +119,16 @@ pub fn whole_rows(
     y: usize,
 )
     requires { ⌜ length (now buffer) ≡ 384 ⌝ }
-    requires { ⌜ (length (now vram) ≡ 262144) × ((from + 8 ≤ 384) × ((top ≤ bottom) × ((bottom ≤ 8) × (y + (bottom - top) ≤ 8)))) ⌝ }
-    ensures { λ _. ⌜ Block top bottom from (from + 8) (λ x r. shadeOf palette (valueOf cell (halfAt (now (vram .entry)) (rowAddressOf cell (y + (r - top)))) (x - from))) (now (buffer .entry)) (now (buffer .exit)) ⌝ }
+    requires { ⌜
+        (length (now vram) ≡ vramBytes)
+        × ((from + 8 ≤ 384) × ((top ≤ bottom) × ((bottom ≤ 8) × (y + (bottom - top) ≤ 8))))
+        ⌝ }
+    ensures { λ _. ⌜
+        Block top bottom from (from + 8)
+        (λ x r. shadeOf palette
+        (pixelValueOf cell (halfAt (now (vram .entry)) (rowAddressOf cell (y + (r - top)))) (x - from)))
+        (now (buffer .entry)) (now (buffer .exit))
+        ⌝ }
 {
     let mut r = top;
     while r < bottom {
@@ -128,8 +152,17 @@ pub fn part_rows(
     y: usize,
 )
     requires { ⌜ length (now buffer) ≡ 384 ⌝ }
-    requires { ⌜ (length (now vram) ≡ 262144) × ((from ≤ to) × ((to ≤ 384) × ((top ≤ bottom) × ((bottom ≤ 8) × ((column + (to - from) ≤ 8) × (y + (bottom - top) ≤ 8)))))) ⌝ }
-    ensures { λ _. ⌜ Block top bottom from to (λ x r. shadeOf palette (valueOf cell (halfAt (now (vram .entry)) (rowAddressOf cell (y + (r - top)))) (column + (x - from)))) (now (buffer .entry)) (now (buffer .exit)) ⌝ }
+    requires { ⌜
+        (length (now vram) ≡ vramBytes)
+        × ((from ≤ to)
+        × ((to ≤ 384) × ((top ≤ bottom) × ((bottom ≤ 8) × ((column + (to - from) ≤ 8) × (y + (bottom - top) ≤ 8))))))
+        ⌝ }
+    ensures { λ _. ⌜
+        Block top bottom from to
+        (λ x r. shadeOf palette
+        (pixelValueOf cell (halfAt (now (vram .entry)) (rowAddressOf cell (y + (r - top)))) (column + (x - from))))
+        (now (buffer .entry)) (now (buffer .exit))
+        ⌝ }
 {
     let mut r = top;
     while r < bottom {
@@ -139,7 +172,8 @@ pub fn part_rows(
     }
 }
 
-// A block whose source lies in one cell: column `from` of row `top` shows source pixel (sx, sy), and so on right and down.
+// A block whose source lies in one cell: column `from` of row `top` shows source pixel (sx, sy), and so on right and
+// down.
 pub fn cell_block(
     vram: &[u8],
     registers: &DrawingRegisters,
@@ -153,8 +187,18 @@ pub fn cell_block(
     sy: usize,
 )
     requires { ⌜ length (now buffer) ≡ 384 ⌝ }
-    requires { ⌜ (length (now vram) ≡ 262144) × ((from ≤ to) × ((to ≤ 384) × ((top ≤ bottom) × ((bottom ≤ 8) × ((sx % 8 + (to - from) ≤ 8) × (sy % 8 + (bottom - top) ≤ 8)))))) ⌝ }
-    ensures { λ _. ⌜ Block top bottom from to (λ x r. sourcePixelOf (now (vram .entry)) (now (registers .entry)) (now (w .entry)) (sx + (x - from)) (sy + (r - top))) (now (buffer .entry)) (now (buffer .exit)) ⌝ }
+    requires { ⌜
+        (length (now vram) ≡ vramBytes)
+        × ((from ≤ to)
+        × ((to ≤ 384)
+        × ((top ≤ bottom) × ((bottom ≤ 8) × ((sx % 8 + (to - from) ≤ 8) × (sy % 8 + (bottom - top) ≤ 8))))))
+        ⌝ }
+    ensures { λ _. ⌜
+        Block top bottom from to
+        (λ x r. sourcePixelOf (now (vram .entry)) (now (registers .entry)) (now (w .entry))
+        (sx + (x - from)) (sy + (r - top)))
+        (now (buffer .entry)) (now (buffer .exit))
+        ⌝ }
 {
     let cell = wide(half(vram, cell_address(w, sx / 8, sy / 8)));
     let palette = wide(registers[4 + cell / 16384]);
@@ -190,8 +234,17 @@ pub fn cells_block(
     sy: usize,
 )
     requires { ⌜ length (now buffer) ≡ 384 ⌝ }
-    requires { ⌜ (length (now vram) ≡ 262144) × ((from ≤ to) × ((to ≤ 384) × ((top ≤ bottom) × ((bottom ≤ 8) × ((sx < 33554432) × (sy % 8 + (bottom - top) ≤ 8)))))) ⌝ }
-    ensures { λ _. ⌜ Block top bottom from to (λ x r. sourcePixelOf (now (vram .entry)) (now (registers .entry)) (now (w .entry)) (sx + (x - from)) (sy + (r - top))) (now (buffer .entry)) (now (buffer .exit)) ⌝ }
+    requires { ⌜
+        (length (now vram) ≡ vramBytes)
+        × ((from ≤ to)
+        × ((to ≤ 384) × ((top ≤ bottom) × ((bottom ≤ 8) × ((sx < 33554432) × (sy % 8 + (bottom - top) ≤ 8))))))
+        ⌝ }
+    ensures { λ _. ⌜
+        Block top bottom from to
+        (λ x r. sourcePixelOf (now (vram .entry)) (now (registers .entry)) (now (w .entry))
+        (sx + (x - from)) (sy + (r - top)))
+        (now (buffer .entry)) (now (buffer .exit))
+        ⌝ }
 {
     let mut x = from;
     while x < to {
@@ -216,8 +269,16 @@ pub fn plain_block(
     sy: usize,
 )
     requires { ⌜ length (now buffer) ≡ 384 ⌝ }
-    requires { ⌜ (length (now vram) ≡ 262144) × ((from ≤ to) × ((to ≤ 384) × ((top ≤ bottom) × ((bottom ≤ 8) × ((sx < 33554432) × (sy < 33554432)))))) ⌝ }
-    ensures { λ _. ⌜ Block top bottom from to (λ x r. sourcePixelOf (now (vram .entry)) (now (registers .entry)) (now (w .entry)) (sx + (x - from)) (sy + (r - top))) (now (buffer .entry)) (now (buffer .exit)) ⌝ }
+    requires { ⌜
+        (length (now vram) ≡ vramBytes)
+        × ((from ≤ to) × ((to ≤ 384) × ((top ≤ bottom) × ((bottom ≤ 8) × ((sx < 33554432) × (sy < 33554432))))))
+        ⌝ }
+    ensures { λ _. ⌜
+        Block top bottom from to
+        (λ x r. sourcePixelOf (now (vram .entry)) (now (registers .entry)) (now (w .entry))
+        (sx + (x - from)) (sy + (r - top)))
+        (now (buffer .entry)) (now (buffer .exit))
+        ⌝ }
 {
     let mid = least(bottom, top + (8 - sy % 8));
     cells_block(vram, registers, w, buffer, top, mid, from, to, sx, sy);
@@ -238,7 +299,8 @@ pub fn plain_block(
     );
 }
 
-// A cell that was read, with its palette and where its character begins, and the cell column and row that it was read for.
+// A cell that was read, with its palette and where its character begins, and the cell column and row that it was read
+// for.
 pub struct CellRead {
     pub u: usize,
     pub v: usize,
@@ -255,8 +317,13 @@ pub fn read(
     u: usize,
     v: usize,
 ) -> CellRead
-    requires { ⌜ length (now vram) ≡ 262144 ⌝ }
-    ensures { λ h. ⌜ (h .u ≡ u) × ((h .v ≡ v) × CellAt (now (vram .entry)) (now (registers .entry)) (now (w .entry)) (h .u) (h .v) (h .cell) (h .palette) (h .character)) ⌝ }
+    requires { ⌜ length (now vram) ≡ vramBytes ⌝ }
+    ensures { λ h. ⌜
+        (h .u ≡ u)
+        × ((h .v ≡ v)
+        × CellAt (now (vram .entry)) (now (registers .entry)) (now (w .entry)) (h .u) (h .v) (h .cell)
+        (h .palette) (h .character))
+        ⌝ }
 {
     let cell = wide(half(vram, cell_address(w, u, v)));
     let palette = wide(registers[4 + cell / 16384]);
@@ -279,8 +346,16 @@ pub fn held(
     u: usize,
     v: usize,
 ) -> CellRead
-    requires { ⌜ (length (now vram) ≡ 262144) × (CellAt (now vram) (now registers) (now w) (last .u) (last .v) (last .cell) (last .palette) (last .character)) ⌝ }
-    ensures { λ h. ⌜ (h .u ≡ u) × ((h .v ≡ v) × CellAt (now (vram .entry)) (now (registers .entry)) (now (w .entry)) (h .u) (h .v) (h .cell) (h .palette) (h .character)) ⌝ }
+    requires { ⌜
+        (length (now vram) ≡ vramBytes)
+        × (CellAt (now vram) (now registers) (now w) (last .u) (last .v) (last .cell) (last .palette) (last .character))
+        ⌝ }
+    ensures { λ h. ⌜
+        (h .u ≡ u)
+        × ((h .v ≡ v)
+        × CellAt (now (vram .entry)) (now (registers .entry)) (now (w .entry)) (h .u) (h .v) (h .cell)
+        (h .palette) (h .character))
+        ⌝ }
 {
     if last.u != u {
         return read(vram, registers, w, u, v);
@@ -293,8 +368,14 @@ pub fn held(
 
 // A column of the strip, its row r painted over by the pixel of a cell at source pixel (sx, sy).
 pub fn cell_shaded(vram: &[u8], h: u16, r: usize, c: CellRead, sx: usize, sy: usize) -> u16
-    requires { ⌜ (length (now vram) ≡ 262144) × ((r < 8) × (c .character ≤ 131056)) ⌝ }
-    ensures { λ n. ⌜ n ≡ repaintedOf r (shadeOf (c .palette) (valueOf (c .cell) (halfAt (now (vram .entry)) (c .character + 2 * flippedOf (bitOf 12 (c .cell)) (sy % 8))) (sx % 8))) h ⌝ }
+    requires { ⌜ (length (now vram) ≡ vramBytes) × ((r < 8) × (c .character ≤ 131056)) ⌝ }
+    ensures { λ n. ⌜
+        n ≡ repaintedOf r
+        (shadeOf (c .palette)
+        (pixelValueOf (c .cell)
+        (halfAt (now (vram .entry)) (c .character + 2 * flippedOf (bitSet 12 (c .cell)) (sy % 8))) (sx % 8)))
+        h
+        ⌝ }
 {
     let y = flipped(c.cell / 4096 % 2 == 1, sy % 8);
     let row = wide(half(vram, c.character + 2 * y));
@@ -317,8 +398,17 @@ pub fn affine_span(
     n: usize,
 )
     requires { ⌜ length (now buffer) ≡ 384 ⌝ }
-    requires { ⌜ (length (now vram) ≡ 262144) × ((from ≤ to) × ((to ≤ 384) × ((r < 8) × ((mx < 65536) × ((my < 65536) × ((dx < 65536) × ((dy < 65536) × (n < 65000)))))))) ⌝ }
-    ensures { λ _. ⌜ Span r from to (λ x. sourcePixelOf (now (vram .entry)) (now (registers .entry)) (now (w .entry)) (affineFloorOf mx dx (n + (x - from))) (affineFloorOf my dy (n + (x - from)))) (now (buffer .entry)) (now (buffer .exit)) ⌝ }
+    requires { ⌜
+        (length (now vram) ≡ vramBytes)
+        × ((from ≤ to)
+        × ((to ≤ 384) × ((r < 8) × ((mx < 65536) × ((my < 65536) × ((dx < 65536) × ((dy < 65536) × (n < 65000))))))))
+        ⌝ }
+    ensures { λ _. ⌜
+        Span r from to
+        (λ x. sourcePixelOf (now (vram .entry)) (now (registers .entry)) (now (w .entry))
+        (affineFloorOf mx dx (n + (x - from))) (affineFloorOf my dy (n + (x - from))))
+        (now (buffer .entry)) (now (buffer .exit))
+        ⌝ }
 {
     let mut last = read(vram, registers, w, 0, 0);
     let mut x = from;
@@ -332,7 +422,8 @@ pub fn affine_span(
     }
 }
 
-// The same where a step is one pixel to the right (DX 512 and DY 0, each biased by 32,768): the background is read as by a plain span.
+// The same where a step is one pixel to the right (DX 512 and DY 0, each biased by 32,768): the background is read as
+// by a plain span.
 pub fn level_span(
     vram: &[u8],
     registers: &DrawingRegisters,
@@ -346,8 +437,16 @@ pub fn level_span(
     n: usize,
 )
     requires { ⌜ length (now buffer) ≡ 384 ⌝ }
-    requires { ⌜ (length (now vram) ≡ 262144) × ((from ≤ to) × ((to ≤ 384) × ((r < 8) × ((mx < 65536) × ((my < 65536) × (n < 65000)))))) ⌝ }
-    ensures { λ _. ⌜ Span r from to (λ x. sourcePixelOf (now (vram .entry)) (now (registers .entry)) (now (w .entry)) (affineFloorOf mx 33280 (n + (x - from))) (affineFloorOf my 32768 (n + (x - from)))) (now (buffer .entry)) (now (buffer .exit)) ⌝ }
+    requires { ⌜
+        (length (now vram) ≡ vramBytes)
+        × ((from ≤ to) × ((to ≤ 384) × ((r < 8) × ((mx < 65536) × ((my < 65536) × (n < 65000))))))
+        ⌝ }
+    ensures { λ _. ⌜
+        Span r from to
+        (λ x. sourcePixelOf (now (vram .entry)) (now (registers .entry)) (now (w .entry))
+        (affineFloorOf mx 33280 (n + (x - from))) (affineFloorOf my 32768 (n + (x - from))))
+        (now (buffer .entry)) (now (buffer .exit))
+        ⌝ }
 {
     let sx = affine_floor(mx, 33280, n);
     let sy = affine_floor(my, 32768, n);
@@ -370,8 +469,17 @@ pub fn along_span(
     n: usize,
 )
     requires { ⌜ length (now buffer) ≡ 384 ⌝ }
-    requires { ⌜ (length (now vram) ≡ 262144) × ((from ≤ to) × ((to ≤ 384) × ((r < 8) × ((mx < 65536) × ((my < 65536) × ((dx < 65536) × ((dy < 65536) × (n < 65000)))))))) ⌝ }
-    ensures { λ _. ⌜ Span r from to (λ x. sourcePixelOf (now (vram .entry)) (now (registers .entry)) (now (w .entry)) (affineFloorOf mx dx (n + (x - from))) (affineFloorOf my dy (n + (x - from)))) (now (buffer .entry)) (now (buffer .exit)) ⌝ }
+    requires { ⌜
+        (length (now vram) ≡ vramBytes)
+        × ((from ≤ to)
+        × ((to ≤ 384) × ((r < 8) × ((mx < 65536) × ((my < 65536) × ((dx < 65536) × ((dy < 65536) × (n < 65000))))))))
+        ⌝ }
+    ensures { λ _. ⌜
+        Span r from to
+        (λ x. sourcePixelOf (now (vram .entry)) (now (registers .entry)) (now (w .entry))
+        (affineFloorOf mx dx (n + (x - from))) (affineFloorOf my dy (n + (x - from))))
+        (now (buffer .entry)) (now (buffer .exit))
+        ⌝ }
 {
     if dx != 33280 {
         affine_span(vram, registers, w, buffer, r, from, to, mx, my, dx, dy, n);

@@ -2,13 +2,15 @@
 ghost use mathlib.Core.Path.{_≡_};
 ghost use Prim.Native.Nat.{_+_, _*_, _%_, _<_, _≤_};
 ghost use lib.ListN.{length};
-ghost use Rattle.drawing_pixel.specs.Background.{parameterOf, plainLeftOf, normalYOf, biasIndexOf, affineShiftOf, affineFloorOf, affineParameterOf};
+ghost use Rattle.bus.specs.Refusal.{vramBytes};
+ghost use Rattle.drawing_pixel.specs.Background.{parameterOf, plainLeftOf, normalYOf, biasIndexOf, affineShiftOf};
+ghost use Rattle.drawing_pixel.specs.Background.{affineFloorOf, affineParameterOf};
 use drawing_pixel::half;
 use drawing_pixel::wide;
 
 // Parameter k of a world; its index wraps at 16 bits.
 pub fn parameter(vram: &[u8], w: &[u16; 11], k: usize) -> usize
-    requires { ⌜ length (now vram) ≡ 262144 ⌝ }
+    requires { ⌜ length (now vram) ≡ vramBytes ⌝ }
     ensures { λ r. ⌜ (r ≡ parameterOf (now (vram .entry)) (now (w .entry)) k) × (r < 65536) ⌝ }
 {
     let index = std::num::wrapping_add_u16(w[9], (k % 65536) as u16);
@@ -48,7 +50,7 @@ pub fn bias_index(eye: usize, j: usize) -> usize
 
 // Parameter k of row j of an affine world, biased by 32,768.
 pub fn affine_parameter(vram: &[u8], w: &[u16; 11], j: usize, k: usize) -> usize
-    requires { ⌜ (length (now vram) ≡ 262144) × ((j < 65536) × (k < 8)) ⌝ }
+    requires { ⌜ (length (now vram) ≡ vramBytes) × ((j < 65536) × (k < 8)) ⌝ }
     ensures { λ r. ⌜ (r ≡ affineParameterOf (now (vram .entry)) (now (w .entry)) j k) × (r < 65536) ⌝ }
 {
     (parameter(vram, w, 8 * j + k) + 32768) % 65536

@@ -4,6 +4,7 @@ ghost use mathlib.Core.Path.{_≡_};
 ghost use mathlib.Core.Bool.{true};
 ghost use Prim.Native.Nat.{_+_, _-_, _*_, _<_, _≤_};
 ghost use lib.ListN.{length};
+ghost use Rattle.bus.specs.Refusal.{vramBytes};
 ghost use Rattle.drawing_pixel.specs.World.{bgmOf, windowLeftOf, columnsOf, worldShownOf};
 ghost use Rattle.drawing_pixel.specs.Background.{sourcePixelOf, sourceXOf, sourceYOf, backgroundPixelOf};
 ghost use Rattle.drawing_pixel.specs.Buffer.{Span, Block, Strip};
@@ -39,8 +40,17 @@ pub fn affine_row(
     j: usize,
 )
     requires { ⌜ length (now buffer) ≡ 384 ⌝ }
-    requires { ⌜ (length (now vram) ≡ 262144) × ((from ≤ to) × ((to ≤ 384) × ((r < 8) × ((i < 2048) × ((j < 65536) × (2 ≤ bgmOf (now w))))))) ⌝ }
-    ensures { λ _. ⌜ Span r from to (λ x. sourcePixelOf (now (vram .entry)) (now (registers .entry)) (now (w .entry)) (sourceXOf (now (vram .entry)) (now (w .entry)) eye (i + (x - from)) j) (sourceYOf (now (vram .entry)) (now (w .entry)) eye (i + (x - from)) j)) (now (buffer .entry)) (now (buffer .exit)) ⌝ }
+    requires { ⌜
+        (length (now vram) ≡ vramBytes)
+        × ((from ≤ to) × ((to ≤ 384) × ((r < 8) × ((i < 2048) × ((j < 65536) × (2 ≤ bgmOf (now w)))))))
+        ⌝ }
+    ensures { λ _. ⌜
+        Span r from to
+        (λ x. sourcePixelOf (now (vram .entry)) (now (registers .entry)) (now (w .entry))
+        (sourceXOf (now (vram .entry)) (now (w .entry)) eye (i + (x - from)) j)
+        (sourceYOf (now (vram .entry)) (now (w .entry)) eye (i + (x - from)) j))
+        (now (buffer .entry)) (now (buffer .exit))
+        ⌝ }
 {
     let mx = affine_parameter(vram, w, j, 0);
     let mp = affine_parameter(vram, w, j, 1);
@@ -65,7 +75,7 @@ pub fn affine_row(
 
 // How far an H-bias world's row j is moved, plus 4,096; other worlds' rows are not.
 pub fn row_bias(vram: &[u8], w: &[u16; 11], eye: usize, j: usize) -> usize
-    requires { ⌜ (length (now vram) ≡ 262144) × (j < 65536) ⌝ }
+    requires { ⌜ (length (now vram) ≡ vramBytes) × (j < 65536) ⌝ }
     ensures { λ b. ⌜ (b ≡ rowBiasOf (now (vram .entry)) (now (w .entry)) eye j) × (b < 8192) ⌝ }
 {
     if w[0] / 4096 % 4 == 1 {
@@ -88,8 +98,16 @@ pub fn row(
     j: usize,
 )
     requires { ⌜ length (now buffer) ≡ 384 ⌝ }
-    requires { ⌜ (length (now vram) ≡ 262144) × ((from ≤ to) × ((to ≤ 384) × ((r < 8) × ((i < 2048) × (j < 65536))))) ⌝ }
-    ensures { λ _. ⌜ Span r from to (λ x. sourcePixelOf (now (vram .entry)) (now (registers .entry)) (now (w .entry)) (sourceXOf (now (vram .entry)) (now (w .entry)) eye (i + (x - from)) j) (sourceYOf (now (vram .entry)) (now (w .entry)) eye (i + (x - from)) j)) (now (buffer .entry)) (now (buffer .exit)) ⌝ }
+    requires { ⌜
+        (length (now vram) ≡ vramBytes) × ((from ≤ to) × ((to ≤ 384) × ((r < 8) × ((i < 2048) × (j < 65536)))))
+        ⌝ }
+    ensures { λ _. ⌜
+        Span r from to
+        (λ x. sourcePixelOf (now (vram .entry)) (now (registers .entry)) (now (w .entry))
+        (sourceXOf (now (vram .entry)) (now (w .entry)) eye (i + (x - from)) j)
+        (sourceYOf (now (vram .entry)) (now (w .entry)) eye (i + (x - from)) j))
+        (now (buffer .entry)) (now (buffer .exit))
+        ⌝ }
 {
     if 2 <= w[0] / 4096 % 4 {
         affine_row(vram, registers, w, buffer, r, from, to, eye, i, j);
@@ -112,9 +130,16 @@ pub fn strip_row(
     strip: usize,
 )
     requires { ⌜ length (now buffer) ≡ 384 ⌝ }
-    requires { ⌜ (length (now vram) ≡ 262144) × ((from ≤ to) × ((to ≤ 384) × ((r < 8) × (strip < 28)))) ⌝ }
-    requires { ⌜ (worldShownOf (now w) eye ≡ true) × ((windowLeftOf (now w) eye ≤ from + 1024) × (to + 1024 ≤ windowLeftOf (now w) eye + columnsOf (now w))) ⌝ }
-    ensures { λ _. ⌜ Span r from to (λ x. backgroundPixelOf (now (vram .entry)) (now (registers .entry)) (now (w .entry)) eye x (8 * strip + r)) (now (buffer .entry)) (now (buffer .exit)) ⌝ }
+    requires { ⌜ (length (now vram) ≡ vramBytes) × ((from ≤ to) × ((to ≤ 384) × ((r < 8) × (strip < 28)))) ⌝ }
+    requires { ⌜
+        (worldShownOf (now w) eye ≡ true)
+        × ((windowLeftOf (now w) eye ≤ from + 1024) × (to + 1024 ≤ windowLeftOf (now w) eye + columnsOf (now w)))
+        ⌝ }
+    ensures { λ _. ⌜
+        Span r from to
+        (λ x. backgroundPixelOf (now (vram .entry)) (now (registers .entry)) (now (w .entry)) eye x (8 * strip + r))
+        (now (buffer .entry)) (now (buffer .exit))
+        ⌝ }
 {
     let top = (wide(w[3]) + 32768) % 65536;
     let y = 8 * strip + r + 32768;
@@ -160,9 +185,18 @@ pub fn normal_block(
     strip: usize,
 )
     requires { ⌜ length (now buffer) ≡ 384 ⌝ }
-    requires { ⌜ (length (now vram) ≡ 262144) × ((from ≤ to) × ((to ≤ 384) × ((strip < 28) × (bgmOf (now w) ≡ 0)))) ⌝ }
-    requires { ⌜ (worldShownOf (now w) eye ≡ true) × ((windowLeftOf (now w) eye ≤ from + 1024) × (to + 1024 ≤ windowLeftOf (now w) eye + columnsOf (now w))) ⌝ }
-    ensures { λ _. ⌜ Block 0 8 from to (λ x r. backgroundPixelOf (now (vram .entry)) (now (registers .entry)) (now (w .entry)) eye x (8 * strip + r)) (now (buffer .entry)) (now (buffer .exit)) ⌝ }
+    requires { ⌜
+        (length (now vram) ≡ vramBytes) × ((from ≤ to) × ((to ≤ 384) × ((strip < 28) × (bgmOf (now w) ≡ 0))))
+        ⌝ }
+    requires { ⌜
+        (worldShownOf (now w) eye ≡ true)
+        × ((windowLeftOf (now w) eye ≤ from + 1024) × (to + 1024 ≤ windowLeftOf (now w) eye + columnsOf (now w)))
+        ⌝ }
+    ensures { λ _. ⌜
+        Block 0 8 from to
+        (λ x r. backgroundPixelOf (now (vram .entry)) (now (registers .entry)) (now (w .entry)) eye x (8 * strip + r))
+        (now (buffer .entry)) (now (buffer .exit))
+        ⌝ }
 {
     let top = (wide(w[3]) + 32768) % 65536;
     let y = 8 * strip + 32768;
@@ -186,8 +220,12 @@ pub fn strip(
     strip: usize,
 )
     requires { ⌜ length (now buffer) ≡ 384 ⌝ }
-    requires { ⌜ (length (now vram) ≡ 262144) × (strip < 28) ⌝ }
-    ensures { λ _. ⌜ Strip (λ x r. backgroundPixelOf (now (vram .entry)) (now (registers .entry)) (now (w .entry)) eye x (8 * strip + r)) (now (buffer .entry)) (now (buffer .exit)) ⌝ }
+    requires { ⌜ (length (now vram) ≡ vramBytes) × (strip < 28) ⌝ }
+    ensures { λ _. ⌜
+        Strip
+        (λ x r. backgroundPixelOf (now (vram .entry)) (now (registers .entry)) (now (w .entry)) eye x (8 * strip + r))
+        (now (buffer .entry)) (now (buffer .exit))
+        ⌝ }
 {
     if !flag(eye, w[0]) {
         return;

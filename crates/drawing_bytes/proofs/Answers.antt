@@ -14,22 +14,22 @@ use Rattle.drawing_laws.specs.SourceBytes.{sourceBytesOf}
 use Rattle.drawing_laws.proofs.PixelBytes.{listed-formula}
 use Rattle.drawing_bytes.specs.declared.Listed.the-variants.{Count, Refused, Outside}
 use Rattle.drawing_bytes.specs.Room.{Listing}
-use Rattle.drawing_bytes.specs.Calls.{inImageOf, listVerdictOf, listedOf, roomOf}
+use Rattle.drawing_bytes.specs.Calls.{inImageOf, bytesVerdictOf, listedOf, roomOf}
 use Rattle.drawing_bytes.proofs.Listings.{sets-filled}
 
 module _ (v regs : List ℕ) (eye x y : ℕ) (room : List ℕ) where
   pub list-length : (length v ≡ 262144 → ⊥) → (Refused VramLength ≡ listedOf v regs eye x y) × (room ≡ roomOf v regs eye x y room)
-  unfolding roomOf listedOf listVerdictOf vramOk
+  unfolding roomOf listedOf bytesVerdictOf vramOk
   list-length n = (simp (ne-eqb _ _ n), simp (ne-eqb _ _ n))
 
   module _ (e : length v ≡ 262144) where
     pub list-state : drawingOk regs ≡ false → (Refused State ≡ listedOf v regs eye x y) × (room ≡ roomOf v regs eye x y room)
-    unfolding roomOf listedOf listVerdictOf vramOk
+    unfolding roomOf listedOf bytesVerdictOf vramOk
     list-state r = (simp (eq-eqb _ _ e, r), simp (eq-eqb _ _ e, r))
 
     module _ (r : drawingOk regs ≡ true) where
       outside : inImageOf eye x y ≡ false → (Outside ≡ listedOf v regs eye x y) × (room ≡ roomOf v regs eye x y room)
-      unfolding roomOf listedOf listVerdictOf vramOk
+      unfolding roomOf listedOf bytesVerdictOf vramOk
       outside f = (simp (eq-eqb _ _ e, r, f), simp (eq-eqb _ _ e, r, f))
 
       pub list-eye : 2 ≤ eye → (Outside ≡ listedOf v regs eye x y) × (room ≡ roomOf v regs eye x y room)
@@ -46,7 +46,7 @@ module _ (v regs : List ℕ) (eye x y : ℕ) (room : List ℕ) where
 
       inside : inImageOf eye x y ≡ true → (n : ℕ) (after : List ℕ) → Listing 0 (pixelBytesOf v regs eye x y) n room after
           → (Count n ≡ listedOf v regs eye x y) × (after ≡ roomOf v regs eye x y room)
-      unfolding roomOf listedOf listVerdictOf vramOk
+      unfolding roomOf listedOf bytesVerdictOf vramOk
       inside f n after l = let counted : n ≡ length (pixelBytesOf v regs eye x y) = omega (arith, l .count) in (
         simp (eq-eqb _ _ e, r, f) (ap Count counted),
         simp (eq-eqb _ _ e, r, f) (l .words ∙ sets-filled room (pixelBytesOf v regs eye x y)),

@@ -6,13 +6,13 @@ use mathlib.Core.Path.{_≡_}
 use lib.ListN.{getD}
 use lib.Dec.{ltb}
 use borrow.Author.Tests.{lt-leb, le-leb, le-ltb, lt-ltb, leb-true, ltb-true}
-use Rattle.drawing_pixel.specs.Signed.{flagOf}
+use Rattle.drawing_pixel.specs.Signed.{eyeFlagOf}
 use Rattle.drawing_pixel.specs.World.{gyOf, rowsOf, columnsOf, windowLeftOf, worldShownOf, columnCoveredOf, rowCoveredOf, worldCoversOf}
 use Rattle.drawing_pixel.specs.Object.{objectShownOf, objectRowOf, objectLeftOf, objectCoversOf}
 use Rattle.drawing_laws.proofs.Choices.{and-left, and-right}
 
 module _ (w : List ℕ) (eye x y : ℕ) where
-  pub world-hidden : flagOf eye (getD w 0 0) ≡ false → false ≡ worldCoversOf w eye x y
+  pub world-hidden : eyeFlagOf eye (getD w 0 0) ≡ false → false ≡ worldCoversOf w eye x y
   unfolding worldCoversOf worldShownOf
   world-hidden e = rw e
 
@@ -28,7 +28,7 @@ module _ (w : List ℕ) (eye x y : ℕ) where
   unfolding worldCoversOf columnCoveredOf
   world-right h = simp (lt-leb _ _ h, and-false)
 
-  pub world-there : flagOf eye (getD w 0 0) ≡ true → gyOf w ≤ y + 32768 → y + 32768 < gyOf w + rowsOf w
+  pub world-there : eyeFlagOf eye (getD w 0 0) ≡ true → gyOf w ≤ y + 32768 → y + 32768 < gyOf w + rowsOf w
       → windowLeftOf w eye ≤ x + 1024 → ltb (x + 1024) (windowLeftOf w eye + columnsOf w) ≡ worldCoversOf w eye x y
   unfolding worldCoversOf worldShownOf rowCoveredOf columnCoveredOf
   world-there e a b l = rw e (simp (le-leb _ _ a, lt-ltb _ _ b, le-leb _ _ l))
@@ -47,7 +47,7 @@ module _ (w : List ℕ) (eye x y : ℕ) where
       (and-left _ _ (and-left _ (columnCoveredOf w eye x) (and-right (worldShownOf w eye) _ e)))
 
 module _ (o : List ℕ) (eye x y : ℕ) where
-  pub object-hidden : flagOf eye (getD o 1 0) ≡ false → false ≡ objectCoversOf [] o eye x y
+  pub object-hidden : eyeFlagOf eye (getD o 1 0) ≡ false → false ≡ objectCoversOf [] o eye x y
   unfolding objectCoversOf objectShownOf
   object-hidden e = rw e
 
@@ -59,7 +59,7 @@ module _ (o : List ℕ) (eye x y : ℕ) where
   unfolding objectCoversOf
   object-right h = simp (lt-leb _ _ h, and-false)
 
-  pub object-there : flagOf eye (getD o 1 0) ≡ true → objectRowOf o y < 8 → objectLeftOf o eye ≤ x + 1024
+  pub object-there : eyeFlagOf eye (getD o 1 0) ≡ true → objectRowOf o y < 8 → objectLeftOf o eye ≤ x + 1024
       → ltb (x + 1024) (objectLeftOf o eye + 8) ≡ objectCoversOf [] o eye x y
   unfolding objectCoversOf objectShownOf
   object-there e r l = rw e (simp (lt-ltb _ _ r, le-leb _ _ l))

@@ -21,8 +21,8 @@ unfoldable pub inImageOf : ℕ → ℕ → ℕ → Bool
 inImageOf eye x y = ltb eye 2 && (ltb x 384 && ltb y 224)
 
 -- the call's refusals: 3, 5
-unfoldable pub listVerdictOf : List ℕ → List ℕ → Verdict
-listVerdictOf vram regs = unless (vramOk (length vram)) VramLength (unless (drawingOk regs) State verdict.Accepted)
+unfoldable pub bytesVerdictOf : List ℕ → List ℕ → Verdict
+bytesVerdictOf vram regs = unless (vramOk (length vram)) VramLength (unless (drawingOk regs) State verdict.Accepted)
 
 -- an answer by the verdict and by whether an image has the pixel
 abbrev pub answerOf : Verdict → Bool → ℕ → Listed
@@ -33,7 +33,7 @@ answerOf verdict.Accepted true count = Count count
 -- the answer: how many addresses demand 3's list has
 unfoldable pub listedOf : List ℕ → List ℕ → ℕ → ℕ → ℕ → Listed
 listedOf vram regs eye x y =
-    answerOf (listVerdictOf vram regs) (inImageOf eye x y) (length (pixelBytesOf vram regs eye x y))
+    answerOf (bytesVerdictOf vram regs) (inImageOf eye x y) (length (pixelBytesOf vram regs eye x y))
 
 -- a room whose first words are a list, as far as the room reaches; the words after the list are kept
 abbrev pub filledOf : List ℕ → List ℕ → List ℕ

@@ -2,6 +2,7 @@
 ghost use mathlib.Core.Path.{_≡_};
 ghost use Prim.Native.Nat.{_+_, _*_, _<_, _≤_};
 ghost use lib.ListN.{length};
+ghost use Rattle.bus.specs.Refusal.{vramBytes};
 ghost use Rattle.drawing_pixel.specs.World.{worldOf, worldCoversOf};
 ghost use Rattle.drawing_pixel.specs.Background.{parameterAddressOf, sourceXOf, sourceYOf};
 ghost use Rattle.drawing_laws.specs.PixelBytes.{affineBytesOf, parameterBytesOf};
@@ -57,7 +58,7 @@ pub fn covers(w: &[u16; 11], eye: usize, x: usize, y: usize) -> bool
 
 // The source x of a window's offsets.
 pub fn source_x(vram: &[u8], w: &[u16; 11], eye: usize, i: usize, j: usize) -> usize
-    requires { ⌜ (length (now vram) ≡ 262144) × ((i < 2048) × (j < 65536)) ⌝ }
+    requires { ⌜ (length (now vram) ≡ vramBytes) × ((i < 2048) × (j < 65536)) ⌝ }
     ensures { λ r. ⌜ r ≡ sourceXOf (now (vram .entry)) (now (w .entry)) eye i j ⌝ }
 {
     let bgm = w[0] / 4096 % 4;
@@ -78,7 +79,7 @@ pub fn source_x(vram: &[u8], w: &[u16; 11], eye: usize, i: usize, j: usize) -> u
 
 // The source y of a window's offsets.
 pub fn source_y(vram: &[u8], w: &[u16; 11], eye: usize, i: usize, j: usize) -> usize
-    requires { ⌜ (length (now vram) ≡ 262144) × ((i < 2048) × (j < 65536)) ⌝ }
+    requires { ⌜ (length (now vram) ≡ vramBytes) × ((i < 2048) × (j < 65536)) ⌝ }
     ensures { λ r. ⌜ r ≡ sourceYOf (now (vram .entry)) (now (w .entry)) eye i j ⌝ }
 {
     let bgm = w[0] / 4096 % 4;
@@ -130,7 +131,7 @@ pub fn list_cell(
     sx: usize,
     sy: usize,
 ) -> usize
-    requires { ⌜ (length (now vram) ≡ 262144) × (n < 8192) ⌝ }
+    requires { ⌜ (length (now vram) ≡ vramBytes) × (n < 8192) ⌝ }
     ensures { λ r. ⌜ Lists room n (cellBytesOf (now (vram .entry)) (now (w .entry)) sx sy) r ⌝ }
 {
     let at = cell_address(w, sx / 8, sy / 8);
@@ -149,7 +150,7 @@ pub fn list_background(
     x: usize,
     y: usize,
 ) -> usize
-    requires { ⌜ (length (now vram) ≡ 262144) × ((n < 4096) × ((x < 384) × (y < 224))) ⌝ }
+    requires { ⌜ (length (now vram) ≡ vramBytes) × ((n < 4096) × ((x < 384) × (y < 224))) ⌝ }
     ensures { λ r. ⌜ Lists room n (backgroundBytesOf (now (vram .entry)) (now (w .entry)) eye x y) r ⌝ }
     ensures { λ r. ⌜ r ≤ n + 14 ⌝ }
 {
@@ -179,7 +180,7 @@ pub fn list_world(
     x: usize,
     y: usize,
 ) -> usize
-    requires { ⌜ (length (now vram) ≡ 262144) × ((n < 4096) × ((k < 32) × ((x < 384) × (y < 224)))) ⌝ }
+    requires { ⌜ (length (now vram) ≡ vramBytes) × ((n < 4096) × ((k < 32) × ((x < 384) × (y < 224)))) ⌝ }
     ensures { λ r. ⌜ Lists room n (worldBytesOf (now (vram .entry)) (worldOf (now (vram .entry)) k) eye x y) r ⌝ }
     ensures { λ r. ⌜ r ≤ n + 14 ⌝ }
 {
@@ -196,7 +197,7 @@ pub fn list_world(
 
 // The bytes of worlds 31 to 0; END stops.
 pub fn list_worlds(vram: &[u8], room: &mut [u32], eye: usize, x: usize, y: usize) -> usize
-    requires { ⌜ (length (now vram) ≡ 262144) × ((x < 384) × (y < 224)) ⌝ }
+    requires { ⌜ (length (now vram) ≡ vramBytes) × ((x < 384) × (y < 224)) ⌝ }
     ensures { λ r. ⌜ Lists room 0 (worldsBytesOf (now (vram .entry)) eye x y 32) r ⌝ }
     ensures { λ r. ⌜ r ≤ 448 ⌝ }
 {

@@ -10,6 +10,7 @@ use refusal::Refusal;
 ghost use mathlib.Core.Path.{_≡_};
 ghost use Prim.Native.Nat.{ℕ, _<_};
 ghost use lib.ListN.{length};
+ghost use Rattle.bus.specs.Refusal.{vramBytes};
 ghost use Rattle.bus.specs.Registers.{sptOf};
 ghost use Rattle.drawing_laws.specs.SourceBytes.{sourceBytesOf};
 ghost use Rattle.drawing_bytes.specs.Room.{Lists};
@@ -32,7 +33,7 @@ fn list(
     x: usize,
     y: usize,
 ) -> usize
-    requires { ⌜ (length (now vram) ≡ 262144) × ((x < 384) × (y < 224)) ⌝ }
+    requires { ⌜ (length (now vram) ≡ vramBytes) × ((x < 384) × (y < 224)) ⌝ }
     requires { ⌜ ((g : ℕ) → g < 4 → sptOf (now registers) g < 1024) ⌝ }
     ensures { λ r. ⌜ Lists room 0 (sourceBytesOf (now (vram .entry)) (now (registers .entry)) eye x y) r ⌝ }
 {

@@ -4,6 +4,7 @@ ghost use mathlib.Core.Path.{_≡_};
 ghost use mathlib.Core.List.{List, []};
 ghost use Prim.Native.Nat.{ℕ, _+_, _*_, _<_, _≤_};
 ghost use lib.ListN.{length, getD};
+ghost use Rattle.bus.specs.Refusal.{vramBytes};
 ghost use Rattle.word.specs.Choose.{pick};
 ghost use Rattle.bus.specs.Registers.{sptOf};
 ghost use Rattle.drawing_pixel.specs.Object.{objectOf, objectCoversOf};
@@ -38,7 +39,7 @@ pub fn draws_objects(flags: usize) -> usize
 
 // How many object worlds the loop reaches before END.
 pub fn object_worlds(vram: &[u8]) -> usize
-    requires { ⌜ length (now vram) ≡ 262144 ⌝ }
+    requires { ⌜ length (now vram) ≡ vramBytes ⌝ }
     ensures { λ r. ⌜ (r ≡ reachedObjectWorldsOf (now (vram .entry)) 32) × (r ≤ 32) ⌝ }
 {
     let mut found = 0;
@@ -109,7 +110,7 @@ pub fn list_object(
     x: usize,
     y: usize,
 ) -> usize
-    requires { ⌜ (length (now vram) ≡ 262144) × ((n < 4096) × ((k < 1024) × ((x < 384) × (y < 224)))) ⌝ }
+    requires { ⌜ (length (now vram) ≡ vramBytes) × ((n < 4096) × ((k < 1024) × ((x < 384) × (y < 224)))) ⌝ }
     requires { ⌜ (worlds ≡ reachedObjectWorldsOf (now vram) 32) × (worlds ≤ 32) ⌝ }
     requires { ⌜ ((g : ℕ) → g < 4 → sptOf (now registers) g < 1024) ⌝ }
     ensures { λ r. ⌜ Lists room n (objectListOf (now (vram .entry)) (now (registers .entry)) eye x y k) r ⌝ }
@@ -136,7 +137,7 @@ pub fn list_objects(
     x: usize,
     y: usize,
 ) -> usize
-    requires { ⌜ (length (now vram) ≡ 262144) × ((start < 1024) × ((x < 384) × (y < 224))) ⌝ }
+    requires { ⌜ (length (now vram) ≡ vramBytes) × ((start < 1024) × ((x < 384) × (y < 224))) ⌝ }
     requires { ⌜ (worlds ≡ reachedObjectWorldsOf (now vram) 32) × (worlds ≤ 32) ⌝ }
     requires { ⌜ ((g : ℕ) → g < 4 → sptOf (now registers) g < 1024) ⌝ }
     ensures { λ r. ⌜ Lists room start (objectsBytesOf (now (vram .entry)) (now (registers .entry)) eye x y 1024) r ⌝ }

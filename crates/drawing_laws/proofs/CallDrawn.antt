@@ -15,8 +15,9 @@ use Rattle.drawing_pixel.specs.Strip.{storedPixelOf, inStripOf, stripOf, strips
 use Rattle.bus.specs.Refusal.{vramOk}
 use Rattle.refusal.specs.declared.Verdict.{Verdict}
 use Rattle.refusal.specs.declared.Verdict.the-variants.{Accepted, Refused}
-use Rattle.drawing.specs.Calls.{whenAccepted, stripVerdictOf, drawStripOf, frameVerdictOf, drawFrameOf}
-use Rattle.drawing_laws.specs.Drawn.{frameCall, stripCall, drawsStripOf, afterOf, inImagesOf, PixelDrawn, ByteKept, LengthKept}
+use Rattle.drawing.specs.Calls.{stripVerdictOf, drawStripOf, frameVerdictOf, drawFrameOf}
+use Rattle.refusal.specs.Number.{whenAccepted}
+use Rattle.drawing_laws.specs.Drawn.{frameCall, stripCall, drawsStripOf, drawnBy, inImagesOf, PixelDrawn, ByteKept, LengthKept}
 use Rattle.drawing_laws.proofs.Verdicts.{stripTest, accepted-given}
 use Rattle.drawing_laws.proofs.Registers.{bkcol-below}
 use Rattle.drawing_laws.proofs.Images.{pixel-outside-images}
@@ -88,7 +89,7 @@ unfolding drawStripOf stripVerdictOf vramOk
 strip-accepted vram regs frame s l ok f a = simp (l, ok, lt-ltb frame 2 f, a)
 
 pub pixel-drawn : PixelDrawn
-unfolding drawsStripOf afterOf frameOf stripTest
+unfolding drawsStripOf drawnBy frameOf stripTest
 pixel-drawn vram regs frame frameCall eye x y v e c d =
     let g = accepted-given vram regs frame frameCall v in
     rw (frame-accepted vram regs frame (g .bytes) (g .registers) (g .frame-below))
@@ -116,7 +117,7 @@ kept-when f Accepted before after e = e
 kept-when f (Refused n) before after e = refl
 
 pub byte-kept : ByteKept
-unfolding drawsStripOf afterOf frameOf drawFrameOf drawStripOf
+unfolding drawsStripOf drawnBy frameOf drawFrameOf drawStripOf
 byte-kept vram regs frame frameCall a h =
     kept-when (λ xs. getD xs a 0) (frameVerdictOf vram regs frame) vram (stripsOf vram regs frame 28)
     (strips-kept vram regs frame 28 a (frame-others frame a h))
@@ -125,7 +126,7 @@ byte-kept vram regs frame (stripCall s) a h =
     (strip-kept vram regs frame s a (in-strip-is frame s a ∙ h))
 
 pub length-kept : LengthKept
-unfolding afterOf frameOf drawFrameOf drawStripOf
+unfolding drawnBy frameOf drawFrameOf drawStripOf
 length-kept vram regs frame frameCall =
     kept-when length (frameVerdictOf vram regs frame) vram (stripsOf vram regs frame 28) (strips-length vram regs frame 28)
 length-kept vram regs frame (stripCall s) =

@@ -8,7 +8,7 @@ use native.Mathlib.Omega.{arith}
 use lib.ListN.{length, getD, length-append}
 use lib.Dec.{eqb}
 use Rattle.word.specs.Choose.{pick}
-use Rattle.drawing_pixel.specs.Signed.{bitOf, flagOf}
+use Rattle.drawing_pixel.specs.Signed.{bitSet, eyeFlagOf}
 use Rattle.drawing_pixel.specs.World.{worldOf, endOf, skippedOf, worldShownOf, bgmOf, columnInOf, rowInOf, worldCoversOf}
 use Rattle.drawing_pixel.specs.Background.{parameterAddressOf, biasIndexOf, sourceXOf, sourceYOf}
 use Rattle.drawing_pixel.specs.Object.{objectOf}
@@ -42,9 +42,9 @@ hidden true false false s c = false-not-true c
 hidden false false false s c = false-not-true c
 
 skipped-hidden : (w : List ℕ) (eye x y : ℕ) → skippedOf w ≡ true → worldCoversOf w eye x y ≡ true → ⊥
-unfolding skippedOf worldCoversOf worldShownOf flagOf
+unfolding skippedOf worldCoversOf worldShownOf eyeFlagOf
 skipped-hidden w eye x y s c =
-    hidden (eqb eye 0) (bitOf 15 (getD w 0 0)) (bitOf 14 (getD w 0 0)) s (and-left (pick (eqb eye 0) (bitOf 15 (getD w 0 0)) (bitOf 14 (getD w 0 0))) _ c)
+    hidden (eqb eye 0) (bitSet 15 (getD w 0 0)) (bitSet 14 (getD w 0 0)) s (and-left (pick (eqb eye 0) (bitSet 15 (getD w 0 0)) (bitSet 14 (getD w 0 0))) _ c)
 
 -- a background world's bytes, none where it does not cover the pixel
 chosen-length : (skipped objects covers : Bool) (bytes : List ℕ) (m : ℕ) → length bytes ≡ m

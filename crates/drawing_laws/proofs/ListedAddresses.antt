@@ -6,7 +6,7 @@ use mathlib.Core.List.{List}
 use lib.ListN.{getD}
 use native.Mathlib.Omega.{arith}
 use Rattle.word.specs.Choose.{pick}
-use Rattle.drawing_pixel.specs.Signed.{bitOf}
+use Rattle.drawing_pixel.specs.Signed.{bitSet}
 use Rattle.drawing_pixel.specs.Character.{characterAddressOf, flippedOf, rowAddressOf}
 use Rattle.drawing_pixel.specs.World.{worldOf, overOf, scxOf, scyOf}
 use Rattle.drawing_pixel.specs.Background.{parameterAddressOf, insideOf, mapNumberOf, mapCellAddressOf, cellAddressOf, sourceCellAddressOf}
@@ -27,11 +27,11 @@ flipped-below false r h = h
 
 row-clear : (cell r : ℕ) → r < 8 → Each Clear (halfBytesOf (rowAddressOf cell r))
 unfolding rowAddressOf characterAddressOf
-row-clear cell r h = let f : flippedOf (bitOf 12 cell) r < 8 = flipped-below (bitOf 12 cell) r h in omega arith
+row-clear cell r h = let f : flippedOf (bitSet 12 cell) r < 8 = flipped-below (bitSet 12 cell) r h in omega arith
 
 row-in-vram : (cell r : ℕ) → r < 8 → Each (λ a. a < 262144) (halfBytesOf (rowAddressOf cell r))
 unfolding rowAddressOf characterAddressOf
-row-in-vram cell r h = let f : flippedOf (bitOf 12 cell) r < 8 = flipped-below (bitOf 12 cell) r h in omega arith
+row-in-vram cell r h = let f : flippedOf (bitSet 12 cell) r < 8 = flipped-below (bitSet 12 cell) r h in omega arith
 
 parameter-clear : (w : List ℕ) (k : ℕ) → Each Clear (halfBytesOf (parameterAddressOf w k))
 unfolding parameterAddressOf

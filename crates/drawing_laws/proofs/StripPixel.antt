@@ -7,7 +7,7 @@ use native.Mathlib.Omega.{arith}
 use lib.ListN.{length, getD}
 use borrow.Author.Tests.{lt-ltb, eq-eqb, ne-eqb}
 use Rattle.word.specs.LittleEndian.{halfAt}
-use Rattle.drawing_pixel.specs.Character.{pairOf}
+use Rattle.drawing_pixel.specs.Character.{twoBitsOf}
 use Rattle.drawing_pixel.specs.Pixel.{pixelOf}
 use Rattle.drawing_pixel.specs.Strip.{imageOf, storedPixelOf, inStripOf, fourPixelsOf, stripOf}
 use Rattle.drawing_pixel.proofs.Pairs.{below-eight}
@@ -18,8 +18,8 @@ use Rattle.drawing_laws.proofs.StripBytes.{strip-kept, strip-drawn}
 pairs-back : (p0 p1 p2 p3 p4 p5 p6 p7 : ℕ) → p0 < 4 → p1 < 4 → p2 < 4 → p3 < 4 → p4 < 4 → p5 < 4 → p6 < 4 → p7 < 4
     → (p : ℕ → ℕ) → p 0 ≡ p0 → p 1 ≡ p1 → p 2 ≡ p2 → p 3 ≡ p3 → p 4 ≡ p4 → p 5 ≡ p5 → p 6 ≡ p6 → p 7 ≡ p7
     → (k : ℕ) → k < 8
-    → pairOf (p0 + 4 * p1 + 16 * p2 + 64 * p3 + 256 * (p4 + 4 * p5 + 16 * p6 + 64 * p7)) k ≡ p k
-unfolding pairOf
+    → twoBitsOf (p0 + 4 * p1 + 16 * p2 + 64 * p3 + 256 * (p4 + 4 * p5 + 16 * p6 + 64 * p7)) k ≡ p k
+unfolding twoBitsOf
 pairs-back p0 p1 p2 p3 p4 p5 p6 p7 h0 h1 h2 h3 h4 h5 h6 h7 p e0 e1 e2 e3 e4 e5 e6 e7 =
     below-eight
     (λ k. (p0 + 4 * p1 + 16 * p2 + 64 * p3 + 256 * (p4 + 4 * p5 + 16 * p6 + 64 * p7)) / 2 ^ (2 * k) % 4 ≡ p k)
@@ -72,7 +72,7 @@ module _ (vram regs : List ℕ) (frame eye x s : ℕ) (l : length vram ≡ 26214
 
     -- the pixel of row k of the strip, read back
     row-drawn : ((y : ℕ) → pixelOf vram regs eye x y < 4) → (k : ℕ) → k < 8
-        → pairOf (halfAt (stripOf vram regs frame s) (addressOf frame eye x s)) k ≡ pixelOf vram regs eye x (8 * s + k)
+        → twoBitsOf (halfAt (stripOf vram regs frame s) (addressOf frame eye x s)) k ≡ pixelOf vram regs eye x (8 * s + k)
     unfolding fourPixelsOf
     row-drawn below k h =
         let first : 8 * s + 0 ≡ 8 * s = omega arith in

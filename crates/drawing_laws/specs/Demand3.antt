@@ -1,6 +1,6 @@
--- Demand 3 (paper 01, "The bytes a pixel answers to"): the statements. Their proofs are `answerable`, `few`, `listed-length`,
--- `pixel-outside-images` and `listed-in-vram` in proofs/. Memories are lists of 262,144 numbers; that they are bytes is
--- assumed only where it is said.
+-- Demand 3 (paper 01, "The bytes a pixel answers to"): the statements. Their proofs are `answerable`, `few`,
+-- `listed-length`, `pixel-outside-images` and `listed-in-vram` in proofs/. Memories are lists of 262,144 numbers; that
+-- they are bytes is assumed only where it is said.
 use Prim.Native.Nat.{ℕ, zero, suc, _+_, _*_, _/_, _≤_, _<_}
 use mathlib.Core.Bool.{Bool, true, false}
 use mathlib.Core.List.{List, [], _∷_}
@@ -8,12 +8,14 @@ use mathlib.Core.Path.{_≡_}
 use lib.ListN.{length, getD}
 use lib.Dec.{eqb}
 use Rattle.word.specs.Choose.{pick}
+use Rattle.bus.specs.Refusal.{vramBytes}
 use Rattle.bus.specs.Registers.{drawingOk}
 use Rattle.refusal.specs.declared.Verdict.the-variants.{Accepted}
-use Rattle.drawing_pixel.specs.World.{worldOf, bgmOf}
+use Rattle.drawing_pixel.specs.World.{worldOf, worldTable, bgmOf}
+use Rattle.drawing_pixel.specs.Object.{objectTable}
 use Rattle.drawing_pixel.specs.Pixel.{pixelOf}
 use Rattle.drawing_pixel.specs.Strip.{storedPixelOf}
-use Rattle.drawing_laws.specs.Drawn.{Call, callVerdictOf, drawsStripOf, afterOf, inImagesOf}
+use Rattle.drawing_laws.specs.Drawn.{Call, callVerdictOf, drawsStripOf, drawnBy, inImagesOf}
 use Rattle.drawing_laws.specs.Covers.{backgroundCoversOf, coveringWorldsOf, coveringObjectsOf}
 use Rattle.drawing_laws.specs.PixelBytes.{pixelBytesOf}
 
@@ -28,11 +30,11 @@ SameByte first second a = getD second a 0 ≡ getD first a 0
 
 -- the tables, 32 world records of 32 bytes and 1,024 object records of 8, are the same in two memories
 pub record SameTables (first second : List ℕ) : Type 0 where
-  pub worlds : (a : ℕ) → 0x3D800 ≤ a → a < 0x3D800 + 32 * 32 → SameByte first second a
-  pub objects : (a : ℕ) → 0x3E000 ≤ a → a < 0x3E000 + 1024 * 8 → SameByte first second a
+  pub worlds : (a : ℕ) → worldTable ≤ a → a < worldTable + 32 * 32 → SameByte first second a
+  pub objects : (a : ℕ) → objectTable ≤ a → a < objectTable + 1024 * 8 → SameByte first second a
 
--- a pixel that both calls draw, neither refused, is the same after them where tables and listed bytes were the same before
--- them
+-- a pixel that both calls draw, neither refused, is the same after them where tables and listed bytes were the same
+-- before them
 abbrev pub Answerable : Type 0
 Answerable =
     (first second regs : List ℕ) (frame : ℕ) (one other : Call) (eye x y : ℕ)
@@ -44,14 +46,15 @@ Answerable =
     → drawsStripOf other (y / 8) ≡ true
     → SameTables first second
     → Each (SameByte first second) (pixelBytesOf first regs eye x y)
-    → storedPixelOf (afterOf second regs frame other) frame eye x y
-    ≡ storedPixelOf (afterOf first regs frame one) frame eye x y
+    → storedPixelOf (drawnBy second regs frame other) frame eye x y
+    ≡ storedPixelOf (drawnBy first regs frame one) frame eye x y
 
 -- the list is short: at most 14 bytes for each covering background world, 2 for each covering object
 abbrev pub Few : Type 0
 Few =
     (vram regs : List ℕ) (eye x y : ℕ)
-    → length (pixelBytesOf vram regs eye x y) ≤ 14 * coveringWorldsOf vram eye x y + 2 * coveringObjectsOf vram regs eye x y
+    → length (pixelBytesOf vram regs eye x y) ≤ 14 * coveringWorldsOf vram eye x y
+    + 2 * coveringObjectsOf vram regs eye x y
 
 -- how many bytes a background world has: its cell and character row, and 2 parameter bytes for H-bias, 10 for affine
 abbrev pub worldBytesCountOf : List ℕ → ℕ
@@ -81,4 +84,4 @@ PixelOutsideImages =
 abbrev pub ListedInVram : Type 0
 ListedInVram =
     (vram regs : List ℕ) (eye x y : ℕ) → ((a : ℕ) → getD vram a 0 < 256)
-    → Each (λ a. a < 262144) (pixelBytesOf vram regs eye x y)
+    → Each (λ a. a < vramBytes) (pixelBytesOf vram regs eye x y)

@@ -1,5 +1,6 @@
 -- What the strip call and the frame call leave in VRAM (paper 01, "Drawing"): the statements. Their proofs are
--- `pixel-drawn`, `byte-kept` and `length-kept` in proofs/. VRAM after a call is the list that the call's contract names.
+-- `pixel-drawn`, `byte-kept` and `length-kept` in proofs/. VRAM after a call is the list that the call's contract
+-- names.
 use Prim.Native.Nat.{ℕ, _/_, _%_, _<_}
 use mathlib.Core.Bool.{Bool, true, false, _&&_}
 use mathlib.Core.List.{List}
@@ -28,9 +29,9 @@ drawsStripOf frameCall s = ltb s 28
 drawsStripOf (stripCall own) s = eqb s own
 
 -- VRAM after a call
-unfoldable pub afterOf : List ℕ → List ℕ → ℕ → Call → List ℕ
-afterOf vram regs frame frameCall = drawFrameOf vram regs frame
-afterOf vram regs frame (stripCall own) = drawStripOf vram regs frame own
+unfoldable pub drawnBy : List ℕ → List ℕ → ℕ → Call → List ℕ
+drawnBy vram regs frame frameCall = drawFrameOf vram regs frame
+drawnBy vram regs frame (stripCall own) = drawStripOf vram regs frame own
 
 -- whether an address lies in one of a frame's two images
 unfoldable pub inImagesOf : ℕ → ℕ → Bool
@@ -43,16 +44,16 @@ PixelDrawn =
     → eye < 2
     → x < 384
     → drawsStripOf call (y / 8) ≡ true
-    → storedPixelOf (afterOf vram regs frame call) frame eye x y ≡ pixelOf vram regs eye x y
+    → storedPixelOf (drawnBy vram regs frame call) frame eye x y ≡ pixelOf vram regs eye x y
 
 -- a byte outside the frame's images, or of a strip that is not drawn, is kept; a column is 32 halfwords, one a strip
 abbrev pub ByteKept : Type 0
 ByteKept =
     (vram regs : List ℕ) (frame : ℕ) (call : Call) (a : ℕ)
     → (inImagesOf frame a && drawsStripOf call (a % 64 / 2)) ≡ false
-    → getD (afterOf vram regs frame call) a 0 ≡ getD vram a 0
+    → getD (drawnBy vram regs frame call) a 0 ≡ getD vram a 0
 
 -- VRAM keeps its length
 abbrev pub LengthKept : Type 0
 LengthKept =
-    (vram regs : List ℕ) (frame : ℕ) (call : Call) → length (afterOf vram regs frame call) ≡ length vram
+    (vram regs : List ℕ) (frame : ℕ) (call : Call) → length (drawnBy vram regs frame call) ≡ length vram

@@ -1,6 +1,6 @@
 -- W3 of paper 02, "Short worlds are taller on the chip", in the request's own words and of "covers" (specs/Covers).
--- The proofs are `strip-covered`, `added-in-strip`, `plain-covered`, `affine-plain` and `five-rows` in proofs/. GY and H
--- are signed; strip s is rows 8s to 8s + 7, so that the strip holding row g ends above row 8 (g / 8 + 1).
+-- The proofs are `strip-covered`, `added-in-strip`, `plain-covered`, `affine-plain` and `five-rows` in proofs/. GY and
+-- H are signed; strip s is rows 8s to 8s + 7, so that the strip holding row g ends above row 8 (g / 8 + 1).
 use Prim.Native.Nat.{ℕ, _+_, _*_, _/_, _≤_, _<_}
 use mathlib.Core.Bool.{true, false}
 use mathlib.Core.List.{List}

@@ -1,5 +1,5 @@
--- Inner: the bytes a pixel answers to, on numbers with a bias as the painters have them, and the statement that the list is
--- that of PixelBytes. Its proof is `listed-formula` in proofs/PixelBytes.
+-- Inner: the bytes a pixel answers to, on numbers with a bias as the painters have them, and the statement that the
+-- list is that of PixelBytes. Its proof is `listed-formula` in proofs/PixelBytes.
 use Prim.Native.Nat.{ℕ, zero, suc, _%_}
 use mathlib.Core.Bool.{Bool, false, _&&_, _||_}
 use mathlib.Core.List.{List, [], _++_}

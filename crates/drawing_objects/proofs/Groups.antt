@@ -6,7 +6,7 @@ use mathlib.Core.Path.{_≡_, refl, sym, ap, _∙_}
 use mathlib.Core.List.{List}
 use lib.ListN.{getD, length}
 use Rattle.bus.specs.Registers.{sptOf}
-use Rattle.drawing_pixel.specs.Character.{pairOf}
+use Rattle.drawing_pixel.specs.Character.{twoBitsOf}
 use Rattle.drawing_pixel.specs.Object.{objectOf, objectPixelOf, objectAfterOf, objectsPixelOf, groupPixelOf, groupCountOf}
 use Rattle.drawing_pixel.specs.Buffer.{Strip}
 
@@ -25,8 +25,8 @@ module _ (vram regs w : List ℕ) (eye strip n : ℕ) where
   pub record Drawing (left k : ℕ) (before after : List ℕ) : Type 0 where
     pub size : length after ≡ length before
     pub pixels : (x r : ℕ) → x < 384 → r < 8
-        → objectsPixelOf vram regs w eye x (8 * strip + r) left k (pairOf (getD after x 0) r)
-        ≡ groupPixelOf vram regs w n eye x (8 * strip + r) (pairOf (getD before x 0) r)
+        → objectsPixelOf vram regs w eye x (8 * strip + r) left k (twoBitsOf (getD after x 0) r)
+        ≡ groupPixelOf vram regs w n eye x (8 * strip + r) (twoBitsOf (getD before x 0) r)
 
   pub group-begun : (left k : ℕ) (a : List ℕ) → left ≡ groupCountOf regs n → k ≡ sptOf regs n → Drawing left k a a
   unfolding groupPixelOf
@@ -48,7 +48,7 @@ module _ (vram regs w : List ℕ) (eye strip n : ℕ) where
         size = s .size ∙ d .size;
         pixels = λ x r u v.
             ap (objectsPixelOf vram regs w eye x (8 * strip + r) (left - 1) ((k + 1023) % 1024)) (s .pixels x r u v)
-            ∙ (sym (objects-step x (8 * strip + r) left k (pairOf (getD b x 0) r) h) ∙ d .pixels x r u v);
+            ∙ (sym (objects-step x (8 * strip + r) left k (twoBitsOf (getD b x 0) r) h) ∙ d .pixels x r u v);
       }
 
   pub group-done : (left k : ℕ) (a b : List ℕ) → left ≡ 0 → Drawing left k a b
@@ -56,5 +56,5 @@ module _ (vram regs w : List ℕ) (eye strip n : ℕ) where
   unfolding objectsPixelOf
   group-done left k a b e d = record { size = d .size; pixels = λ x r u v. sym (done x r) ∙ d .pixels x r u v }
     where
-      done : (x r : ℕ) → objectsPixelOf vram regs w eye x (8 * strip + r) left k (pairOf (getD b x 0) r) ≡ pairOf (getD b x 0) r
+      done : (x r : ℕ) → objectsPixelOf vram regs w eye x (8 * strip + r) left k (twoBitsOf (getD b x 0) r) ≡ twoBitsOf (getD b x 0) r
       done x r = rw e

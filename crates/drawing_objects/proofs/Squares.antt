@@ -9,7 +9,7 @@ use mathlib.Core.List.{List}
 use lib.ListN.{getD}
 use Rattle.word.specs.LittleEndian.{halfAt}
 use Rattle.bus.specs.Registers.{jpltOf}
-use Rattle.drawing_pixel.specs.Character.{shadeOf, valueOf, rowAddressOf, cellPixelOf}
+use Rattle.drawing_pixel.specs.Character.{shadeOf, pixelValueOf, rowAddressOf, cellPixelOf}
 use Rattle.drawing_pixel.specs.Object.{objectOf, objectShownOf, objectRowOf, objectLeftOf, objectPixelOf}
 use Rattle.drawing_pixel.proofs.Windows.{object-inside, object-left, object-right, object-outside-rows}
 
@@ -17,7 +17,7 @@ use Rattle.drawing_pixel.proofs.Windows.{object-inside, object-left, object-rig
 pub square-inside : (vram regs w o : List ℕ) (eye x y v from cell row pixels palette left : ℕ) → objectShownOf w o eye ≡ true
     → row ≡ objectRowOf o y → row < 8 → left ≡ objectLeftOf o eye → left ≤ from + 1024 → from ≤ x → x + 1024 < left + 8
     → cell ≡ getD o 3 0 → pixels ≡ halfAt vram (rowAddressOf cell row) → palette ≡ getD regs (8 + cell / 16384) 0
-    → shadeOf palette (valueOf cell pixels (from + 1024 - left + (x - from))) v ≡ objectPixelOf vram regs w o eye x y v
+    → shadeOf palette (pixelValueOf cell pixels (from + 1024 - left + (x - from))) v ≡ objectPixelOf vram regs w o eye x y v
 unfolding cellPixelOf jpltOf
 square-inside vram regs w o eye x y v from cell row pixels palette left s e h a l m r f g p =
     let d : from + 1024 - left + (x - from) ≡ x + 1024 - left = omega arith in

@@ -5,8 +5,10 @@ ghost use mathlib.Core.Path.{_≡_};
 ghost use mathlib.Core.Bool.{true};
 ghost use Prim.Native.Nat.{ℕ, _+_, _-_, _*_, _<_, _≤_};
 ghost use lib.ListN.{length};
+ghost use Rattle.bus.specs.Refusal.{vramBytes};
 ghost use Rattle.bus.specs.Registers.{sptOf};
-ghost use Rattle.drawing_pixel.specs.Object.{objectOf, objectShownOf, objectRowOf, objectLeftOf, objectPixelOf, groupCountOf, groupPixelOf};
+ghost use Rattle.drawing_pixel.specs.Object.{objectOf, objectShownOf, objectRowOf, objectLeftOf, objectPixelOf};
+ghost use Rattle.drawing_pixel.specs.Object.{groupCountOf, groupPixelOf};
 ghost use Rattle.drawing_pixel.specs.Buffer.{Span, Strip};
 use drawing_pixel::clipped;
 use drawing_pixel::flag;
@@ -46,9 +48,17 @@ pub fn object_span(
     strip: usize,
 )
     requires { ⌜ length (now buffer) ≡ 384 ⌝ }
-    requires { ⌜ (length (now vram) ≡ 262144) × ((from ≤ to) × ((to ≤ 384) × ((r < 8) × (strip < 28)))) ⌝ }
-    requires { ⌜ (objectShownOf (now w) (now o) eye ≡ true) × ((objectLeftOf (now o) eye ≤ from + 1024) × (to + 1024 ≤ objectLeftOf (now o) eye + 8)) ⌝ }
-    ensures { λ _. ⌜ Span r from to (λ x. objectPixelOf (now (vram .entry)) (now (registers .entry)) (now (w .entry)) (now (o .entry)) eye x (8 * strip + r)) (now (buffer .entry)) (now (buffer .exit)) ⌝ }
+    requires { ⌜ (length (now vram) ≡ vramBytes) × ((from ≤ to) × ((to ≤ 384) × ((r < 8) × (strip < 28)))) ⌝ }
+    requires { ⌜
+        (objectShownOf (now w) (now o) eye ≡ true)
+        × ((objectLeftOf (now o) eye ≤ from + 1024) × (to + 1024 ≤ objectLeftOf (now o) eye + 8))
+        ⌝ }
+    ensures { λ _. ⌜
+        Span r from to
+        (λ x. objectPixelOf (now (vram .entry)) (now (registers .entry)) (now (w .entry)) (now (o .entry)) eye
+        x (8 * strip + r))
+        (now (buffer .entry)) (now (buffer .exit))
+        ⌝ }
 {
     let row = object_row(o, 8 * strip + r);
     if 8 <= row {
@@ -80,8 +90,13 @@ pub fn object_strip(
     strip: usize,
 )
     requires { ⌜ length (now buffer) ≡ 384 ⌝ }
-    requires { ⌜ (length (now vram) ≡ 262144) × (strip < 28) ⌝ }
-    ensures { λ _. ⌜ Strip (λ x r. objectPixelOf (now (vram .entry)) (now (registers .entry)) (now (w .entry)) (now (o .entry)) eye x (8 * strip + r)) (now (buffer .entry)) (now (buffer .exit)) ⌝ }
+    requires { ⌜ (length (now vram) ≡ vramBytes) × (strip < 28) ⌝ }
+    ensures { λ _. ⌜
+        Strip
+        (λ x r. objectPixelOf (now (vram .entry)) (now (registers .entry)) (now (w .entry)) (now (o .entry)) eye
+        x (8 * strip + r))
+        (now (buffer .entry)) (now (buffer .exit))
+        ⌝ }
 {
     if !shown(w, o, eye) {
         return;
@@ -110,8 +125,13 @@ pub fn paint_object(
     strip: usize,
 )
     requires { ⌜ length (now buffer) ≡ 384 ⌝ }
-    requires { ⌜ (length (now vram) ≡ 262144) × ((strip < 28) × (k < 1024)) ⌝ }
-    ensures { λ _. ⌜ Strip (λ x r. objectPixelOf (now (vram .entry)) (now (registers .entry)) (now (w .entry)) (objectOf (now (vram .entry)) k) eye x (8 * strip + r)) (now (buffer .entry)) (now (buffer .exit)) ⌝ }
+    requires { ⌜ (length (now vram) ≡ vramBytes) × ((strip < 28) × (k < 1024)) ⌝ }
+    ensures { λ _. ⌜
+        Strip
+        (λ x r. objectPixelOf (now (vram .entry)) (now (registers .entry)) (now (w .entry))
+        (objectOf (now (vram .entry)) k) eye x (8 * strip + r))
+        (now (buffer .entry)) (now (buffer .exit))
+        ⌝ }
 {
     let jy = wide(half(vram, 253952 + 8 * k + 4)) % 256;
     if 15 <= (8 * strip + 263 - jy) % 256 {
@@ -143,9 +163,13 @@ pub fn group(
     strip: usize,
 )
     requires { ⌜ length (now buffer) ≡ 384 ⌝ }
-    requires { ⌜ (length (now vram) ≡ 262144) × (strip < 28) ⌝ }
+    requires { ⌜ (length (now vram) ≡ vramBytes) × (strip < 28) ⌝ }
     requires { ⌜ (n < 4) × ((k : ℕ) → k < 4 → sptOf (now registers) k < 1024) ⌝ }
-    ensures { λ _. ⌜ Strip (λ x r. groupPixelOf (now (vram .entry)) (now (registers .entry)) (now (w .entry)) n eye x (8 * strip + r)) (now (buffer .entry)) (now (buffer .exit)) ⌝ }
+    ensures { λ _. ⌜
+        Strip
+        (λ x r. groupPixelOf (now (vram .entry)) (now (registers .entry)) (now (w .entry)) n eye x (8 * strip + r))
+        (now (buffer .entry)) (now (buffer .exit))
+        ⌝ }
 {
     let mut left = group_count(registers, n);
     let mut k = wide(registers[n]);

@@ -6,7 +6,7 @@ use native.Mathlib.Decide.{decLt, ℕ-discrete}
 use mathlib.Core.Path.{_≡_, refl, sym, ap, _∙_}
 use mathlib.Core.List.{List}
 use lib.ListN.{getD}
-use Rattle.drawing_pixel.specs.Character.{pairOf}
+use Rattle.drawing_pixel.specs.Character.{twoBitsOf}
 use Rattle.drawing_pixel.specs.Buffer.{repaintedOf, Span, Block, Strip}
 use Rattle.drawing_pixel.proofs.Pairs.{pair-lt, pair-repainted-same, pair-repainted-other}
 
@@ -48,25 +48,25 @@ module _ (top m from to : ℕ) (f : ℕ → ℕ → ℕ → ℕ) (a b c : List �
           below = λ x r u v. other x r v (λ e. omega arith) ∙ s .below x r (omega arith) v;
         }
       where
-        bound : (x : ℕ) → f x m (pairOf (getD b x 0) m) < 4
+        bound : (x : ℕ) → f x m (twoBitsOf (getD b x 0) m) < 4
         bound x = small x _ (pair-lt (getD b x 0) m)
 
-        other : (x r : ℕ) → r < 8 → (r ≡ m → ⊥) → pairOf (getD c x 0) r ≡ pairOf (getD b x 0) r
+        other : (x r : ℕ) → r < 8 → (r ≡ m → ⊥) → twoBitsOf (getD c x 0) r ≡ twoBitsOf (getD b x 0) r
         other x r v n =
             elim (decLt x from) [
-              | yes l ↦ ap (λ h. pairOf h r) (t .below x l)
+              | yes l ↦ ap (λ h. twoBitsOf h r) (t .below x l)
               | no l ↦ elim (decLt x to) [
-                | yes h ↦ ap (λ h. pairOf h r) (t .inside x (omega arith) h) ∙ pair-repainted-other m (f x m) (getD b x 0) r few v n (bound x)
-                | no h ↦ ap (λ h. pairOf h r) (t .above x (omega arith))
+                | yes h ↦ ap (λ h. twoBitsOf h r) (t .inside x (omega arith) h) ∙ pair-repainted-other m (f x m) (getD b x 0) r few v n (bound x)
+                | no h ↦ ap (λ h. twoBitsOf h r) (t .above x (omega arith))
               ]
             ]
 
-        same : (x : ℕ) → from ≤ x → x < to → pairOf (getD c x 0) m ≡ f x m (pairOf (getD a x 0) m)
+        same : (x : ℕ) → from ≤ x → x < to → twoBitsOf (getD c x 0) m ≡ f x m (twoBitsOf (getD a x 0) m)
         same x l h =
-            ap (λ h. pairOf h m) (t .inside x l h)
+            ap (λ h. twoBitsOf h m) (t .inside x l h)
             ∙ (pair-repainted-same m (f x m) (getD b x 0) few (bound x) ∙ ap (f x m) (s .below x m (omega arith) few))
 
-        inside : (x r : ℕ) → from ≤ x → x < to → top ≤ r → r < m + 1 → pairOf (getD c x 0) r ≡ f x r (pairOf (getD a x 0) r)
+        inside : (x r : ℕ) → from ≤ x → x < to → top ≤ r → r < m + 1 → twoBitsOf (getD c x 0) r ≡ f x r (twoBitsOf (getD a x 0) r)
         inside x r l h u v =
             elim (ℕ-discrete r m) [
               | yes e ↦ rw e (same x l h)
@@ -86,11 +86,11 @@ block-beside top bottom from mid to f a b c l h s t =
       below = λ x r u v. t .below x r u v ∙ s .below x r u v;
     }
   where
-    inside : (x r : ℕ) → from ≤ x → x < to → top ≤ r → r < bottom → pairOf (getD c x 0) r ≡ f x r (pairOf (getD a x 0) r)
+    inside : (x r : ℕ) → from ≤ x → x < to → top ≤ r → r < bottom → twoBitsOf (getD c x 0) r ≡ f x r (twoBitsOf (getD a x 0) r)
     inside x r m n u v =
         elim (decLt x mid) [
-          | yes e ↦ ap (λ h. pairOf h r) (t .left x e) ∙ s .inside x r m e u v
-          | no e ↦ t .inside x r (omega arith) n u v ∙ ap (λ h. f x r (pairOf h r)) (s .right x (omega arith))
+          | yes e ↦ ap (λ h. twoBitsOf h r) (t .left x e) ∙ s .inside x r m e u v
+          | no e ↦ t .inside x r (omega arith) n u v ∙ ap (λ h. f x r (twoBitsOf h r)) (s .right x (omega arith))
         ]
 
 -- two blocks one under the other
@@ -106,7 +106,7 @@ block-under top mid bottom from to f a b c l h few s t =
       below = λ x r u v. t .below x r u v ∙ s .below x r (omega arith) v;
     }
   where
-    inside : (x r : ℕ) → from ≤ x → x < to → top ≤ r → r < bottom → pairOf (getD c x 0) r ≡ f x r (pairOf (getD a x 0) r)
+    inside : (x r : ℕ) → from ≤ x → x < to → top ≤ r → r < bottom → twoBitsOf (getD c x 0) r ≡ f x r (twoBitsOf (getD a x 0) r)
     inside x r m n u v =
         elim (decLt r mid) [
           | yes e ↦ t .above x r e (omega arith) ∙ s .inside x r m n u e
@@ -140,7 +140,7 @@ module _ (top bottom from to : ℕ) (f g : ℕ → ℕ → ℕ → ℕ) (a b : L
           below = λ x r u v. absurd (omega arith);
         }
       where
-        inside : (x r : ℕ) → from ≤ x → x < to → 0 ≤ r → r < 8 → pairOf (getD b x 0) r ≡ g x r (pairOf (getD a x 0) r)
+        inside : (x r : ℕ) → from ≤ x → x < to → 0 ≤ r → r < 8 → twoBitsOf (getD b x 0) r ≡ g x r (twoBitsOf (getD a x 0) r)
         inside x r l h u v =
             elim (decLt r top) [
               | yes m ↦ s .above x r m v ∙ sym (rows x r _ v .0 m)
@@ -168,12 +168,12 @@ module _ (from to : ℕ) (g : ℕ → ℕ → ℕ → ℕ) (a b : List ℕ) wher
     pub block-strip : Block 0 8 from to g a b → Strip g a b
     block-strip s = record { size = s .size; pixels = pixels }
       where
-        pixels : (x r : ℕ) → x < 384 → r < 8 → pairOf (getD b x 0) r ≡ g x r (pairOf (getD a x 0) r)
+        pixels : (x r : ℕ) → x < 384 → r < 8 → twoBitsOf (getD b x 0) r ≡ g x r (twoBitsOf (getD a x 0) r)
         pixels x r u v =
             elim (decLt x from) [
-              | yes l ↦ ap (λ h. pairOf h r) (s .left x l) ∙ sym (columns x r _ u .0 l)
+              | yes l ↦ ap (λ h. twoBitsOf h r) (s .left x l) ∙ sym (columns x r _ u .0 l)
               | no l ↦ elim (decLt x to) [
-                | no h ↦ ap (λ h. pairOf h r) (s .right x (omega arith)) ∙ sym (columns x r _ u .1 (omega arith))
+                | no h ↦ ap (λ h. twoBitsOf h r) (s .right x (omega arith)) ∙ sym (columns x r _ u .1 (omega arith))
                 | yes h ↦ s .inside x r (omega arith) h (omega arith) v
               ]
             ]

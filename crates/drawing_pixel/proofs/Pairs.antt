@@ -1,9 +1,9 @@
--- The laws of pairs of bits in a halfword (`pairOf`, `withPairOf`, `repaintedOf`): a pair that was put is read back, and no
+-- The laws of pairs of bits in a halfword (`twoBitsOf`, `withPairOf`, `repaintedOf`): a pair that was put is read back, and no
 -- other one changes. Each is shown at every place 0 to 7 by linear arithmetic. Assumes nothing.
 use Prim.Native.Nat.{ℕ, zero, suc, _+_, _-_, _*_, _/_, _%_, _^_, _<_, _≤_}
 use native.Mathlib.Omega.{arith}
 use mathlib.Core.Path.{_≡_}
-use Rattle.drawing_pixel.specs.Character.{pairOf, valueOf}
+use Rattle.drawing_pixel.specs.Character.{twoBitsOf, pixelValueOf}
 use Rattle.drawing_pixel.specs.Buffer.{withPairOf, repaintedOf}
 
 -- what holds at 0 to 7 holds below 8
@@ -18,24 +18,24 @@ below-eight P a b c d e f g h (suc (suc (suc (suc (suc (suc zero)))))) l = g
 below-eight P a b c d e f g h (suc (suc (suc (suc (suc (suc (suc zero))))))) l = h
 below-eight P a b c d e f g h (suc (suc (suc (suc (suc (suc (suc (suc k)))))))) l = absurd (omega arith)
 
-pub pair-lt : (h k : ℕ) → pairOf h k < 4
-unfolding pairOf
+pub pair-lt : (h k : ℕ) → twoBitsOf h k < 4
+unfolding twoBitsOf
 pair-lt h k = omega arith
 
-pub value-small : (cell row column : ℕ) → valueOf cell row column < 4
-unfolding valueOf
+pub value-small : (cell row column : ℕ) → pixelValueOf cell row column < 4
+unfolding pixelValueOf
 value-small cell row column = pair-lt row _
 
 -- a pair that was put is read back
-pub pair-with-same : (h v : ℕ) → v < 4 → (k : ℕ) → k < 8 → pairOf (withPairOf h k v) k ≡ v
-unfolding withPairOf pairOf
+pub pair-with-same : (h v : ℕ) → v < 4 → (k : ℕ) → k < 8 → twoBitsOf (withPairOf h k v) k ≡ v
+unfolding withPairOf twoBitsOf
 pair-with-same h v s =
     below-eight (λ k. (h - h / 2 ^ (2 * k) % 4 * 2 ^ (2 * k) + v * 2 ^ (2 * k)) / 2 ^ (2 * k) % 4 ≡ v)
     (omega arith) (omega arith) (omega arith) (omega arith) (omega arith) (omega arith) (omega arith) (omega arith)
 
 -- a pair put where it was changes nothing
-pub with-pair-self : (h k : ℕ) → k < 8 → withPairOf h k (pairOf h k) ≡ h
-unfolding withPairOf pairOf
+pub with-pair-self : (h k : ℕ) → k < 8 → withPairOf h k (twoBitsOf h k) ≡ h
+unfolding withPairOf twoBitsOf
 with-pair-self h =
     below-eight (λ k. h - h / 2 ^ (2 * k) % 4 * 2 ^ (2 * k) + h / 2 ^ (2 * k) % 4 * 2 ^ (2 * k) ≡ h)
     (omega arith) (omega arith) (omega arith) (omega arith) (omega arith) (omega arith) (omega arith) (omega arith)
@@ -95,23 +95,23 @@ other-7 h v b =
     (omega arith) (omega arith) (omega arith) (omega arith) (omega arith) (omega arith) (omega arith) (omega arith)
 
 -- no other pair changes
-pub pair-with-other : (h v : ℕ) → v < 4 → (k : ℕ) → k < 8 → (s : ℕ) → s < 8 → (s ≡ k → ⊥) → pairOf (withPairOf h k v) s ≡ pairOf h s
-unfolding withPairOf pairOf other-at
+pub pair-with-other : (h v : ℕ) → v < 4 → (k : ℕ) → k < 8 → (s : ℕ) → s < 8 → (s ≡ k → ⊥) → twoBitsOf (withPairOf h k v) s ≡ twoBitsOf h s
+unfolding withPairOf twoBitsOf other-at
 pair-with-other h v b =
     below-eight (λ k. (s : ℕ) → s < 8 → other-at h v k s)
     (other-0 h v b) (other-1 h v b) (other-2 h v b) (other-3 h v b) (other-4 h v b) (other-5 h v b) (other-6 h v b) (other-7 h v b)
 
 -- a row that was repainted, and any other row
-pub pair-repainted-same : (r : ℕ) (f : ℕ → ℕ) (h : ℕ) → r < 8 → f (pairOf h r) < 4 → pairOf (repaintedOf r f h) r ≡ f (pairOf h r)
+pub pair-repainted-same : (r : ℕ) (f : ℕ → ℕ) (h : ℕ) → r < 8 → f (twoBitsOf h r) < 4 → twoBitsOf (repaintedOf r f h) r ≡ f (twoBitsOf h r)
 unfolding repaintedOf
-pair-repainted-same r f h s b = pair-with-same h (f (pairOf h r)) b r s
+pair-repainted-same r f h s b = pair-with-same h (f (twoBitsOf h r)) b r s
 
-pub pair-repainted-other : (r : ℕ) (f : ℕ → ℕ) (h s : ℕ) → r < 8 → s < 8 → (s ≡ r → ⊥) → f (pairOf h r) < 4
-    → pairOf (repaintedOf r f h) s ≡ pairOf h s
+pub pair-repainted-other : (r : ℕ) (f : ℕ → ℕ) (h s : ℕ) → r < 8 → s < 8 → (s ≡ r → ⊥) → f (twoBitsOf h r) < 4
+    → twoBitsOf (repaintedOf r f h) s ≡ twoBitsOf h s
 unfolding repaintedOf
-pair-repainted-other r f h s a b n l = pair-with-other h (f (pairOf h r)) l r a s b n
+pair-repainted-other r f h s a b n l = pair-with-other h (f (twoBitsOf h r)) l r a s b n
 
 -- a row that keeps its pair
-pub repainted-self : (r : ℕ) (f : ℕ → ℕ) (h : ℕ) → r < 8 → f (pairOf h r) ≡ pairOf h r → repaintedOf r f h ≡ h
+pub repainted-self : (r : ℕ) (f : ℕ → ℕ) (h : ℕ) → r < 8 → f (twoBitsOf h r) ≡ twoBitsOf h r → repaintedOf r f h ≡ h
 unfolding repaintedOf
 repainted-self r f h s e = rw e (with-pair-self h r s)

@@ -6,8 +6,8 @@ use mathlib.Core.Bool.{Bool, true, false}
 use mathlib.Core.Path.{_≡_, refl, sym, ap, _∙_}
 use lib.Bits.{bitAnd, bitXor}
 use Rattle.word.specs.Choose.{pick}
-use Rattle.drawing_pixel.specs.Signed.{bitOf}
-use Rattle.drawing_pixel.specs.Character.{pairOf, flippedOf, valueOf}
+use Rattle.drawing_pixel.specs.Signed.{bitSet}
+use Rattle.drawing_pixel.specs.Character.{twoBitsOf, flippedOf, pixelValueOf}
 use Rattle.drawing_pixel.specs.RowBits.{PlaceUnit}
 use Rattle.drawing_pixel.proofs.RowBits.{bits-picked, picked-value}
 use Rattle.drawing_pixel.proofs.Pairs.{below-eight}
@@ -38,23 +38,23 @@ flipped-small true k l = omega arith
 flipped-small false k l = l
 
 -- the low sixteen bits have the eight places
-pub low-pair : (row k : ℕ) → k < 8 → pairOf (row % 65536) k ≡ pairOf row k
-unfolding pairOf
+pub low-pair : (row k : ℕ) → k < 8 → twoBitsOf (row % 65536) k ≡ twoBitsOf row k
+unfolding twoBitsOf
 low-pair row =
     below-eight (λ k. row % 65536 / 2 ^ (2 * k) % 4 ≡ row / 2 ^ (2 * k) % 4)
     (omega arith) (omega arith) (omega arith) (omega arith) (omega arith) (omega arith) (omega arith) (omega arith)
 
 -- the value of a column of a row, at its place in the row's low sixteen bits
-pub value-placed : (cell row k : ℕ) → k < 8 → valueOf cell row k ≡ pairOf (row % 65536) (flippedOf (bitOf 13 cell) k)
+pub value-placed : (cell row k : ℕ) → k < 8 → pixelValueOf cell row k ≡ twoBitsOf (row % 65536) (flippedOf (bitSet 13 cell) k)
 value-placed cell row k l =
-    let flip = bitOf 13 cell in
+    let flip = bitSet 13 cell in
     sym (picked-value cell (bits-picked row k flip))
     ∙ sym (low-pair row (flippedOf flip k) (flipped-small flip k l))
 
 -- .. and the place of its unit, by the mask of the cell
-pub unit-placed : (cell k : ℕ) {u m : ℕ} → k < 8 → m ≡ pick (bitOf 13 cell) 65535 0
+pub unit-placed : (cell k : ℕ) {u m : ℕ} → k < 8 → m ≡ pick (bitSet 13 cell) 65535 0
     → ((flip : Bool) → m ≡ pick flip 65535 0 → u ≡ 2 ^ (2 * flippedOf flip k))
     → PlaceUnit u
 unit-placed cell k l e f =
-    let flip = bitOf 13 cell in
+    let flip = bitSet 13 cell in
     record { place = flippedOf flip k; inRow = flipped-small flip k l; is = f flip e }

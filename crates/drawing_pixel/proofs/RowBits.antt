@@ -5,8 +5,8 @@ use native.Mathlib.Omega.{arith}
 use native.Mathlib.Numerals.{add-one}
 use mathlib.Core.Path.{_≡_, sym, ap, _∙_}
 use mathlib.Core.Bool.{Bool}
-use Rattle.drawing_pixel.specs.Signed.{bitOf}
-use Rattle.drawing_pixel.specs.Character.{pairOf, flippedOf, valueOf}
+use Rattle.drawing_pixel.specs.Signed.{bitSet}
+use Rattle.drawing_pixel.specs.Character.{twoBitsOf, flippedOf, pixelValueOf}
 use Rattle.drawing_pixel.specs.RowBits.{Picked, BitsPicked}
 
 -- a number's lowest two bits
@@ -18,7 +18,7 @@ half-power : (h k : ℕ) → h / 2 ^ k / 2 ≡ h / 2 ^ (k + 1)
 half-power h k = NatL.div-div-eq-div-mul h (2 ^ k) 2 ∙ sym (rw add-one (ap (λ m. h / m) (NatL.pow-suc 2 k)))
 
 pub bits-picked : BitsPicked
-unfolding pairOf
+unfolding twoBitsOf
 bits-picked row column flip =
     let p = flippedOf flip column in
     let n = row / 2 ^ (2 * p) in
@@ -36,6 +36,6 @@ picked-same {row} {column} {flip} {v} {w} s t =
     omega arith
 
 -- a picked value is the definition's
-pub picked-value : {row column v : ℕ} (cell : ℕ) → Picked row column (bitOf 13 cell) v → v ≡ valueOf cell row column
-unfolding valueOf
+pub picked-value : {row column v : ℕ} (cell : ℕ) → Picked row column (bitSet 13 cell) v → v ≡ pixelValueOf cell row column
+unfolding pixelValueOf
 picked-value cell s = picked-same s (bits-picked _ _ _)

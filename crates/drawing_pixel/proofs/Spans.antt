@@ -7,7 +7,7 @@ use mathlib.Core.Path.{_≡_, refl, sym, ap, _∙_}
 use mathlib.Core.List.{List}
 use lib.ListN.{length, getD, set, length-set}
 use lib.Seq.{getD-set-same, getD-set-other}
-use Rattle.drawing_pixel.specs.Character.{pairOf}
+use Rattle.drawing_pixel.specs.Character.{twoBitsOf}
 use Rattle.drawing_pixel.specs.Buffer.{repaintedOf, Span, Rows, Strip}
 use Rattle.drawing_pixel.proofs.Pairs.{pair-lt, pair-repainted-same, pair-repainted-other, repainted-self}
 
@@ -68,7 +68,7 @@ unfolding repaintedOf
 span-change r from to f g a b e s =
     record {
       size = s .size;
-      inside = λ x l h. s .inside x l h ∙ rw (e x (pairOf (getD a x 0) r) l h);
+      inside = λ x l h. s .inside x l h ∙ rw (e x (twoBitsOf (getD a x 0) r) l h);
       below = s .below;
       above = s .above;
     }
@@ -87,7 +87,7 @@ module _ (n from to : ℕ) (f : ℕ → ℕ → ℕ → ℕ) (a b c : List ℕ) 
         within : (x : ℕ) → from ≤ x → x < to → getD c x 0 ≡ repaintedOf n (f x n) (getD b x 0)
         within x l h = t .inside x l h
 
-        kept : (x : ℕ) → x < 384 → f x n (pairOf (getD b x 0) n) ≡ pairOf (getD b x 0) n → getD c x 0 ≡ getD b x 0
+        kept : (x : ℕ) → x < 384 → f x n (twoBitsOf (getD b x 0) n) ≡ twoBitsOf (getD b x 0) n → getD c x 0 ≡ getD b x 0
             → getD c x 0 ≡ repaintedOf n (f x n) (getD b x 0)
         kept x u e k = k ∙ sym (repainted-self n (f x n) (getD b x 0) few e)
 
@@ -101,26 +101,26 @@ module _ (n from to : ℕ) (f : ℕ → ℕ → ℕ → ℕ) (a b c : List ℕ) 
               ]
             ]
 
-        bound : (x : ℕ) → f x n (pairOf (getD b x 0) n) < 4
+        bound : (x : ℕ) → f x n (twoBitsOf (getD b x 0) n) < 4
         bound x = small x _ (pair-lt (getD b x 0) n)
 
-        same : (x : ℕ) → x < 384 → pairOf (getD c x 0) n ≡ f x n (pairOf (getD a x 0) n)
+        same : (x : ℕ) → x < 384 → twoBitsOf (getD c x 0) n ≡ f x n (twoBitsOf (getD a x 0) n)
         same x u =
-            ap (λ h. pairOf h n) (column x u)
+            ap (λ h. twoBitsOf h n) (column x u)
             ∙ (pair-repainted-same n (f x n) (getD b x 0) few (bound x) ∙ ap (f x n) (s .rest x n u (omega arith) few))
 
-        other : (x r : ℕ) → x < 384 → r < 8 → (r ≡ n → ⊥) → pairOf (getD c x 0) r ≡ pairOf (getD b x 0) r
+        other : (x r : ℕ) → x < 384 → r < 8 → (r ≡ n → ⊥) → twoBitsOf (getD c x 0) r ≡ twoBitsOf (getD b x 0) r
         other x r u v e =
-            ap (λ h. pairOf h r) (column x u) ∙ pair-repainted-other n (f x n) (getD b x 0) r few v e (bound x)
+            ap (λ h. twoBitsOf h r) (column x u) ∙ pair-repainted-other n (f x n) (getD b x 0) r few v e (bound x)
 
-        done : (x r : ℕ) → x < 384 → r < n + 1 → pairOf (getD c x 0) r ≡ f x r (pairOf (getD a x 0) r)
+        done : (x r : ℕ) → x < 384 → r < n + 1 → twoBitsOf (getD c x 0) r ≡ f x r (twoBitsOf (getD a x 0) r)
         done x r u v =
             elim (ℕ-discrete r n) [
               | yes e ↦ rw e (same x u)
               | no e ↦ other x r u (omega arith) e ∙ s .done x r u (omega arith)
             ]
 
-        rest : (x r : ℕ) → x < 384 → n + 1 ≤ r → r < 8 → pairOf (getD c x 0) r ≡ pairOf (getD a x 0) r
+        rest : (x r : ℕ) → x < 384 → n + 1 ≤ r → r < 8 → twoBitsOf (getD c x 0) r ≡ twoBitsOf (getD a x 0) r
         rest x r u v w = other x r u w (λ e. omega arith) ∙ s .rest x r u (omega arith) w
 
 -- eight rows are the strip

@@ -11,11 +11,16 @@ use Rattle.word.specs.LittleEndian.{halfAt}
 use Rattle.bus.specs.Registers.{gpltOf}
 use Rattle.drawing_pixel.specs.Signed.{biasedOf}
 use Rattle.drawing_pixel.specs.Character.{cellPixelOf}
-use Rattle.drawing_pixel.specs.World.{bgmOf, scxOf, scyOf, overOf, baseOf, mxOf, mpOf, myOf, columnInOf, rowInOf, worldCoversOf}
+use Rattle.drawing_pixel.specs.World.{bgmOf, scxOf, scyOf, overOf, baseOf, mxOf, mpOf, myOf, columnInOf, rowInOf}
+use Rattle.drawing_pixel.specs.World.{worldCoversOf}
+
+-- where the background maps, and the parameters among them, begin in VRAM
+abbrev pub mapTable : ℕ
+mapTable = 0x20000
 
 -- parameter k: halfword at 0x20000 + 2((base + k) mod 65,536)
 unfoldable pub parameterAddressOf : List ℕ → ℕ → ℕ
-parameterAddressOf w k = 0x20000 + 2 * ((getD w 9 0 + k) % 65536)
+parameterAddressOf w k = mapTable + 2 * ((getD w 9 0 + k) % 65536)
 
 unfoldable pub parameterOf : List ℕ → List ℕ → ℕ → ℕ
 parameterOf vram w k = halfAt vram (parameterAddressOf w k)
@@ -64,7 +69,8 @@ affineYOf vram w eye i j =
 -- the source of a window's offsets, by BGM
 unfoldable pub sourceXOf : List ℕ → List ℕ → ℕ → ℕ → ℕ → ℕ
 sourceXOf vram w eye i j =
-    pick (eqb (bgmOf w) 0) (normalXOf w eye i) (pick (eqb (bgmOf w) 1) (biasXOf vram w eye i j) (affineXOf vram w eye i j))
+    pick (eqb (bgmOf w) 0) (normalXOf w eye i)
+    (pick (eqb (bgmOf w) 1) (biasXOf vram w eye i j) (affineXOf vram w eye i j))
 
 unfoldable pub sourceYOf : List ℕ → List ℕ → ℕ → ℕ → ℕ → ℕ
 sourceYOf vram w eye i j =
@@ -87,12 +93,12 @@ insideOf w u v =
 -- the cell at a column and row that wrap to the background's size: 8,192 bytes a map, 64 cells a row
 unfoldable pub mapCellAddressOf : List ℕ → ℕ → ℕ → ℕ
 mapCellAddressOf w u v =
-    0x20000 + 8192 * mapNumberOf w (u % 2 ^ (6 + scxOf w) / 64) (v % 2 ^ (6 + scyOf w) / 64)
+    mapTable + 8192 * mapNumberOf w (u % 2 ^ (6 + scxOf w) / 64) (v % 2 ^ (6 + scyOf w) / 64)
     + 2 * (64 * (v % 64) + u % 64)
 
 -- the address of the cell used at a cell column and row: OVER set, outside uses the overplane's
 unfoldable pub cellAddressOf : List ℕ → ℕ → ℕ → ℕ
-cellAddressOf w u v = pick (overOf w && not (insideOf w u v)) (0x20000 + 2 * getD w 10 0) (mapCellAddressOf w u v)
+cellAddressOf w u v = pick (overOf w && not (insideOf w u v)) (mapTable + 2 * getD w 10 0) (mapCellAddressOf w u v)
 
 -- the address of the cell of a source pixel
 unfoldable pub sourceCellAddressOf : List ℕ → ℕ → ℕ → ℕ

@@ -1,5 +1,6 @@
--- Paper 01, "Background", over the integers: a source x, which the definitions keep plus 2 ^ 23, wraps to the remainder by
--- the background's size, is inside where 0 ≤ x < 512 * 2^SCX, and has the column x mod 8 in its cell. Reading R1: the maps side by side.
+-- Paper 01, "Background", over the integers: a source x, which the definitions keep plus 2 ^ 23, wraps to the remainder
+-- by the background's size, is inside where 0 ≤ x < 512 * 2^SCX, and has the column x mod 8 in its cell. Reading R1:
+-- the maps side by side.
 use Prim.Native.Nat.{ℕ, _+_, _-_, _*_, _/_, _%_, _^_, _<_}
 use mathlib.Core.Path.{_≡_}
 use mathlib.Core.Bool.{_&&_}
@@ -9,10 +10,11 @@ use lib.IntN.{ℤ, pos, _+ℤ_}
 use lib.Signed.{leZ, ltZ}
 use Rattle.word.specs.Choose.{pick}
 use Rattle.drawing_pixel.specs.World.{scxOf, scyOf}
-use Rattle.drawing_pixel.specs.Background.{mapsAcrossOf, mapNumberOf, insideOf, mapCellAddressOf}
+use Rattle.drawing_pixel.specs.Background.{mapTable, mapsAcrossOf, mapNumberOf, insideOf, mapCellAddressOf}
 use Rattle.drawing_pixel.specs.Floors.{modZ}
 
--- 01: "OVER clear: source wraps to that size". The wrapped pixel is the cell column's remainder, and the column in the cell
+-- 01: "OVER clear: source wraps to that size". The wrapped pixel is the cell column's remainder, and the column in the
+-- cell
 abbrev pub SourceWraps : Type 0
 SourceWraps =
     (w : List ℕ) (x : ℤ) (sx : ℕ) → pos sx ≡ x +ℤ pos 8388608
@@ -35,7 +37,8 @@ SourceInside =
     → insideOf w (sx / 8) (sy / 8)
     ≡ (leZ (pos 0) x && ltZ x (pos (512 * 2 ^ scxOf w))) && (leZ (pos 0) y && ltZ y (pos (512 * 2 ^ scyOf w)))
 
--- R1: with R = 2^SCY rows and C = 2^SCX columns of maps, C where R * C ≤ 8, else 8 / R stand side by side before they repeat
+-- R1: with R = 2^SCY rows and C = 2^SCX columns of maps, C where R * C ≤ 8, else 8 / R stand side by side before they
+-- repeat
 abbrev pub MapsAcross : Type 0
 MapsAcross =
     (w : List ℕ) → mapsAcrossOf w ≡ pick (leb (2 ^ scxOf w * 2 ^ scyOf w) 8) (2 ^ scxOf w) (8 / 2 ^ scyOf w)
@@ -46,4 +49,4 @@ MapCell =
     (w : List ℕ) (x y : ℤ) (sx sy s t : ℕ) → pos sx ≡ x +ℤ pos 8388608 → pos sy ≡ y +ℤ pos 8388608
     → pos s ≡ modZ x (512 * 2 ^ scxOf w) → pos t ≡ modZ y (512 * 2 ^ scyOf w)
     → mapCellAddressOf w (sx / 8) (sy / 8)
-    ≡ 0x20000 + 8192 * mapNumberOf w (s / 512) (t / 512) + 2 * (64 * (t % 512 / 8) + s % 512 / 8)
+    ≡ mapTable + 8192 * mapNumberOf w (s / 512) (t / 512) + 2 * (64 * (t % 512 / 8) + s % 512 / 8)

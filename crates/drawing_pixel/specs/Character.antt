@@ -7,11 +7,11 @@ use mathlib.Core.List.{List}
 use lib.Dec.{eqb}
 use Rattle.word.specs.Choose.{pick}
 use Rattle.word.specs.LittleEndian.{halfAt}
-use Rattle.drawing_pixel.specs.Signed.{bitOf}
+use Rattle.drawing_pixel.specs.Signed.{bitSet}
 
 -- bits 2k and 2k + 1 of a number
-unfoldable pub pairOf : ℕ → ℕ → ℕ
-pairOf h k = h / 2 ^ (2 * k) % 4
+unfoldable pub twoBitsOf : ℕ → ℕ → ℕ
+twoBitsOf h k = h / 2 ^ (2 * k) % 4
 
 -- where character c's 16 bytes begin
 unfoldable pub characterAddressOf : ℕ → ℕ
@@ -23,17 +23,17 @@ flippedOf flip k = pick flip (7 - k) k
 
 -- where the character row of a cell begins, for row r of the 8 by 8 square
 unfoldable pub rowAddressOf : ℕ → ℕ → ℕ
-rowAddressOf cell r = characterAddressOf (cell % 2048) + 2 * flippedOf (bitOf 12 cell) r
+rowAddressOf cell r = characterAddressOf (cell % 2048) + 2 * flippedOf (bitSet 12 cell) r
 
 -- how a pixel's value is picked from its row halfword
-unfoldable pub valueOf : ℕ → ℕ → ℕ → ℕ
-valueOf cell row column = pairOf row (flippedOf (bitOf 13 cell) column)
+unfoldable pub pixelValueOf : ℕ → ℕ → ℕ → ℕ
+pixelValueOf cell row column = twoBitsOf row (flippedOf (bitSet 13 cell) column)
 
 -- a value over what was there: 0 is transparent, else bits 2v and 2v + 1 of the palette
 unfoldable pub shadeOf : ℕ → ℕ → ℕ → ℕ
-shadeOf palette value before = pick (eqb value 0) before (pairOf palette value)
+shadeOf palette value before = pick (eqb value 0) before (twoBitsOf palette value)
 
 -- the pixel at a column and row of a cell, over what was there; `palettes` gives the palette of a number
 unfoldable pub cellPixelOf : List ℕ → (ℕ → ℕ) → ℕ → ℕ → ℕ → ℕ → ℕ
 cellPixelOf vram palettes cell column r before =
-    shadeOf (palettes (cell / 16384)) (valueOf cell (halfAt vram (rowAddressOf cell r)) column) before
+    shadeOf (palettes (cell / 16384)) (pixelValueOf cell (halfAt vram (rowAddressOf cell r)) column) before

@@ -1,6 +1,7 @@
--- Signed fields over the integers, by paper 01's names, and the one law that ties a biased field to them at every width.
--- Here and in the formulas of windows, sources, cells, objects and pixels, a name without `Of` is paper 01's quantity over the
--- integers, and the same name with `Of` is the definition over the natural numbers that drawing is proved against.
+-- Signed fields over the integers, by paper 01's names, and the one law that ties a biased field to them at every
+-- width. Here and in the formulas of windows, sources, cells, objects and pixels, a name without `Of` is paper 01's
+-- quantity over the integers, and the same name with `Of` is the definition over the natural numbers that drawing is
+-- proved against.
 use Prim.Native.Nat.{ℕ, _+_, _-_, _*_, _%_, _<_}
 use mathlib.Core.Path.{_≡_}
 use mathlib.Core.List.{List}

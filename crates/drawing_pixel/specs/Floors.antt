@@ -1,6 +1,6 @@
--- Floor division of integers (`shrZ z m` of the library, the quotient rounded down) and the remainder that goes with it,
--- which is never negative: what paper 01 calls floor(z / m) and z mod m. `floor-below`, `floor-above`, `mod-low` and
--- `mod-high` of proofs/Floors say so.
+-- Floor division of integers (`shrZ z m` of the library, the quotient rounded down) and the remainder that goes with
+-- it, which is never negative: what paper 01 calls floor(z / m) and z mod m. `floor-below`, `floor-above`, `mod-low`
+-- and `mod-high` of proofs/Floors say so.
 use Prim.Native.Nat.{ℕ}
 use lib.IntN.{ℤ, pos, _-ℤ_, _*ℤ_}
 use lib.Signed.{shrZ}

@@ -8,16 +8,20 @@ use lib.Dec.{leb, ltb}
 use Rattle.word.specs.Choose.{pick}
 use Rattle.word.specs.LittleEndian.{halfAt}
 use Rattle.bus.specs.Registers.{sptOf, jpltOf}
-use Rattle.drawing_pixel.specs.Signed.{biasedOf, edgeOf, flagOf}
+use Rattle.drawing_pixel.specs.Signed.{biasedOf, edgeOf, eyeFlagOf}
 use Rattle.drawing_pixel.specs.Character.{cellPixelOf}
+
+-- where the 1,024 objects begin in VRAM
+abbrev pub objectTable : ℕ
+objectTable = 0x3E000
 
 -- object k: 8 bytes at 0x3E000 + 8k
 unfoldable pub objectOf : List ℕ → ℕ → List ℕ
 objectOf vram k =
-    halfAt vram (0x3E000 + 8 * k)
-    ∷ halfAt vram (0x3E000 + 8 * k + 2)
-    ∷ halfAt vram (0x3E000 + 8 * k + 4)
-    ∷ halfAt vram (0x3E000 + 8 * k + 6)
+    halfAt vram (objectTable + 8 * k)
+    ∷ halfAt vram (objectTable + 8 * k + 2)
+    ∷ halfAt vram (objectTable + 8 * k + 4)
+    ∷ halfAt vram (objectTable + 8 * k + 6)
     ∷ []
 
 -- left x is JX - JP, right JX + JP, plus 1,024
@@ -26,7 +30,7 @@ objectLeftOf o eye = edgeOf eye (biasedOf 512 (getD o 0 0)) (biasedOf 512 (getD 
 
 -- whether an object of an object world is shown to an eye: by JLON or JRON; the world's own flags hide nothing
 unfoldable pub objectShownOf : List ℕ → List ℕ → ℕ → Bool
-objectShownOf w o eye = flagOf eye (getD o 1 0)
+objectShownOf w o eye = eyeFlagOf eye (getD o 1 0)
 
 -- the object's row at an image row: (y - JY) mod 256, shown below 8
 unfoldable pub objectRowOf : List ℕ → ℕ → ℕ
@@ -62,7 +66,8 @@ groupCountOf regs (suc n) = (sptOf regs (suc n) + 1023 - sptOf regs n) % 1024 + 
 unfoldable pub objectsPixelOf : List ℕ → List ℕ → List ℕ → ℕ → ℕ → ℕ → ℕ → ℕ → ℕ → ℕ
 objectsPixelOf vram regs w eye x y zero k before = before
 objectsPixelOf vram regs w eye x y (suc count) k before =
-    objectsPixelOf vram regs w eye x y count (objectAfterOf k) (objectPixelOf vram regs w (objectOf vram k) eye x y before)
+    objectsPixelOf vram regs w eye x y count (objectAfterOf k)
+    (objectPixelOf vram regs w (objectOf vram k) eye x y before)
 
 -- what group n makes of a pixel
 unfoldable pub groupPixelOf : List ℕ → List ℕ → List ℕ → ℕ → ℕ → ℕ → ℕ → ℕ → ℕ

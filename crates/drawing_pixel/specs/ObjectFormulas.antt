@@ -8,7 +8,8 @@ use lib.ListN.{getD}
 use lib.IntN.{ℤ, pos, _+ℤ_, _-ℤ_}
 use lib.Signed.{leZ, ltZ, _≤ℤ_}
 use Rattle.bus.specs.Registers.{sptOf}
-use Rattle.drawing_pixel.specs.Object.{objectOf, objectLeftOf, objectShownOf, objectRowOf, objectColumnOf, objectCoversOf, objectPixelOf, objectAfterOf, groupCountOf, objectsPixelOf}
+use Rattle.drawing_pixel.specs.Object.{objectOf, objectLeftOf, objectShownOf, objectRowOf, objectColumnOf}
+use Rattle.drawing_pixel.specs.Object.{objectCoversOf, objectPixelOf, objectAfterOf, groupCountOf, objectsPixelOf}
 use Rattle.drawing_pixel.specs.Floors.{modZ}
 use Rattle.drawing_pixel.specs.Fields.{JX, JP, withParallax}
 
@@ -36,7 +37,8 @@ ObjectCovers =
     (w o : List ℕ) (eye x y : ℕ)
     → objectCoversOf w o eye x y
     ≡ objectShownOf w o eye
-    && (ltZ (modZ (pos y -ℤ JY o) 256) (pos 8) && (leZ (objectLeft o eye) (pos x) && ltZ (pos x) (objectLeft o eye +ℤ pos 8)))
+    && (ltZ (modZ (pos y -ℤ JY o) 256) (pos 8)
+    && (leZ (objectLeft o eye) (pos x) && ltZ (pos x) (objectLeft o eye +ℤ pos 8)))
 
 -- the object's column at x: x - (JX -/+ JP)
 abbrev pub ObjectColumn : Type 0
@@ -63,4 +65,5 @@ ObjectsInOrder =
 -- 01: "group 0 ends at object 0": its objects are SPT0, SPT0 - 1, .., 0
 abbrev pub GroupZero : Type 0
 GroupZero =
-    (regs : List ℕ) (i : ℕ) → sptOf regs 0 < 1024 → i < groupCountOf regs 0 → drawnOf i (sptOf regs 0) ≡ sptOf regs 0 - i
+    (regs : List ℕ) (i : ℕ) → sptOf regs 0 < 1024 → i < groupCountOf regs 0
+    → drawnOf i (sptOf regs 0) ≡ sptOf regs 0 - i

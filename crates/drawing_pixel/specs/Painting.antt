@@ -1,5 +1,5 @@
--- Inner: the same fold on numbers with a bias, as the painters make it, and the statements that it is that of Pixel: of a
--- background world, of an object, and of a whole pixel. The proofs are in proofs/Painting.
+-- Inner: the same fold on numbers with a bias, as the painters make it, and the statements that it is that of Pixel: of
+-- a background world, of an object, and of a whole pixel. The proofs are in proofs/Painting.
 use Prim.Native.Nat.{ℕ, zero, suc}
 use mathlib.Core.Path.{_≡_}
 use mathlib.Core.List.{List}
@@ -15,7 +15,8 @@ use Rattle.drawing_pixel.specs.Pixel.{counterOf, worldCovers, background
 unfoldable pub worldPixelOf : List ℕ → List ℕ → List ℕ → ℕ → ℕ → ℕ → ℕ → ℕ → ℕ
 worldPixelOf vram regs w counter eye x y before =
     pick (skippedOf w) before
-    (pick (eqb (bgmOf w) 3) (groupPixelOf vram regs w counter eye x y before) (backgroundPixelOf vram regs w eye x y before))
+    (pick (eqb (bgmOf w) 3) (groupPixelOf vram regs w counter eye x y before)
+    (backgroundPixelOf vram regs w eye x y before))
 
 -- what worlds n - 1 to 0 make of a pixel, at an object counter; END stops
 unfoldable pub worldsPixelOf : List ℕ → List ℕ → ℕ → ℕ → ℕ → ℕ → ℕ → ℕ → ℕ

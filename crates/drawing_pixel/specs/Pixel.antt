@@ -1,5 +1,6 @@
--- What a pixel is (paper 01, "Drawing"; paper 000, "Drawing Procedure"), over the integers: what a background world and an
--- object make of it, and the loop over worlds: a pixel starts as BKCOL, and worlds 31 to 0 paint over it one after the other.
+-- What a pixel is (paper 01, "Drawing"; paper 000, "Drawing Procedure"), over the integers: what a background world and
+-- an object make of it, and the loop over worlds: a pixel starts as BKCOL, and worlds 31 to 0 paint over it one after
+-- the other.
 use Prim.Native.Nat.{ℕ, zero, suc, _+_, _*_, _/_, _%_, _^_}
 use mathlib.Core.Bool.{Bool, _&&_, not}
 use mathlib.Core.List.{List}
@@ -12,7 +13,7 @@ use Rattle.word.specs.LittleEndian.{halfAt}
 use Rattle.bus.specs.Registers.{gpltOf, jpltOf, sptOf, bkcolOf}
 use Rattle.drawing_pixel.specs.Character.{cellPixelOf}
 use Rattle.drawing_pixel.specs.World.{worldOf, endOf, skippedOf, bgmOf, overOf, scxOf, scyOf, worldShownOf}
-use Rattle.drawing_pixel.specs.Background.{mapNumberOf}
+use Rattle.drawing_pixel.specs.Background.{mapTable, mapNumberOf}
 use Rattle.drawing_pixel.specs.Object.{objectOf, objectShownOf, objectAfterOf, groupCountOf}
 use Rattle.drawing_pixel.specs.Integers.{aboveZero}
 use Rattle.drawing_pixel.specs.Floors.{modZ}
@@ -36,26 +37,28 @@ inside w x y =
 
 -- the cell of pixel (s, t) of the background: maps of 512 pixels in rows, 8,192 bytes each, 64 cells a row
 abbrev pub mapCellAddress : List ℕ → ℕ → ℕ → ℕ
-mapCellAddress w s t = 0x20000 + 8192 * mapNumberOf w (s / 512) (t / 512) + 2 * (64 * (t % 512 / 8) + s % 512 / 8)
+mapCellAddress w s t = mapTable + 8192 * mapNumberOf w (s / 512) (t / 512) + 2 * (64 * (t % 512 / 8) + s % 512 / 8)
 
 -- OVER clear: source wraps to that size; set: outside uses the cell at 0x20000 + 2 * overplane
 abbrev pub cellAddress : List ℕ → ℤ → ℤ → ℕ
 cellAddress w x y =
     pick (overOf w && not (inside w x y))
-    (0x20000 + 2 * getD w 10 0)
+    (mapTable + 2 * getD w 10 0)
     (mapCellAddress w (aboveZero (modZ x (512 * 2 ^ scxOf w))) (aboveZero (modZ y (512 * 2 ^ scyOf w))))
 
 -- source pixel (x, y) of the background, over what was there
 abbrev pub sourcePixel : List ℕ → List ℕ → List ℕ → ℤ → ℤ → ℕ → ℕ
 sourcePixel vram regs w x y before =
-    cellPixelOf vram (gpltOf regs) (halfAt vram (cellAddress w x y)) (aboveZero (modZ x 8)) (aboveZero (modZ y 8)) before
+    cellPixelOf vram (gpltOf regs) (halfAt vram (cellAddress w x y)) (aboveZero (modZ x 8))
+    (aboveZero (modZ y 8)) before
 
 -- what a background world makes of a pixel, at i = x - (GX -/+ GP) and j = y - GY
 abbrev pub backgroundPixel : List ℕ → List ℕ → List ℕ → ℕ → ℕ → ℕ → ℕ → ℕ
 backgroundPixel vram regs w eye x y before =
     let i = aboveZero (pos x -ℤ windowLeft w eye) in
     let j = aboveZero (pos y -ℤ GY w) in
-    pick (worldCovers w eye x y) (sourcePixel vram regs w (sourceX vram w eye i j) (sourceY vram w eye i j) before) before
+    pick (worldCovers w eye x y)
+    (sourcePixel vram regs w (sourceX vram w eye i j) (sourceY vram w eye i j) before) before
 
 -- the object's row at an image row: (y - JY) mod 256
 abbrev pub objectRow : List ℕ → ℕ → ℤ
@@ -71,7 +74,8 @@ objectCovers w o eye x y =
 abbrev pub objectPixel : List ℕ → List ℕ → List ℕ → List ℕ → ℕ → ℕ → ℕ → ℕ → ℕ
 objectPixel vram regs w o eye x y before =
     pick (objectCovers w o eye x y)
-    (cellPixelOf vram (jpltOf regs) (getD o 3 0) (aboveZero (pos x -ℤ objectLeft o eye)) (aboveZero (objectRow o y)) before)
+    (cellPixelOf vram (jpltOf regs) (getD o 3 0) (aboveZero (pos x -ℤ objectLeft o eye))
+    (aboveZero (objectRow o y)) before)
     before
 
 -- the object counter after a group was drawn: one less, 3 after 0

@@ -4,7 +4,7 @@
 use Prim.Native.Nat.{ℕ, _+_, _*_, _/_, _%_, _^_, _<_}
 use mathlib.Core.Path.{_≡_}
 use mathlib.Core.Bool.{Bool}
-use Rattle.drawing_pixel.specs.Character.{pairOf, flippedOf}
+use Rattle.drawing_pixel.specs.Character.{twoBitsOf, flippedOf}
 
 -- bit k of a number, as 0 or 1
 abbrev pub bit : ℕ → ℕ → ℕ
@@ -18,7 +18,7 @@ pub record Picked (row column : ℕ) (flip : Bool) (v : ℕ) : Type 0 where
 
 abbrev pub BitsPicked : Type 0
 BitsPicked =
-    (row column : ℕ) (flip : Bool) → Picked row column flip (pairOf row (flippedOf flip column))
+    (row column : ℕ) (flip : Bool) → Picked row column flip (twoBitsOf row (flippedOf flip column))
 
 -- a place of a row, told by its unit: 1 shifted to the lower of its two bits
 pub record PlaceUnit (unit : ℕ) : Type 0 where

@@ -9,7 +9,8 @@ use lib.IntN.{ℤ, pos, negℤ, _+ℤ_, _*ℤ_}
 use lib.Signed.{ltZ, shrZ}
 use Rattle.word.specs.Choose.{pick}
 use Rattle.drawing_pixel.specs.World.{bgmOf}
-use Rattle.drawing_pixel.specs.Background.{parameterOf, normalXOf, normalYOf, biasXOf, affineXOf, affineYOf, sourceXOf, sourceYOf}
+use Rattle.drawing_pixel.specs.Background.{parameterOf, biasIndexOf, normalXOf, normalYOf, biasXOf, affineXOf}
+use Rattle.drawing_pixel.specs.Background.{affineYOf, sourceXOf, sourceYOf}
 use Rattle.drawing_pixel.specs.Fields.{fieldOf, MX, MP, MY, withParallax}
 
 -- normal: source (MX - MP + i, MY + j); right, + MP
@@ -21,7 +22,7 @@ normalY w j = MY w +ℤ pos j
 
 -- H-bias: the same, plus parameter 2j (left) or 2j + 1 (right), 13 bits signed
 abbrev pub biasX : List ℕ → List ℕ → ℕ → ℕ → ℕ → ℤ
-biasX vram w eye i j = normalX w eye i +ℤ fieldOf 4096 (parameterOf vram w (pick (eqb eye 0) (2 * j) (2 * j + 1)))
+biasX vram w eye i j = normalX w eye i +ℤ fieldOf 4096 (parameterOf vram w (biasIndexOf eye j))
 
 -- affine: five signed parameters MX, MP, MY, DX, DY from 8j
 abbrev pub affineParameter : List ℕ → List ℕ → ℕ → ℕ → ℤ
@@ -34,11 +35,17 @@ affineShift eye mp = pick (eqb eye 0) (pick (ltZ mp (pos 0)) (negℤ mp) (pos 0)
 -- source x = floor((64 MX + DX(i + p)) / 512), y = floor((64 MY + DY(i + p)) / 512)
 abbrev pub affineX : List ℕ → List ℕ → ℕ → ℕ → ℕ → ℤ
 affineX vram w eye i j =
-    shrZ (pos 64 *ℤ affineParameter vram w j 0 +ℤ affineParameter vram w j 3 *ℤ (pos i +ℤ affineShift eye (affineParameter vram w j 1))) 512
+    shrZ
+    (pos 64 *ℤ affineParameter vram w j 0 +ℤ affineParameter vram w j 3 *ℤ
+    (pos i +ℤ affineShift eye (affineParameter vram w j 1)))
+    512
 
 abbrev pub affineY : List ℕ → List ℕ → ℕ → ℕ → ℕ → ℤ
 affineY vram w eye i j =
-    shrZ (pos 64 *ℤ affineParameter vram w j 2 +ℤ affineParameter vram w j 4 *ℤ (pos i +ℤ affineShift eye (affineParameter vram w j 1))) 512
+    shrZ
+    (pos 64 *ℤ affineParameter vram w j 2 +ℤ affineParameter vram w j 4 *ℤ
+    (pos i +ℤ affineShift eye (affineParameter vram w j 1)))
+    512
 
 -- 01: "Normal (0): source (MX - MP + i, MY + j); right, + MP"
 abbrev pub NormalX : Type 0

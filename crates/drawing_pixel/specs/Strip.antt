@@ -7,7 +7,7 @@ use lib.ListN.{length, getD}
 use lib.Dec.{eqb, ltb}
 use Rattle.word.specs.Choose.{pick}
 use Rattle.word.specs.LittleEndian.{halfAt}
-use Rattle.drawing_pixel.specs.Character.{pairOf}
+use Rattle.drawing_pixel.specs.Character.{twoBitsOf}
 use Rattle.drawing_pixel.specs.Pixel.{pixelOf}
 
 -- where the image of a frame and an eye begins; it is 24,576 bytes long
@@ -23,7 +23,7 @@ pixelPairOf y = y % 8
 
 -- pixel (x, y) as it stands in an image
 unfoldable pub storedPixelOf : List ℕ → ℕ → ℕ → ℕ → ℕ → ℕ
-storedPixelOf vram frame eye x y = pairOf (halfAt vram (imageOf frame eye + pixelOffsetOf x y)) (pixelPairOf y)
+storedPixelOf vram frame eye x y = twoBitsOf (halfAt vram (imageOf frame eye + pixelOffsetOf x y)) (pixelPairOf y)
 
 -- whether an address holds pixels of a strip of a frame: in the image of either eye, at a halfword of those eight rows
 unfoldable pub inStripOf : ℕ → ℕ → ℕ → Bool

@@ -7,31 +7,35 @@ use lib.ListN.{getD}
 use lib.Dec.{eqb, leb, ltb}
 use Rattle.word.specs.Choose.{pick}
 use Rattle.word.specs.LittleEndian.{halfAt}
-use Rattle.drawing_pixel.specs.Signed.{biasedOf, bitOf, edgeOf, flagOf}
+use Rattle.drawing_pixel.specs.Signed.{biasedOf, bitSet, edgeOf, eyeFlagOf}
+
+-- where the 32 worlds' records begin in VRAM
+abbrev pub worldTable : ℕ
+worldTable = 0x3D800
 
 -- world n: 32 bytes at 0x3D800 + 32n, halfwords 0 to 10
 unfoldable pub worldOf : List ℕ → ℕ → List ℕ
 worldOf vram n =
-    halfAt vram (0x3D800 + 32 * n)
-    ∷ halfAt vram (0x3D800 + 32 * n + 2)
-    ∷ halfAt vram (0x3D800 + 32 * n + 4)
-    ∷ halfAt vram (0x3D800 + 32 * n + 6)
-    ∷ halfAt vram (0x3D800 + 32 * n + 8)
-    ∷ halfAt vram (0x3D800 + 32 * n + 10)
-    ∷ halfAt vram (0x3D800 + 32 * n + 12)
-    ∷ halfAt vram (0x3D800 + 32 * n + 14)
-    ∷ halfAt vram (0x3D800 + 32 * n + 16)
-    ∷ halfAt vram (0x3D800 + 32 * n + 18)
-    ∷ halfAt vram (0x3D800 + 32 * n + 20)
+    halfAt vram (worldTable + 32 * n)
+    ∷ halfAt vram (worldTable + 32 * n + 2)
+    ∷ halfAt vram (worldTable + 32 * n + 4)
+    ∷ halfAt vram (worldTable + 32 * n + 6)
+    ∷ halfAt vram (worldTable + 32 * n + 8)
+    ∷ halfAt vram (worldTable + 32 * n + 10)
+    ∷ halfAt vram (worldTable + 32 * n + 12)
+    ∷ halfAt vram (worldTable + 32 * n + 14)
+    ∷ halfAt vram (worldTable + 32 * n + 16)
+    ∷ halfAt vram (worldTable + 32 * n + 18)
+    ∷ halfAt vram (worldTable + 32 * n + 20)
     ∷ []
 
 -- LON or RON, whichever is the eye's
 unfoldable pub worldShownOf : List ℕ → ℕ → Bool
-worldShownOf w eye = flagOf eye (getD w 0 0)
+worldShownOf w eye = eyeFlagOf eye (getD w 0 0)
 
 -- LON and RON both clear: the world is skipped
 unfoldable pub skippedOf : List ℕ → Bool
-skippedOf w = not (bitOf 15 (getD w 0 0) || bitOf 14 (getD w 0 0))
+skippedOf w = not (bitSet 15 (getD w 0 0) || bitSet 14 (getD w 0 0))
 
 -- BGM: 0 normal, 1 H-bias, 2 affine, 3 objects
 abbrev pub bgmOf : List ℕ → ℕ
@@ -44,10 +48,10 @@ abbrev pub scyOf : List ℕ → ℕ
 scyOf w = getD w 0 0 / 256 % 4
 
 abbrev pub overOf : List ℕ → Bool
-overOf w = bitOf 7 (getD w 0 0)
+overOf w = bitSet 7 (getD w 0 0)
 
 abbrev pub endOf : List ℕ → Bool
-endOf w = bitOf 6 (getD w 0 0)
+endOf w = bitSet 6 (getD w 0 0)
 
 abbrev pub baseOf : List ℕ → ℕ
 baseOf w = getD w 0 0 % 16

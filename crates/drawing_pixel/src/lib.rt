@@ -4,11 +4,13 @@ ghost use mathlib.Core.Path.{_≡_};
 ghost use Prim.Native.Nat.{ℕ, _+_, _-_, _*_, _/_, _%_, _^_, _<_, _≤_, min, max};
 ghost use lib.ListN.{length};
 ghost use lib.Dec.{eqb};
+ghost use Rattle.bus.specs.Refusal.{vramBytes};
 ghost use Rattle.word.specs.Choose.{pick};
 ghost use Rattle.word.specs.LittleEndian.{halfAt};
 ghost use mathlib.Core.Bool.{Bool};
-ghost use Rattle.drawing_pixel.specs.Signed.{edgeOf, bitOf, flagOf};
-ghost use Rattle.drawing_pixel.specs.Character.{pairOf, characterAddressOf, flippedOf, rowAddressOf, valueOf, shadeOf};
+ghost use Rattle.drawing_pixel.specs.Signed.{edgeOf, bitSet, eyeFlagOf};
+ghost use Rattle.drawing_pixel.specs.Character.{twoBitsOf, characterAddressOf, flippedOf, rowAddressOf, pixelValueOf};
+ghost use Rattle.drawing_pixel.specs.Character.{shadeOf};
 ghost use Rattle.drawing_pixel.specs.RowBits.{Picked, PlaceUnit};
 ghost use Rattle.drawing_pixel.specs.World.{worldOf, columnsOf, heightOf, rowsOf, windowLeftOf};
 ghost use Rattle.drawing_pixel.specs.Object.{objectOf, objectLeftOf};
@@ -16,7 +18,7 @@ ghost use Rattle.drawing_pixel.specs.Buffer.{repaintedOf, Span};
 
 // The halfword at an address of VRAM.
 pub fn half(vram: &[u8], a: usize) -> u16
-    requires { ⌜ (length (now vram) ≡ 262144) × (a < 262143) ⌝ }
+    requires { ⌜ (length (now vram) ≡ vramBytes) × (a < 262143) ⌝ }
     ensures { λ r. ⌜ r ≡ halfAt (now (vram .entry)) a ⌝ }
 {
     word::half_at(vram, a) as u16
@@ -41,7 +43,7 @@ pub fn least(a: usize, b: usize) -> usize
 
 // The eleven halfwords of world n.
 pub fn world(vram: &[u8], n: usize) -> [u16; 11]
-    requires { ⌜ (length (now vram) ≡ 262144) × (n < 32) ⌝ }
+    requires { ⌜ (length (now vram) ≡ vramBytes) × (n < 32) ⌝ }
     ensures { λ r. ⌜ r ≡ worldOf (now (vram .entry)) n ⌝ }
 {
     let a = 251904 + 32 * n;
@@ -62,7 +64,7 @@ pub fn world(vram: &[u8], n: usize) -> [u16; 11]
 
 // The four halfwords of object k.
 pub fn object(vram: &[u8], k: usize) -> [u16; 4]
-    requires { ⌜ (length (now vram) ≡ 262144) × (k < 1024) ⌝ }
+    requires { ⌜ (length (now vram) ≡ vramBytes) × (k < 1024) ⌝ }
     ensures { λ r. ⌜ r ≡ objectOf (now (vram .entry)) k ⌝ }
 {
     let a = 253952 + 8 * k;
@@ -87,7 +89,7 @@ pub fn edge(eye: usize, position: usize, parallax: usize) -> usize
 
 // Whether a halfword's flag for an eye is set: bit 15 left, bit 14 right.
 pub fn flag(eye: usize, h: u16) -> bool
-    ensures { λ r. ⌜ r ≡ flagOf eye h ⌝ }
+    ensures { λ r. ⌜ r ≡ eyeFlagOf eye h ⌝ }
 {
     if eye == 0 {
         return h / 32768 % 2 == 1;
@@ -98,7 +100,7 @@ pub fn flag(eye: usize, h: u16) -> bool
 // Bits 2k and 2k + 1 of a number.
 pub fn pair(h: usize, k: usize) -> usize
     requires { ⌜ k < 8 ⌝ }
-    ensures { λ r. ⌜ (r ≡ pairOf h k) × (r < 4) ⌝ }
+    ensures { λ r. ⌜ (r ≡ twoBitsOf h k) × (r < 4) ⌝ }
 {
     (h >> (2 * k)) % 4
 }
@@ -142,7 +144,7 @@ pub fn picked(row: usize, column: usize, flip: bool) -> usize
 // The value of a column of a character row, by the cell's horizontal flip.
 pub fn value(cell: usize, row: usize, column: usize) -> usize
     requires { ⌜ column < 8 ⌝ }
-    ensures { λ r. ⌜ (r ≡ valueOf cell row column) × (r < 4) ⌝ }
+    ensures { λ r. ⌜ (r ≡ pixelValueOf cell row column) × (r < 4) ⌝ }
 {
     picked(row, column, cell / 8192 % 2 == 1)
 }
@@ -168,7 +170,7 @@ pub fn placed(v: u16, r: usize) -> u16
 // What is left of a column where row r is painted over; all of it where the paint is blank.
 pub fn kept(h: u16, r: usize, blank: bool) -> u16
     requires { ⌜ r < 8 ⌝ }
-    ensures { λ n. ⌜ n ≡ pick blank h (h - pairOf h r * 2 ^ (2 * r)) ⌝ }
+    ensures { λ n. ⌜ n ≡ pick blank h (h - twoBitsOf h r * 2 ^ (2 * r)) ⌝ }
 {
     h - (h & placed(choice(blank, 0, 3), r))
 }
@@ -176,12 +178,13 @@ pub fn kept(h: u16, r: usize, blank: bool) -> u16
 // What a palette makes of a value.
 pub fn shade(palette: usize, v: usize) -> u16
     requires { ⌜ v < 4 ⌝ }
-    ensures { λ h. ⌜ (h ≡ pairOf palette v) × (h < 4) ⌝ }
+    ensures { λ h. ⌜ (h ≡ twoBitsOf palette v) × (h < 4) ⌝ }
 {
     pair(palette, v) as u16
 }
 
-// A column of the strip, its row r painted over by a value: 0 leaves it as it was, any other is looked up in the palette.
+// A column of the strip, its row r painted over by a value: 0 leaves it as it was, any other is looked up in the
+// palette.
 pub fn shaded(h: u16, r: usize, palette: usize, v: usize) -> u16
     requires { ⌜ (r < 8) × (v < 4) ⌝ }
     ensures { λ n. ⌜ n ≡ repaintedOf r (shadeOf palette v) h ⌝ }
@@ -264,7 +267,7 @@ pub fn object_left(o: &[u16; 4], eye: usize) -> usize
 
 // The mask of a cell: all bits where it is flipped horizontally.
 pub fn mirror(cell: usize) -> u16
-    ensures { λ m. ⌜ m ≡ pick (bitOf 13 cell) 65535 0 ⌝ }
+    ensures { λ m. ⌜ m ≡ pick (bitSet 13 cell) 65535 0 ⌝ }
 {
     choice(cell / 8192 % 2 == 1, 65535, 0)
 }
@@ -282,7 +285,7 @@ pub fn place(column: usize, mirror: u16) -> u16
 // Whether the value at a place of a row is n.
 pub fn holds(row: u16, unit: u16, n: u16) -> bool
     requires { ⌜ (PlaceUnit unit) × (n < 4) ⌝ }
-    ensures { λ b. ⌜ ((p : ℕ) → p < 8 → unit ≡ 2 ^ (2 * p) → b ≡ eqb (pairOf row p) n) ⌝ }
+    ensures { λ b. ⌜ ((p : ℕ) → p < 8 → unit ≡ 2 ^ (2 * p) → b ≡ eqb (twoBitsOf row p) n) ⌝ }
 {
     row & (3 * unit) == n * unit
 }
@@ -290,7 +293,10 @@ pub fn holds(row: u16, unit: u16, n: u16) -> bool
 // What the value at a place of a row is painted as: its shade, nothing for 0.
 pub fn tint(palette: usize, row: u16, unit: u16) -> u16
     requires { ⌜ PlaceUnit unit ⌝ }
-    ensures { λ h. ⌜ (h < 4) × ((p : ℕ) → p < 8 → unit ≡ 2 ^ (2 * p) → h ≡ pick (eqb (pairOf row p) 0) 0 (pairOf palette (pairOf row p))) ⌝ }
+    ensures { λ h. ⌜
+        (h < 4)
+        × ((p : ℕ) → p < 8 → unit ≡ 2 ^ (2 * p) → h ≡ pick (eqb (twoBitsOf row p) 0) 0 (twoBitsOf palette (twoBitsOf row p)))
+        ⌝ }
 {
     let one = choice(holds(row, unit, 1), shade(palette, 1), 0);
     let two = choice(holds(row, unit, 2), shade(palette, 2), 0);
@@ -301,7 +307,7 @@ pub fn tint(palette: usize, row: u16, unit: u16) -> u16
 // A column of the strip, its row r painted over by the value at a place of a character row.
 pub fn painted(h: u16, r: usize, palette: usize, row: u16, unit: u16) -> u16
     requires { ⌜ (r < 8) × (PlaceUnit unit) ⌝ }
-    ensures { λ n. ⌜ ((p : ℕ) → p < 8 → unit ≡ 2 ^ (2 * p) → n ≡ repaintedOf r (shadeOf palette (pairOf row p)) h) ⌝ }
+    ensures { λ n. ⌜ ((p : ℕ) → p < 8 → unit ≡ 2 ^ (2 * p) → n ≡ repaintedOf r (shadeOf palette (twoBitsOf row p)) h) ⌝ }
 {
     kept(h, r, holds(row, unit, 0)) + placed(tint(palette, row, unit), r)
 }
@@ -317,7 +323,10 @@ pub fn whole(
 )
     requires { ⌜ length (now buffer) ≡ 384 ⌝ }
     requires { ⌜ (from + 8 ≤ 384) × (r < 8) ⌝ }
-    ensures { λ _. ⌜ Span r from (from + 8) (λ x. shadeOf palette (valueOf cell row (x - from))) (now (buffer .entry)) (now (buffer .exit)) ⌝ }
+    ensures { λ _. ⌜
+        Span r from (from + 8) (λ x. shadeOf palette (pixelValueOf cell row (x - from))) (now (buffer .entry))
+        (now (buffer .exit))
+        ⌝ }
 {
     let seen = (row % 65536) as u16;
     let flips = mirror(cell);
@@ -328,8 +337,8 @@ pub fn whole(
     }
 }
 
-// The same for a span; `whole` is for the rows of a block. Each has one caller, so that the compiler makes it part of its
-// caller's loop and works out palette and places once a cell (docs/changes/W5.md).
+// The same for a span; `whole` is for the rows of a block. Each has one caller, so that the compiler makes it part of
+// its caller's loop and works out palette and places once a cell (docs/changes/W5.md).
 pub fn eight(
     buffer: &mut [u16; 384],
     from: usize,
@@ -340,7 +349,10 @@ pub fn eight(
 )
     requires { ⌜ length (now buffer) ≡ 384 ⌝ }
     requires { ⌜ (from + 8 ≤ 384) × (r < 8) ⌝ }
-    ensures { λ _. ⌜ Span r from (from + 8) (λ x. shadeOf palette (valueOf cell row (x - from))) (now (buffer .entry)) (now (buffer .exit)) ⌝ }
+    ensures { λ _. ⌜
+        Span r from (from + 8) (λ x. shadeOf palette (pixelValueOf cell row (x - from))) (now (buffer .entry))
+        (now (buffer .exit))
+        ⌝ }
 {
     let seen = (row % 65536) as u16;
     let flips = mirror(cell);
@@ -364,7 +376,10 @@ pub fn span(
 )
     requires { ⌜ length (now buffer) ≡ 384 ⌝ }
     requires { ⌜ (from ≤ to) × ((to ≤ 384) × ((r < 8) × (column + (to - from) ≤ 8))) ⌝ }
-    ensures { λ _. ⌜ Span r from to (λ x. shadeOf palette (valueOf cell row (column + (x - from)))) (now (buffer .entry)) (now (buffer .exit)) ⌝ }
+    ensures { λ _. ⌜
+        Span r from to (λ x. shadeOf palette (pixelValueOf cell row (column + (x - from)))) (now (buffer .entry))
+        (now (buffer .exit))
+        ⌝ }
 {
     if from + 8 == to {
         eight(buffer, from, r, cell, row, palette);

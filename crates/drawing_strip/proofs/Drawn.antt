@@ -7,7 +7,7 @@ use mathlib.Core.List.{List}
 use lib.ListN.{length, getD, replicate, getD-replicate}
 use lib.Seq.{ext-getD}
 use Rattle.bus.specs.Registers.{bkcolOf}
-use Rattle.drawing_pixel.specs.Character.{pairOf}
+use Rattle.drawing_pixel.specs.Character.{twoBitsOf}
 use Rattle.drawing_pixel.specs.Pixel.{pixelOf}
 use Rattle.drawing_pixel.specs.Painting.{worldsPixelOf, paintedPixelOf}
 use Rattle.drawing_pixel.proofs.Painting.{pixel-formula}
@@ -16,15 +16,15 @@ use Rattle.drawing_pixel.specs.Buffer.{Strip}
 use Rattle.drawing_pixel.proofs.Pairs.{below-eight}
 use Rattle.drawing_pixel.proofs.Lists.{length-list, getD-list}
 use Rattle.drawing_pixel.proofs.Strips.{in-strip, past-images, other-frame, past-image, other-strip}
-use Rattle.drawing_strip.specs.Stored.{byteOf, InStrip, Stored, Worked}
+use Rattle.drawing_strip.specs.Stored.{columnByteOf, InStrip, Stored, Worked}
 
 -- a halfword of eight equal pixels
-filled : (b : ℕ) → b < 4 → (r : ℕ) → r < 8 → pairOf (b * 21845) r ≡ b
-unfolding pairOf
-filled zero h = below-eight (λ r. pairOf (0 * 21845) r ≡ 0) refl refl refl refl refl refl refl refl
-filled (suc zero) h = below-eight (λ r. pairOf (1 * 21845) r ≡ 1) refl refl refl refl refl refl refl refl
-filled (suc (suc zero)) h = below-eight (λ r. pairOf (2 * 21845) r ≡ 2) refl refl refl refl refl refl refl refl
-filled (suc (suc (suc zero))) h = below-eight (λ r. pairOf (3 * 21845) r ≡ 3) refl refl refl refl refl refl refl refl
+filled : (b : ℕ) → b < 4 → (r : ℕ) → r < 8 → twoBitsOf (b * 21845) r ≡ b
+unfolding twoBitsOf
+filled zero h = below-eight (λ r. twoBitsOf (0 * 21845) r ≡ 0) refl refl refl refl refl refl refl refl
+filled (suc zero) h = below-eight (λ r. twoBitsOf (1 * 21845) r ≡ 1) refl refl refl refl refl refl refl refl
+filled (suc (suc zero)) h = below-eight (λ r. twoBitsOf (2 * 21845) r ≡ 2) refl refl refl refl refl refl refl refl
+filled (suc (suc (suc zero))) h = below-eight (λ r. twoBitsOf (3 * 21845) r ≡ 3) refl refl refl refl refl refl refl refl
 filled (suc (suc (suc (suc b)))) h = absurd (omega arith)
 
 -- the loop over worlds, from columns of BKCOL, works the strip out
@@ -37,7 +37,7 @@ worked vram regs eye strip columns h s =
       pixels = λ x r u v.
           s .pixels x r u v
           ∙ ap (worldsPixelOf vram regs eye x (8 * strip + r) 32 3)
-          (ap (λ (n : ℕ). pairOf n r) (getD-replicate 384 x (getD regs 12 0 * 21845) 0 u) ∙ filled (getD regs 12 0) h r v)
+          (ap (λ (n : ℕ). twoBitsOf n r) (getD-replicate 384 x (getD regs 12 0 * 21845) 0 u) ∙ filled (getD regs 12 0) h r v)
           ∙ pixel-formula vram regs eye x (8 * strip + r);
     }
 
@@ -58,12 +58,12 @@ four-digits : (h : ℕ) → h % 256 ≡ h % 4 + 4 * (h / 4 % 4) + 16 * (h / 16 %
 four-digits h = halves h ∙ rw (two-digits h, two-digits (h / 16), quarter h) (gathered _ _ _ _)
 
 -- a byte of a halfword is four of its pairs
-byte-low : (h : ℕ) → byteOf h 0 ≡ pairOf h 0 + 4 * pairOf h 1 + 16 * pairOf h 2 + 64 * pairOf h 3
-unfolding byteOf pairOf
+byte-low : (h : ℕ) → columnByteOf h 0 ≡ twoBitsOf h 0 + 4 * twoBitsOf h 1 + 16 * twoBitsOf h 2 + 64 * twoBitsOf h 3
+unfolding columnByteOf twoBitsOf
 byte-low h = let e : h / 1 ≡ h = omega arith in rw e (four-digits h)
 
-byte-high : (h : ℕ) → byteOf h 1 ≡ pairOf h 4 + 4 * pairOf h 5 + 16 * pairOf h 6 + 64 * pairOf h 7
-unfolding byteOf pairOf
+byte-high : (h : ℕ) → columnByteOf h 1 ≡ twoBitsOf h 4 + 4 * twoBitsOf h 5 + 16 * twoBitsOf h 6 + 64 * twoBitsOf h 7
+unfolding columnByteOf twoBitsOf
 byte-high h =
     let a : h / 256 / 4 ≡ h / 1024 = omega arith in
     let b : h / 256 / 16 ≡ h / 4096 = omega arith in
@@ -71,10 +71,10 @@ byte-high h =
     rw (← a, ← b, ← c) (four-digits (h / 256))
 
 module _ (vram regs : List ℕ) (eye strip : ℕ) (columns : List ℕ) (w : Worked vram regs eye strip columns) (x : ℕ) (few : x < 384) where
-  pixel-at : (r y : ℕ) → r < 8 → 8 * strip + r ≡ y → pairOf (getD columns x 0) r ≡ pixelOf vram regs eye x y
+  pixel-at : (r y : ℕ) → r < 8 → 8 * strip + r ≡ y → twoBitsOf (getD columns x 0) r ≡ pixelOf vram regs eye x y
   pixel-at r y h e = w .pixels x r few h ∙ ap (pixelOf vram regs eye x) e
 
-  low : (b : ℕ) → b ≡ 0 → byteOf (getD columns x 0) b ≡ fourPixelsOf vram regs eye x (8 * strip + 4 * b)
+  low : (b : ℕ) → b ≡ 0 → columnByteOf (getD columns x 0) b ≡ fourPixelsOf vram regs eye x (8 * strip + 4 * b)
   unfolding fourPixelsOf
   low b e =
       rw (
@@ -85,7 +85,7 @@ module _ (vram regs : List ℕ) (eye strip : ℕ) (columns : List ℕ) (w : Work
       )
       (rw e (byte-low (getD columns x 0)))
 
-  high : (b : ℕ) → b ≡ 1 → byteOf (getD columns x 0) b ≡ fourPixelsOf vram regs eye x (8 * strip + 4 * b)
+  high : (b : ℕ) → b ≡ 1 → columnByteOf (getD columns x 0) b ≡ fourPixelsOf vram regs eye x (8 * strip + 4 * b)
   unfolding fourPixelsOf
   high b e =
       rw (
@@ -96,7 +96,7 @@ module _ (vram regs : List ℕ) (eye strip : ℕ) (columns : List ℕ) (w : Work
       )
       (rw e (byte-high (getD columns x 0)))
 
-  four-pixels : (b : ℕ) → b < 2 → byteOf (getD columns x 0) b ≡ fourPixelsOf vram regs eye x (8 * strip + 4 * b)
+  four-pixels : (b : ℕ) → b < 2 → columnByteOf (getD columns x 0) b ≡ fourPixelsOf vram regs eye x (8 * strip + 4 * b)
   four-pixels b h = elim (ℕ-discrete b 0) [ yes e ↦ low b e | no n ↦ high b (omega arith) ]
 
 -- the offset of an address in its image

@@ -6,7 +6,7 @@ use mathlib.Core.Path.{_≡_, refl, _∙_}
 use mathlib.Core.List.{List}
 use lib.ListN.{length, getD, set, length-set}
 use lib.Seq.{getD-set-same, getD-set-other}
-use Rattle.drawing_strip.specs.Stored.{byteOf, InStrip, Stored}
+use Rattle.drawing_strip.specs.Stored.{columnByteOf, InStrip, Stored}
 
 pub stored-none : (base strip : ℕ) (columns a : List ℕ) → Stored base strip 0 columns a a
 stored-none base strip columns a =
@@ -18,12 +18,12 @@ stored-none base strip columns a =
       above = λ i h. refl;
     }
 
-low-byte : (h : ℕ) → h % 256 ≡ byteOf h 0
-unfolding byteOf
+low-byte : (h : ℕ) → h % 256 ≡ columnByteOf h 0
+unfolding columnByteOf
 low-byte h = omega arith
 
-high-byte : (h : ℕ) → h / 256 % 256 ≡ byteOf h 1
-unfolding byteOf
+high-byte : (h : ℕ) → h / 256 % 256 ≡ columnByteOf h 1
+unfolding columnByteOf
 high-byte h = omega arith
 
 -- two bytes at an address
@@ -59,21 +59,21 @@ module _ (base strip x : ℕ) (columns a b : List ℕ) (few : strip < 32) (room 
         after : List ℕ
         after = set (set b i (column % 256)) (i + 1) (column / 256 % 256)
 
-        low : (o : ℕ) → o ≡ 64 * x + 2 * strip → getD after (base + o) 0 ≡ byteOf (getD columns (o / 64) 0) (o % 2)
+        low : (o : ℕ) → o ≡ 64 * x + 2 * strip → getD after (base + o) 0 ≡ columnByteOf (getD columns (o / 64) 0) (o % 2)
         low o e =
             let q : o / 64 ≡ x = omega arith in
             let p : o % 2 ≡ 0 = omega arith in
             put-low b i (column % 256) (column / 256 % 256) (base + o) (omega arith) (omega arith)
             ∙ rw (q, p, ← read) (low-byte column)
 
-        high : (o : ℕ) → o ≡ 64 * x + 2 * strip + 1 → getD after (base + o) 0 ≡ byteOf (getD columns (o / 64) 0) (o % 2)
+        high : (o : ℕ) → o ≡ 64 * x + 2 * strip + 1 → getD after (base + o) 0 ≡ columnByteOf (getD columns (o / 64) 0) (o % 2)
         high o e =
             let q : o / 64 ≡ x = omega arith in
             let p : o % 2 ≡ 1 = omega arith in
             put-high b i (column % 256) (column / 256 % 256) (base + o) (omega arith) (omega arith)
             ∙ rw (q, p, ← read) (high-byte column)
 
-        inside : (o : ℕ) → o < 64 * (x + 1) → InStrip strip o → getD after (base + o) 0 ≡ byteOf (getD columns (o / 64) 0) (o % 2)
+        inside : (o : ℕ) → o < 64 * (x + 1) → InStrip strip o → getD after (base + o) 0 ≡ columnByteOf (getD columns (o / 64) 0) (o % 2)
         inside o h t =
             elim (decLt o (64 * x)) [
               | yes l ↦ put-other b i _ _ (base + o) (λ e. omega arith) (λ e. omega arith) ∙ s .inside o l t

@@ -9,7 +9,7 @@ use mathlib.Core.List.{List}
 use lib.ListN.{getD, length}
 use borrow.Author.Tests.{eq-eqb, ne-eqb}
 use Rattle.word.specs.LittleEndian.{halfAt}
-use Rattle.drawing_pixel.specs.Character.{pairOf}
+use Rattle.drawing_pixel.specs.Character.{twoBitsOf}
 use Rattle.drawing_pixel.specs.World.{worldOf, skippedOf, bgmOf, endOf}
 use Rattle.drawing_pixel.specs.Background.{backgroundPixelOf}
 use Rattle.drawing_pixel.specs.Object.{groupPixelOf}
@@ -71,8 +71,8 @@ module _ (vram regs : List ℕ) (eye strip : ℕ) where
   pub record Painting (n counter : ℕ) (before after : List ℕ) : Type 0 where
     pub size : length after ≡ length before
     pub pixels : (x r : ℕ) → x < 384 → r < 8
-        → worldsPixelOf vram regs eye x (8 * strip + r) n counter (pairOf (getD after x 0) r)
-        ≡ worldsPixelOf vram regs eye x (8 * strip + r) 32 3 (pairOf (getD before x 0) r)
+        → worldsPixelOf vram regs eye x (8 * strip + r) n counter (twoBitsOf (getD after x 0) r)
+        ≡ worldsPixelOf vram regs eye x (8 * strip + r) 32 3 (twoBitsOf (getD before x 0) r)
 
   pub worlds-begun : (a : List ℕ) → Painting 32 3 a a
   worlds-begun a = record { size = refl; pixels = λ x r u v. refl }
@@ -98,17 +98,17 @@ module _ (vram regs : List ℕ) (eye strip : ℕ) where
         size = s .size ∙ d .size;
         pixels = λ x r u v.
             rw (f, s .pixels x r u v)
-            (sym (worlds-step x (8 * strip + r) n counter (pairOf (getD b x 0) r) h e) ∙ d .pixels x r u v);
+            (sym (worlds-step x (8 * strip + r) n counter (twoBitsOf (getD b x 0) r) h e) ∙ d .pixels x r u v);
       }
 
   pub worlds-ended : (n counter : ℕ) (a b : List ℕ) → 0 < n → endOf (worldOf vram (n - 1)) ≡ true → Painting n counter a b
       → Strip (λ x r. worldsPixelOf vram regs eye x (8 * strip + r) 32 3) a b
   worlds-ended n counter a b h e d =
-      record { size = d .size; pixels = λ x r u v. sym (worlds-end x (8 * strip + r) n counter (pairOf (getD b x 0) r) h e) ∙ d .pixels x r u v }
+      record { size = d .size; pixels = λ x r u v. sym (worlds-end x (8 * strip + r) n counter (twoBitsOf (getD b x 0) r) h e) ∙ d .pixels x r u v }
 
   pub worlds-done : (n counter : ℕ) (a b : List ℕ) → n ≡ 0 → Painting n counter a b → Strip (λ x r. worldsPixelOf vram regs eye x (8 * strip + r) 32 3) a b
   unfolding worldsPixelOf
   worlds-done n counter a b e d = record { size = d .size; pixels = λ x r u v. sym (none x r) ∙ d .pixels x r u v }
     where
-      none : (x r : ℕ) → worldsPixelOf vram regs eye x (8 * strip + r) n counter (pairOf (getD b x 0) r) ≡ pairOf (getD b x 0) r
+      none : (x r : ℕ) → worldsPixelOf vram regs eye x (8 * strip + r) n counter (twoBitsOf (getD b x 0) r) ≡ twoBitsOf (getD b x 0) r
       none x r = rw e

@@ -4,6 +4,7 @@ use bus::DrawingRegisters;
 ghost use mathlib.Core.Path.{_≡_};
 ghost use Prim.Native.Nat.{ℕ, _+_, _-_, _*_, _<_, _≤_};
 ghost use lib.ListN.{length};
+ghost use Rattle.bus.specs.Refusal.{vramBytes};
 ghost use Rattle.bus.specs.Registers.{sptOf, bkcolOf};
 ghost use Rattle.drawing_pixel.specs.World.{worldOf};
 ghost use Rattle.drawing_pixel.specs.Pixel.{counterOf};
@@ -26,10 +27,15 @@ pub fn paint_world(
     strip: usize,
 ) -> usize
     requires { ⌜ length (now buffer) ≡ 384 ⌝ }
-    requires { ⌜ (length (now vram) ≡ 262144) × ((strip < 28) × ((n < 32) × (counter < 4))) ⌝ }
+    requires { ⌜ (length (now vram) ≡ vramBytes) × ((strip < 28) × ((n < 32) × (counter < 4))) ⌝ }
     requires { ⌜ ((k : ℕ) → k < 4 → sptOf (now registers) k < 1024) ⌝ }
     ensures { λ c. ⌜ (c ≡ counterOf (worldOf (now (vram .entry)) n) counter) × (c < 4) ⌝ }
-    ensures { λ _. ⌜ Strip (λ x r. worldPixelOf (now (vram .entry)) (now (registers .entry)) (worldOf (now (vram .entry)) n) counter eye x (8 * strip + r)) (now (buffer .entry)) (now (buffer .exit)) ⌝ }
+    ensures { λ _. ⌜
+        Strip
+        (λ x r. worldPixelOf (now (vram .entry)) (now (registers .entry)) (worldOf (now (vram .entry)) n) counter eye
+        x (8 * strip + r))
+        (now (buffer .entry)) (now (buffer .exit))
+        ⌝ }
 {
     let flags = wide(half(vram, 251904 + 32 * n));
     if flags < 16384 {
@@ -56,9 +62,12 @@ pub fn paint_worlds(
     strip: usize,
 )
     requires { ⌜ length (now buffer) ≡ 384 ⌝ }
-    requires { ⌜ (length (now vram) ≡ 262144) × (strip < 28) ⌝ }
+    requires { ⌜ (length (now vram) ≡ vramBytes) × (strip < 28) ⌝ }
     requires { ⌜ ((k : ℕ) → k < 4 → sptOf (now registers) k < 1024) ⌝ }
-    ensures { λ _. ⌜ Strip (λ x r. worldsPixelOf (now (vram .entry)) (now (registers .entry)) eye x (8 * strip + r) 32 3) (now (buffer .entry)) (now (buffer .exit)) ⌝ }
+    ensures { λ _. ⌜
+        Strip (λ x r. worldsPixelOf (now (vram .entry)) (now (registers .entry)) eye x (8 * strip + r) 32 3)
+        (now (buffer .entry)) (now (buffer .exit))
+        ⌝ }
 {
     let mut n = 32;
     let mut counter = 3;
@@ -88,7 +97,7 @@ pub fn store_columns(image: &mut [u8], strip: usize, columns: &[u16; 384])
 
 // The columns of a strip stored into the image that begins at `base`.
 pub fn store_strip(vram: &mut [u8], base: usize, strip: usize, columns: &[u16; 384])
-    requires { ⌜ (length (now vram) ≡ 262144) × ((base ≤ 98304) × (strip < 28)) ⌝ }
+    requires { ⌜ (length (now vram) ≡ vramBytes) × ((base ≤ 98304) × (strip < 28)) ⌝ }
     ensures { λ _. ⌜ Stored base strip 384 (now (columns .entry)) (now (vram .entry)) (now (vram .exit)) ⌝ }
 {
     store_columns(&mut vram[base..], strip, columns);
@@ -96,7 +105,7 @@ pub fn store_strip(vram: &mut [u8], base: usize, strip: usize, columns: &[u16; 3
 
 // A strip of a frame: worked out for both eyes, then stored into the two images.
 pub fn draw(vram: &mut [u8], registers: &DrawingRegisters, frame: usize, strip: usize)
-    requires { ⌜ (length (now vram) ≡ 262144) × ((frame < 2) × (strip < 28)) ⌝ }
+    requires { ⌜ (length (now vram) ≡ vramBytes) × ((frame < 2) × (strip < 28)) ⌝ }
     requires { ⌜ ((k : ℕ) → k < 4 → sptOf (now registers) k < 1024) × (bkcolOf (now registers) < 4) ⌝ }
     ensures { λ _. ⌜ now (vram .exit) ≡ stripOf (now (vram .entry)) (now (registers .entry)) frame strip ⌝ }
 {
@@ -111,7 +120,7 @@ pub fn draw(vram: &mut [u8], registers: &DrawingRegisters, frame: usize, strip: 
 
 // A frame: strips 0 to 27.
 pub fn draw_all(vram: &mut [u8], registers: &DrawingRegisters, frame: usize)
-    requires { ⌜ (length (now vram) ≡ 262144) × (frame < 2) ⌝ }
+    requires { ⌜ (length (now vram) ≡ vramBytes) × (frame < 2) ⌝ }
     requires { ⌜ ((k : ℕ) → k < 4 → sptOf (now registers) k < 1024) × (bkcolOf (now registers) < 4) ⌝ }
     ensures { λ _. ⌜ now (vram .exit) ≡ frameOf (now (vram .entry)) (now (registers .entry)) frame ⌝ }
 {

@@ -15,8 +15,8 @@ use Rattle.processor_arithmetic.specs.Quotient.{divideOf}
 use Rattle.processor_machine.specs.State.{Stepped}
 use Rattle.processor_interrupt.specs.Interrupt.{acceptsOf}
 use Rattle.processor_step.specs.Step.{acceptsIn}
-use Rattle.drawing_pixel.specs.Signed.{flagOf}
-use Rattle.drawing_pixel.specs.Character.{pairOf, characterAddressOf, shadeOf}
+use Rattle.drawing_pixel.specs.Signed.{eyeFlagOf}
+use Rattle.drawing_pixel.specs.Character.{twoBitsOf, characterAddressOf, shadeOf}
 use Rattle.drawing_pixel.specs.World.{worldShownOf}
 use Rattle.drawing_pixel.specs.Floors.{modZ}
 use Rattle.examples.specs.Rows.{Answer, addresses, answer, branch, rows, row, worldWith, shownFrom, flagsIn, pcBefore, memoryWith, stateWith, pcAfter, pcsFrom, RowsHold}
@@ -70,7 +70,7 @@ never-row = ap addresses (same-pcs 0x9A00 (pcBefore + 2) never-pc 0 16)
 
 pub rows-hold : RowsHold
 unfolding rows row answer flagsIn extendOf sumOf signedOf flagsOf keepCarryOf divideOf placeOf regionOf vipPlace registerPlace mirrorOf
-    characterAddressOf shadeOf pairOf worldWith shownFrom worldShownOf flagOf modZ
+    characterAddressOf shadeOf twoBitsOf worldWith shownFrom worldShownOf eyeFlagOf modZ
 rows-hold =
     next refl
     (next refl

@@ -1,5 +1,5 @@
--- The two branches of paper 01's worked rows, on every machine: whatever stands elsewhere in memory and in the registers,
--- PSW among them, where the halfword at PC is the row's and no interrupt is accepted.
+-- The two branches of paper 01's worked rows, on every machine: whatever stands elsewhere in memory and in the
+-- registers, PSW among them, where the halfword at PC is the row's and no interrupt is accepted.
 use Prim.Native.Nat.{ℕ, _+_, _%_, _^_, _<_}
 use mathlib.Core.Bool.{false}
 use mathlib.Core.List.{List}

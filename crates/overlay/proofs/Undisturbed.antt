@@ -6,7 +6,7 @@ use mathlib.Core.List.{List, [], _∷_}
 use mathlib.Core.Path.{_≡_, _∙_}
 use native.Mathlib.Omega.{arith}
 use Rattle.drawing_laws.specs.Demand3.{Each, SameByte, SameTables}
-use Rattle.drawing_laws.specs.Drawn.{Call, afterOf, inImagesOf}
+use Rattle.drawing_laws.specs.Drawn.{Call, drawnBy, inImagesOf}
 use Rattle.drawing_laws.specs.PixelBytes.{pixelBytesOf}
 use Rattle.drawing_laws.proofs.PixelBytes.{listed-formula}
 use Rattle.drawing_laws.proofs.Answerable.{answerable}
@@ -24,13 +24,13 @@ each-both P Q R f (x ∷ xs) p q = (f x (p .0) (q .0), each-both P Q R f xs (p .
 
 module _ (vram regs : List ℕ) (frame : ℕ) (one : Call) (writes : List Write) where
   second : List ℕ
-  second = allWrittenOf (afterOf vram regs frame one) writes
+  second = allWrittenOf (drawnBy vram regs frame one) writes
 
   -- a byte that is in no image and that the probe never writes
   same-byte : (a : ℕ) → Clear a → Outside a → SameByte vram second a
   unfolding second
   same-byte a clear out =
-      probe-kept (afterOf vram regs frame one) writes a out
+      probe-kept (drawnBy vram regs frame one) writes a out
       ∙ byte-kept vram regs frame one a (rw (clear-outside frame a clear))
 
   same-tables : SameTables vram second

@@ -8,7 +8,7 @@ use mathlib.Core.Path.{_≡_}
 use Rattle.refusal.specs.declared.Verdict.the-variants.{Accepted}
 use Rattle.drawing_pixel.specs.Strip.{storedPixelOf}
 use Rattle.drawing_laws.specs.Demand3.{Each}
-use Rattle.drawing_laws.specs.Drawn.{Call, callVerdictOf, drawsStripOf, afterOf}
+use Rattle.drawing_laws.specs.Drawn.{Call, callVerdictOf, drawsStripOf, drawnBy}
 use Rattle.drawing_laws.specs.PixelBytes.{pixelBytesOf}
 use Rattle.probe.specs.Probe.{inRangesOf}
 use Rattle.probe.specs.Kept.{Write, allWrittenOf}
@@ -23,11 +23,11 @@ abbrev pub Undisturbed : Type 0
 Undisturbed =
     (vram regs : List ℕ) (frame : ℕ) (one other : Call) (writes : List Write) (eye x y : ℕ)
     → callVerdictOf vram regs frame one ≡ Accepted
-    → callVerdictOf (allWrittenOf (afterOf vram regs frame one) writes) regs frame other ≡ Accepted
+    → callVerdictOf (allWrittenOf (drawnBy vram regs frame one) writes) regs frame other ≡ Accepted
     → eye < 2
     → x < 384
     → drawsStripOf one (y / 8) ≡ true
     → drawsStripOf other (y / 8) ≡ true
     → Each Outside (pixelBytesOf vram regs eye x y)
-    → storedPixelOf (afterOf (allWrittenOf (afterOf vram regs frame one) writes) regs frame other) frame eye x y
-    ≡ storedPixelOf (afterOf vram regs frame one) frame eye x y
+    → storedPixelOf (drawnBy (allWrittenOf (drawnBy vram regs frame one) writes) regs frame other) frame eye x y
+    ≡ storedPixelOf (drawnBy vram regs frame one) frame eye x y

@@ -10,7 +10,7 @@ use Rattle.bus.specs.Memory.{Memory, withVram, placeIn, putByte, putRegister, s
 use Rattle.bus.proofs.Halfwords.{byte-store}
 use Rattle.bus.proofs.Spans.{Span, half-vram, word-vram}
 use Rattle.probe.specs.Probe.{inRangesOf, vramIndexOf, targetOf, putBytes, probeVerdictOf, probedOf}
-use Rattle.probe.specs.Kept.{Width, byte, half, word, sizeOf, ProbeIsStore}
+use Rattle.probe.specs.Kept.{Width, byte, half, word, probeSizeOf, ProbeIsStore}
 use Rattle.probe.proofs.Ranges.{in-ranges}
 use Rattle.probe.proofs.Targets.{index-place, follows}
 use Rattle.probe.proofs.Verdicts.{allowed}
@@ -41,8 +41,8 @@ module _ (m : Memory) (a v : ℕ) where
   unfolding putByte putRegister
   byte-stored i e = byte-store m a v ∙ rw (e, e)
 
-  stored : (width : Width) → inRangesOf (target (sizeOf width)) ≡ true
-      → storeOf m (sizeOf width) a v ≡ withVram m (putBytes (sizeOf width) (m .vram) (target (sizeOf width)) v)
+  stored : (width : Width) → inRangesOf (target (probeSizeOf width)) ≡ true
+      → storeOf m (probeSizeOf width) a v ≡ withVram m (putBytes (probeSizeOf width) (m .vram) (target (probeSizeOf width)) v)
   stored byte e =
       let f : a - a % 1 + 0 ≡ a = omega arith in
       let g : target 1 + 0 ≡ target 1 = omega arith in

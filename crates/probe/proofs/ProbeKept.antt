@@ -8,8 +8,9 @@ use native.Mathlib.Omega.{arith}
 use lib.ListN.{length, getD}
 use Rattle.refusal.specs.declared.Verdict.{Verdict}
 use Rattle.refusal.specs.declared.Verdict.the-variants.{Accepted, Refused}
-use Rattle.probe.specs.Probe.{inRangesOf, targetOf, whenAccepted, probeVerdictOf, putBytes, probedOf}
-use Rattle.probe.specs.Kept.{Width, byte, half, word, sizeOf, Write, writtenOf, allWrittenOf, ProbeKept, ProbeLength}
+use Rattle.probe.specs.Probe.{inRangesOf, targetOf, probeVerdictOf, putBytes, probedOf}
+use Rattle.refusal.specs.Number.{whenAccepted}
+use Rattle.probe.specs.Kept.{Width, byte, half, word, probeSizeOf, Write, probeWrittenOf, allWrittenOf, ProbeKept, ProbeLength}
 use Rattle.probe.proofs.Ranges.{in-ranges, same-word}
 use Rattle.probe.proofs.Targets.{follows}
 use Rattle.probe.proofs.Verdicts.{allowed}
@@ -30,7 +31,7 @@ target-word rom pak size a e =
     (⊎-elim (λ c. omega arith) (λ c. omega arith) (in-ranges _ e)) .in-word
 
 -- so the bytes of a write stand in one word
-one-word : (width : Width) (a t b : ℕ) → t % 4 ≡ (a - a % sizeOf width) % 4 → t ≤ b → b < t + sizeOf width → b / 4 ≡ t / 4
+one-word : (width : Width) (a t b : ℕ) → t % 4 ≡ (a - a % probeSizeOf width) % 4 → t ≤ b → b < t + probeSizeOf width → b / 4 ≡ t / 4
 one-word byte a t b e l h = omega arith
 one-word half a t b e l h = omega arith
 one-word word a t b e l h = omega arith
@@ -38,38 +39,38 @@ one-word word a t b e l h = omega arith
 -- a call's target, its verdict, and VRAM with its bytes put there
 module _ (vram : List ℕ) (w : Write) where
   target : ℕ
-  target = targetOf (length (w .rom)) (length (w .pak)) (sizeOf (w .width)) (w .address)
+  target = targetOf (length (w .rom)) (length (w .pak)) (probeSizeOf (w .width)) (w .address)
 
   verdict : Verdict
-  verdict = probeVerdictOf (sizeOf (w .width)) (w .rom) (w .wram) vram (w .pak) (w .address)
+  verdict = probeVerdictOf (probeSizeOf (w .width)) (w .rom) (w .wram) vram (w .pak) (w .address)
 
   stored : List ℕ
-  stored = putBytes (sizeOf (w .width)) vram target (w .value)
+  stored = putBytes (probeSizeOf (w .width)) vram target (w .value)
 
   stored-kept : (a : ℕ) → inRangesOf a ≡ false → verdict ≡ Accepted → getD stored a 0 ≡ getD vram a 0
   unfolding target verdict stored probeVerdictOf
   stored-kept a out e =
       let ok = allowed _ _ _ _ _ e .target-ok in
-      put-bytes-other (sizeOf (w .width)) vram target (w .value) a
+      put-bytes-other (probeSizeOf (w .width)) vram target (w .value) a
       (λ l h.
       true≢false
       (sym (same-word target a (one-word (w .width) (w .address) target a (target-word _ _ _ _ ok) l h) ok) ∙ out))
 
-  written-kept : (a : ℕ) → inRangesOf a ≡ false → getD (writtenOf vram w) a 0 ≡ getD vram a 0
+  written-kept : (a : ℕ) → inRangesOf a ≡ false → getD (probeWrittenOf vram w) a 0 ≡ getD vram a 0
   unfolding probedOf target verdict stored
   written-kept a out = kept-when (λ xs. getD xs a 0) verdict vram stored (stored-kept a out)
 
-  written-length : length (writtenOf vram w) ≡ length vram
+  written-length : length (probeWrittenOf vram w) ≡ length vram
   unfolding probedOf target verdict stored
   written-length =
-      kept-when length verdict vram stored (λ _. put-bytes-length (sizeOf (w .width)) vram target (w .value))
+      kept-when length verdict vram stored (λ _. put-bytes-length (probeSizeOf (w .width)) vram target (w .value))
 
 pub probe-kept : ProbeKept
 unfolding allWrittenOf
 probe-kept vram [] a out = refl
-probe-kept vram (w ∷ rest) a out = probe-kept (writtenOf vram w) rest a out ∙ written-kept vram w a out
+probe-kept vram (w ∷ rest) a out = probe-kept (probeWrittenOf vram w) rest a out ∙ written-kept vram w a out
 
 pub probe-length : ProbeLength
 unfolding allWrittenOf
 probe-length vram [] = refl
-probe-length vram (w ∷ rest) = probe-length (writtenOf vram w) rest ∙ written-length vram w
+probe-length vram (w ∷ rest) = probe-length (probeWrittenOf vram w) rest ∙ written-length vram w

@@ -15,17 +15,17 @@ pub data Width : Type 0 where
   half : Width
   word : Width
 
-abbrev pub sizeOf : Width → ℕ
-sizeOf byte = 1
-sizeOf half = 2
-sizeOf word = 4
+abbrev pub probeSizeOf : Width → ℕ
+probeSizeOf byte = 1
+probeSizeOf half = 2
+probeSizeOf word = 4
 
 -- an accepted write leaves in VRAM what the bus's store leaves there, and the store changes nothing else
 abbrev pub ProbeIsStore : Type 0
 ProbeIsStore =
     (m : Memory) (width : Width) (a v : ℕ)
-    → probeVerdictOf (sizeOf width) (m .rom) (m .wram) (m .vram) (m .pak) a ≡ Accepted
-    → storeOf m (sizeOf width) a v ≡ withVram m (probedOf (sizeOf width) (m .rom) (m .wram) (m .vram) (m .pak) a v)
+    → probeVerdictOf (probeSizeOf width) (m .rom) (m .wram) (m .vram) (m .pak) a ≡ Accepted
+    → storeOf m (probeSizeOf width) a v ≡ withVram m (probedOf (probeSizeOf width) (m .rom) (m .wram) (m .vram) (m .pak) a v)
 
 -- a call of the probe: what it is lent beside VRAM, and what it is to write where
 pub record Write : Type 0 where
@@ -37,13 +37,13 @@ pub record Write : Type 0 where
   pub value : ℕ
 
 -- VRAM after a call, refused or not
-abbrev pub writtenOf : List ℕ → Write → List ℕ
-writtenOf vram w = probedOf (sizeOf (w .width)) (w .rom) (w .wram) vram (w .pak) (w .address) (w .value)
+abbrev pub probeWrittenOf : List ℕ → Write → List ℕ
+probeWrittenOf vram w = probedOf (probeSizeOf (w .width)) (w .rom) (w .wram) vram (w .pak) (w .address) (w .value)
 
 -- VRAM after a list of calls
 unfoldable pub allWrittenOf : List ℕ → List Write → List ℕ
 allWrittenOf vram [] = vram
-allWrittenOf vram (w ∷ rest) = allWrittenOf (writtenOf vram w) rest
+allWrittenOf vram (w ∷ rest) = allWrittenOf (probeWrittenOf vram w) rest
 
 -- every byte of VRAM outside the ranges keeps its value over any list of calls
 abbrev pub ProbeKept : Type 0

@@ -1,14 +1,10 @@
 -- The probe's definitions over the memories as a call is lent them, for its contract.
 use Prim.Native.Nat.{ℕ}
 use mathlib.Core.List.{List}
-use denote.Ref.{RefT, now}
-use denote.Triple.Both.{Both}
+use denote.Ref.{now}
 use Rattle.refusal.specs.declared.Verdict.{Verdict}
+use Rattle.bus.specs.Lent.{Lent}
 use Rattle.probe.specs.Probe.{probeVerdictOf, probedOf}
-
--- a lent memory, at the call's entry and at its exit
-abbrev pub Lent : Type 0
-Lent = Both (RefT (List ℕ)) (RefT (List ℕ))
 
 abbrev pub verdictOf : ℕ → Lent → Lent → Lent → Lent → ℕ → Verdict
 verdictOf size rom wram vram pak a =

@@ -6,9 +6,10 @@ use mathlib.Core.Bool.{Bool, _&&_, _||_}
 use mathlib.Core.List.{List}
 use lib.ListN.{length, set}
 use lib.Dec.{leb, ltb}
-use Rattle.refusal.specs.Number.{unless}
+use Rattle.refusal.specs.Number.{unless, whenAccepted}
 use Rattle.bus.specs.Refusal.{romOk, wramOk, vramOk, pakOk}
-use Rattle.bus.specs.Place.{Place, vramAt, wramAt, pakAt, romAt, drawingAt, versionAt, silent, unlisted, unmapped, hardwareAt, soundUnit, nothing, expansion, placeOf}
+use Rattle.bus.specs.Place.{Place, vramAt, wramAt, pakAt, romAt, drawingAt, versionAt, silent, unlisted, unmapped}
+use Rattle.bus.specs.Place.{hardwareAt, soundUnit, nothing, expansion, placeOf}
 use Rattle.bus.specs.Memory.{alignedOf}
 use Rattle.refusal.specs.declared.Verdict.{Verdict}
 use Rattle.refusal.specs.declared.Verdict.the-variants.{Accepted, Refused}
@@ -49,11 +50,6 @@ probeVerdictAt rom wram vram pak target =
 unfoldable pub putBytes : ℕ → List ℕ → ℕ → ℕ → List ℕ
 putBytes zero xs i v = xs
 putBytes (suc n) xs i v = putBytes n (set xs i (v % 256)) (i + 1) (v / 256)
-
--- a list by a verdict: the second where accepted, else the first
-abbrev pub whenAccepted : Verdict → List ℕ → List ℕ → List ℕ
-whenAccepted Accepted refused accepted = accepted
-whenAccepted (Refused n) refused accepted = refused
 
 -- the verdict of a write of `size` bytes: ROM, WRAM, VRAM and pak RAM as lent, and the address
 unfoldable pub probeVerdictOf : ℕ → List ℕ → List ℕ → List ℕ → List ℕ → ℕ → Verdict

@@ -4,12 +4,12 @@ use mathlib.Core.List.{List}
 use mathlib.Core.Path.{_≡_, refl}
 use native.Mathlib.Omega.{arith}
 use Rattle.bus.specs.Memory.{verdictAt, Lengths}
-use Rattle.refusal.specs.Number.{unless}
+use Rattle.refusal.specs.Number.{unless, thenOf}
 use Rattle.refusal.specs.declared.Refusal as refusal
 use Rattle.refusal.specs.declared.Verdict.{Verdict}
 use Rattle.refusal.specs.declared.Verdict.the-variants.{Accepted, Refused}
 use Rattle.bus.proofs.Accepted.{accepted-lengths}
-use Rattle.processor.specs.Acceptance.{thenOf, acceptanceAt, stateOk}
+use Rattle.processor.specs.Acceptance.{acceptanceAt, stateOk}
 
 first-accepted : (v later : Verdict) → thenOf v later ≡ Accepted → v ≡ Accepted
 first-accepted Accepted later e = refl

@@ -1,12 +1,12 @@
--- Refusals 1 to 5 of a step and a run (paper 01, "Refusal numbers"): those of the bus, which test the request lines and the
--- timer too (paper 02, W6), then what 5 says of the processor.
+-- Refusals 1 to 5 of a step and a run (paper 01, "Refusal numbers"): those of the bus, which test the request lines and
+-- the timer too (paper 02, W6), then what 5 says of the processor.
 use Prim.Native.Nat.{ℕ, _%_, _^_}
 use mathlib.Core.Bool.{Bool, false}
 use mathlib.Core.List.{List}
 use lib.Dec.{eqb, leb}
 use lib.ListN.{getD, length}
 use Rattle.word.specs.Choose.{pick}
-use Rattle.refusal.specs.Number.{unless}
+use Rattle.refusal.specs.Number.{unless, thenOf}
 use Rattle.bus.specs.Memory.{Memory, verdictAt}
 use Rattle.refusal.specs.declared.Verdict.{Verdict}
 use Rattle.refusal.specs.declared.Verdict.the-variants.{Accepted, Refused}
@@ -43,11 +43,6 @@ unfoldable pub stateOk : List ℕ → List ℕ → ℕ → ℕ → Bool
 stateOk regs sys pc psw =
     both (eqb (getD regs 0 0) 0) (both (evenOk sys pc) (both (formatsOk sys psw) (leb (getD sys 7 0) (2 ^ 31))))
 
--- what comes after the bus's verdict
-abbrev pub thenOf : Verdict → Verdict → Verdict
-thenOf Accepted later = later
-thenOf (Refused n) later = Refused n
-
 -- the lowest number whose condition holds
 unfoldable pub acceptanceAt : ℕ → ℕ → ℕ → ℕ → List ℕ → List ℕ → List ℕ → ℕ → ℕ → Verdict
 acceptanceAt rom wram vram pak device regs sys pc psw =
@@ -56,7 +51,8 @@ acceptanceAt rom wram vram pak device regs sys pc psw =
 -- the same of a state and a memory
 abbrev pub acceptanceOf : State → Memory → Verdict
 acceptanceOf s m =
-    acceptanceAt (length (m .rom)) (length (m .wram)) (length (m .vram)) (length (m .pak)) (m .regs) (s .regs) (s .sys) (s .pc) (s .psw)
+    acceptanceAt (length (m .rom)) (length (m .wram)) (length (m .vram)) (length (m .pak)) (m .regs) (s .regs)
+    (s .sys) (s .pc) (s .psw)
 
 -- the same of what a public call is given
 abbrev pub acceptanceIn : Processor → Memory → Verdict

@@ -31,7 +31,8 @@ doneOf answer u p m = record { answer = answer; undefined = u; processor = p; me
 abbrev pub stepWhen : Verdict → Processor → Memory → Done
 stepWhen verdict.Accepted p m =
     let t = stepOf (stateIn p) (busOf p m) in
-    doneOf (t .answer) (undefinedStepOf (stateIn p) (busOf p m)) (processorOf (t .state) (t .memory .regs)) (lentOf (t .memory))
+    doneOf (t .answer) (undefinedStepOf (stateIn p) (busOf p m)) (processorOf (t .state) (t .memory .regs))
+    (lentOf (t .memory))
 stepWhen (verdict.Refused n) p m = doneOf (Refused n) noneOf p m
 
 unfoldable pub checkedStepOf : Processor → Memory → Done
@@ -57,12 +58,13 @@ runWhen (verdict.Refused n) budget p m = ranOf (verdict.Refused n) 0 p m
 unfoldable pub checkedRunOf : ℕ → Processor → Memory → Ran
 checkedRunOf budget p m = runWhen (acceptanceIn p m) budget p m
 
--- reset: "PC 0xFFFFFFF0, ECR 0xFFF0, PSW 0x8000, all else 0, running"; "Lines and timer reset to 0" (paper 02, W6). ECR is
--- number 4 of the stored system registers
+-- reset: "PC 0xFFFFFFF0, ECR 0xFFF0, PSW 0x8000, all else 0, running"; "Lines and timer reset to 0" (paper 02, W6). ECR
+-- is number 4 of the stored system registers
 unfoldable pub resetOf : Machine
 resetOf =
     record {
       processor =
-          processorOf (stateOf (replicate 32 0) (set (replicate 8 0) 4 0xFFF0) 0xFFFFFFF0 0x8000 Running) (replicate 17 0);
+          processorOf (stateOf (replicate 32 0) (set (replicate 8 0) 4 0xFFF0) 0xFFFFFFF0 0x8000 Running)
+          (replicate 17 0);
       drawing = record { regs = replicate 13 0 };
     }

@@ -1,6 +1,6 @@
 -- The processor's record as the public calls have it, and what it stands for: a state (machine, State), and the request
--- lines and the timer among the device registers of the memory (bus, Registers). The public calls lend the memories with
--- the drawing registers alone.
+-- lines and the timer among the device registers of the memory (bus, Registers). The public calls lend the memories
+-- with the drawing registers alone.
 use Prim.Native.Nat.{ℕ}
 use mathlib.Core.List.{List, [], _∷_}
 use lib.ListN.{getD}

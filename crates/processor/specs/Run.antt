@@ -8,13 +8,14 @@ use Rattle.refusal.specs.declared.Verdict.the-variants as verdict
 use Rattle.processor_machine.specs.State.{State, stateOf, Stepped}
 use Rattle.processor_step.specs.Step.{stepOf}
 use Rattle.processor_machine.specs.declared.Answer.{Answer}
-use Rattle.processor_machine.specs.declared.Answer.the-variants.{Ended, Trapped, Interrupted, TurnedFatal, WasHalted, WasFatal, Refused}
+use Rattle.processor_machine.specs.declared.Answer.the-variants.{Ended, Trapped, Interrupted, TurnedFatal, WasHalted}
+use Rattle.processor_machine.specs.declared.Answer.the-variants.{WasFatal, Refused}
 use Rattle.processor.specs.declared.After.{After}
 use Rattle.processor.specs.declared.After.the-variants.{Counted, Stopped}
 use Rattle.processor.specs.declared.Finished.{Finished}
 
--- "HALT itself and a trapped instruction count; a refused one and the step that turns fatal don't"; an accepted interrupt
--- "counts in a run" (paper 02, W6)
+-- "HALT itself and a trapped instruction count; a refused one and the step that turns fatal don't"; an accepted
+-- interrupt "counts in a run" (paper 02, W6)
 abbrev pub afterOf : Answer → After
 afterOf Ended = Counted
 afterOf (Trapped cause) = Counted

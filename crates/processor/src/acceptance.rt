@@ -36,8 +36,8 @@ fn formats_ok(sys: &[u32; 8], psw: u32) -> bool
     processor_machine::system::psw_bits(fepsw) == fepsw
 }
 
-// Whether refusal 5 has nothing against the processor. It is `pub` for the crate saved_kinds, and no call of the library's
-// users.
+// Whether refusal 5 has nothing against the processor. It is `pub` for the crate saved_kinds, and no call of the
+// library's users.
 pub fn state_ok(regs: &[u32; 32], sys: &[u32; 8], pc: u32, psw: u32) -> bool
     ensures { λ r. ⌜ r ≡ stateOk (now (regs .entry)) (now (sys .entry)) pc psw ⌝ }
 {
@@ -65,7 +65,9 @@ pub fn acceptance(
     pc: u32,
     psw: u32,
 ) -> Verdict
-    ensures { λ r. ⌜ r ≡ acceptanceAt rom wram vram pak (now (device .entry)) (now (regs .entry)) (now (sys .entry)) pc psw ⌝ }
+    ensures { λ r. ⌜
+        r ≡ acceptanceAt rom wram vram pak (now (device .entry)) (now (regs .entry)) (now (sys .entry)) pc psw
+        ⌝ }
 {
     match bus::refusals::verdict(rom, wram, vram, pak, device) {
         Verdict::Refused(n) => Verdict::Refused(n),

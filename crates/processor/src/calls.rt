@@ -16,7 +16,7 @@ use processor_machine::Mode;
 use processor_step::step;
 use refusal::Verdict;
 ghost use mathlib.Core.Path.{_≡_};
-ghost use Rattle.bus.specs.Memory.{memoryOf};
+ghost use Rattle.bus.specs.Lent.{enteringWith, leavingWith};
 ghost use Rattle.processor.specs.Acceptance.{acceptanceIn};
 ghost use Rattle.processor.specs.Calls.{doneOf, ranOf, checkedStepOf, checkedRunOf, resetOf};
 
@@ -30,7 +30,7 @@ pub fn verdict(
     processor: Processor,
     drawing: Drawing,
 ) -> Verdict
-    ensures { λ r. ⌜ r ≡ acceptanceIn processor (memoryOf (now (rom .entry)) (now (wram .entry)) (now (vram .entry)) (now (pak .entry)) (drawing .regs)) ⌝ }
+    ensures { λ r. ⌜ r ≡ acceptanceIn processor (enteringWith rom wram vram pak (drawing .regs)) ⌝ }
 {
     let regs = processor.regs;
     let sys = system(processor);
@@ -61,7 +61,10 @@ pub fn step(
     processor: Processor,
     drawing: Drawing,
 ) -> Stepped
-    ensures { λ r. ⌜ doneOf (r .answer) (r .undefined) (r .processor) (memoryOf (now (rom .entry)) (now (wram .exit)) (now (vram .exit)) (now (pak .exit)) (r .drawing .regs)) ≡ checkedStepOf processor (memoryOf (now (rom .entry)) (now (wram .entry)) (now (vram .entry)) (now (pak .entry)) (drawing .regs)) ⌝ }
+    ensures { λ r. ⌜
+        doneOf (r .answer) (r .undefined) (r .processor) (leavingWith rom wram vram pak (r .drawing .regs))
+        ≡ checkedStepOf processor (enteringWith rom wram vram pak (drawing .regs))
+        ⌝ }
 {
     let mut regs = processor.regs;
     let mut sys = system(processor);
@@ -129,7 +132,10 @@ pub fn run(
     drawing: Drawing,
     budget: u64,
 ) -> Ran
-    ensures { λ r. ⌜ ranOf (r .verdict) (r .count) (r .processor) (memoryOf (now (rom .entry)) (now (wram .exit)) (now (vram .exit)) (now (pak .exit)) (r .drawing .regs)) ≡ checkedRunOf budget processor (memoryOf (now (rom .entry)) (now (wram .entry)) (now (vram .entry)) (now (pak .entry)) (drawing .regs)) ⌝ }
+    ensures { λ r. ⌜
+        ranOf (r .verdict) (r .count) (r .processor) (leavingWith rom wram vram pak (r .drawing .regs))
+        ≡ checkedRunOf budget processor (enteringWith rom wram vram pak (drawing .regs))
+        ⌝ }
 {
     let mut regs = processor.regs;
     let mut sys = system(processor);

@@ -11,7 +11,8 @@ use processor_step::step;
 use refusal::Verdict;
 ghost use mathlib.Core.Path.{_≡_};
 ghost use lib.ListN.{length};
-ghost use Rattle.bus.specs.Memory.{memoryOf, Lengths};
+ghost use Rattle.bus.specs.Memory.{Lengths};
+ghost use Rattle.bus.specs.Lent.{entering, leaving, leavingRam};
 ghost use Rattle.processor_machine.specs.State.{stateOf};
 ghost use Rattle.processor.specs.Run.{afterOf, runOf, ranBy};
 ghost use Rattle.processor.specs.Follows.{Follows};
@@ -46,7 +47,11 @@ fn quick(
     budget: u64,
 ) -> Progress
     requires { ⌜ Lengths (length (now rom)) (length (now wram)) (length (now vram)) (length (now pak)) ⌝ }
-    ensures { λ r. ⌜ Follows budget (stateOf (now (regs .entry)) (now (sys .entry)) pc psw mode) (memoryOf (now (rom .entry)) (now (wram .entry)) (now (vram .entry)) (now (pak .entry)) (now (device .entry))) (r .count) (stateOf (now (regs .exit)) (now (sys .exit)) (r .pc) (r .psw) mode) (memoryOf (now (rom .entry)) (now (wram .exit)) (now (vram .exit)) (now (pak .entry)) (now (device .entry))) ⌝ }
+    ensures { λ r. ⌜
+        Follows budget (stateOf (now (regs .entry)) (now (sys .entry)) pc psw mode) (entering rom wram vram pak device)
+        (r .count) (stateOf (now (regs .exit)) (now (sys .exit)) (r .pc) (r .psw) mode)
+        (leavingRam rom wram vram pak device)
+        ⌝ }
 {
     match mode {
         Mode::Running => {
@@ -75,7 +80,10 @@ pub fn run(
     budget: u64,
 ) -> Finished
     requires { ⌜ Lengths (length (now rom)) (length (now wram)) (length (now vram)) (length (now pak)) ⌝ }
-    ensures { λ r. ⌜ ranBy (now (regs .exit)) (now (sys .exit)) r (memoryOf (now (rom .entry)) (now (wram .exit)) (now (vram .exit)) (now (pak .exit)) (now (device .exit))) ≡ runOf budget (stateOf (now (regs .entry)) (now (sys .entry)) pc psw mode) (memoryOf (now (rom .entry)) (now (wram .entry)) (now (vram .entry)) (now (pak .entry)) (now (device .entry))) ⌝ }
+    ensures { λ r. ⌜
+        ranBy (now (regs .exit)) (now (sys .exit)) r (leaving rom wram vram pak device)
+        ≡ runOf budget (stateOf (now (regs .entry)) (now (sys .entry)) pc psw mode) (entering rom wram vram pak device)
+        ⌝ }
 {
     let mut pc = pc;
     let mut psw = psw;

@@ -1,5 +1,5 @@
--- Each bit of AND, OR, XOR and NOT (document 000, "Bitwise"): bit k of the result is made of bit k of the operands. Of two
--- bits the lesser is their and, the greater their or, and the last digit of their sum their exclusive or.
+-- Each bit of AND, OR, XOR and NOT (document 000, "Bitwise"): bit k of the result is made of bit k of the operands. Of
+-- two bits the lesser is their and, the greater their or, and the last digit of their sum their exclusive or.
 use Prim.Native.Nat.{ℕ, _+_, _-_, _*_, _/_, _%_, _^_, _<_, min, max}
 use mathlib.Core.Path.{_≡_}
 use Rattle.processor_arithmetic.specs.Bitwise.{andOf, orOf, xorOf, notOf}

@@ -18,7 +18,8 @@ use Rattle.processor_arithmetic.specs.Truncation.{Truncated}
 abbrev pub DividePlaced : Type 0
 DividePlaced =
     (a b psw : ℕ)
-    → Placed psw (bitAt 3 psw) (bitOf (outside (quotZ (signed a) (signed b)))) (divideOf a b psw .reg2) (divideOf a b psw .psw)
+    → Placed psw (bitAt 3 psw) (bitOf (outside (quotZ (signed a) (signed b)))) (divideOf a b psw .reg2)
+    (divideOf a b psw .psw)
 
 -- OV of DIV: 0x80000000 by -1, and nothing else
 abbrev pub DivideOverflow : Type 0

@@ -1,5 +1,5 @@
--- PSW as an exception enters (paper 01: "EP and ID set, AE cleared", duplexed "NP and ID set, AE cleared"): exactly these
--- bits change. The proofs are `regular-entry` and `duplexed-entry` in proofs/Entering.
+-- PSW as an exception enters (paper 01: "EP and ID set, AE cleared", duplexed "NP and ID set, AE cleared"): exactly
+-- these bits change. The proofs are `regular-entry` and `duplexed-entry` in proofs/Entering.
 use Prim.Native.Nat.{ℕ}
 use mathlib.Core.Path.{_≡_}
 use mathlib.Core.Logic.{_≢_}

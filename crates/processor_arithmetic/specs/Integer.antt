@@ -1,5 +1,5 @@
--- Words and whole numbers: the signed reading of a word, the two's complement of a whole number, and which whole numbers
--- are no signed word.
+-- Words and whole numbers: the signed reading of a word, the two's complement of a whole number, and which whole
+-- numbers are no signed word.
 use Prim.Native.Nat.{ℕ, _-_, _%_, _^_}
 use mathlib.Core.Bool.{Bool, true}
 use lib.IntN.{ℤ, pos, negsuc, negℤ}

@@ -1,4 +1,5 @@
--- DIV and DIVU by a divisor that is not zero (document 000, "Arithmetic"; paper 01): remainder to r30, quotient to reg2.
+-- DIV and DIVU by a divisor that is not zero (document 000, "Arithmetic"; paper 01): remainder to r30, quotient to
+-- reg2.
 use Prim.Native.Nat.{ℕ, _/_, _%_, _^_}
 use lib.Signed.{quotZ, remZ}
 use Rattle.processor_arithmetic.specs.Flag.{bitOf, keepCarryOf}

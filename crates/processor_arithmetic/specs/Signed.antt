@@ -14,7 +14,8 @@ use Rattle.processor_arithmetic.specs.Bit.{bitAt}
 abbrev pub SumPlaced : Type 0
 SumPlaced =
     (a b psw : ℕ) → a < 2 ^ 32 → b < 2 ^ 32
-    → Placed psw (bitOf (leb (2 ^ 32) (a + b))) (bitOf (outside (signed a +ℤ signed b))) ((a + b) % 2 ^ 32) (sumOf a b psw .psw)
+    → Placed psw (bitOf (leb (2 ^ 32) (a + b))) (bitOf (outside (signed a +ℤ signed b))) ((a + b) % 2 ^ 32)
+    (sumOf a b psw .psw)
 
 -- OV of a sum: the sum of the signed readings is no signed word
 abbrev pub SumOverflow : Type 0
@@ -37,7 +38,8 @@ SumSigned =
 abbrev pub DifferencePlaced : Type 0
 DifferencePlaced =
     (a b psw : ℕ) → a < 2 ^ 32 → b < 2 ^ 32
-    → Placed psw (bitOf (ltb a b)) (bitOf (outside (signed a -ℤ signed b))) ((a + (2 ^ 32 - b)) % 2 ^ 32) (differenceOf a b psw .psw)
+    → Placed psw (bitOf (ltb a b)) (bitOf (outside (signed a -ℤ signed b))) ((a + (2 ^ 32 - b)) % 2 ^ 32)
+    (differenceOf a b psw .psw)
 
 -- OV of a difference: the difference of the signed readings is no signed word
 abbrev pub DifferenceOverflow : Type 0

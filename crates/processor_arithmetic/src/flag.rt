@@ -1,7 +1,8 @@
 // The flags of PSW: CY, OV, S and Z in bits 3 to 0, ID in bit 12. `pub` for the crates above alone.
 ghost use mathlib.Core.Path.{_≡_};
 ghost use Prim.Native.Nat.{_<_};
-ghost use Rattle.processor_arithmetic.specs.Flag.{bitOf, flagsOf, keepCarryOf, setIdOf, clearIdOf, setEpOf, setNpOf, clearAeOf, regularOf, duplexedOf};
+ghost use Rattle.processor_arithmetic.specs.Flag.{bitOf, flagsOf, keepCarryOf, setIdOf, clearIdOf, setEpOf};
+ghost use Rattle.processor_arithmetic.specs.Flag.{setNpOf, clearAeOf, regularOf, duplexedOf};
 
 // 1 for true and 0 for false.
 pub fn bit(b: bool) -> u32

@@ -1,5 +1,5 @@
-// DIV and DIVU, for a divisor that is not zero: the remainder for r30, the quotient for reg2. `pub` for the crates above
-// alone, which raise the exception of a zero divisor.
+// DIV and DIVU, for a divisor that is not zero: the remainder for r30, the quotient for reg2. `pub` for the crates
+// above alone, which raise the exception of a zero divisor.
 use crate::Pair;
 use crate::flag::bit;
 use crate::flag::keep_carry;

@@ -3,7 +3,8 @@ use crate::Outcome;
 use crate::flag::flags;
 ghost use mathlib.Core.Path.{_≡_};
 ghost use Prim.Native.Nat.{_<_};
-ghost use Rattle.processor_arithmetic.specs.Shift.{arithmeticRightOf, shiftLeftOf, shiftRightOf, shiftArithmeticOf};
+ghost use Rattle.processor_arithmetic.specs.Shift.{arithmeticRightOf, shiftLeftOf, shiftRightOf};
+ghost use Rattle.processor_arithmetic.specs.Shift.{shiftArithmeticOf};
 
 pub fn shl(a: u32, b: u32, psw: u32) -> Outcome
     ensures { λ r. ⌜ r ≡ shiftLeftOf a b psw ⌝ }

@@ -12,7 +12,9 @@ use Rattle.processor_decode.specs.declared.LongOperation.{LongOperation}
 use Rattle.processor_decode.specs.declared.FloatingOperation.{FloatingOperation}
 use Rattle.processor_decode.specs.declared.NintendoOperation.{NintendoOperation}
 use Rattle.processor_decode.specs.declared.Width.{Width}
-use Rattle.processor_decode.specs.declared.Instruction.the-variants.{Register, Immediate, Setf, Ldsr, Stsr, Bcond, Jr, Jal, Long, Load, In, Store, Out, Cmpf, Floating, Nintendo}
+use Rattle.processor_decode.specs.declared.Instruction.the-variants.{Register, Immediate, Setf, Ldsr, Stsr, Bcond}
+use Rattle.processor_decode.specs.declared.Instruction.the-variants.{Jr, Jal, Long, Load, In, Store, Out, Cmpf}
+use Rattle.processor_decode.specs.declared.Instruction.the-variants.{Floating, Nintendo}
 use Rattle.processor_decode.specs.declared.Decoded.{Decoded}
 use Rattle.processor_decode.specs.declared.Decoded.the-variants.{Modelled, NotModelled}
 
@@ -29,8 +31,8 @@ abbrev pub register : RegisterOperation → ℕ → Decoded
 register op f = Modelled (Register op (lowOf f) (reg2Of f))
 
 -- Format II, "(sign extend) imm"
-abbrev pub signed : ImmediateOperation → ℕ → Decoded
-signed op f = Modelled (Immediate op (extendOf 16 (lowOf f)) (reg2Of f))
+abbrev pub signedImmediate : ImmediateOperation → ℕ → Decoded
+signedImmediate op f = Modelled (Immediate op (extendOf 16 (lowOf f)) (reg2Of f))
 
 -- Format II, "(zero extend) imm"
 abbrev pub unsigned : ImmediateOperation → ℕ → Decoded

@@ -4,13 +4,15 @@
 use Prim.Native.Nat.{ℕ, _/_}
 use mathlib.Core.List.{List, [], _∷_, _++_}
 use lib.ListN.{getD, replicate}
-use Rattle.processor_decode.specs.Format.{lowOf, reg2Of, register, signed, unsigned, setf, ldsr, stsr, branch, jr, jal, longSigned, longUnsigned, load, input, store, output}
+use Rattle.processor_decode.specs.Format.{lowOf, reg2Of, register, signedImmediate, unsigned, setf, ldsr, stsr, branch, jr}
+use Rattle.processor_decode.specs.Format.{jal, longSigned, longUnsigned, load, input, store, output}
 use Rattle.processor_decode.specs.SubOpcode.{extendedOf}
 use Rattle.processor_decode.specs.declared.RegisterOperation.{RegisterOperation}
 use Rattle.processor_decode.specs.declared.ImmediateOperation.{ImmediateOperation}
 use Rattle.processor_decode.specs.declared.LongOperation.{LongOperation}
 use Rattle.processor_decode.specs.declared.Width.{Width}
-use Rattle.processor_decode.specs.declared.Instruction.the-variants.{Mul, Div, Mulu, Divu, Jmp, Cli, Sei, Trap, Reti, Halt, Illegal}
+use Rattle.processor_decode.specs.declared.Instruction.the-variants.{Mul, Div, Mulu, Divu, Jmp, Cli, Sei, Trap}
+use Rattle.processor_decode.specs.declared.Instruction.the-variants.{Reti, Halt, Illegal}
 use Rattle.processor_decode.specs.declared.Decoded.{Decoded}
 use Rattle.processor_decode.specs.declared.Decoded.the-variants.{Modelled, NotModelled}
 
@@ -50,13 +52,13 @@ shortRows f =
     -- 001111 I NOT
     register RegisterOperation.Not f ∷
     -- 010000 II MOV
-    signed ImmediateOperation.Mov f ∷
+    signedImmediate ImmediateOperation.Mov f ∷
     -- 010001 II ADD
-    signed ImmediateOperation.Add f ∷
+    signedImmediate ImmediateOperation.Add f ∷
     -- 010010 II SETF
     setf f ∷
     -- 010011 II CMP
-    signed ImmediateOperation.Cmp f ∷
+    signedImmediate ImmediateOperation.Cmp f ∷
     -- 010100 II SHL
     unsigned ImmediateOperation.Shl f ∷
     -- 010101 II SHR

@@ -7,7 +7,8 @@ use crate::RegisterOperation;
 use crate::Width;
 ghost use mathlib.Core.Path.{_≡_};
 ghost use Prim.Native.Nat.{_<_};
-ghost use Rattle.processor_decode.specs.Format.{register, signed, unsigned, long, longSigned, longUnsigned, load, input, store, output, ldsr, stsr, setf, branch, jr, jal, dispOf};
+ghost use Rattle.processor_decode.specs.Format.{register, signedImmediate, unsigned, long, longSigned, longUnsigned, load};
+ghost use Rattle.processor_decode.specs.Format.{input, store, output, ldsr, stsr, setf, branch, jr, jal, dispOf};
 
 // Format I: reg1 and reg2.
 pub fn register(op: RegisterOperation, f: u32) -> Decoded
@@ -22,7 +23,7 @@ pub fn register(op: RegisterOperation, f: u32) -> Decoded
 
 // Format II: a five-bit immediate, sign-extended, and reg2.
 pub fn signed(op: ImmediateOperation, f: u32) -> Decoded
-    ensures { λ r. ⌜ r ≡ signed op f ⌝ }
+    ensures { λ r. ⌜ r ≡ signedImmediate op f ⌝ }
 {
     Decoded::Modelled(Instruction::Immediate {
         op,

@@ -1,5 +1,5 @@
--- Paper 02, W8: "Turn an instruction with its fields into one or two halfwords", or refusal 12 where a field is out of its
--- range.
+-- Paper 02, W8: "Turn an instruction with its fields into one or two halfwords", or refusal 12 where a field is out of
+-- its range.
 use Rattle.word.specs.Choose.{pick}
 use Rattle.refusal.specs.declared.Refusal.the-variants.{Encoding}
 use Rattle.processor_decode.specs.declared.Instruction.{Instruction}

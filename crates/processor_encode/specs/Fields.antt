@@ -1,5 +1,5 @@
--- An instruction as numbers: the number of its operation (specs/Format), and its fields. A field that its format does not
--- have is 0. Names and operands are those of document 000's list of instructions.
+-- An instruction as numbers: the number of its operation (specs/Format), and its fields. A field that its format does
+-- not have is 0. Names and operands are those of document 000's list of instructions.
 use Prim.Native.Nat.{ℕ, _+_}
 use Rattle.processor_decode.specs.declared.RegisterOperation.{RegisterOperation}
 use Rattle.processor_decode.specs.declared.ImmediateOperation.{ImmediateOperation}
@@ -8,7 +8,10 @@ use Rattle.processor_decode.specs.declared.FloatingOperation.{FloatingOperation
 use Rattle.processor_decode.specs.declared.NintendoOperation.{NintendoOperation}
 use Rattle.processor_decode.specs.declared.Width.{Width}
 use Rattle.processor_decode.specs.declared.Instruction.{Instruction}
-use Rattle.processor_decode.specs.declared.Instruction.the-variants.{Register, Mul, Div, Mulu, Divu, Jmp, Immediate, Setf, Cli, Sei, Trap, Reti, Halt, Ldsr, Stsr, Bcond, Jr, Jal, Long, Load, In, Store, Out, Illegal, Cmpf, Floating, Nintendo}
+use Rattle.processor_decode.specs.declared.Instruction.the-variants.{Register, Mul, Div, Mulu, Divu, Jmp, Immediate}
+use Rattle.processor_decode.specs.declared.Instruction.the-variants.{Setf, Cli, Sei, Trap, Reti, Halt, Ldsr, Stsr}
+use Rattle.processor_decode.specs.declared.Instruction.the-variants.{Bcond, Jr, Jal, Long, Load, In, Store, Out}
+use Rattle.processor_decode.specs.declared.Instruction.the-variants.{Illegal, Cmpf, Floating, Nintendo}
 use Rattle.processor_encode.specs.declared.Fields as fields
 
 abbrev pub numbers : ℕ → ℕ → ℕ → ℕ → ℕ → fields.Fields

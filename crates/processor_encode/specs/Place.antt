@@ -1,12 +1,15 @@
--- Where the fields of an instruction stand in its halfwords (document 000, "Instruction Formats"): each takes as many low
--- bits of its field as the format has for it.
+-- Where the fields of an instruction stand in its halfwords (document 000, "Instruction Formats"): each takes as many
+-- low bits of its field as the format has for it.
 use Prim.Native.Nat.{ℕ, _+_, _*_, _/_, _%_}
 use Rattle.refusal.specs.declared.Refusal.the-variants.{Encoding}
 use Rattle.processor_encode.specs.declared.Fields as fields
 use Rattle.processor_encode.specs.declared.Encoded as encoded
 use Rattle.processor_encode.specs.declared.Encoded.the-variants.{One, Two, Refused}
 use Rattle.processor_encode.specs.declared.format.Format as format
-use Rattle.processor_encode.specs.declared.format.Format.the-variants.{Registers, Target, SignedImmediate, UnsignedImmediate, Condition, Vector, Bare, SystemRegister, Branch, Jump, SignedLong, UnsignedLong, Extended, Exchange, Unlisted}
+use Rattle.processor_encode.specs.declared.format.Format.the-variants.{Registers, Target, SignedImmediate}
+use Rattle.processor_encode.specs.declared.format.Format.the-variants.{UnsignedImmediate, Condition, Vector, Bare}
+use Rattle.processor_encode.specs.declared.format.Format.the-variants.{SystemRegister, Branch, Jump, SignedLong}
+use Rattle.processor_encode.specs.declared.format.Format.the-variants.{UnsignedLong, Extended, Exchange, Unlisted}
 
 -- the opcode in bits 15-10, reg2 in bits 9-5, and reg1, an immediate or a condition in bits 4-0
 abbrev pub placed : ℕ → ℕ → ℕ → ℕ

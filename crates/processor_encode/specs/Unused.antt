@@ -1,6 +1,6 @@
 -- Paper 02, W8: "its halfwords with unused bits cleared, among them bit 0 of a jump or branch offset and the top bit of
--- SETF's immediate". The unused bits of each format, from document 000, by the table of specs/Format; those of halfwords
--- that are invalid or not modelled are left as they are.
+-- SETF's immediate". The unused bits of each format, from document 000, by the table of specs/Format; those of
+-- halfwords that are invalid or not modelled are left as they are.
 use Prim.Native.Nat.{ℕ, _+_, _-_, _*_, _/_, _%_, _^_}
 use mathlib.Core.Bool.{Bool}
 use lib.Dec.{ltb, eqb}
@@ -10,7 +10,10 @@ use Rattle.processor_encode.specs.Format.{formatOf}
 use Rattle.processor_encode.specs.declared.Encoded as encoded
 use Rattle.processor_encode.specs.declared.Encoded.the-variants.{One, Two}
 use Rattle.processor_encode.specs.declared.format.Format as format
-use Rattle.processor_encode.specs.declared.format.Format.the-variants.{Registers, Target, SignedImmediate, UnsignedImmediate, Condition, Vector, Bare, SystemRegister, Branch, Jump, SignedLong, UnsignedLong, Extended, Exchange, Unlisted}
+use Rattle.processor_encode.specs.declared.format.Format.the-variants.{Registers, Target, SignedImmediate}
+use Rattle.processor_encode.specs.declared.format.Format.the-variants.{UnsignedImmediate, Condition, Vector, Bare}
+use Rattle.processor_encode.specs.declared.format.Format.the-variants.{SystemRegister, Branch, Jump, SignedLong}
+use Rattle.processor_encode.specs.declared.format.Format.the-variants.{UnsignedLong, Extended, Exchange, Unlisted}
 
 -- x with `count` bits cleared, of which the lowest is bit `low`
 abbrev pub without : ℕ → ℕ → ℕ → ℕ

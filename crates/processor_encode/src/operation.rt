@@ -9,7 +9,8 @@ use processor_decode::RegisterOperation;
 use processor_decode::Width;
 ghost use mathlib.Core.Path.{_≡_};
 ghost use Prim.Native.Nat.{_+_, _<_};
-ghost use Rattle.processor_encode.specs.Fields.{fieldsOf, numbers, registerNumber, immediateNumber, longNumber, widthNumber, floatingNumber, nintendoNumber};
+ghost use Rattle.processor_encode.specs.Fields.{fieldsOf, numbers, registerNumber, immediateNumber, longNumber};
+ghost use Rattle.processor_encode.specs.Fields.{widthNumber, floatingNumber, nintendoNumber};
 
 fn numbers(operation: u32, reg1: u32, reg2: u32, condition: u32, immediate: u32) -> Fields
     ensures { λ r. ⌜ r ≡ numbers operation reg1 reg2 condition immediate ⌝ }

@@ -1,4 +1,5 @@
-// Where the fields stand in the halfwords, by format. Each takes the low bits of its field, so every field is in its place alone.
+// Where the fields stand in the halfwords, by format. Each takes the low bits of its field, so every field is in its
+// place alone.
 use crate::Encoded;
 use crate::Fields;
 use crate::format::Format;

@@ -4,7 +4,7 @@ use crate::format::Format;
 ghost use mathlib.Core.Path.{_≡_};
 ghost use Prim.Native.Nat.{_≤_, _^_};
 ghost use lib.Dec.{ltb};
-ghost use Rattle.processor_encode.specs.Range.{signedIn, evenIn, systemIn, within, fitsOf};
+ghost use Rattle.processor_encode.specs.Range.{signedIn, evenIn, systemFits, within, fitsOf};
 
 fn below(limit: u32, x: u32) -> bool
     ensures { λ r. ⌜ r ≡ ltb x limit ⌝ }
@@ -36,7 +36,7 @@ fn even(half: u32, x: u32) -> bool
 
 // Whether x is a system register that is modelled.
 fn system(x: u32) -> bool
-    ensures { λ r. ⌜ r ≡ systemIn x ⌝ }
+    ensures { λ r. ⌜ r ≡ systemFits x ⌝ }
 {
     if x == 24 {
         return false;

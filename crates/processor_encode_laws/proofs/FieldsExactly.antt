@@ -17,7 +17,7 @@ use Rattle.processor_decode.specs.declared.Instruction.{Instruction}
 use Rattle.processor_decode.specs.declared.Instruction.the-variants.{Register, Mul, Div, Mulu, Divu, Jmp, Immediate, Setf, Cli, Sei, Trap, Reti, Halt, Ldsr, Stsr, Bcond, Jr, Jal, Long, Load, In, Store, Out, Illegal, Cmpf, Floating, Nintendo}
 use Rattle.processor_encode.specs.Format.{formatOf, shortFormats, longFormats, extendedFormats}
 use Rattle.processor_encode.specs.Fields.{fieldsOf, numbers}
-use Rattle.processor_encode.specs.Range.{fitsOf, inRange, signedIn, evenIn, systemIn}
+use Rattle.processor_encode.specs.Range.{fitsOf, inRange, signedIn, evenIn, systemFits}
 use Rattle.processor_encode.specs.declared.Fields.{Fields}
 use Rattle.processor_encode.specs.declared.format.Format as format
 use Rattle.processor_encode.specs.declared.format.Format.the-variants.{Registers, Target, SignedImmediate, UnsignedImmediate, Condition, Vector, Bare, SystemRegister, Branch, Jump, SignedLong, UnsignedLong, Extended, Exchange, Unlisted}
@@ -77,7 +77,7 @@ bare-fields n I o x e h =
 
 system-fields : (n : ℕ) (I : ℕ → ℕ → Instruction) → OfSystemRegister n I → (x : Fields) → x .operation ≡ n → fitsOf SystemRegister x ≡ true → Source x
 system-fields n I o x e h =
-    let w = within-facts x 1 32 1 (systemIn (x .immediate)) h in
+    let w = within-facts x 1 32 1 (systemFits (x .immediate)) h in
     record { instruction = I (x .immediate) (x .reg2); fields = o .fields (x .immediate) (x .reg2) ∙ same-numbers x n 0 (x .reg2) 0 (x .immediate) (sym e) (none (x .reg1) (w .first)) refl (none (x .condition) (w .third)) refl }
 
 jump-fields : (n : ℕ) (I : ℕ → Instruction) → OfJump n I → (x : Fields) → x .operation ≡ n → fitsOf Jump x ≡ true → Source x

@@ -7,7 +7,7 @@ use native.Mathlib.Omega.{arith}
 use borrow.Author.Tests.{lt-ltb, le-ltb, ltb-true, eq-eqb, ne-eqb}
 use lib.Dec.{ltb, eqb}
 use Rattle.word.specs.Choose.{pick}
-use Rattle.processor_encode.specs.Range.{within, signedIn, evenIn, systemIn}
+use Rattle.processor_encode.specs.Range.{within, signedIn, evenIn, systemFits}
 use Rattle.processor_encode.specs.declared.Fields.{Fields}
 
 -- a choice whose test is known to hold in the first case
@@ -54,14 +54,14 @@ pub even-true : (half x : ℕ) → x % 2 ≡ 0 → signedIn half x ≡ true → 
 unfolding evenIn
 even-true half x e h = simp (eq-eqb (x % 2) 0 e) h
 
-pub system-facts : (x : ℕ) → systemIn x ≡ true → (x < 32) × (x ≡ 24 → ⊥)
-unfolding systemIn
+pub system-facts : (x : ℕ) → systemFits x ≡ true → (x < 32) × (x ≡ 24 → ⊥)
+unfolding systemFits
 system-facts x h =
     elim (ℕ-discrete x 24) [
       | yes e ↦ absurd (false≢true (simp (eq-eqb x 24 e) at h))
       | no ne ↦ (ltb-true x 32 (simp (ne-eqb x 24 ne) at h), ne)
     ]
 
-pub system-true : (x : ℕ) → x < 32 → (x ≡ 24 → ⊥) → systemIn x ≡ true
-unfolding systemIn
+pub system-true : (x : ℕ) → x < 32 → (x ≡ 24 → ⊥) → systemFits x ≡ true
+unfolding systemFits
 system-true x h ne = simp (ne-eqb x 24 ne) (lt-ltb x 32 h)

@@ -20,7 +20,7 @@ use Rattle.processor_decode.specs.declared.Decoded.{Decoded}
 use Rattle.processor_decode.specs.declared.Decoded.the-variants.{Modelled, NotModelled}
 use Rattle.processor_encode.specs.Format.{formatOf, shortFormats, longFormats}
 use Rattle.processor_encode.specs.Fields.{fieldsOf, numbers}
-use Rattle.processor_encode.specs.Range.{within, signedIn, evenIn, systemIn}
+use Rattle.processor_encode.specs.Range.{within, signedIn, evenIn, systemFits}
 use Rattle.processor_encode.specs.Place.{placed, branch}
 use Rattle.processor_encode.specs.Encode.{encodeOf, encodedOf}
 use Rattle.processor_encode.specs.Unused.{without, clearedOf}
@@ -312,9 +312,9 @@ module _ (n : ℕ) (I : ℕ → ℕ → Instruction) (o : OfSystemRegister n I) 
   unfolding encodedOf
   system-decode a b =
       rw (o .fields a b, o .known)
-      (pick-known (DecodesTo (I a b)) (within (numbers n 0 b 0 a) 1 32 1 (systemIn a)) (One (placed n b a)) (Refused Encoding)
+      (pick-known (DecodesTo (I a b)) (within (numbers n 0 b 0 a) 1 32 1 (systemFits a)) (One (placed n b a)) (Refused Encoding)
       (λ h.
-      let w = within-facts (numbers n 0 b 0 a) 1 32 1 (systemIn a) h in
+      let w = within-facts (numbers n 0 b 0 a) 1 32 1 (systemFits a) h in
       let second : b < 32 = w .second in
       let in-range = system-facts a (w .last) in
       let first : a < 32 = in-range .0 in
@@ -331,7 +331,7 @@ module _ (n : ℕ) (I : ℕ → ℕ → Instruction) (o : OfSystemRegister n I) 
       let a = f % 32 in
       let b = f / 32 % 32 in
       let x = numbers n 0 b 0 a in
-      let fits : within x 1 32 1 (systemIn a) ≡ true = within-true x 1 32 1 (systemIn a) (record { first = omega arith; second = omega arith; third = omega arith; last = system-true a (omega arith) ne }) in
+      let fits : within x 1 32 1 (systemFits a) ≡ true = within-true x 1 32 1 (systemFits a) (record { first = omega arith; second = omega arith; third = omega arith; last = system-true a (omega arith) ne }) in
       let small = o .small in
       let same : placed n b a ≡ f = placed-again n f (omega arith) e in
       rw (o .fields a b, cleared-short SystemRegister n f s (o .known) e small)

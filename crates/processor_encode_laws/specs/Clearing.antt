@@ -1,5 +1,5 @@
--- What clearing the unused bits keeps (paper 02, W8): cleared halfwords stay as they are when cleared again, and decode to
--- the same. The proofs of the same names are in proofs/.
+-- What clearing the unused bits keeps (paper 02, W8): cleared halfwords stay as they are when cleared again, and decode
+-- to the same. The proofs of the same names are in proofs/.
 use Prim.Native.Nat.{ℕ, _<_}
 use mathlib.Core.Path.{_≡_}
 use Rattle.processor_decode.specs.Opcode.{decodeOf}

@@ -1,6 +1,6 @@
--- Paper 02, W8: "Decoding that gives the same instruction. Encoding what was decoded, unless illegal, gives its halfwords
--- with unused bits cleared." The statements, over every instruction and every pair of halfwords; the proofs of the same
--- names are in proofs/.
+-- Paper 02, W8: "Decoding that gives the same instruction. Encoding what was decoded, unless illegal, gives its
+-- halfwords with unused bits cleared." The statements, over every instruction and every pair of halfwords; the proofs
+-- of the same names are in proofs/.
 use Prim.Native.Nat.{ℕ, _<_}
 use mathlib.Core.Bool.{true, false}
 use mathlib.Core.Path.{_≡_}
@@ -35,13 +35,15 @@ Legal i = i ≡ Illegal → ⊥
 -- what is decoded, unless illegal, is encoded as its halfwords with unused bits cleared
 abbrev pub EncodeDecode : Type 0
 EncodeDecode =
-    (f s : ℕ) → f < 65536 → s < 65536 → (i : Instruction) → decodeOf f s ≡ Modelled i → Legal i → encodeOf i ≡ clearedOf f s
+    (f s : ℕ) → f < 65536 → s < 65536 → (i : Instruction) → decodeOf f s ≡ Modelled i → Legal i
+    → encodeOf i ≡ clearedOf f s
 
 -- refusal 12, and no other, exactly where a field is out of its range
 abbrev pub RefusedExactly : Type 0
 RefusedExactly =
     (i : Instruction)
-    → (inRangeOf i ≡ false → encodeOf i ≡ Refused Encoding) × ((n : Refusal) → encodeOf i ≡ Refused n → inRangeOf i ≡ false)
+    → (inRangeOf i ≡ false → encodeOf i ≡ Refused Encoding)
+    × ((n : Refusal) → encodeOf i ≡ Refused n → inRangeOf i ≡ false)
 
 -- some halfwords decode to the instruction, and it is legal
 pub record Decodable (i : Instruction) : Type 0 where

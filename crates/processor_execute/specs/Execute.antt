@@ -14,12 +14,16 @@ use Rattle.processor_arithmetic.specs.Quotient.{divideOf, divideUnsignedOf}
 use Rattle.processor_arithmetic.specs.Condition.{conditionOf}
 use Rattle.bus.specs.Memory.{Memory}
 use Rattle.processor_decode.specs.declared.Instruction.{Instruction}
-use Rattle.processor_decode.specs.declared.Instruction.the-variants.{Register, Mul, Div, Mulu, Divu, Jmp, Immediate, Setf, Cli, Sei, Trap, Reti, Halt, Ldsr, Stsr, Bcond, Jr, Jal, Long, Load, In, Store, Out, Illegal, Cmpf, Floating, Nintendo}
+use Rattle.processor_decode.specs.declared.Instruction.the-variants.{Register, Mul, Div, Mulu, Divu, Jmp, Immediate}
+use Rattle.processor_decode.specs.declared.Instruction.the-variants.{Setf, Cli, Sei, Trap, Reti, Halt, Ldsr, Stsr}
+use Rattle.processor_decode.specs.declared.Instruction.the-variants.{Bcond, Jr, Jal, Long, Load, In, Store, Out}
+use Rattle.processor_decode.specs.declared.Instruction.the-variants.{Illegal, Cmpf, Floating, Nintendo}
 use Rattle.processor_float.specs.Comparison.{comparisonOf}
 use Rattle.processor_float.specs.Flag.{numberFlagsOf, comparisonFlagsOf, conversionFlagsOf}
 use Rattle.processor_float.specs.declared.Compared.{Compared}
 use Rattle.processor_float.specs.declared.FloatOutcome.{FloatOutcome}
-use Rattle.processor_float.specs.declared.FloatOutcome.the-variants.{Number, Word, Reserved, Invalid, ZeroDivide, Overflow}
+use Rattle.processor_float.specs.declared.FloatOutcome.the-variants.{Number, Word, Reserved, Invalid, ZeroDivide}
+use Rattle.processor_float.specs.declared.FloatOutcome.the-variants.{Overflow}
 use Rattle.processor_machine.specs.State.{State, Stepped, stateOf, steppedOf, regOf, putOf, evenOf}
 use Rattle.processor_machine.specs.System.{systemOf, writtenOf}
 use Rattle.processor_machine.specs.Exception.{raiseOf}
@@ -48,7 +52,8 @@ pairOf n p next s m = goesOn (putOf (putOf (s .regs) 30 (p .r30)) n (p .reg2)) n
 
 -- a division, unless the divisor is zero
 abbrev pub dividesOf : ℕ → ℕ → Pair → ℕ → State → Memory → Stepped
-dividesOf divisor n p next s m = pick (eqb divisor 0) (raiseOf cause.the-variants.ZeroDivision next s m) (pairOf n p next s m)
+dividesOf divisor n p next s m =
+    pick (eqb divisor 0) (raiseOf cause.the-variants.ZeroDivision next s m) (pairOf n p next s m)
 
 -- it came to a floating outcome: a number goes to register n as its word, a whole number as it is, and a trap leaves
 -- the general registers as found
@@ -85,7 +90,8 @@ returnsOf s m =
 
 unfoldable pub executeOf : Instruction → ℕ → State → Memory → Stepped
 -- Register Transfer, Arithmetic, Bitwise
-executeOf (Register op reg1 reg2) next s m = resultOf reg2 (registerOf op (regOf s reg2) (regOf s reg1) (s .psw)) next s m
+executeOf (Register op reg1 reg2) next s m =
+    resultOf reg2 (registerOf op (regOf s reg2) (regOf s reg1) (s .psw)) next s m
 executeOf (Immediate op imm reg2) next s m = resultOf reg2 (immediateOf op (regOf s reg2) imm (s .psw)) next s m
 executeOf (Long op imm reg1 reg2) next s m = resultOf reg2 (longOf op (regOf s reg1) imm (s .psw)) next s m
 executeOf (Mul reg1 reg2) next s m = pairOf reg2 (multiplyOf (regOf s reg2) (regOf s reg1) (s .psw)) next s m
@@ -107,7 +113,8 @@ executeOf (Bcond cond disp) next s m =
     pick (conditionOf cond (s .psw)) (jumpsOf (plusOf (s .pc) disp) s m) (goesOn (s .regs) next (s .psw) s m)
 executeOf (Jmp reg1) next s m = jumpsOf (regOf s reg1) s m
 executeOf (Jr disp) next s m = jumpsOf (plusOf (s .pc) disp) s m
-executeOf (Jal disp) next s m = goesOn (putOf (s .regs) 31 (plusOf (s .pc) 4)) (evenOf (plusOf (s .pc) disp)) (s .psw) s m
+executeOf (Jal disp) next s m =
+    goesOn (putOf (s .regs) 31 (plusOf (s .pc) 4)) (evenOf (plusOf (s .pc) disp)) (s .psw) s m
 -- CPU Control
 executeOf (Trap vector) next s m = raiseOf (cause.the-variants.Trap vector) next s m
 executeOf Reti next s m = returnsOf s m

@@ -1,5 +1,5 @@
-// The instructions that compute: Register Transfer, Arithmetic, Bitwise, SETF. Each says what it does by its own case of
-// executeOf, for every value of what it does not touch.
+// The instructions that compute: Register Transfer, Arithmetic, Bitwise, SETF. Each says what it does by its own case
+// of executeOf, for every value of what it does not touch.
 use crate::operation;
 use processor_decode::ImmediateOperation;
 use processor_decode::Instruction;
@@ -27,7 +27,11 @@ pub fn register(
     next: u32,
     psw: u32,
 ) -> Control
-    ensures { λ r. ⌜ ((pc : ℕ) (sys : List ℕ) (m : Memory) → leaves (now (regs .exit)) sys r m ≡ executeOf (Instruction.Register op reg1 reg2) next (stateOf (now (regs .entry)) sys pc psw Mode.Running) m) ⌝ }
+    ensures { λ r. ⌜
+        ((pc : ℕ) (sys : List ℕ) (m : Memory)
+        → leaves (now (regs .exit)) sys r m
+        ≡ executeOf (Instruction.Register op reg1 reg2) next (stateOf (now (regs .entry)) sys pc psw Mode.Running) m)
+        ⌝ }
 {
     let a = get(regs, reg2);
     let b = get(regs, reg1);
@@ -44,7 +48,11 @@ pub fn immediate(
     next: u32,
     psw: u32,
 ) -> Control
-    ensures { λ r. ⌜ ((pc : ℕ) (sys : List ℕ) (m : Memory) → leaves (now (regs .exit)) sys r m ≡ executeOf (Instruction.Immediate op imm reg2) next (stateOf (now (regs .entry)) sys pc psw Mode.Running) m) ⌝ }
+    ensures { λ r. ⌜
+        ((pc : ℕ) (sys : List ℕ) (m : Memory)
+        → leaves (now (regs .exit)) sys r m
+        ≡ executeOf (Instruction.Immediate op imm reg2) next (stateOf (now (regs .entry)) sys pc psw Mode.Running) m)
+        ⌝ }
 {
     let a = get(regs, reg2);
     let o = operation::immediate(op, a, imm, psw);
@@ -61,7 +69,11 @@ pub fn long(
     next: u32,
     psw: u32,
 ) -> Control
-    ensures { λ r. ⌜ ((pc : ℕ) (sys : List ℕ) (m : Memory) → leaves (now (regs .exit)) sys r m ≡ executeOf (Instruction.Long op imm reg1 reg2) next (stateOf (now (regs .entry)) sys pc psw Mode.Running) m) ⌝ }
+    ensures { λ r. ⌜
+        ((pc : ℕ) (sys : List ℕ) (m : Memory)
+        → leaves (now (regs .exit)) sys r m
+        ≡ executeOf (Instruction.Long op imm reg1 reg2) next (stateOf (now (regs .entry)) sys pc psw Mode.Running) m)
+        ⌝ }
 {
     let a = get(regs, reg1);
     let o = operation::long(op, a, imm, psw);
@@ -70,7 +82,11 @@ pub fn long(
 }
 
 pub fn mul(regs: &mut [u32; 32], reg1: u32, reg2: u32, next: u32, psw: u32) -> Control
-    ensures { λ r. ⌜ ((pc : ℕ) (sys : List ℕ) (m : Memory) → leaves (now (regs .exit)) sys r m ≡ executeOf (Instruction.Mul reg1 reg2) next (stateOf (now (regs .entry)) sys pc psw Mode.Running) m) ⌝ }
+    ensures { λ r. ⌜
+        ((pc : ℕ) (sys : List ℕ) (m : Memory)
+        → leaves (now (regs .exit)) sys r m
+        ≡ executeOf (Instruction.Mul reg1 reg2) next (stateOf (now (regs .entry)) sys pc psw Mode.Running) m)
+        ⌝ }
 {
     let a = get(regs, reg2);
     let b = get(regs, reg1);
@@ -81,7 +97,11 @@ pub fn mul(regs: &mut [u32; 32], reg1: u32, reg2: u32, next: u32, psw: u32) -> C
 }
 
 pub fn mulu(regs: &mut [u32; 32], reg1: u32, reg2: u32, next: u32, psw: u32) -> Control
-    ensures { λ r. ⌜ ((pc : ℕ) (sys : List ℕ) (m : Memory) → leaves (now (regs .exit)) sys r m ≡ executeOf (Instruction.Mulu reg1 reg2) next (stateOf (now (regs .entry)) sys pc psw Mode.Running) m) ⌝ }
+    ensures { λ r. ⌜
+        ((pc : ℕ) (sys : List ℕ) (m : Memory)
+        → leaves (now (regs .exit)) sys r m
+        ≡ executeOf (Instruction.Mulu reg1 reg2) next (stateOf (now (regs .entry)) sys pc psw Mode.Running) m)
+        ⌝ }
 {
     let a = get(regs, reg2);
     let b = get(regs, reg1);
@@ -100,7 +120,12 @@ pub fn div(
     next: u32,
     psw: u32,
 ) -> Control
-    ensures { λ r. ⌜ ((m : Memory) → leaves (now (regs .exit)) (now (sys .exit)) r m ≡ executeOf (Instruction.Div reg1 reg2) next (stateOf (now (regs .entry)) (now (sys .entry)) pc psw Mode.Running) m) ⌝ }
+    ensures { λ r. ⌜
+        ((m : Memory)
+        → leaves (now (regs .exit)) (now (sys .exit)) r m
+        ≡ executeOf (Instruction.Div reg1 reg2) next
+        (stateOf (now (regs .entry)) (now (sys .entry)) pc psw Mode.Running) m)
+        ⌝ }
 {
     let a = get(regs, reg2);
     let b = get(regs, reg1);
@@ -122,7 +147,12 @@ pub fn divu(
     next: u32,
     psw: u32,
 ) -> Control
-    ensures { λ r. ⌜ ((m : Memory) → leaves (now (regs .exit)) (now (sys .exit)) r m ≡ executeOf (Instruction.Divu reg1 reg2) next (stateOf (now (regs .entry)) (now (sys .entry)) pc psw Mode.Running) m) ⌝ }
+    ensures { λ r. ⌜
+        ((m : Memory)
+        → leaves (now (regs .exit)) (now (sys .exit)) r m
+        ≡ executeOf (Instruction.Divu reg1 reg2) next
+        (stateOf (now (regs .entry)) (now (sys .entry)) pc psw Mode.Running) m)
+        ⌝ }
 {
     let a = get(regs, reg2);
     let b = get(regs, reg1);
@@ -136,7 +166,11 @@ pub fn divu(
 }
 
 pub fn setf(regs: &mut [u32; 32], cond: u32, reg2: u32, next: u32, psw: u32) -> Control
-    ensures { λ r. ⌜ ((pc : ℕ) (sys : List ℕ) (m : Memory) → leaves (now (regs .exit)) sys r m ≡ executeOf (Instruction.Setf cond reg2) next (stateOf (now (regs .entry)) sys pc psw Mode.Running) m) ⌝ }
+    ensures { λ r. ⌜
+        ((pc : ℕ) (sys : List ℕ) (m : Memory)
+        → leaves (now (regs .exit)) sys r m
+        ≡ executeOf (Instruction.Setf cond reg2) next (stateOf (now (regs .entry)) sys pc psw Mode.Running) m)
+        ⌝ }
 {
     let v = processor_arithmetic::flag::bit(processor_arithmetic::condition::holds(cond, psw));
     put(regs, reg2, v);

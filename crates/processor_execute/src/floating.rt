@@ -42,7 +42,11 @@ fn outcome(op: FloatingOperation, a: u32, b: u32) -> FloatOutcome
 
 // A number goes to register n as its word, with its flags.
 fn number(regs: &mut [u32; 32], n: u32, v: f32, underflowed: bool, next: u32, psw: u32) -> Control
-    ensures { λ r. ⌜ ((pc : ℕ) (sys : List ℕ) (m : Memory) → leaves (now (regs .exit)) sys r m ≡ settlesOf n (FloatOutcome.Number v underflowed) next (stateOf (now (regs .entry)) sys pc psw Mode.Running) m) ⌝ }
+    ensures { λ r. ⌜
+        ((pc : ℕ) (sys : List ℕ) (m : Memory)
+        → leaves (now (regs .exit)) sys r m
+        ≡ settlesOf n (FloatOutcome.Number v underflowed) next (stateOf (now (regs .entry)) sys pc psw Mode.Running) m)
+        ⌝ }
 {
     let w = arithmetic::word_of(v);
     put(regs, n, w);
@@ -51,7 +55,11 @@ fn number(regs: &mut [u32; 32], n: u32, v: f32, underflowed: bool, next: u32, ps
 
 // A whole number goes to register n, with its flags.
 fn whole(regs: &mut [u32; 32], n: u32, w: u32, next: u32, psw: u32) -> Control
-    ensures { λ r. ⌜ ((pc : ℕ) (sys : List ℕ) (m : Memory) → leaves (now (regs .exit)) sys r m ≡ settlesOf n (FloatOutcome.Word w) next (stateOf (now (regs .entry)) sys pc psw Mode.Running) m) ⌝ }
+    ensures { λ r. ⌜
+        ((pc : ℕ) (sys : List ℕ) (m : Memory)
+        → leaves (now (regs .exit)) sys r m
+        ≡ settlesOf n (FloatOutcome.Word w) next (stateOf (now (regs .entry)) sys pc psw Mode.Running) m)
+        ⌝ }
 {
     put(regs, n, w);
     ended(next, flag::conversion_flags(psw, w))
@@ -67,7 +75,11 @@ fn settle(
     next: u32,
     psw: u32,
 ) -> Control
-    ensures { λ r. ⌜ ((m : Memory) → leaves (now (regs .exit)) (now (sys .exit)) r m ≡ settlesOf n o next (stateOf (now (regs .entry)) (now (sys .entry)) pc psw Mode.Running) m) ⌝ }
+    ensures { λ r. ⌜
+        ((m : Memory)
+        → leaves (now (regs .exit)) (now (sys .exit)) r m
+        ≡ settlesOf n o next (stateOf (now (regs .entry)) (now (sys .entry)) pc psw Mode.Running) m)
+        ⌝ }
 {
     match o {
         FloatOutcome::Number(v, underflowed) => number(regs, n, v, underflowed, next, psw),
@@ -89,7 +101,12 @@ pub fn floating(
     next: u32,
     psw: u32,
 ) -> Control
-    ensures { λ r. ⌜ ((m : Memory) → leaves (now (regs .exit)) (now (sys .exit)) r m ≡ executeOf (Instruction.Floating op reg1 reg2) next (stateOf (now (regs .entry)) (now (sys .entry)) pc psw Mode.Running) m) ⌝ }
+    ensures { λ r. ⌜
+        ((m : Memory)
+        → leaves (now (regs .exit)) (now (sys .exit)) r m
+        ≡ executeOf (Instruction.Floating op reg1 reg2) next
+        (stateOf (now (regs .entry)) (now (sys .entry)) pc psw Mode.Running) m)
+        ⌝ }
 {
     let a = get(regs, reg2);
     let b = get(regs, reg1);
@@ -99,7 +116,10 @@ pub fn floating(
 
 // What a comparison leaves.
 fn compares(sys: &mut [u32; 8], c: Compared, pc: u32, next: u32, psw: u32) -> Control
-    ensures { λ r. ⌜ ((regs : List ℕ) (m : Memory) → leaves regs (now (sys .exit)) r m ≡ comparesOf c next (stateOf regs (now (sys .entry)) pc psw Mode.Running) m) ⌝ }
+    ensures { λ r. ⌜
+        ((regs : List ℕ) (m : Memory)
+        → leaves regs (now (sys .exit)) r m ≡ comparesOf c next (stateOf regs (now (sys .entry)) pc psw Mode.Running) m)
+        ⌝ }
 {
     match c {
         Compared::Lower => ended(next, flag::comparison_flags(psw, c)),
@@ -118,7 +138,12 @@ pub fn cmpf(
     next: u32,
     psw: u32,
 ) -> Control
-    ensures { λ r. ⌜ ((m : Memory) → leaves (now (regs .entry)) (now (sys .exit)) r m ≡ executeOf (Instruction.Cmpf reg1 reg2) next (stateOf (now (regs .entry)) (now (sys .entry)) pc psw Mode.Running) m) ⌝ }
+    ensures { λ r. ⌜
+        ((m : Memory)
+        → leaves (now (regs .entry)) (now (sys .exit)) r m
+        ≡ executeOf (Instruction.Cmpf reg1 reg2) next
+        (stateOf (now (regs .entry)) (now (sys .entry)) pc psw Mode.Running) m)
+        ⌝ }
 {
     let a = get(regs, reg2);
     let b = get(regs, reg1);
@@ -146,7 +171,11 @@ pub fn nintendo(
     next: u32,
     psw: u32,
 ) -> Control
-    ensures { λ r. ⌜ ((pc : ℕ) (sys : List ℕ) (m : Memory) → leaves (now (regs .exit)) sys r m ≡ executeOf (Instruction.Nintendo op reg1 reg2) next (stateOf (now (regs .entry)) sys pc psw Mode.Running) m) ⌝ }
+    ensures { λ r. ⌜
+        ((pc : ℕ) (sys : List ℕ) (m : Memory)
+        → leaves (now (regs .exit)) sys r m
+        ≡ executeOf (Instruction.Nintendo op reg1 reg2) next (stateOf (now (regs .entry)) sys pc psw Mode.Running) m)
+        ⌝ }
 {
     let a = get(regs, reg2);
     let b = get(regs, reg1);

@@ -26,7 +26,10 @@ fn target(pc: u32, disp: u32) -> u32
 }
 
 pub fn bcond(cond: u32, disp: u32, pc: u32, next: u32, psw: u32) -> Control
-    ensures { λ r. ⌜ ((regs sys : List ℕ) (m : Memory) → leaves regs sys r m ≡ executeOf (Instruction.Bcond cond disp) next (stateOf regs sys pc psw Mode.Running) m) ⌝ }
+    ensures { λ r. ⌜
+        ((regs sys : List ℕ) (m : Memory)
+        → leaves regs sys r m ≡ executeOf (Instruction.Bcond cond disp) next (stateOf regs sys pc psw Mode.Running) m)
+        ⌝ }
 {
     // BR, which needs no flag
     if cond == 5 {
@@ -39,20 +42,31 @@ pub fn bcond(cond: u32, disp: u32, pc: u32, next: u32, psw: u32) -> Control
 }
 
 pub fn jmp(regs: &[u32; 32], reg1: u32, psw: u32) -> Control
-    ensures { λ r. ⌜ ((pc next : ℕ) (sys : List ℕ) (m : Memory) → leaves (now (regs .entry)) sys r m ≡ executeOf (Instruction.Jmp reg1) next (stateOf (now (regs .entry)) sys pc psw Mode.Running) m) ⌝ }
+    ensures { λ r. ⌜
+        ((pc next : ℕ) (sys : List ℕ) (m : Memory)
+        → leaves (now (regs .entry)) sys r m
+        ≡ executeOf (Instruction.Jmp reg1) next (stateOf (now (regs .entry)) sys pc psw Mode.Running) m)
+        ⌝ }
 {
     let t = get(regs, reg1);
     ended(t - t % 2, psw)
 }
 
 pub fn jr(disp: u32, pc: u32, psw: u32) -> Control
-    ensures { λ r. ⌜ ((next : ℕ) (regs sys : List ℕ) (m : Memory) → leaves regs sys r m ≡ executeOf (Instruction.Jr disp) next (stateOf regs sys pc psw Mode.Running) m) ⌝ }
+    ensures { λ r. ⌜
+        ((next : ℕ) (regs sys : List ℕ) (m : Memory)
+        → leaves regs sys r m ≡ executeOf (Instruction.Jr disp) next (stateOf regs sys pc psw Mode.Running) m)
+        ⌝ }
 {
     ended(target(pc, disp), psw)
 }
 
 pub fn jal(regs: &mut [u32; 32], disp: u32, pc: u32, psw: u32) -> Control
-    ensures { λ r. ⌜ ((next : ℕ) (sys : List ℕ) (m : Memory) → leaves (now (regs .exit)) sys r m ≡ executeOf (Instruction.Jal disp) next (stateOf (now (regs .entry)) sys pc psw Mode.Running) m) ⌝ }
+    ensures { λ r. ⌜
+        ((next : ℕ) (sys : List ℕ) (m : Memory)
+        → leaves (now (regs .exit)) sys r m
+        ≡ executeOf (Instruction.Jal disp) next (stateOf (now (regs .entry)) sys pc psw Mode.Running) m)
+        ⌝ }
 {
     let link = std::num::wrapping_add_u32(pc, 4);
     put(regs, 31, link);
@@ -60,19 +74,31 @@ pub fn jal(regs: &mut [u32; 32], disp: u32, pc: u32, psw: u32) -> Control
 }
 
 pub fn trap(sys: &mut [u32; 8], vector: u32, pc: u32, next: u32, psw: u32) -> Control
-    ensures { λ r. ⌜ ((regs : List ℕ) (m : Memory) → leaves regs (now (sys .exit)) r m ≡ executeOf (Instruction.Trap vector) next (stateOf regs (now (sys .entry)) pc psw Mode.Running) m) ⌝ }
+    ensures { λ r. ⌜
+        ((regs : List ℕ) (m : Memory)
+        → leaves regs (now (sys .exit)) r m
+        ≡ executeOf (Instruction.Trap vector) next (stateOf regs (now (sys .entry)) pc psw Mode.Running) m)
+        ⌝ }
 {
     raise(sys, Cause::Trap(vector), pc, next, psw)
 }
 
 pub fn illegal(sys: &mut [u32; 8], pc: u32, next: u32, psw: u32) -> Control
-    ensures { λ r. ⌜ ((regs : List ℕ) (m : Memory) → leaves regs (now (sys .exit)) r m ≡ executeOf (Instruction.Illegal) next (stateOf regs (now (sys .entry)) pc psw Mode.Running) m) ⌝ }
+    ensures { λ r. ⌜
+        ((regs : List ℕ) (m : Memory)
+        → leaves regs (now (sys .exit)) r m
+        ≡ executeOf (Instruction.Illegal) next (stateOf regs (now (sys .entry)) pc psw Mode.Running) m)
+        ⌝ }
 {
     raise(sys, Cause::Illegal, pc, next, psw)
 }
 
 pub fn reti(sys: &[u32; 8], psw: u32) -> Control
-    ensures { λ r. ⌜ ((pc next : ℕ) (regs : List ℕ) (m : Memory) → leaves regs (now (sys .entry)) r m ≡ executeOf Instruction.Reti next (stateOf regs (now (sys .entry)) pc psw Mode.Running) m) ⌝ }
+    ensures { λ r. ⌜
+        ((pc next : ℕ) (regs : List ℕ) (m : Memory)
+        → leaves regs (now (sys .entry)) r m
+        ≡ executeOf Instruction.Reti next (stateOf regs (now (sys .entry)) pc psw Mode.Running) m)
+        ⌝ }
 {
     if psw / 32768 % 2 == 1 {
         return ended(sys[2], sys[3]);
@@ -81,7 +107,10 @@ pub fn reti(sys: &[u32; 8], psw: u32) -> Control
 }
 
 pub fn halt(next: u32, psw: u32) -> Control
-    ensures { λ r. ⌜ ((pc : ℕ) (regs sys : List ℕ) (m : Memory) → leaves regs sys r m ≡ executeOf Instruction.Halt next (stateOf regs sys pc psw Mode.Running) m) ⌝ }
+    ensures { λ r. ⌜
+        ((pc : ℕ) (regs sys : List ℕ) (m : Memory)
+        → leaves regs sys r m ≡ executeOf Instruction.Halt next (stateOf regs sys pc psw Mode.Running) m)
+        ⌝ }
 {
     Control {
         pc: next,
@@ -99,7 +128,12 @@ pub fn ldsr(
     next: u32,
     psw: u32,
 ) -> Control
-    ensures { λ r. ⌜ ((pc : ℕ) (m : Memory) → leaves (now (regs .entry)) (now (sys .exit)) r m ≡ executeOf (Instruction.Ldsr reg2 id) next (stateOf (now (regs .entry)) (now (sys .entry)) pc psw Mode.Running) m) ⌝ }
+    ensures { λ r. ⌜
+        ((pc : ℕ) (m : Memory)
+        → leaves (now (regs .entry)) (now (sys .exit)) r m
+        ≡ executeOf (Instruction.Ldsr reg2 id) next
+        (stateOf (now (regs .entry)) (now (sys .entry)) pc psw Mode.Running) m)
+        ⌝ }
 {
     let v = get(regs, reg2);
     let p = system::write(sys, psw, id, v);
@@ -114,7 +148,12 @@ pub fn stsr(
     next: u32,
     psw: u32,
 ) -> Control
-    ensures { λ r. ⌜ ((pc : ℕ) (m : Memory) → leaves (now (regs .exit)) (now (sys .entry)) r m ≡ executeOf (Instruction.Stsr id reg2) next (stateOf (now (regs .entry)) (now (sys .entry)) pc psw Mode.Running) m) ⌝ }
+    ensures { λ r. ⌜
+        ((pc : ℕ) (m : Memory)
+        → leaves (now (regs .exit)) (now (sys .entry)) r m
+        ≡ executeOf (Instruction.Stsr id reg2) next
+        (stateOf (now (regs .entry)) (now (sys .entry)) pc psw Mode.Running) m)
+        ⌝ }
 {
     let v = system::read(sys, psw, id);
     put(regs, reg2, v);
@@ -122,13 +161,19 @@ pub fn stsr(
 }
 
 pub fn cli(next: u32, psw: u32) -> Control
-    ensures { λ r. ⌜ ((pc : ℕ) (regs sys : List ℕ) (m : Memory) → leaves regs sys r m ≡ executeOf Instruction.Cli next (stateOf regs sys pc psw Mode.Running) m) ⌝ }
+    ensures { λ r. ⌜
+        ((pc : ℕ) (regs sys : List ℕ) (m : Memory)
+        → leaves regs sys r m ≡ executeOf Instruction.Cli next (stateOf regs sys pc psw Mode.Running) m)
+        ⌝ }
 {
     ended(next, processor_arithmetic::flag::clear_id(psw))
 }
 
 pub fn sei(next: u32, psw: u32) -> Control
-    ensures { λ r. ⌜ ((pc : ℕ) (regs sys : List ℕ) (m : Memory) → leaves regs sys r m ≡ executeOf Instruction.Sei next (stateOf regs sys pc psw Mode.Running) m) ⌝ }
+    ensures { λ r. ⌜
+        ((pc : ℕ) (regs sys : List ℕ) (m : Memory)
+        → leaves regs sys r m ≡ executeOf Instruction.Sei next (stateOf regs sys pc psw Mode.Running) m)
+        ⌝ }
 {
     ended(next, processor_arithmetic::flag::set_id(psw))
 }

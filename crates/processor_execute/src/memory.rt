@@ -1,5 +1,5 @@
-// Load and Input, Store and Output. Each says what it does by its own case of executeOf, for every value of what it does
-// not touch.
+// Load and Input, Store and Output. Each says what it does by its own case of executeOf, for every value of what it
+// does not touch.
 use crate::transfer;
 use bus::Device;
 use processor_decode::Instruction;
@@ -13,7 +13,8 @@ ghost use lib.ListN.{length};
 ghost use mathlib.Core.Path.{_≡_};
 ghost use mathlib.Core.List.{List};
 ghost use Prim.Native.Nat.{ℕ};
-ghost use Rattle.bus.specs.Memory.{memoryOf, Lengths};
+ghost use Rattle.bus.specs.Memory.{Lengths};
+ghost use Rattle.bus.specs.Lent.{entering, leaving};
 ghost use Rattle.processor_machine.specs.State.{stateOf, leaves};
 ghost use Rattle.processor_execute.specs.Execute.{executeOf};
 
@@ -32,7 +33,12 @@ pub fn load(
     psw: u32,
 ) -> Control
     requires { ⌜ Lengths (length (now rom)) (length (now wram)) (length (now vram)) (length (now pak)) ⌝ }
-    ensures { λ r. ⌜ ((pc : ℕ) (sys : List ℕ) → leaves (now (regs .exit)) sys r (memoryOf (now (rom .entry)) (now (wram .entry)) (now (vram .entry)) (now (pak .entry)) (now (device .entry))) ≡ executeOf (Instruction.Load width disp reg1 reg2) next (stateOf (now (regs .entry)) sys pc psw Mode.Running) (memoryOf (now (rom .entry)) (now (wram .entry)) (now (vram .entry)) (now (pak .entry)) (now (device .entry)))) ⌝ }
+    ensures { λ r. ⌜
+        ((pc : ℕ) (sys : List ℕ)
+        → leaves (now (regs .exit)) sys r (entering rom wram vram pak device)
+        ≡ executeOf (Instruction.Load width disp reg1 reg2) next (stateOf (now (regs .entry)) sys pc psw Mode.Running)
+        (entering rom wram vram pak device))
+        ⌝ }
 {
     let base = get(regs, reg1);
     let address = std::num::wrapping_add_u32(base, disp);
@@ -56,7 +62,12 @@ pub fn input(
     psw: u32,
 ) -> Control
     requires { ⌜ Lengths (length (now rom)) (length (now wram)) (length (now vram)) (length (now pak)) ⌝ }
-    ensures { λ r. ⌜ ((pc : ℕ) (sys : List ℕ) → leaves (now (regs .exit)) sys r (memoryOf (now (rom .entry)) (now (wram .entry)) (now (vram .entry)) (now (pak .entry)) (now (device .entry))) ≡ executeOf (Instruction.In width disp reg1 reg2) next (stateOf (now (regs .entry)) sys pc psw Mode.Running) (memoryOf (now (rom .entry)) (now (wram .entry)) (now (vram .entry)) (now (pak .entry)) (now (device .entry)))) ⌝ }
+    ensures { λ r. ⌜
+        ((pc : ℕ) (sys : List ℕ)
+        → leaves (now (regs .exit)) sys r (entering rom wram vram pak device)
+        ≡ executeOf (Instruction.In width disp reg1 reg2) next (stateOf (now (regs .entry)) sys pc psw Mode.Running)
+        (entering rom wram vram pak device))
+        ⌝ }
 {
     let base = get(regs, reg1);
     let address = std::num::wrapping_add_u32(base, disp);
@@ -80,7 +91,12 @@ pub fn store(
     psw: u32,
 ) -> Control
     requires { ⌜ Lengths (length (now rom)) (length (now wram)) (length (now vram)) (length (now pak)) ⌝ }
-    ensures { λ r. ⌜ ((pc : ℕ) (sys : List ℕ) → leaves (now (regs .entry)) sys r (memoryOf (now (rom .entry)) (now (wram .exit)) (now (vram .exit)) (now (pak .exit)) (now (device .exit))) ≡ executeOf (Instruction.Store width disp reg1 reg2) next (stateOf (now (regs .entry)) sys pc psw Mode.Running) (memoryOf (now (rom .entry)) (now (wram .entry)) (now (vram .entry)) (now (pak .entry)) (now (device .entry)))) ⌝ }
+    ensures { λ r. ⌜
+        ((pc : ℕ) (sys : List ℕ)
+        → leaves (now (regs .entry)) sys r (leaving rom wram vram pak device)
+        ≡ executeOf (Instruction.Store width disp reg1 reg2) next (stateOf (now (regs .entry)) sys pc psw Mode.Running)
+        (entering rom wram vram pak device))
+        ⌝ }
 {
     let base = get(regs, reg1);
     let address = std::num::wrapping_add_u32(base, disp);
@@ -104,7 +120,12 @@ pub fn output(
     psw: u32,
 ) -> Control
     requires { ⌜ Lengths (length (now rom)) (length (now wram)) (length (now vram)) (length (now pak)) ⌝ }
-    ensures { λ r. ⌜ ((pc : ℕ) (sys : List ℕ) → leaves (now (regs .entry)) sys r (memoryOf (now (rom .entry)) (now (wram .exit)) (now (vram .exit)) (now (pak .exit)) (now (device .exit))) ≡ executeOf (Instruction.Out width disp reg1 reg2) next (stateOf (now (regs .entry)) sys pc psw Mode.Running) (memoryOf (now (rom .entry)) (now (wram .entry)) (now (vram .entry)) (now (pak .entry)) (now (device .entry)))) ⌝ }
+    ensures { λ r. ⌜
+        ((pc : ℕ) (sys : List ℕ)
+        → leaves (now (regs .entry)) sys r (leaving rom wram vram pak device)
+        ≡ executeOf (Instruction.Out width disp reg1 reg2) next (stateOf (now (regs .entry)) sys pc psw Mode.Running)
+        (entering rom wram vram pak device))
+        ⌝ }
 {
     let base = get(regs, reg1);
     let address = std::num::wrapping_add_u32(base, disp);

@@ -3,7 +3,8 @@ use bus::Device;
 use processor_decode::Width;
 ghost use mathlib.Core.Path.{_≡_};
 ghost use lib.ListN.{length};
-ghost use Rattle.bus.specs.Memory.{memoryOf, Lengths};
+ghost use Rattle.bus.specs.Memory.{Lengths};
+ghost use Rattle.bus.specs.Lent.{entering, leaving};
 ghost use Rattle.processor_execute.specs.Transfer.{loadedOf, inputOf, storedOf};
 
 // LD: sign-extended.
@@ -17,7 +18,7 @@ pub fn load(
     address: u32,
 ) -> u32
     requires { ⌜ Lengths (length (now rom)) (length (now wram)) (length (now vram)) (length (now pak)) ⌝ }
-    ensures { λ r. ⌜ r ≡ loadedOf (memoryOf (now (rom .entry)) (now (wram .entry)) (now (vram .entry)) (now (pak .entry)) (now (device .entry))) width address ⌝ }
+    ensures { λ r. ⌜ r ≡ loadedOf (entering rom wram vram pak device) width address ⌝ }
 {
     match width {
         Width::Byte => {
@@ -46,7 +47,7 @@ pub fn input(
     address: u32,
 ) -> u32
     requires { ⌜ Lengths (length (now rom)) (length (now wram)) (length (now vram)) (length (now pak)) ⌝ }
-    ensures { λ r. ⌜ r ≡ inputOf (memoryOf (now (rom .entry)) (now (wram .entry)) (now (vram .entry)) (now (pak .entry)) (now (device .entry))) width address ⌝ }
+    ensures { λ r. ⌜ r ≡ inputOf (entering rom wram vram pak device) width address ⌝ }
 {
     match width {
         Width::Byte => {
@@ -76,7 +77,9 @@ pub fn store(
     value: u32,
 )
     requires { ⌜ Lengths (length (now rom)) (length (now wram)) (length (now vram)) (length (now pak)) ⌝ }
-    ensures { λ r. ⌜ memoryOf (now (rom .entry)) (now (wram .exit)) (now (vram .exit)) (now (pak .exit)) (now (device .exit)) ≡ storedOf (memoryOf (now (rom .entry)) (now (wram .entry)) (now (vram .entry)) (now (pak .entry)) (now (device .entry))) width address value ⌝ }
+    ensures { λ r. ⌜
+        leaving rom wram vram pak device ≡ storedOf (entering rom wram vram pak device) width address value
+        ⌝ }
 {
     match width {
         Width::Byte => bus::store::byte(rom, wram, vram, pak, device, address, value),

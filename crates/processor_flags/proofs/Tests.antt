@@ -11,25 +11,25 @@ use Rattle.word.specs.Choose.{pick}
 use Rattle.processor_arithmetic.proofs.Bits.{bit-small}
 use Rattle.processor_arithmetic.specs.Condition.{_xor_, isSet, conditionOf}
 use Rattle.processor_arithmetic.specs.Flag.{bitOf, zeroOf, flagsOf}
-use Rattle.processor_flags.specs.Packed.{valueOf, carryOf, overflowOf, packedOf}
+use Rattle.processor_flags.specs.Packed.{packedValueOf, carryOf, overflowOf, packedOf}
 use Rattle.processor_flags.specs.declared.Flags.{Flags}
 
 module _ (psw : ℕ) (g : Flags) where
   pub carry-bit : packedOf psw g / 8 % 2 ≡ carryOf g
   unfolding packedOf flagsOf
-  carry-bit = omega (arith, bit-small (eqb (valueOf g) 0))
+  carry-bit = omega (arith, bit-small (eqb (packedValueOf g) 0))
 
   pub overflow-bit : packedOf psw g / 4 % 2 ≡ overflowOf g
   unfolding packedOf flagsOf
-  overflow-bit = omega (arith, bit-small (eqb (valueOf g) 0))
+  overflow-bit = omega (arith, bit-small (eqb (packedValueOf g) 0))
 
-  pub sign-bit : packedOf psw g / 2 % 2 ≡ valueOf g / 2 ^ 31 % 2
+  pub sign-bit : packedOf psw g / 2 % 2 ≡ packedValueOf g / 2 ^ 31 % 2
   unfolding packedOf flagsOf
-  sign-bit = omega (arith, bit-small (eqb (valueOf g) 0))
+  sign-bit = omega (arith, bit-small (eqb (packedValueOf g) 0))
 
-  pub zero-bit : packedOf psw g / 1 % 2 ≡ zeroOf (valueOf g)
+  pub zero-bit : packedOf psw g / 1 % 2 ≡ zeroOf (packedValueOf g)
   unfolding packedOf flagsOf
-  zero-bit = omega (arith, bit-small (eqb (valueOf g) 0))
+  zero-bit = omega (arith, bit-small (eqb (packedValueOf g) 0))
 
 -- a word's top bit, by a comparison
 pub top-bit : (x : ℕ) → x < 2 ^ 32 → leb (2 ^ 31) x ≡ eqb (x / 2 ^ 31 % 2) 1

@@ -3,7 +3,8 @@ use crate::Flags;
 use crate::status::joined;
 ghost use mathlib.Core.Path.{_≡_};
 ghost use Prim.Native.Nat.{ℕ, _<_};
-ghost use Rattle.processor_arithmetic.specs.Shift.{rightOutOf, arithmeticRightOf, shiftLeftOf, shiftRightOf, shiftArithmeticOf};
+ghost use Rattle.processor_arithmetic.specs.Shift.{rightOutOf, arithmeticRightOf, shiftLeftOf, shiftRightOf};
+ghost use Rattle.processor_arithmetic.specs.Shift.{shiftArithmeticOf};
 ghost use Rattle.processor_flags.specs.Packed.{packedOf, Gives};
 
 pub fn shl(a: u32, b: u32) -> Flags

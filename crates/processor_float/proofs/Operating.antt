@@ -7,7 +7,7 @@ use lib.Ieee.{Float, nan, inf, fin, isNan, nanBits, ne, lt, eq, toBits, binary32
 use lib.Ieee.Compare.{differs-from-itself, nan-differs}
 use Rattle.word.specs.Choose.{pick}
 use Rattle.processor_float.specs.Operand.{reservedOf, isZero, floatOf}
-use Rattle.processor_float.specs.Arithmetic.{isDivide, resultOf, outcomeOf}
+use Rattle.processor_float.specs.Arithmetic.{isDivide, floatResultOf, outcomeOf}
 use Rattle.processor_float.specs.Comparison.{comparisonOf}
 use Rattle.processor_float.specs.declared.Operation.{Operation}
 use Rattle.processor_float.specs.declared.FloatOutcome.the-variants.{Reserved, Invalid, ZeroDivide}
@@ -21,7 +21,7 @@ abbrev comparedOf : ℕ → ℕ → Compared
 comparedOf x y = pick (lt (floatOf x) (floatOf y)) compared.Lower (pick (eq (floatOf x) (floatOf y)) compared.Equal compared.Higher)
 
 abbrev numbersOf : Operation → ℕ → ℕ → FloatOutcome
-numbersOf op x y = pick (isDivide op && isZero y) (pick (isZero x) Invalid ZeroDivide) (resultOf op x y)
+numbersOf op x y = pick (isDivide op && isZero y) (pick (isZero x) Invalid ZeroDivide) (floatResultOf op x y)
 
 module _ (x y : ℕ) (a b : Bool) (p : a ≡ reservedOf x) (q : b ≡ reservedOf y) where
   either : (t : Bool) → (a || b) ≡ t → (reservedOf x || reservedOf y) ≡ t
@@ -71,7 +71,7 @@ module _ (x y : ℕ) (a b : Bool) (p : a ≡ reservedOf x) (q : b ≡ reservedOf
 
       divided : (a || b) ≡ false → (d && z) ≡ true → pick (isZero x) Invalid ZeroDivide ≡ outcomeOf op x y
       divided e f =
-          pick-true (isDivide op && isZero y) (pick (isZero x) Invalid ZeroDivide) (resultOf op x y) (by-zero true f) ∙ numbers e
+          pick-true (isDivide op && isZero y) (pick (isZero x) Invalid ZeroDivide) (floatResultOf op x y) (by-zero true f) ∙ numbers e
 
       pub invalid-outcome : (a || b) ≡ false → (d && z) ≡ true → (t : Bool) → t ≡ isZero x → t ≡ true → Invalid ≡ outcomeOf op x y
       invalid-outcome e f t g h = pick-true (isZero x) Invalid ZeroDivide (sym g ∙ h) ∙ divided e f
@@ -79,9 +79,9 @@ module _ (x y : ℕ) (a b : Bool) (p : a ≡ reservedOf x) (q : b ≡ reservedOf
       pub zero-divide-outcome : (a || b) ≡ false → (d && z) ≡ true → (t : Bool) → t ≡ isZero x → t ≡ false → ZeroDivide ≡ outcomeOf op x y
       zero-divide-outcome e f t g h = pick-false (isZero x) Invalid ZeroDivide (sym g ∙ h) ∙ divided e f
 
-      pub settled-outcome : (a || b) ≡ false → (d && z) ≡ false → resultOf op x y ≡ outcomeOf op x y
+      pub settled-outcome : (a || b) ≡ false → (d && z) ≡ false → floatResultOf op x y ≡ outcomeOf op x y
       settled-outcome e f =
-          pick-false (isDivide op && isZero y) (pick (isZero x) Invalid ZeroDivide) (resultOf op x y) (by-zero false f) ∙ numbers e
+          pick-false (isDivide op && isZero y) (pick (isZero x) Invalid ZeroDivide) (floatResultOf op x y) (by-zero false f) ∙ numbers e
 
 -- the word of a NaN, and what else is none
 pub nan-word : (v : Float) → ne v v ≡ true → 0x7FC00000 ≡ toBits binary32 v

@@ -11,7 +11,8 @@ use Rattle.processor_float.specs.Operand.{reservedOf, isZero, floatOf}
 use Rattle.processor_float.specs.declared.Operation.{Operation}
 use Rattle.processor_float.specs.declared.Operation.the-variants.{Add, Subtract, Multiply, Divide}
 use Rattle.processor_float.specs.declared.FloatOutcome.{FloatOutcome}
-use Rattle.processor_float.specs.declared.FloatOutcome.the-variants.{Number, Reserved, Invalid, ZeroDivide, Overflow}
+use Rattle.processor_float.specs.declared.FloatOutcome.the-variants.{Number, Reserved, Invalid, ZeroDivide}
+use Rattle.processor_float.specs.declared.FloatOutcome.the-variants.{Overflow}
 
 -- reg2 + reg1, reg2 - reg1, reg2 * reg1, reg2 / reg1
 abbrev pub computedOf : Operation → Float → Float → Float
@@ -46,8 +47,8 @@ settledOf exact (inf s) = Overflow
 settledOf exact (fin s m e) = pick (isTiny m e) (Number (fin s 0 (pos 0)) (not exact)) (Number (fin s m e) false)
 
 -- the operation on two numbers
-abbrev pub resultOf : Operation → ℕ → ℕ → FloatOutcome
-resultOf op x y =
+abbrev pub floatResultOf : Operation → ℕ → ℕ → FloatOutcome
+floatResultOf op x y =
     let a = floatOf x in
     let b = floatOf y in
     settledOf (vanishesOf op x y a b) (computedOf op a b)
@@ -56,4 +57,4 @@ resultOf op x y =
 unfoldable pub outcomeOf : Operation → ℕ → ℕ → FloatOutcome
 outcomeOf op x y =
     pick (reservedOf x || reservedOf y) Reserved
-    (pick (isDivide op && isZero y) (pick (isZero x) Invalid ZeroDivide) (resultOf op x y))
+    (pick (isDivide op && isZero y) (pick (isZero x) Invalid ZeroDivide) (floatResultOf op x y))

@@ -6,7 +6,8 @@ ghost use mathlib.Core.Path.{_≡_};
 ghost use Prim.Native.Nat.{_≤_, _%_};
 ghost use lib.Ieee.{binary32, ofInt};
 ghost use Rattle.processor_arithmetic.specs.Integer.{signed};
-ghost use Rattle.processor_float.specs.Conversion.{nearestSizeOf, truncatedSizeOf, outsideOf, signedWordOf, nearestOf, truncatedOf};
+ghost use Rattle.processor_float.specs.Conversion.{nearestSizeOf, truncatedSizeOf, outsideOf, signedWordOf};
+ghost use Rattle.processor_float.specs.Conversion.{nearestOf, truncatedOf};
 
 // CVT.WS: the float nearest to a signed word.
 pub fn float_of(w: u32) -> f32

@@ -2,7 +2,8 @@
 use crate::Compared;
 use processor_arithmetic::flag::bit;
 ghost use mathlib.Core.Path.{_≡_};
-ghost use Rattle.processor_float.specs.Flag.{orderFlagsOf, underflowOf, numberFlagsOf, comparisonFlagsOf, conversionFlagsOf};
+ghost use Rattle.processor_float.specs.Flag.{orderFlagsOf, underflowOf, numberFlagsOf, comparisonFlagsOf};
+ghost use Rattle.processor_float.specs.Flag.{conversionFlagsOf};
 
 // Z, and S and CY alike, with OV cleared.
 fn order_flags(psw: u32, zero: bool, negative: bool) -> u32

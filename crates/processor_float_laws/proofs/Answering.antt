@@ -11,7 +11,7 @@ use lib.Ieee.{Float, fin, binary32, toBits, round}
 use lib.Ieee.Fits.{round-fits}
 use Rattle.word.specs.Choose.{pick}
 use Rattle.processor_float.specs.Operand.{reservedOf, isZero, floatOf, unitsOf, sizeBitsOf}
-use Rattle.processor_float.specs.Arithmetic.{computedOf, vanishesOf, isDivide, settledOf, resultOf, outcomeOf}
+use Rattle.processor_float.specs.Arithmetic.{computedOf, vanishesOf, isDivide, settledOf, floatResultOf, outcomeOf}
 use Rattle.processor_float.proofs.Tested.{or-false, pick-true, pick-false}
 use Rattle.processor_float.specs.declared.Operation.{Operation}
 use Rattle.processor_float.specs.declared.Operation.the-variants.{Add, Subtract, Multiply, Divide}
@@ -20,7 +20,7 @@ use Rattle.processor_float.specs.declared.FloatOutcome.the-variants.{Number, Re
 use Rattle.processor_float_laws.specs.Exact.{signedSize, numeratorOf, denominatorOf, zeroSignOf}
 use Rattle.processor_float_laws.specs.Nearest.{Finite, NearestEven}
 use Rattle.processor_float_laws.specs.Rounded.{roundedOf}
-use Rattle.processor_float_laws.specs.Answer.{Computes, sizeOf, Answered, EachAnswered, Traps}
+use Rattle.processor_float_laws.specs.Answer.{Computes, magnitudeSizeOf, Answered, EachAnswered, Traps}
 use Rattle.processor_float_laws.proofs.Rounds.{Rounds, operation-rounds}
 use Rattle.processor_float_laws.proofs.Settled.{settled-round, round-number}
 use Rattle.processor_float_laws.proofs.Vanishing.{zero-units, vanishes-is}
@@ -61,27 +61,27 @@ module _ (op : Operation) (x y : ℕ) (c : Computes op x y) where
   exact : vanishesOf op x y (floatOf x) (floatOf y) ≡ eqb (natAbs (numeratorOf op x y)) 0
   exact = vanishes-is x y (not-reserved x (both .0)) (not-reserved y (both .1)) op
 
-  result : resultOf op x y ≡ outcomeOf op x y
+  result : floatResultOf op x y ≡ outcomeOf op x y
   unfolding outcomeOf
   result =
-      pick-false (isDivide op && isZero y) (pick (isZero x) Invalid ZeroDivide) (resultOf op x y) (c .1)
-      ∙ pick-false (reservedOf x || reservedOf y) Reserved (pick (isDivide op && isZero y) (pick (isZero x) Invalid ZeroDivide) (resultOf op x y)) (c .0)
+      pick-false (isDivide op && isZero y) (pick (isZero x) Invalid ZeroDivide) (floatResultOf op x y) (c .1)
+      ∙ pick-false (reservedOf x || reservedOf y) Reserved (pick (isDivide op && isZero y) (pick (isZero x) Invalid ZeroDivide) (floatResultOf op x y)) (c .0)
 
   abbrev value : Float
   value = round binary32 (rounds .sign) (natAbs num) den
 
   abbrev small : FloatOutcome
-  small = pick (ltb (sizeOf op x y) (2 ^ 23)) (Number (fin (rounds .sign) 0 (pos 0)) (not (eqb (natAbs num) 0))) (Number value false)
+  small = pick (ltb (magnitudeSizeOf op x y) (2 ^ 23)) (Number (fin (rounds .sign) 0 (pos 0)) (not (eqb (natAbs num) 0))) (Number value false)
 
-  by-size : outcomeOf op x y ≡ pick (ltb (sizeOf op x y) (2 ^ 277)) small Overflow
+  by-size : outcomeOf op x y ≡ pick (ltb (magnitudeSizeOf op x y) (2 ^ 277)) small Overflow
   by-size =
       sym result
       ∙ ap (λ (b : Bool). settledOf b (computedOf op (floatOf x) (floatOf y))) exact
       ∙ ap (settledOf (eqb (natAbs num) 0)) (rounds .is)
       ∙ settled-round (eqb (natAbs num) 0) (rounds .sign) (natAbs num) den
 
-  within : sizeOf op x y < 2 ^ 277 → outcomeOf op x y ≡ small
-  within h = by-size ∙ sym (pick-true (ltb (sizeOf op x y) (2 ^ 277)) small Overflow (lt-ltb (sizeOf op x y) (2 ^ 277) h))
+  within : magnitudeSizeOf op x y < 2 ^ 277 → outcomeOf op x y ≡ small
+  within h = by-size ∙ sym (pick-true (ltb (magnitudeSizeOf op x y) (2 ^ 277)) small Overflow (lt-ltb (magnitudeSizeOf op x y) (2 ^ 277) h))
 
   less : (a b d : ℕ) → a < b → b ≤ d → a < d
   less a b d h l = omega arith
@@ -92,21 +92,21 @@ module _ (op : Operation) (x y : ℕ) (c : Computes op x y) where
         sign = rounds .sign;
         signs = rounds .agrees;
         zero-signs = rounds .zero-sign;
-        overflow = λ h. by-size ∙ sym (pick-false (ltb (sizeOf op x y) (2 ^ 277)) small Overflow (le-ltb (sizeOf op x y) (2 ^ 277) h));
+        overflow = λ h. by-size ∙ sym (pick-false (ltb (magnitudeSizeOf op x y) (2 ^ 277)) small Overflow (le-ltb (magnitudeSizeOf op x y) (2 ^ 277) h));
         underflow =
             λ h.
-            within (less (sizeOf op x y) (2 ^ 23) (2 ^ 277) h (lib.Pow.pow-mono {i = 23} {j = 277} (omega arith)))
-            ∙ sym (pick-true (ltb (sizeOf op x y) (2 ^ 23)) (Number (fin (rounds .sign) 0 (pos 0)) (not (eqb (natAbs num) 0))) (Number value false) (lt-ltb (sizeOf op x y) (2 ^ 23) h));
+            within (less (magnitudeSizeOf op x y) (2 ^ 23) (2 ^ 277) h (lib.Pow.pow-mono {i = 23} {j = 277} (omega arith)))
+            ∙ sym (pick-true (ltb (magnitudeSizeOf op x y) (2 ^ 23)) (Number (fin (rounds .sign) 0 (pos 0)) (not (eqb (natAbs num) 0))) (Number value false) (lt-ltb (magnitudeSizeOf op x y) (2 ^ 23) h));
         value = value;
         number =
             λ h l.
             within l
-            ∙ sym (pick-false (ltb (sizeOf op x y) (2 ^ 23)) (Number (fin (rounds .sign) 0 (pos 0)) (not (eqb (natAbs num) 0))) (Number value false) (le-ltb (sizeOf op x y) (2 ^ 23) h));
+            ∙ sym (pick-false (ltb (magnitudeSizeOf op x y) (2 ^ 23)) (Number (fin (rounds .sign) 0 (pos 0)) (not (eqb (natAbs num) 0))) (Number value false) (le-ltb (magnitudeSizeOf op x y) (2 ^ 23) h));
         nearest =
             λ h l.
             subst (λ (z : ℤ). NearestEven z den (toBits binary32 value)) (sym (rounds .agrees))
             (rounded-nearest (rounds .sign) (natAbs num) den den-pos value (toBits binary32 value)
-            (word-of value (rounds .sign) (sizeOf op x y) (round-fits binary32 (rounds .sign) (natAbs num) den) (round-number (rounds .sign) (natAbs num) den l)) h);
+            (word-of value (rounds .sign) (magnitudeSizeOf op x y) (round-fits binary32 (rounds .sign) (natAbs num) den) (round-number (rounds .sign) (natAbs num) den l)) h);
       }
 
 pub each-answered : EachAnswered
@@ -115,14 +115,14 @@ each-answered op x y c = answered op x y c
 pub traps-first : (op : Operation) (x y : ℕ) → Traps op x y
 unfolding outcomeOf
 traps-first op x y =
-    let numbers = pick (isDivide op && isZero y) (pick (isZero x) Invalid ZeroDivide) (resultOf op x y) in
+    let numbers = pick (isDivide op && isZero y) (pick (isZero x) Invalid ZeroDivide) (floatResultOf op x y) in
     let divided = pick (isZero x) Invalid ZeroDivide in
     record {
       reserved = λ h. sym (pick-true (reservedOf x || reservedOf y) Reserved numbers h);
       invalid =
           λ h z e.
-          sym (pick-true (isZero x) Invalid ZeroDivide e ∙ pick-true (isDivide op && isZero y) divided (resultOf op x y) z ∙ pick-false (reservedOf x || reservedOf y) Reserved numbers h);
+          sym (pick-true (isZero x) Invalid ZeroDivide e ∙ pick-true (isDivide op && isZero y) divided (floatResultOf op x y) z ∙ pick-false (reservedOf x || reservedOf y) Reserved numbers h);
       zero-divide =
           λ h z e.
-          sym (pick-false (isZero x) Invalid ZeroDivide e ∙ pick-true (isDivide op && isZero y) divided (resultOf op x y) z ∙ pick-false (reservedOf x || reservedOf y) Reserved numbers h);
+          sym (pick-false (isZero x) Invalid ZeroDivide e ∙ pick-true (isDivide op && isZero y) divided (floatResultOf op x y) z ∙ pick-false (reservedOf x || reservedOf y) Reserved numbers h);
     }

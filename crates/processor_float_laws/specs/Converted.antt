@@ -45,4 +45,5 @@ pub record Truncates (w : ℕ) : Type 0 where
 -- CVT.WS
 pub record Floats (w : ℕ) : Type 0 where
   pub nearest : 0 < natAbs (signed w) → NearestEven (signed w) 1 (toBits binary32 (ofInt binary32 (signed w)))
-  pub exact : natAbs (signed w) ≤ 2 ^ 24 → valueOf (toBits binary32 (ofInt binary32 (signed w))) ≡ signed w *ℤ pos (2 ^ 149)
+  pub exact :
+      natAbs (signed w) ≤ 2 ^ 24 → valueOf (toBits binary32 (ofInt binary32 (signed w))) ≡ signed w *ℤ pos (2 ^ 149)

@@ -1,6 +1,6 @@
--- Which interrupt is accepted, said exactly (paper 02, W6: "accepted exactly if some raised line's level is at least I while
--- NP, EP and ID are all clear; the highest such level wins"), and the entry against a regular exception's: the statements.
--- Their proofs are `accepts-taken`, `acceptable-accepts` and `entry-regular` in proofs/Exactly.
+-- Which interrupt is accepted, said exactly (paper 02, W6: "accepted exactly if some raised line's level is at least I
+-- while NP, EP and ID are all clear; the highest such level wins"), and the entry against a regular exception's: the
+-- statements. Their proofs are `accepts-taken`, `acceptable-accepts` and `entry-regular` in proofs/Exactly.
 use Prim.Native.Nat.{ℕ, _+_, _<_, _≤_}
 use mathlib.Core.Bool.{true}
 use mathlib.Core.Path.{_≡_}
@@ -11,7 +11,8 @@ use Rattle.processor_machine.specs.Exception.{regularEntryOf}
 use Rattle.processor_machine.specs.declared.Cause.{Cause}
 use Rattle.processor_machine.specs.declared.Mode.{Mode}
 use Rattle.processor_machine.specs.declared.Mode.the-variants.{Running, Fatal}
-use Rattle.processor_interrupt.specs.Interrupt.{lineOf, maskingLevelOf, levelOf, acceptsOf, interruptCodeOf, interruptHandlerOf, withLevelOf, interruptedOf}
+use Rattle.processor_interrupt.specs.Interrupt.{lineOf, maskingLevelOf, levelOf, acceptsOf, interruptCodeOf}
+use Rattle.processor_interrupt.specs.Interrupt.{interruptHandlerOf, withLevelOf, interruptedOf}
 
 -- a raised line whose level is at least I, in a machine that accepts interrupts
 pub record Acceptable (lines psw : ℕ) (mode : Mode) (level : ℕ) : Type 0 where
@@ -32,7 +33,8 @@ abbrev pub AcceptsTaken : Type 0
 AcceptsTaken = (lines psw : ℕ) (mode : Mode) → acceptsOf lines psw mode ≡ true → Taken lines psw mode
 
 abbrev pub AcceptableAccepts : Type 0
-AcceptableAccepts = (lines psw : ℕ) (mode : Mode) (n : ℕ) → Acceptable lines psw mode n → acceptsOf lines psw mode ≡ true
+AcceptableAccepts =
+    (lines psw : ℕ) (mode : Mode) (n : ℕ) → Acceptable lines psw mode n → acceptsOf lines psw mode ≡ true
 
 -- the machine with I replaced, running
 abbrev pub wokenOf : ℕ → State → State

@@ -1,5 +1,5 @@
--- Interrupts (paper 02, W6; document 000, "Interrupt", "List of Exceptions"): which raised line is accepted, and the entry
--- of its level. The five lines are one number, bit n that of level n: 0 pad, 1 timer, 2 game pak, 3 link, 4 VIP.
+-- Interrupts (paper 02, W6; document 000, "Interrupt", "List of Exceptions"): which raised line is accepted, and the
+-- entry of its level. The five lines are one number, bit n that of level n: 0 pad, 1 timer, 2 game pak, 3 link, 4 VIP.
 use Prim.Native.Nat.{ℕ, _+_, _*_, _/_, _%_, _^_}
 use mathlib.Core.Bool.{Bool, true, false}
 use lib.Dec.{eqb, leb}
@@ -52,8 +52,8 @@ interruptHandlerOf level = 0xFFFFFE00 + 16 * level
 unfoldable pub withLevelOf : ℕ → ℕ → ℕ
 withLevelOf level psw = psw / 1048576 * 1048576 + level * 65536 + psw % 65536
 
--- the entry: as a regular exception's, "and sets I to level + 1"; a halted machine wakes. The restore PC is the record's:
--- HALT has moved it past itself
+-- the entry: as a regular exception's, "and sets I to level + 1"; a halted machine wakes. The restore PC is the
+-- record's: HALT has moved it past itself
 unfoldable pub interruptedOf : ℕ → State → State
 interruptedOf level s =
     let sys = set (set (s .sys) 0 (s .pc)) 1 (s .psw) in

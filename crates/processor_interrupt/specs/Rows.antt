@@ -22,7 +22,8 @@ row lines psw mode = record { lines = lines; psw = psw; mode = mode }
 -- PC, PSW, EIPC, EIPSW and ECR after the entry
 abbrev enteredOf : Row → List ℕ
 enteredOf r =
-    let s = interruptedOf (levelOf (r .lines)) (stateOf (replicate 32 0) (replicate 8 0) 0x07000100 (r .psw) (r .mode)) in
+    let s = interruptedOf (levelOf (r .lines))
+    (stateOf (replicate 32 0) (replicate 8 0) 0x07000100 (r .psw) (r .mode)) in
     s .pc ∷ s .psw ∷ getD (s .sys) 0 0 ∷ getD (s .sys) 1 0 ∷ getD (s .sys) 4 0 ∷ []
 
 abbrev pub acceptedRows : List Row

@@ -27,7 +27,11 @@ fn cause(ecr: u32, level: u32) -> u32
 // An interrupt of a level, at pc: EIPC, EIPSW and the low half of ECR are filled.
 pub fn enter(sys: &mut [u32; 8], level: u32, pc: u32, psw: u32) -> Entered
     requires { ⌜ level < 5 ⌝ }
-    ensures { λ r. ⌜ ((regs : List ℕ) (mode : Mode) → stateOf regs (now (sys .exit)) (r .pc) (r .psw) Mode.Running ≡ interruptedOf level (stateOf regs (now (sys .entry)) pc psw mode)) ⌝ }
+    ensures { λ r. ⌜
+        ((regs : List ℕ) (mode : Mode)
+        → stateOf regs (now (sys .exit)) (r .pc) (r .psw) Mode.Running
+        ≡ interruptedOf level (stateOf regs (now (sys .entry)) pc psw mode))
+        ⌝ }
 {
     sys[0] = pc;
     sys[1] = psw;

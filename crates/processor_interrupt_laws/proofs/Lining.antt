@@ -4,7 +4,7 @@ use mathlib.Core.Path.{_≡_, refl, _∙_}
 use native.Mathlib.Omega.{arith}
 use lib.ListN.{length}
 use Rattle.bus_timer_laws.proofs.LinesKept.{lines-kept, line-never-rises}
-use Rattle.bus.specs.Registers.{hardwareIn}
+use Rattle.bus.specs.Registers.{deviceLength, hardwareIn}
 use Rattle.bus.specs.Memory.{Memory, storeOf}
 use Rattle.bus.proofs.Kept.{store-shape}
 use Rattle.processor_decode.specs.declared.Width.{Width}
@@ -27,10 +27,10 @@ both m n o p q =
       timer = omega (arith, p .timer, q .timer);
     }
 
-module _ (m : Memory) (whole : length (m .regs) ≡ 17) where
+module _ (m : Memory) (whole : length (m .regs) ≡ deviceLength) where
   -- the lines, and how many device registers there are
   abbrev Kept : Memory → Type 0
-  Kept n = KeepsLines m n × (length (n .regs) ≡ 17)
+  Kept n = KeepsLines m n × (length (n .regs) ≡ deviceLength)
 
   store-lines : (size a v : ℕ) → KeepsLines m (storeOf m size a v)
   unfolding hardwareIn

@@ -1,6 +1,7 @@
 -- Steps and runs in which no interrupt is accepted are the base's, read over the bus as it now is (paper 02, W6): the
--- statements. Their proofs are `step-masked` and `run-instructions` in proofs/Basing. CLI, LDSR, RETI and a store to the
--- timer's control register can change midway whether a line is accepted, so the premise is over every step of the run.
+-- statements. Their proofs are `step-masked` and `run-instructions` in proofs/Basing. CLI, LDSR, RETI and a store to
+-- the timer's control register can change midway whether a line is accepted, so the premise is over every step of the
+-- run.
 use Prim.Native.Nat.{ℕ, zero, suc, _<_}
 use mathlib.Core.Bool.{false}
 use mathlib.Core.Path.{_≡_}

@@ -23,13 +23,14 @@ pub record AcceptsExactly (s : State) (m : Memory) : Type 0 where
 abbrev pub AcceptsAsSaid : Type 0
 AcceptsAsSaid = (s : State) (m : Memory) → AcceptsExactly s m
 
--- an accepted step: the level is answered; the state is a regular exception's entry (which names its cause) with I replaced
--- by the level plus 1, mode running; memory, and with it the lines and the timer, stays; nothing is fetched
+-- an accepted step: the level is answered; the state is a regular exception's entry (which names its cause) with I
+-- replaced by the level plus 1, mode running; memory, and with it the lines and the timer, stays; nothing is fetched
 pub record InterruptedStep (s : State) (m : Memory) (level : ℕ) : Type 0 where
   pub answer : stepOf s m .answer ≡ Interrupted level
   pub state : (cause : Cause)
       → stepOf s m .state
-      ≡ wokenOf (level + 1) (regularEntryOf cause (interruptCodeOf level) (interruptHandlerOf level) (s .pc) (s .psw) s m .state)
+      ≡ wokenOf (level + 1)
+      (regularEntryOf cause (interruptCodeOf level) (interruptHandlerOf level) (s .pc) (s .psw) s m .state)
   pub memory : stepOf s m .memory ≡ m
   pub fetched : fetchedOf s m ≡ notFetched
 
@@ -42,8 +43,8 @@ StepIndependent =
     (s : State) (m n : Memory) → linesIn m ≡ linesIn n → acceptsIn s m ≡ true
     → (acceptsIn s n ≡ true) × ((stepOf s n .answer ≡ stepOf s m .answer) × (stepOf s n .state ≡ stepOf s m .state))
 
--- "A run stops at halted mode only where nothing is accepted": a run of at least one step that ends halted, whether it was
--- stopped there or its last instruction was HALT, ends where nothing is accepted
+-- "A run stops at halted mode only where nothing is accepted": a run of at least one step that ends halted, whether it
+-- was stopped there or its last instruction was HALT, ends where nothing is accepted
 abbrev pub RunHalted : Type 0
 RunHalted =
     (budget : ℕ) (s : State) (m : Memory) → 0 < budget → runOf budget s m .state .mode ≡ Halted

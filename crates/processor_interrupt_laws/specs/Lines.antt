@@ -1,9 +1,10 @@
--- What a step or a run does to the request lines (paper 02, W6: a line is "changed only by the bench and, line 1, by the Timer
--- section's rules"): the statements, over the bus's 17 device registers. Their proofs are `step-lines` and `run-lines` in
--- proofs/Lining. That no store does more is bus_timer_laws' Writing.
+-- What a step or a run does to the request lines (paper 02, W6: a line is "changed only by the bench and, line 1, by
+-- the Timer section's rules"): the statements, over the bus's 17 device registers. Their proofs are `step-lines` and
+-- `run-lines` in proofs/Lining. That no store does more is bus_timer_laws' Writing.
 use Prim.Native.Nat.{ℕ, _≤_}
 use mathlib.Core.Path.{_≡_}
 use lib.ListN.{length}
+use Rattle.bus.specs.Registers.{deviceLength}
 use Rattle.bus.specs.Memory.{Memory}
 use Rattle.processor_machine.specs.State.{State}
 use Rattle.processor_interrupt.specs.Interrupt.{lineOf}
@@ -16,7 +17,8 @@ pub record KeepsLines (m n : Memory) : Type 0 where
   pub timer : lineOf 1 (linesIn n) ≤ lineOf 1 (linesIn m)
 
 abbrev pub StepLines : Type 0
-StepLines = (s : State) (m : Memory) → length (m .regs) ≡ 17 → KeepsLines m (stepOf s m .memory)
+StepLines = (s : State) (m : Memory) → length (m .regs) ≡ deviceLength → KeepsLines m (stepOf s m .memory)
 
 abbrev pub RunLines : Type 0
-RunLines = (budget : ℕ) (s : State) (m : Memory) → length (m .regs) ≡ 17 → KeepsLines m (runOf budget s m .memory)
+RunLines =
+    (budget : ℕ) (s : State) (m : Memory) → length (m .regs) ≡ deviceLength → KeepsLines m (runOf budget s m .memory)

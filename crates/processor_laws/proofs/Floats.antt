@@ -16,7 +16,7 @@ use Rattle.processor_arithmetic.specs.Integer.{signed, outside}
 use Rattle.processor_decode.specs.declared.FloatingOperation.{FloatingOperation}
 use Rattle.processor_decode.specs.declared.NintendoOperation.{NintendoOperation}
 use Rattle.processor_float.specs.Operand.{reservedOf, isZero, floatOf, signedBy}
-use Rattle.processor_float.specs.Arithmetic.{computedOf, isDivide, vanishesOf, isTiny, settledOf, resultOf, outcomeOf}
+use Rattle.processor_float.specs.Arithmetic.{computedOf, isDivide, vanishesOf, isTiny, settledOf, floatResultOf, outcomeOf}
 use Rattle.processor_float.specs.Conversion.{nearestSizeOf, truncatedSizeOf, signedWordOf, convertedOf, nearestOf, truncatedOf}
 use Rattle.processor_float.specs.Nintendo.{xbOf, xhOf, revOf, mpyhwOf}
 use Rattle.processor_float.proofs.Reversal.{reversed-small}
@@ -58,8 +58,8 @@ settled-kept exact (fin s m e) h =
 outcome-kept : (op : Operation) (x y : ℕ) → Kept (outcomeOf op x y)
 unfolding outcomeOf
 outcome-kept op x y =
-    pick-each Kept (reservedOf x || reservedOf y) Reserved (pick (isDivide op && isZero y) (pick (isZero x) Invalid ZeroDivide) (resultOf op x y)) tt
-    (pick-each Kept (isDivide op && isZero y) (pick (isZero x) Invalid ZeroDivide) (resultOf op x y)
+    pick-each Kept (reservedOf x || reservedOf y) Reserved (pick (isDivide op && isZero y) (pick (isZero x) Invalid ZeroDivide) (floatResultOf op x y)) tt
+    (pick-each Kept (isDivide op && isZero y) (pick (isZero x) Invalid ZeroDivide) (floatResultOf op x y)
     (pick-each Kept (isZero x) Invalid ZeroDivide tt tt)
     (settled-kept (vanishesOf op x y (floatOf x) (floatOf y)) (computedOf op (floatOf x) (floatOf y)) (computed-fits op (floatOf x) (floatOf y))))
 

@@ -7,15 +7,16 @@ use native.Mathlib.Omega.{arith}
 use borrow.Author.Tests.{eqb-true, eq-eqb, leb-true, le-leb}
 use lib.Dec.{eqb, leb}
 use lib.ListN.{length, getD}
+use Rattle.bus.specs.Registers.{deviceLength}
 use Rattle.bus.specs.Memory.{Memory, verdictOf}
-use Rattle.refusal.specs.Number.{unless}
+use Rattle.refusal.specs.Number.{unless, thenOf}
 use Rattle.refusal.specs.declared.Refusal as refusal
 use Rattle.refusal.specs.declared.Verdict.{Verdict}
 use Rattle.refusal.specs.declared.Verdict.the-variants.{Accepted, Refused}
 use Rattle.bus.proofs.Accepted.{unless-passed}
 use Rattle.processor_machine.specs.State.{State}
 use Rattle.processor_machine.specs.System.{pswBitsOf}
-use Rattle.processor.specs.Acceptance.{both, isEven, isFormat, evenOk, formatsOk, stateOk, thenOf, acceptanceAt, acceptanceOf}
+use Rattle.processor.specs.Acceptance.{both, isEven, isFormat, evenOk, formatsOk, stateOk, acceptanceAt, acceptanceOf}
 use Rattle.processor_laws.specs.Accepted.{Below, Machine}
 
 -- general register k may hold v
@@ -57,7 +58,7 @@ pub record Bytes (m : Memory) : Type 0 where
 
 pub record Memories (m : Memory) : Type 0 where
   pub bytes : Bytes m
-  pub device : length (m .regs) ≡ 17
+  pub device : length (m .regs) ≡ deviceLength
   pub verdict : verdictOf m ≡ Accepted
 
 pub record Good (s : State) (m : Memory) : Type 0 where

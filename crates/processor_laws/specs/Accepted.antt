@@ -6,7 +6,7 @@ use mathlib.Core.List.{List}
 use mathlib.Core.Path.{_≡_}
 use lib.Bits.{bitAnd}
 use lib.ListN.{length, getD}
-use Rattle.bus.specs.Registers.{widthOf, linesPlace, controlPlace}
+use Rattle.bus.specs.Registers.{deviceLength, widthOf, linesPlace, controlPlace}
 use Rattle.bus.specs.Memory.{Memory, Lengths}
 use Rattle.refusal.specs.declared.Verdict.the-variants.{Accepted}
 use Rattle.processor_machine.specs.State.{State}
@@ -31,7 +31,7 @@ pub record Sized (s : State) (m : Memory) : Type 0 where
   pub wram-bytes : Below 256 (m .wram)
   pub vram-bytes : Below 256 (m .vram)
   pub pak-bytes : Below 256 (m .pak)
-  pub device : length (m .regs) ≡ 17
+  pub device : length (m .regs) ≡ deviceLength
 
 -- a machine that a call is given and does not refuse by 1 to 5
 pub record Machine (s : State) (m : Memory) : Type 0 where

@@ -1,6 +1,6 @@
 -- The same of the public calls' own records (processor, Calls): what a step or a run gives back, the next call does not
--- refuse by 1 to 5; and what reset gives is such a machine over any memories of the right lengths. The statements; their
--- proofs are `step-call-accepted`, `run-call-accepted` and `reset-accepted` in proofs/Calling.
+-- refuse by 1 to 5; and what reset gives is such a machine over any memories of the right lengths. The statements;
+-- their proofs are `step-call-accepted`, `run-call-accepted` and `reset-accepted` in proofs/Calling.
 use Prim.Native.Nat.{ℕ}
 use mathlib.Core.List.{List}
 use lib.ListN.{length}

@@ -17,7 +17,8 @@ use Rattle.processor_decode.specs.declared.NintendoOperation.{NintendoOperation
 use Rattle.processor_machine.specs.State.{State, Stepped}
 use Rattle.processor_machine.specs.Exception.{savedOf}
 use Rattle.processor_machine.specs.declared.Cause.{Cause}
-use Rattle.processor_machine.specs.declared.Cause.the-variants.{FloatReserved, FloatInvalid, FloatZeroDivide, FloatOverflow}
+use Rattle.processor_machine.specs.declared.Cause.the-variants.{FloatReserved, FloatInvalid, FloatZeroDivide}
+use Rattle.processor_machine.specs.declared.Cause.the-variants.{FloatOverflow}
 use Rattle.processor_machine.specs.declared.Answer.the-variants.{Ended}
 use Rattle.processor_execute.specs.Execute.{executeOf}
 

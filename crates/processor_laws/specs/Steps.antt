@@ -1,6 +1,6 @@
 -- What a run comes to in steps (paper 01: "A run does at most the given number of instructions and reports how many
--- ended: the number of the definition's steps up to the budget, a non-running mode, or a refusal"): the statements. Their
--- proofs are `run-steps`, `run-counted` and `run-ends` in proofs/Runs.
+-- ended: the number of the definition's steps up to the budget, a non-running mode, or a refusal"): the statements.
+-- Their proofs are `run-steps`, `run-counted` and `run-ends` in proofs/Runs.
 use Prim.Native.Nat.{ℕ, zero, suc, _<_}
 use mathlib.Core.Path.{_≡_}
 use Rattle.bus.specs.Memory.{Memory}

@@ -1,1 +1,2 @@
-// An accepted machine stays accepted: definitions in specs/ and their theorems in proofs/. There is nothing to run here.
+// An accepted machine stays accepted: definitions in specs/ and their theorems in proofs/. There is nothing to run
+// here.

@@ -1,4 +1,5 @@
--- System register 31 (paper 01): "keeps and reads the absolute value of what is written", 0x80000000 for itself among them.
+-- System register 31 (paper 01): "keeps and reads the absolute value of what is written", 0x80000000 for itself among
+-- them.
 use Prim.Native.Nat.{ℕ, _^_, _<_}
 use mathlib.Core.List.{List}
 use mathlib.Core.Path.{_≡_}

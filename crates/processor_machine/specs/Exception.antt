@@ -9,7 +9,8 @@ use Rattle.bus.specs.Memory.{Memory}
 use Rattle.processor_machine.specs.State.{State, Stepped, stateOf, steppedOf}
 use Rattle.processor_machine.specs.declared.Mode.the-variants.{Fatal}
 use Rattle.processor_machine.specs.declared.Cause.{Cause}
-use Rattle.processor_machine.specs.declared.Cause.the-variants.{ZeroDivision, Illegal, Trap, FloatReserved, FloatInvalid, FloatZeroDivide, FloatOverflow}
+use Rattle.processor_machine.specs.declared.Cause.the-variants.{ZeroDivision, Illegal, Trap, FloatReserved}
+use Rattle.processor_machine.specs.declared.Cause.the-variants.{FloatInvalid, FloatZeroDivide, FloatOverflow}
 use Rattle.processor_machine.specs.declared.Answer.the-variants.{Trapped, TurnedFatal}
 
 -- the code; a vector has five bits
@@ -61,13 +62,15 @@ fatalOf cause s m = steppedOf (TurnedFatal cause) (stateOf (s .regs) (s .sys) (s
 abbrev pub duplexedEntryOf : Cause → ℕ → ℕ → ℕ → State → Memory → Stepped
 duplexedEntryOf cause code restore saved s m =
     let sys = set (set (s .sys) 2 restore) 3 saved in
-    steppedOf (Trapped cause) (stateOf (s .regs) (set sys 4 (getD sys 4 0 % 65536 + code * 65536)) 0xFFFFFFD0 (duplexedOf saved) (s .mode)) m
+    steppedOf (Trapped cause)
+    (stateOf (s .regs) (set sys 4 (getD sys 4 0 % 65536 + code * 65536)) 0xFFFFFFD0 (duplexedOf saved) (s .mode)) m
 
 -- a regular exception: EIPC, EIPSW and the low half of ECR are filled
 abbrev pub regularEntryOf : Cause → ℕ → ℕ → ℕ → ℕ → State → Memory → Stepped
 regularEntryOf cause code handler restore saved s m =
     let sys = set (set (s .sys) 0 restore) 1 saved in
-    steppedOf (Trapped cause) (stateOf (s .regs) (set sys 4 (getD sys 4 0 / 65536 * 65536 + code)) handler (regularOf saved) (s .mode)) m
+    steppedOf (Trapped cause)
+    (stateOf (s .regs) (set sys 4 (getD sys 4 0 / 65536 * 65536 + code)) handler (regularOf saved) (s .mode)) m
 
 -- the entry, by NP (bit 15) and EP (bit 14): `saved` is the PSW that is saved
 unfoldable pub enterOf : Cause → ℕ → ℕ → ℕ → ℕ → State → Memory → Stepped

@@ -81,7 +81,11 @@ fn saved(cause: Cause, psw: u32) -> u32
 
 // An exception of an instruction at pc.
 pub fn raise(sys: &mut [u32; 8], cause: Cause, pc: u32, next: u32, psw: u32) -> Control
-    ensures { λ r. ⌜ ((regs : List ℕ) (m : Memory) → leaves regs (now (sys .exit)) r m ≡ raiseOf cause next (stateOf regs (now (sys .entry)) pc psw Mode.Running) m) ⌝ }
+    ensures { λ r. ⌜
+        ((regs : List ℕ) (m : Memory)
+        → leaves regs (now (sys .exit)) r m
+        ≡ raiseOf cause next (stateOf regs (now (sys .entry)) pc psw Mode.Running) m)
+        ⌝ }
 {
     let code = code(cause);
     let handler = handler(cause);
@@ -118,7 +122,11 @@ fn enter(
     psw: u32,
 ) -> Control
     requires { ⌜ code < 65536 ⌝ }
-    ensures { λ r. ⌜ ((regs : List ℕ) (m : Memory) → leaves regs (now (sys .exit)) r m ≡ enterOf cause code handler restore saved (stateOf regs (now (sys .entry)) pc psw Mode.Running) m) ⌝ }
+    ensures { λ r. ⌜
+        ((regs : List ℕ) (m : Memory)
+        → leaves regs (now (sys .exit)) r m
+        ≡ enterOf cause code handler restore saved (stateOf regs (now (sys .entry)) pc psw Mode.Running) m)
+        ⌝ }
 {
     if psw / 32768 % 2 == 1 {
         return Control {

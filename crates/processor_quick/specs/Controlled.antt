@@ -1,5 +1,5 @@
--- What an instruction on the system registers answers (document 000, "CPU Control"): PSW, where it goes on at the following
--- instruction; or that it is left to the step, with nothing changed.
+-- What an instruction on the system registers answers (document 000, "CPU Control"): PSW, where it goes on at the
+-- following instruction; or that it is left to the step, with nothing changed.
 use Prim.Native.Nat.{ℕ, _+_, _%_, _^_}
 use mathlib.Core.Bool.{false}
 use mathlib.Core.List.{List}
@@ -30,10 +30,12 @@ ControlledBy Other lines pc psw regs₀ sys₀ regs sys m t = (regs ≡ regs₀)
 abbrev pub Controls : ℕ → Decoded → Controlled → ℕ → List ℕ → List ℕ → List ℕ → List ℕ → Type 0
 Controls lines d r psw regs₀ sys₀ regs sys =
     (m : Memory) (pc : ℕ)
-    → ControlledBy r lines pc psw regs₀ sys₀ regs sys m (performOf d (nextOf false pc) (stateOf regs₀ sys₀ pc psw Running) m)
+    → ControlledBy r lines pc psw regs₀ sys₀ regs sys m
+    (performOf d (nextOf false pc) (stateOf regs₀ sys₀ pc psw Running) m)
 
 -- the answer for the halfword f, whatever halfword s stands after it
 abbrev pub ControlsCode : ℕ → ℕ → Controlled → ℕ → List ℕ → List ℕ → List ℕ → List ℕ → Type 0
 ControlsCode lines f r psw regs₀ sys₀ regs sys =
     (m : Memory) (pc s : ℕ)
-    → ControlledBy r lines pc psw regs₀ sys₀ regs sys m (performOf (decodeOf f s) (nextOf (twoOf f) pc) (stateOf regs₀ sys₀ pc psw Running) m)
+    → ControlledBy r lines pc psw regs₀ sys₀ regs sys m
+    (performOf (decodeOf f s) (nextOf (twoOf f) pc) (stateOf regs₀ sys₀ pc psw Running) m)

@@ -19,7 +19,9 @@ pub record Stays (s₀ : State) (m₀ : Memory) (s : State) (m : Memory) : Type 
 -- n instructions lead from the first machine to the last
 pub data Leads (s₀ : State) (m₀ : Memory) : ℕ → State → Memory → Type 0 where
   none : Leads s₀ m₀ 0 s₀ m₀
-  more : {n : ℕ} {s t : State} {m w : Memory} → Leads s₀ m₀ n s m → Stays s₀ m₀ s m → steppedOf Ended t w ≡ runningStepOf s m → Leads s₀ m₀ (suc n) t w
+  more :
+      {n : ℕ} {s t : State} {m w : Memory} → Leads s₀ m₀ n s m → Stays s₀ m₀ s m
+      → steppedOf Ended t w ≡ runningStepOf s m → Leads s₀ m₀ (suc n) t w
 
 -- what a stretch of a budget leaves
 pub record Stretched (budget : ℕ) (s₀ : State) (m₀ : Memory) (n : ℕ) (s : State) (m : Memory) : Type 0 where
@@ -30,4 +32,5 @@ pub record Stretched (budget : ℕ) (s₀ : State) (m₀ : Memory) (n : ℕ) (s 
 -- the same put together from the lent registers and memories and what the code returns, for all system registers
 abbrev pub stretchedBy : ℕ → List ℕ → ℕ → ℕ → Memory → List ℕ → Progress → Memory → Type 0
 stretchedBy budget regs₀ pc psw m₀ regs r m =
-    (sys : List ℕ) → Stretched budget (stateOf regs₀ sys pc psw Running) m₀ (r .count) (stateOf regs sys (r .pc) (r .psw) Running) m
+    (sys : List ℕ)
+    → Stretched budget (stateOf regs₀ sys pc psw Running) m₀ (r .count) (stateOf regs sys (r .pc) (r .psw) Running) m

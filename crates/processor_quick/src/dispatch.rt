@@ -9,7 +9,8 @@ use processor_quick_move::transfer;
 ghost use lib.ListN.{length};
 ghost use mathlib.Core.Path.{_≡_};
 ghost use Prim.Native.Nat.{_<_};
-ghost use Rattle.bus.specs.Memory.{memoryOf, Lengths};
+ghost use Rattle.bus.specs.Memory.{Lengths};
+ghost use Rattle.bus.specs.Lent.{entering, leavingRam};
 ghost use Rattle.processor_quick_compute.specs.Quick.{Dispatches};
 
 // f and s are the two halfwords of code at index x; the second counts only where the first asks for it.
@@ -26,8 +27,14 @@ pub fn dispatch(
     x: u32,
     flags: Flags,
 ) -> Quick
-    requires { ⌜ Lengths (length (now rom)) (length (now wram)) (length (now vram)) (length (now pak)) × (f < 65536) × (s < 65536) ⌝ }
-    ensures { λ r. ⌜ Dispatches base f s r x flags (now (regs .entry)) (memoryOf (now (rom .entry)) (now (wram .entry)) (now (vram .entry)) (now (pak .entry)) (now (device .entry))) (now (regs .exit)) (memoryOf (now (rom .entry)) (now (wram .exit)) (now (vram .exit)) (now (pak .entry)) (now (device .entry))) ⌝ }
+    requires { ⌜
+        Lengths (length (now rom)) (length (now wram)) (length (now vram)) (length (now pak)) × (f < 65536)
+        × (s < 65536)
+        ⌝ }
+    ensures { λ r. ⌜
+        Dispatches base f s r x flags (now (regs .entry)) (entering rom wram vram pak device) (now (regs .exit))
+        (leavingRam rom wram vram pak device)
+        ⌝ }
 {
     match f / 1024 {
         0 => arithmetic::mov(regs, f, x, flags),

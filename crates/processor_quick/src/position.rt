@@ -17,7 +17,10 @@ fn halves(code: &[u8], x: usize) -> u32
 
 pub fn fetch(rom: &[u8], wram: &[u8], in_rom: bool, x: usize) -> u32
     requires { ⌜ x + 3 < pick in_rom (length (now rom)) (length (now wram)) ⌝ }
-    ensures { λ r. ⌜ (r % 65536 ≡ halfAt (pick in_rom (now (rom .entry)) (now (wram .entry))) x) × (r / 65536 ≡ halfAt (pick in_rom (now (rom .entry)) (now (wram .entry))) (x + 2)) ⌝ }
+    ensures { λ r. ⌜
+        (r % 65536 ≡ halfAt (pick in_rom (now (rom .entry)) (now (wram .entry))) x)
+        × (r / 65536 ≡ halfAt (pick in_rom (now (rom .entry)) (now (wram .entry))) (x + 2))
+        ⌝ }
 {
     if in_rom {
         return halves(rom, x);

@@ -10,7 +10,8 @@ use processor_quick_compute::Quick;
 ghost use lib.ListN.{length};
 ghost use mathlib.Core.Path.{_≡_};
 ghost use Prim.Native.Nat.{_%_};
-ghost use Rattle.bus.specs.Memory.{memoryOf, Lengths};
+ghost use Rattle.bus.specs.Memory.{Lengths};
+ghost use Rattle.bus.specs.Lent.{entering, leavingRam};
 ghost use Rattle.processor_machine.specs.State.{stateOf};
 ghost use Rattle.processor_machine.specs.declared.Mode.{Mode};
 ghost use Rattle.processor_quick.specs.Stands.{Stands};
@@ -31,8 +32,14 @@ fn inside(
     base: u32,
     last: u32,
 ) -> Progress
-    requires { ⌜ Lengths (length (now rom)) (length (now wram)) (length (now vram)) (length (now pak)) × Stands (length (now rom)) in_rom base last × (pc % 2 ≡ 0) × (psw % 4 ≡ 3 → ⊥) ⌝ }
-    ensures { λ r. ⌜ stretchedBy budget (now (regs .entry)) pc psw (memoryOf (now (rom .entry)) (now (wram .entry)) (now (vram .entry)) (now (pak .entry)) (now (device .entry))) (now (regs .exit)) r (memoryOf (now (rom .entry)) (now (wram .exit)) (now (vram .exit)) (now (pak .entry)) (now (device .entry))) ⌝ }
+    requires { ⌜
+        Lengths (length (now rom)) (length (now wram)) (length (now vram)) (length (now pak))
+        × Stands (length (now rom)) in_rom base last × (pc % 2 ≡ 0) × (psw % 4 ≡ 3 → ⊥)
+        ⌝ }
+    ensures { λ r. ⌜
+        stretchedBy budget (now (regs .entry)) pc psw (entering rom wram vram pak device) (now (regs .exit)) r
+        (leavingRam rom wram vram pak device)
+        ⌝ }
 {
     let mut x = std::num::wrapping_sub_u32(pc, base);
     let mut flags = status::unpacked(psw);
@@ -93,7 +100,10 @@ fn common(
     budget: u64,
 ) -> Progress
     requires { ⌜ Lengths (length (now rom)) (length (now wram)) (length (now vram)) (length (now pak)) ⌝ }
-    ensures { λ r. ⌜ stretchedBy budget (now (regs .entry)) pc psw (memoryOf (now (rom .entry)) (now (wram .entry)) (now (vram .entry)) (now (pak .entry)) (now (device .entry))) (now (regs .exit)) r (memoryOf (now (rom .entry)) (now (wram .exit)) (now (vram .exit)) (now (pak .entry)) (now (device .entry))) ⌝ }
+    ensures { λ r. ⌜
+        stretchedBy budget (now (regs .entry)) pc psw (entering rom wram vram pak device) (now (regs .exit)) r
+        (leavingRam rom wram vram pak device)
+        ⌝ }
 {
     if pc % 2 != 0 {
         return Progress { count: 0, pc, psw };
@@ -154,7 +164,12 @@ pub fn stretch(
     budget: u64,
 ) -> Progress
     requires { ⌜ Lengths (length (now rom)) (length (now wram)) (length (now vram)) (length (now pak)) ⌝ }
-    ensures { λ r. ⌜ Stretched budget (stateOf (now (regs .entry)) (now (sys .entry)) pc psw Mode.Running) (memoryOf (now (rom .entry)) (now (wram .entry)) (now (vram .entry)) (now (pak .entry)) (now (device .entry))) (r .count) (stateOf (now (regs .exit)) (now (sys .exit)) (r .pc) (r .psw) Mode.Running) (memoryOf (now (rom .entry)) (now (wram .exit)) (now (vram .exit)) (now (pak .entry)) (now (device .entry))) ⌝ }
+    ensures { λ r. ⌜
+        Stretched budget (stateOf (now (regs .entry)) (now (sys .entry)) pc psw Mode.Running)
+        (entering rom wram vram pak device) (r .count)
+        (stateOf (now (regs .exit)) (now (sys .exit)) (r .pc) (r .psw) Mode.Running)
+        (leavingRam rom wram vram pak device)
+        ⌝ }
 {
     let mut at = pc;
     let mut status = psw;

@@ -1,5 +1,5 @@
-// STSR, LDSR but for PSW, SEI and CLI: what reads or changes the system registers or PSW above its flags. CLI is left to
-// the step where an interrupt is accepted after it.
+// STSR, LDSR but for PSW, SEI and CLI: what reads or changes the system registers or PSW above its flags. CLI is left
+// to the step where an interrupt is accepted after it.
 use crate::Controlled;
 use crate::Progress;
 use bus::Device;
@@ -12,7 +12,8 @@ use processor_quick_compute::field::reg2;
 ghost use mathlib.Core.List.{List};
 ghost use Prim.Native.Nat.{ℕ};
 ghost use lib.ListN.{length, getD};
-ghost use Rattle.bus.specs.Memory.{memoryOf, Lengths};
+ghost use Rattle.bus.specs.Memory.{Lengths};
+ghost use Rattle.bus.specs.Lent.{entering};
 ghost use Rattle.processor_decode.specs.Format as format;
 ghost use Rattle.processor_decode.specs.declared.Decoded as decoded;
 ghost use Rattle.processor_decode.specs.declared.Instruction as instruction;
@@ -21,7 +22,11 @@ ghost use Rattle.processor_quick.specs.Controlled.{Controls, ControlsCod
 ghost use Rattle.processor_quick.specs.Leads.{Stretched};
 
 fn stsr(regs: &mut [u32; 32], sys: &[u32; 8], f: u32, psw: u32) -> Controlled
-    ensures { λ r. ⌜ ((lines : ℕ) → Controls lines (format.stsr f) r psw (now (regs .entry)) (now (sys .entry)) (now (regs .exit)) (now (sys .entry))) ⌝ }
+    ensures { λ r. ⌜
+        ((lines : ℕ)
+        → Controls lines (format.stsr f) r psw (now (regs .entry)) (now (sys .entry))
+        (now (regs .exit)) (now (sys .entry)))
+        ⌝ }
 {
     let id = f % 32;
     if id == 24 {
@@ -33,7 +38,11 @@ fn stsr(regs: &mut [u32; 32], sys: &[u32; 8], f: u32, psw: u32) -> Controlled
 }
 
 fn ldsr(regs: &[u32; 32], sys: &mut [u32; 8], f: u32, psw: u32) -> Controlled
-    ensures { λ r. ⌜ ((lines : ℕ) → Controls lines (format.ldsr f) r psw (now (regs .entry)) (now (sys .entry)) (now (regs .entry)) (now (sys .exit))) ⌝ }
+    ensures { λ r. ⌜
+        ((lines : ℕ)
+        → Controls lines (format.ldsr f) r psw (now (regs .entry)) (now (sys .entry))
+        (now (regs .entry)) (now (sys .exit)))
+        ⌝ }
 {
     let id = f % 32;
     if id == 24 {
@@ -48,7 +57,10 @@ fn ldsr(regs: &[u32; 32], sys: &mut [u32; 8], f: u32, psw: u32) -> Controlled
 }
 
 fn sei(psw: u32) -> Controlled
-    ensures { λ r. ⌜ ((lines : ℕ) (regs sys : List ℕ) → Controls lines (decoded.Decoded.Modelled instruction.Instruction.Sei) r psw regs sys regs sys) ⌝ }
+    ensures { λ r. ⌜
+        ((lines : ℕ) (regs sys : List ℕ)
+        → Controls lines (decoded.Decoded.Modelled instruction.Instruction.Sei) r psw regs sys regs sys)
+        ⌝ }
 {
     Controlled::Done {
         psw: flag::set_id(psw),
@@ -56,7 +68,10 @@ fn sei(psw: u32) -> Controlled
 }
 
 fn cli(lines: u16, psw: u32) -> Controlled
-    ensures { λ r. ⌜ ((regs sys : List ℕ) → Controls lines (decoded.Decoded.Modelled instruction.Instruction.Cli) r psw regs sys regs sys) ⌝ }
+    ensures { λ r. ⌜
+        ((regs sys : List ℕ)
+        → Controls lines (decoded.Decoded.Modelled instruction.Instruction.Cli) r psw regs sys regs sys)
+        ⌝ }
 {
     let p = flag::clear_id(psw);
     if accepts(lines, p, Mode::Running) {
@@ -73,7 +88,10 @@ fn control(
     f: u32,
     psw: u32,
 ) -> Controlled
-    ensures { λ r. ⌜ ControlsCode (getD (now (device .entry)) 13 0) f r psw (now (regs .entry)) (now (sys .entry)) (now (regs .exit)) (now (sys .exit)) ⌝ }
+    ensures { λ r. ⌜
+        ControlsCode (getD (now (device .entry)) 13 0) f r psw (now (regs .entry)) (now (sys .entry))
+        (now (regs .exit)) (now (sys .exit))
+        ⌝ }
 {
     match f / 1024 {
         22 => cli(device[13], psw),
@@ -98,7 +116,11 @@ pub fn controls(
     budget: u64,
 ) -> Progress
     requires { ⌜ Lengths (length (now rom)) (length (now wram)) (length (now vram)) (length (now pak)) ⌝ }
-    ensures { λ r. ⌜ Stretched budget (stateOf (now (regs .entry)) (now (sys .entry)) pc psw Mode.Running) (memoryOf (now (rom .entry)) (now (wram .entry)) (now (vram .entry)) (now (pak .entry)) (now (device .entry))) (r .count) (stateOf (now (regs .exit)) (now (sys .exit)) (r .pc) (r .psw) Mode.Running) (memoryOf (now (rom .entry)) (now (wram .entry)) (now (vram .entry)) (now (pak .entry)) (now (device .entry))) ⌝ }
+    ensures { λ r. ⌜
+        Stretched budget (stateOf (now (regs .entry)) (now (sys .entry)) pc psw Mode.Running)
+        (entering rom wram vram pak device) (r .count)
+        (stateOf (now (regs .exit)) (now (sys .exit)) (r .pc) (r .psw) Mode.Running) (entering rom wram vram pak device)
+        ⌝ }
 {
     let mut at = pc;
     let mut status = psw;

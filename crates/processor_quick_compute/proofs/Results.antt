@@ -14,7 +14,7 @@ use Rattle.processor_arithmetic.specs.Sum.{differenceOf, compareOf}
 use Rattle.processor_arithmetic.specs.declared.Outcome.{Outcome}
 use Rattle.processor_arithmetic.specs.declared.Pair as arithmetic
 use Rattle.processor_execute.specs.Execute.{goesOn, givesOf, resultOf, pairOf}
-use Rattle.processor_flags.specs.Packed.{valueOf, packedOf, Gives, GivesPair}
+use Rattle.processor_flags.specs.Packed.{packedValueOf, packedOf, Gives, GivesPair}
 use Rattle.processor_flags.specs.declared.Flags.{Flags}
 use Rattle.processor_flags.specs.declared.Pair.{Pair}
 use Rattle.processor_machine.specs.State.{putOf}
@@ -40,7 +40,7 @@ two-even x h = omega arith
 
 module _ (base x psw n : ℕ) (regs₀ regs sys : List ℕ) (g : Flags) (m : Memory) (to next : ℕ) (on : addressOf base to ≡ next) (even : to % 2 ≡ 0) where
   -- a result with flags
-  pub result-does : (r : Flags) (o : Outcome) → Gives psw r o → regs ≡ putOf regs₀ n (valueOf r)
+  pub result-does : (r : Flags) (o : Outcome) → Gives psw r o → regs ≡ putOf regs₀ n (packedValueOf r)
       → Does (Done to (r .wide) (r .ov)) base psw regs₀ m regs m sys (resultOf n o next (machineOf regs₀ sys base x psw g) m)
   result-does r o e p = (rw (on, e .flags, p, e .value), even)
 
@@ -50,7 +50,7 @@ module _ (base x psw n : ℕ) (regs₀ regs sys : List ℕ) (g : Flags) (m : Mem
   value-does v p = (rw (on, p), even)
 
   -- two results
-  pub pair-does : (r : Pair) (o : arithmetic.Pair) → GivesPair psw r o → regs ≡ putOf (putOf regs₀ 30 (r .r30)) n (valueOf (r .flags))
+  pub pair-does : (r : Pair) (o : arithmetic.Pair) → GivesPair psw r o → regs ≡ putOf (putOf regs₀ 30 (r .r30)) n (packedValueOf (r .flags))
       → Does (Done to (r .flags .wide) (r .flags .ov)) base psw regs₀ m regs m sys (pairOf n o next (machineOf regs₀ sys base x psw g) m)
   pair-does r o e p = (rw (on, e .flags, p, e .reg2, e .r30), even)
 

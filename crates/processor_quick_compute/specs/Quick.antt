@@ -39,7 +39,8 @@ Does Other base psw regs₀ m₀ regs m sys t = (regs ≡ regs₀) × (m ≡ m�
 abbrev pub PerformsAt : ℕ → Bool → Decoded → Quick → ℕ → Flags → List ℕ → Memory → List ℕ → Memory → Type 0
 PerformsAt base two d r x g regs₀ m₀ regs m =
     (psw : ℕ) (sys : List ℕ) → base % 2 ≡ 0 → x % 2 ≡ 0
-    → Does r base psw regs₀ m₀ regs m sys (performOf d (nextOf two (addressOf base x)) (machineOf regs₀ sys base x psw g) m₀)
+    → Does r base psw regs₀ m₀ regs m sys
+    (performOf d (nextOf two (addressOf base x)) (machineOf regs₀ sys base x psw g) m₀)
 
 -- the same wherever the code stands
 abbrev pub Performs : Bool → Decoded → Quick → ℕ → Flags → List ℕ → Memory → List ℕ → Memory → Type 0
@@ -53,7 +54,8 @@ Computes two d r x g regs₀ regs = (m : Memory) → Performs two d r x g regs�
 abbrev pub Settles : ℕ → FloatOutcome → Quick → ℕ → Flags → List ℕ → List ℕ → Type 0
 Settles n o r x g regs₀ regs =
     (m : Memory) (base psw : ℕ) (sys : List ℕ) → base % 2 ≡ 0 → x % 2 ≡ 0
-    → Does r base psw regs₀ m regs m sys (settlesOf n o (nextOf true (addressOf base x)) (machineOf regs₀ sys base x psw g) m)
+    → Does r base psw regs₀ m regs m sys
+    (settlesOf n o (nextOf true (addressOf base x)) (machineOf regs₀ sys base x psw g) m)
 
 -- the answer for the halfwords f and s
 abbrev pub Dispatches : ℕ → ℕ → ℕ → Quick → ℕ → Flags → List ℕ → Memory → List ℕ → Memory → Type 0

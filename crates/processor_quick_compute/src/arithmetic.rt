@@ -26,13 +26,15 @@ ghost use Prim.Native.Nat.{_/_, _%_, _<_};
 ghost use Rattle.processor_decode.specs.Format as format;
 ghost use Rattle.processor_decode.specs.declared.Decoded as decoded;
 ghost use Rattle.processor_decode.specs.declared.Instruction as instruction;
-ghost use Rattle.processor_flags.specs.Packed.{valueOf};
+ghost use Rattle.processor_flags.specs.Packed.{packedValueOf};
 ghost use Rattle.processor_machine.specs.State.{putOf};
 ghost use Rattle.processor_quick_compute.specs.Quick.{Computes};
 
 // A result for register n with its flags.
 fn result(regs: &mut [u32; 32], n: u32, flags: Flags, x: u32) -> Quick
-    ensures { λ r. ⌜ (now (regs .exit) ≡ putOf (now (regs .entry)) n (valueOf flags)) × (r ≡ Quick.Done x (flags .wide) (flags .ov)) ⌝ }
+    ensures { λ r. ⌜
+        (now (regs .exit) ≡ putOf (now (regs .entry)) n (packedValueOf flags)) × (r ≡ Quick.Done x (flags .wide) (flags .ov))
+        ⌝ }
 {
     put(regs, n, low(flags.wide));
     Quick::Done {
@@ -44,7 +46,9 @@ fn result(regs: &mut [u32; 32], n: u32, flags: Flags, x: u32) -> Quick
 
 // A value for register n that leaves the flags.
 fn value(regs: &mut [u32; 32], n: u32, v: u32, x: u32, flags: Flags) -> Quick
-    ensures { λ r. ⌜ (now (regs .exit) ≡ putOf (now (regs .entry)) n v) × (r ≡ Quick.Done x (flags .wide) (flags .ov)) ⌝ }
+    ensures { λ r. ⌜
+        (now (regs .exit) ≡ putOf (now (regs .entry)) n v) × (r ≡ Quick.Done x (flags .wide) (flags .ov))
+        ⌝ }
 {
     put(regs, n, v);
     Quick::Done {
@@ -56,7 +60,10 @@ fn value(regs: &mut [u32; 32], n: u32, v: u32, x: u32, flags: Flags) -> Quick
 
 // Two results: r30's first.
 fn pair(regs: &mut [u32; 32], n: u32, p: Pair, x: u32) -> Quick
-    ensures { λ r. ⌜ (now (regs .exit) ≡ putOf (putOf (now (regs .entry)) 30 (p .r30)) n (valueOf (p .flags))) × (r ≡ Quick.Done x (p .flags .wide) (p .flags .ov)) ⌝ }
+    ensures { λ r. ⌜
+        (now (regs .exit) ≡ putOf (putOf (now (regs .entry)) 30 (p .r30)) n (packedValueOf (p .flags)))
+        × (r ≡ Quick.Done x (p .flags .wide) (p .flags .ov))
+        ⌝ }
 {
     put(regs, 30, p.r30);
     let flags = p.flags;
@@ -69,14 +76,18 @@ fn pair(regs: &mut [u32; 32], n: u32, p: Pair, x: u32) -> Quick
 }
 
 pub fn mov(regs: &mut [u32; 32], f: u32, x: u32, flags: Flags) -> Quick
-    ensures { λ r. ⌜ Computes false (format.register RegisterOperation.Mov f) r x flags (now (regs .entry)) (now (regs .exit)) ⌝ }
+    ensures { λ r. ⌜
+        Computes false (format.register RegisterOperation.Mov f) r x flags (now (regs .entry)) (now (regs .exit))
+        ⌝ }
 {
     let b = reg1(regs, f);
     value(regs, f / 32 % 32, b, after_one(x), flags)
 }
 
 pub fn add(regs: &mut [u32; 32], f: u32, x: u32, flags: Flags) -> Quick
-    ensures { λ r. ⌜ Computes false (format.register RegisterOperation.Add f) r x flags (now (regs .entry)) (now (regs .exit)) ⌝ }
+    ensures { λ r. ⌜
+        Computes false (format.register RegisterOperation.Add f) r x flags (now (regs .entry)) (now (regs .exit))
+        ⌝ }
 {
     let a = reg2(regs, f);
     let b = reg1(regs, f);
@@ -85,7 +96,9 @@ pub fn add(regs: &mut [u32; 32], f: u32, x: u32, flags: Flags) -> Quick
 }
 
 pub fn sub(regs: &mut [u32; 32], f: u32, x: u32, flags: Flags) -> Quick
-    ensures { λ r. ⌜ Computes false (format.register RegisterOperation.Sub f) r x flags (now (regs .entry)) (now (regs .exit)) ⌝ }
+    ensures { λ r. ⌜
+        Computes false (format.register RegisterOperation.Sub f) r x flags (now (regs .entry)) (now (regs .exit))
+        ⌝ }
 {
     let a = reg2(regs, f);
     let b = reg1(regs, f);
@@ -94,7 +107,9 @@ pub fn sub(regs: &mut [u32; 32], f: u32, x: u32, flags: Flags) -> Quick
 }
 
 pub fn shl(regs: &mut [u32; 32], f: u32, x: u32, flags: Flags) -> Quick
-    ensures { λ r. ⌜ Computes false (format.register RegisterOperation.Shl f) r x flags (now (regs .entry)) (now (regs .exit)) ⌝ }
+    ensures { λ r. ⌜
+        Computes false (format.register RegisterOperation.Shl f) r x flags (now (regs .entry)) (now (regs .exit))
+        ⌝ }
 {
     let a = reg2(regs, f);
     let b = reg1(regs, f);
@@ -103,7 +118,9 @@ pub fn shl(regs: &mut [u32; 32], f: u32, x: u32, flags: Flags) -> Quick
 }
 
 pub fn shr(regs: &mut [u32; 32], f: u32, x: u32, flags: Flags) -> Quick
-    ensures { λ r. ⌜ Computes false (format.register RegisterOperation.Shr f) r x flags (now (regs .entry)) (now (regs .exit)) ⌝ }
+    ensures { λ r. ⌜
+        Computes false (format.register RegisterOperation.Shr f) r x flags (now (regs .entry)) (now (regs .exit))
+        ⌝ }
 {
     let a = reg2(regs, f);
     let b = reg1(regs, f);
@@ -112,7 +129,9 @@ pub fn shr(regs: &mut [u32; 32], f: u32, x: u32, flags: Flags) -> Quick
 }
 
 pub fn sar(regs: &mut [u32; 32], f: u32, x: u32, flags: Flags) -> Quick
-    ensures { λ r. ⌜ Computes false (format.register RegisterOperation.Sar f) r x flags (now (regs .entry)) (now (regs .exit)) ⌝ }
+    ensures { λ r. ⌜
+        Computes false (format.register RegisterOperation.Sar f) r x flags (now (regs .entry)) (now (regs .exit))
+        ⌝ }
 {
     let a = reg2(regs, f);
     let b = reg1(regs, f);
@@ -121,7 +140,9 @@ pub fn sar(regs: &mut [u32; 32], f: u32, x: u32, flags: Flags) -> Quick
 }
 
 pub fn or(regs: &mut [u32; 32], f: u32, x: u32, flags: Flags) -> Quick
-    ensures { λ r. ⌜ Computes false (format.register RegisterOperation.Or f) r x flags (now (regs .entry)) (now (regs .exit)) ⌝ }
+    ensures { λ r. ⌜
+        Computes false (format.register RegisterOperation.Or f) r x flags (now (regs .entry)) (now (regs .exit))
+        ⌝ }
 {
     let a = reg2(regs, f);
     let b = reg1(regs, f);
@@ -130,7 +151,9 @@ pub fn or(regs: &mut [u32; 32], f: u32, x: u32, flags: Flags) -> Quick
 }
 
 pub fn and(regs: &mut [u32; 32], f: u32, x: u32, flags: Flags) -> Quick
-    ensures { λ r. ⌜ Computes false (format.register RegisterOperation.And f) r x flags (now (regs .entry)) (now (regs .exit)) ⌝ }
+    ensures { λ r. ⌜
+        Computes false (format.register RegisterOperation.And f) r x flags (now (regs .entry)) (now (regs .exit))
+        ⌝ }
 {
     let a = reg2(regs, f);
     let b = reg1(regs, f);
@@ -139,7 +162,9 @@ pub fn and(regs: &mut [u32; 32], f: u32, x: u32, flags: Flags) -> Quick
 }
 
 pub fn xor(regs: &mut [u32; 32], f: u32, x: u32, flags: Flags) -> Quick
-    ensures { λ r. ⌜ Computes false (format.register RegisterOperation.Xor f) r x flags (now (regs .entry)) (now (regs .exit)) ⌝ }
+    ensures { λ r. ⌜
+        Computes false (format.register RegisterOperation.Xor f) r x flags (now (regs .entry)) (now (regs .exit))
+        ⌝ }
 {
     let a = reg2(regs, f);
     let b = reg1(regs, f);
@@ -148,7 +173,9 @@ pub fn xor(regs: &mut [u32; 32], f: u32, x: u32, flags: Flags) -> Quick
 }
 
 pub fn not(regs: &mut [u32; 32], f: u32, x: u32, flags: Flags) -> Quick
-    ensures { λ r. ⌜ Computes false (format.register RegisterOperation.Not f) r x flags (now (regs .entry)) (now (regs .exit)) ⌝ }
+    ensures { λ r. ⌜
+        Computes false (format.register RegisterOperation.Not f) r x flags (now (regs .entry)) (now (regs .exit))
+        ⌝ }
 {
     let b = reg1(regs, f);
     let o = bitwise::not(b, flags);
@@ -156,7 +183,9 @@ pub fn not(regs: &mut [u32; 32], f: u32, x: u32, flags: Flags) -> Quick
 }
 
 pub fn cmp(regs: &[u32; 32], f: u32, x: u32, flags: Flags) -> Quick
-    ensures { λ r. ⌜ Computes false (format.register RegisterOperation.Cmp f) r x flags (now (regs .entry)) (now (regs .entry)) ⌝ }
+    ensures { λ r. ⌜
+        Computes false (format.register RegisterOperation.Cmp f) r x flags (now (regs .entry)) (now (regs .entry))
+        ⌝ }
 {
     let a = reg2(regs, f);
     let b = reg1(regs, f);
@@ -169,7 +198,10 @@ pub fn cmp(regs: &[u32; 32], f: u32, x: u32, flags: Flags) -> Quick
 }
 
 pub fn mul(regs: &mut [u32; 32], f: u32, x: u32, flags: Flags) -> Quick
-    ensures { λ r. ⌜ Computes false (decoded.Decoded.Modelled (instruction.Instruction.Mul (f % 32) (f / 32 % 32))) r x flags (now (regs .entry)) (now (regs .exit)) ⌝ }
+    ensures { λ r. ⌜
+        Computes false (decoded.Decoded.Modelled (instruction.Instruction.Mul (f % 32) (f / 32 % 32))) r x flags
+        (now (regs .entry)) (now (regs .exit))
+        ⌝ }
 {
     let a = reg2(regs, f);
     let b = reg1(regs, f);
@@ -178,7 +210,10 @@ pub fn mul(regs: &mut [u32; 32], f: u32, x: u32, flags: Flags) -> Quick
 }
 
 pub fn mulu(regs: &mut [u32; 32], f: u32, x: u32, flags: Flags) -> Quick
-    ensures { λ r. ⌜ Computes false (decoded.Decoded.Modelled (instruction.Instruction.Mulu (f % 32) (f / 32 % 32))) r x flags (now (regs .entry)) (now (regs .exit)) ⌝ }
+    ensures { λ r. ⌜
+        Computes false (decoded.Decoded.Modelled (instruction.Instruction.Mulu (f % 32) (f / 32 % 32))) r x flags
+        (now (regs .entry)) (now (regs .exit))
+        ⌝ }
 {
     let a = reg2(regs, f);
     let b = reg1(regs, f);
@@ -187,7 +222,10 @@ pub fn mulu(regs: &mut [u32; 32], f: u32, x: u32, flags: Flags) -> Quick
 }
 
 pub fn div(regs: &mut [u32; 32], f: u32, x: u32, flags: Flags) -> Quick
-    ensures { λ r. ⌜ Computes false (decoded.Decoded.Modelled (instruction.Instruction.Div (f % 32) (f / 32 % 32))) r x flags (now (regs .entry)) (now (regs .exit)) ⌝ }
+    ensures { λ r. ⌜
+        Computes false (decoded.Decoded.Modelled (instruction.Instruction.Div (f % 32) (f / 32 % 32))) r x flags
+        (now (regs .entry)) (now (regs .exit))
+        ⌝ }
 {
     let a = reg2(regs, f);
     let b = reg1(regs, f);
@@ -199,7 +237,10 @@ pub fn div(regs: &mut [u32; 32], f: u32, x: u32, flags: Flags) -> Quick
 }
 
 pub fn divu(regs: &mut [u32; 32], f: u32, x: u32, flags: Flags) -> Quick
-    ensures { λ r. ⌜ Computes false (decoded.Decoded.Modelled (instruction.Instruction.Divu (f % 32) (f / 32 % 32))) r x flags (now (regs .entry)) (now (regs .exit)) ⌝ }
+    ensures { λ r. ⌜
+        Computes false (decoded.Decoded.Modelled (instruction.Instruction.Divu (f % 32) (f / 32 % 32))) r x flags
+        (now (regs .entry)) (now (regs .exit))
+        ⌝ }
 {
     let a = reg2(regs, f);
     let b = reg1(regs, f);
@@ -211,14 +252,18 @@ pub fn divu(regs: &mut [u32; 32], f: u32, x: u32, flags: Flags) -> Quick
 }
 
 pub fn mov_immediate(regs: &mut [u32; 32], f: u32, x: u32, flags: Flags) -> Quick
-    ensures { λ r. ⌜ Computes false (format.signed ImmediateOperation.Mov f) r x flags (now (regs .entry)) (now (regs .exit)) ⌝ }
+    ensures { λ r. ⌜
+        Computes false (format.signedImmediate ImmediateOperation.Mov f) r x flags (now (regs .entry)) (now (regs .exit))
+        ⌝ }
 {
     let b = extend5(f % 32);
     value(regs, f / 32 % 32, b, after_one(x), flags)
 }
 
 pub fn add_immediate(regs: &mut [u32; 32], f: u32, x: u32, flags: Flags) -> Quick
-    ensures { λ r. ⌜ Computes false (format.signed ImmediateOperation.Add f) r x flags (now (regs .entry)) (now (regs .exit)) ⌝ }
+    ensures { λ r. ⌜
+        Computes false (format.signedImmediate ImmediateOperation.Add f) r x flags (now (regs .entry)) (now (regs .exit))
+        ⌝ }
 {
     let a = reg2(regs, f);
     let b = extend5(f % 32);
@@ -227,7 +272,9 @@ pub fn add_immediate(regs: &mut [u32; 32], f: u32, x: u32, flags: Flags) -> Quic
 }
 
 pub fn cmp_immediate(regs: &[u32; 32], f: u32, x: u32, flags: Flags) -> Quick
-    ensures { λ r. ⌜ Computes false (format.signed ImmediateOperation.Cmp f) r x flags (now (regs .entry)) (now (regs .entry)) ⌝ }
+    ensures { λ r. ⌜
+        Computes false (format.signedImmediate ImmediateOperation.Cmp f) r x flags (now (regs .entry)) (now (regs .entry))
+        ⌝ }
 {
     let a = reg2(regs, f);
     let b = extend5(f % 32);
@@ -247,7 +294,9 @@ pub fn setf(regs: &mut [u32; 32], f: u32, x: u32, flags: Flags) -> Quick
 }
 
 pub fn shl_immediate(regs: &mut [u32; 32], f: u32, x: u32, flags: Flags) -> Quick
-    ensures { λ r. ⌜ Computes false (format.unsigned ImmediateOperation.Shl f) r x flags (now (regs .entry)) (now (regs .exit)) ⌝ }
+    ensures { λ r. ⌜
+        Computes false (format.unsigned ImmediateOperation.Shl f) r x flags (now (regs .entry)) (now (regs .exit))
+        ⌝ }
 {
     let a = reg2(regs, f);
     let o = shift::shl(a, f % 32);
@@ -255,7 +304,9 @@ pub fn shl_immediate(regs: &mut [u32; 32], f: u32, x: u32, flags: Flags) -> Quic
 }
 
 pub fn shr_immediate(regs: &mut [u32; 32], f: u32, x: u32, flags: Flags) -> Quick
-    ensures { λ r. ⌜ Computes false (format.unsigned ImmediateOperation.Shr f) r x flags (now (regs .entry)) (now (regs .exit)) ⌝ }
+    ensures { λ r. ⌜
+        Computes false (format.unsigned ImmediateOperation.Shr f) r x flags (now (regs .entry)) (now (regs .exit))
+        ⌝ }
 {
     let a = reg2(regs, f);
     let o = shift::shr(a, f % 32);
@@ -263,7 +314,9 @@ pub fn shr_immediate(regs: &mut [u32; 32], f: u32, x: u32, flags: Flags) -> Quic
 }
 
 pub fn sar_immediate(regs: &mut [u32; 32], f: u32, x: u32, flags: Flags) -> Quick
-    ensures { λ r. ⌜ Computes false (format.unsigned ImmediateOperation.Sar f) r x flags (now (regs .entry)) (now (regs .exit)) ⌝ }
+    ensures { λ r. ⌜
+        Computes false (format.unsigned ImmediateOperation.Sar f) r x flags (now (regs .entry)) (now (regs .exit))
+        ⌝ }
 {
     let a = reg2(regs, f);
     let o = shift::sar(a, f % 32);
@@ -272,7 +325,9 @@ pub fn sar_immediate(regs: &mut [u32; 32], f: u32, x: u32, flags: Flags) -> Quic
 
 pub fn movea(regs: &mut [u32; 32], f: u32, s: u32, x: u32, flags: Flags) -> Quick
     requires { ⌜ s < 65536 ⌝ }
-    ensures { λ r. ⌜ Computes true (format.longSigned LongOperation.Movea f s) r x flags (now (regs .entry)) (now (regs .exit)) ⌝ }
+    ensures { λ r. ⌜
+        Computes true (format.longSigned LongOperation.Movea f s) r x flags (now (regs .entry)) (now (regs .exit))
+        ⌝ }
 {
     let a = reg1(regs, f);
     let v = std::num::wrapping_add_u32(a, extend16(s));
@@ -281,7 +336,9 @@ pub fn movea(regs: &mut [u32; 32], f: u32, s: u32, x: u32, flags: Flags) -> Quic
 
 pub fn movhi(regs: &mut [u32; 32], f: u32, s: u32, x: u32, flags: Flags) -> Quick
     requires { ⌜ s < 65536 ⌝ }
-    ensures { λ r. ⌜ Computes true (format.longUnsigned LongOperation.Movhi f s) r x flags (now (regs .entry)) (now (regs .exit)) ⌝ }
+    ensures { λ r. ⌜
+        Computes true (format.longUnsigned LongOperation.Movhi f s) r x flags (now (regs .entry)) (now (regs .exit))
+        ⌝ }
 {
     let a = reg1(regs, f);
     let v = std::num::wrapping_add_u32(a, s * 65536);
@@ -290,7 +347,9 @@ pub fn movhi(regs: &mut [u32; 32], f: u32, s: u32, x: u32, flags: Flags) -> Quic
 
 pub fn addi(regs: &mut [u32; 32], f: u32, s: u32, x: u32, flags: Flags) -> Quick
     requires { ⌜ s < 65536 ⌝ }
-    ensures { λ r. ⌜ Computes true (format.longSigned LongOperation.Addi f s) r x flags (now (regs .entry)) (now (regs .exit)) ⌝ }
+    ensures { λ r. ⌜
+        Computes true (format.longSigned LongOperation.Addi f s) r x flags (now (regs .entry)) (now (regs .exit))
+        ⌝ }
 {
     let a = reg1(regs, f);
     let o = sum::add(a, extend16(s));
@@ -299,7 +358,9 @@ pub fn addi(regs: &mut [u32; 32], f: u32, s: u32, x: u32, flags: Flags) -> Quick
 
 pub fn ori(regs: &mut [u32; 32], f: u32, s: u32, x: u32, flags: Flags) -> Quick
     requires { ⌜ s < 65536 ⌝ }
-    ensures { λ r. ⌜ Computes true (format.longUnsigned LongOperation.Ori f s) r x flags (now (regs .entry)) (now (regs .exit)) ⌝ }
+    ensures { λ r. ⌜
+        Computes true (format.longUnsigned LongOperation.Ori f s) r x flags (now (regs .entry)) (now (regs .exit))
+        ⌝ }
 {
     let a = reg1(regs, f);
     let o = bitwise::or(a, s, flags);
@@ -308,7 +369,9 @@ pub fn ori(regs: &mut [u32; 32], f: u32, s: u32, x: u32, flags: Flags) -> Quick
 
 pub fn andi(regs: &mut [u32; 32], f: u32, s: u32, x: u32, flags: Flags) -> Quick
     requires { ⌜ s < 65536 ⌝ }
-    ensures { λ r. ⌜ Computes true (format.longUnsigned LongOperation.Andi f s) r x flags (now (regs .entry)) (now (regs .exit)) ⌝ }
+    ensures { λ r. ⌜
+        Computes true (format.longUnsigned LongOperation.Andi f s) r x flags (now (regs .entry)) (now (regs .exit))
+        ⌝ }
 {
     let a = reg1(regs, f);
     let o = bitwise::and(a, s, flags);
@@ -317,7 +380,9 @@ pub fn andi(regs: &mut [u32; 32], f: u32, s: u32, x: u32, flags: Flags) -> Quick
 
 pub fn xori(regs: &mut [u32; 32], f: u32, s: u32, x: u32, flags: Flags) -> Quick
     requires { ⌜ s < 65536 ⌝ }
-    ensures { λ r. ⌜ Computes true (format.longUnsigned LongOperation.Xori f s) r x flags (now (regs .entry)) (now (regs .exit)) ⌝ }
+    ensures { λ r. ⌜
+        Computes true (format.longUnsigned LongOperation.Xori f s) r x flags (now (regs .entry)) (now (regs .exit))
+        ⌝ }
 {
     let a = reg1(regs, f);
     let o = bitwise::xor(a, s, flags);

@@ -80,7 +80,9 @@ fn cmpf(regs: &[u32; 32], f: u32, x: u32, flags: Flags) -> Quick
 }
 
 fn addf(regs: &mut [u32; 32], f: u32, x: u32, flags: Flags) -> Quick
-    ensures { λ r. ⌜ Computes true (format.floating FloatingOperation.Addf f) r x flags (now (regs .entry)) (now (regs .exit)) ⌝ }
+    ensures { λ r. ⌜
+        Computes true (format.floating FloatingOperation.Addf f) r x flags (now (regs .entry)) (now (regs .exit))
+        ⌝ }
 {
     let a = reg2(regs, f);
     let b = reg1(regs, f);
@@ -89,7 +91,9 @@ fn addf(regs: &mut [u32; 32], f: u32, x: u32, flags: Flags) -> Quick
 }
 
 fn subf(regs: &mut [u32; 32], f: u32, x: u32, flags: Flags) -> Quick
-    ensures { λ r. ⌜ Computes true (format.floating FloatingOperation.Subf f) r x flags (now (regs .entry)) (now (regs .exit)) ⌝ }
+    ensures { λ r. ⌜
+        Computes true (format.floating FloatingOperation.Subf f) r x flags (now (regs .entry)) (now (regs .exit))
+        ⌝ }
 {
     let a = reg2(regs, f);
     let b = reg1(regs, f);
@@ -98,7 +102,9 @@ fn subf(regs: &mut [u32; 32], f: u32, x: u32, flags: Flags) -> Quick
 }
 
 fn mulf(regs: &mut [u32; 32], f: u32, x: u32, flags: Flags) -> Quick
-    ensures { λ r. ⌜ Computes true (format.floating FloatingOperation.Mulf f) r x flags (now (regs .entry)) (now (regs .exit)) ⌝ }
+    ensures { λ r. ⌜
+        Computes true (format.floating FloatingOperation.Mulf f) r x flags (now (regs .entry)) (now (regs .exit))
+        ⌝ }
 {
     let a = reg2(regs, f);
     let b = reg1(regs, f);
@@ -107,7 +113,9 @@ fn mulf(regs: &mut [u32; 32], f: u32, x: u32, flags: Flags) -> Quick
 }
 
 fn divf(regs: &mut [u32; 32], f: u32, x: u32, flags: Flags) -> Quick
-    ensures { λ r. ⌜ Computes true (format.floating FloatingOperation.Divf f) r x flags (now (regs .entry)) (now (regs .exit)) ⌝ }
+    ensures { λ r. ⌜
+        Computes true (format.floating FloatingOperation.Divf f) r x flags (now (regs .entry)) (now (regs .exit))
+        ⌝ }
 {
     let a = reg2(regs, f);
     let b = reg1(regs, f);
@@ -116,7 +124,9 @@ fn divf(regs: &mut [u32; 32], f: u32, x: u32, flags: Flags) -> Quick
 }
 
 fn cvt_ws(regs: &mut [u32; 32], f: u32, x: u32, flags: Flags) -> Quick
-    ensures { λ r. ⌜ Computes true (format.floating FloatingOperation.CvtWs f) r x flags (now (regs .entry)) (now (regs .exit)) ⌝ }
+    ensures { λ r. ⌜
+        Computes true (format.floating FloatingOperation.CvtWs f) r x flags (now (regs .entry)) (now (regs .exit))
+        ⌝ }
 {
     let b = reg1(regs, f);
     let o = FloatOutcome::Number(conversion::float_of(b), false);
@@ -124,7 +134,9 @@ fn cvt_ws(regs: &mut [u32; 32], f: u32, x: u32, flags: Flags) -> Quick
 }
 
 fn cvt_sw(regs: &mut [u32; 32], f: u32, x: u32, flags: Flags) -> Quick
-    ensures { λ r. ⌜ Computes true (format.floating FloatingOperation.CvtSw f) r x flags (now (regs .entry)) (now (regs .exit)) ⌝ }
+    ensures { λ r. ⌜
+        Computes true (format.floating FloatingOperation.CvtSw f) r x flags (now (regs .entry)) (now (regs .exit))
+        ⌝ }
 {
     let b = reg1(regs, f);
     let o = conversion::nearest(b);
@@ -132,7 +144,9 @@ fn cvt_sw(regs: &mut [u32; 32], f: u32, x: u32, flags: Flags) -> Quick
 }
 
 fn trnc_sw(regs: &mut [u32; 32], f: u32, x: u32, flags: Flags) -> Quick
-    ensures { λ r. ⌜ Computes true (format.floating FloatingOperation.TrncSw f) r x flags (now (regs .entry)) (now (regs .exit)) ⌝ }
+    ensures { λ r. ⌜
+        Computes true (format.floating FloatingOperation.TrncSw f) r x flags (now (regs .entry)) (now (regs .exit))
+        ⌝ }
 {
     let b = reg1(regs, f);
     let o = conversion::truncated(b);

@@ -22,7 +22,10 @@ ghost use Rattle.processor_quick_compute.specs.Quick.{Computes, PerformsAt};
 
 // To the target, or on.
 fn branch(taken: bool, f: u32, x: u32, flags: Flags) -> Quick
-    ensures { λ r. ⌜ r ≡ Quick.Done (pick taken ((x + extendOf 256 (f % 512 / 2 * 2)) % 2 ^ 32) ((x + 2) % 2 ^ 32)) (flags .wide) (flags .ov) ⌝ }
+    ensures { λ r. ⌜
+        r ≡ Quick.Done (pick taken ((x + extendOf 256 (f % 512 / 2 * 2)) % 2 ^ 32) ((x + 2) % 2 ^ 32))
+        (flags .wide) (flags .ov)
+        ⌝ }
 {
     if taken {
         let to = std::num::wrapping_add_u32(x, extend9(f % 512 / 2 * 2));
@@ -128,7 +131,11 @@ pub fn greater(f: u32, x: u32, flags: Flags) -> Quick
 }
 
 pub fn jmp(regs: &[u32; 32], base: u32, f: u32, x: u32, flags: Flags) -> Quick
-    ensures { λ r. ⌜ ((m : Memory) → PerformsAt base false (decoded.Decoded.Modelled (instruction.Instruction.Jmp (f % 32))) r x flags (now (regs .entry)) m (now (regs .entry)) m) ⌝ }
+    ensures { λ r. ⌜
+        ((m : Memory)
+        → PerformsAt base false (decoded.Decoded.Modelled (instruction.Instruction.Jmp (f % 32))) r x flags
+        (now (regs .entry)) m (now (regs .entry)) m)
+        ⌝ }
 {
     let t = reg1(regs, f);
     let to = std::num::wrapping_sub_u32(t - t % 2, base);
@@ -162,7 +169,9 @@ pub fn jr(f: u32, s: u32, x: u32, flags: Flags) -> Quick
 
 pub fn jal(regs: &mut [u32; 32], base: u32, f: u32, s: u32, x: u32, flags: Flags) -> Quick
     requires { ⌜ s < 65536 ⌝ }
-    ensures { λ r. ⌜ ((m : Memory) → PerformsAt base true (format.jal f s) r x flags (now (regs .entry)) m (now (regs .exit)) m) ⌝ }
+    ensures { λ r. ⌜
+        ((m : Memory) → PerformsAt base true (format.jal f s) r x flags (now (regs .entry)) m (now (regs .exit)) m)
+        ⌝ }
 {
     let link = std::num::wrapping_add_u32(base, after_two(x));
     put(regs, 31, link);

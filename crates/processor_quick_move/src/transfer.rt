@@ -14,9 +14,11 @@ ghost use mathlib.Core.Bool.{true};
 ghost use mathlib.Core.List.{List};
 ghost use Prim.Native.Nat.{ℕ, _/_, _%_, _<_};
 ghost use lib.ListN.{length, getD};
+ghost use Rattle.bus.specs.Refusal.{vramBytes};
 ghost use Rattle.word.specs.Choose.{pick};
 ghost use Rattle.word.specs.Extend.{extendOf};
 ghost use Rattle.bus.specs.Memory.{memoryOf, Lengths, storeOf};
+ghost use Rattle.bus.specs.Lent.{entering};
 ghost use Rattle.processor_decode.specs.Format as format;
 ghost use Rattle.processor_execute.specs.Execute.{plusOf};
 ghost use Rattle.processor_machine.specs.State.{putOf};
@@ -33,7 +35,9 @@ fn address(regs: &[u32; 32], f: u32, s: u32) -> u32
 
 // A value that was read, for register n.
 fn loaded(regs: &mut [u32; 32], n: u32, v: u32, x: u32, flags: Flags) -> Quick
-    ensures { λ r. ⌜ (now (regs .exit) ≡ putOf (now (regs .entry)) n v) × (r ≡ Quick.Done x (flags .wide) (flags .ov)) ⌝ }
+    ensures { λ r. ⌜
+        (now (regs .exit) ≡ putOf (now (regs .entry)) n v) × (r ≡ Quick.Done x (flags .wide) (flags .ov))
+        ⌝ }
 {
     put(regs, n, v);
     Quick::Done {
@@ -56,7 +60,10 @@ pub fn load_byte(
     flags: Flags,
 ) -> Quick
     requires { ⌜ Lengths (length (now rom)) (length (now wram)) (length (now vram)) (length (now pak)) × (s < 65536) ⌝ }
-    ensures { λ r. ⌜ Performs true (format.load Width.Byte f s) r x flags (now (regs .entry)) (memoryOf (now (rom .entry)) (now (wram .entry)) (now (vram .entry)) (now (pak .entry)) (now (device .entry))) (now (regs .exit)) (memoryOf (now (rom .entry)) (now (wram .entry)) (now (vram .entry)) (now (pak .entry)) (now (device .entry))) ⌝ }
+    ensures { λ r. ⌜
+        Performs true (format.load Width.Byte f s) r x flags (now (regs .entry)) (entering rom wram vram pak device)
+        (now (regs .exit)) (entering rom wram vram pak device)
+        ⌝ }
 {
     let a = address(regs, f, s);
     let v = bus::load::byte(rom, wram, vram, pak, device, a);
@@ -77,7 +84,10 @@ pub fn load_half(
     flags: Flags,
 ) -> Quick
     requires { ⌜ Lengths (length (now rom)) (length (now wram)) (length (now vram)) (length (now pak)) × (s < 65536) ⌝ }
-    ensures { λ r. ⌜ Performs true (format.load Width.Half f s) r x flags (now (regs .entry)) (memoryOf (now (rom .entry)) (now (wram .entry)) (now (vram .entry)) (now (pak .entry)) (now (device .entry))) (now (regs .exit)) (memoryOf (now (rom .entry)) (now (wram .entry)) (now (vram .entry)) (now (pak .entry)) (now (device .entry))) ⌝ }
+    ensures { λ r. ⌜
+        Performs true (format.load Width.Half f s) r x flags (now (regs .entry)) (entering rom wram vram pak device)
+        (now (regs .exit)) (entering rom wram vram pak device)
+        ⌝ }
 {
     let a = address(regs, f, s);
     let v = bus::load::half(rom, wram, vram, pak, device, a);
@@ -98,8 +108,14 @@ pub fn load_word(
     flags: Flags,
 ) -> Quick
     requires { ⌜ Lengths (length (now rom)) (length (now wram)) (length (now vram)) (length (now pak)) × (s < 65536) ⌝ }
-    ensures loads { λ r. ⌜ Performs true (format.load Width.Word f s) r x flags (now (regs .entry)) (memoryOf (now (rom .entry)) (now (wram .entry)) (now (vram .entry)) (now (pak .entry)) (now (device .entry))) (now (regs .exit)) (memoryOf (now (rom .entry)) (now (wram .entry)) (now (vram .entry)) (now (pak .entry)) (now (device .entry))) ⌝ }
-    ensures inputs { λ r. ⌜ Performs true (format.input Width.Word f s) r x flags (now (regs .entry)) (memoryOf (now (rom .entry)) (now (wram .entry)) (now (vram .entry)) (now (pak .entry)) (now (device .entry))) (now (regs .exit)) (memoryOf (now (rom .entry)) (now (wram .entry)) (now (vram .entry)) (now (pak .entry)) (now (device .entry))) ⌝ }
+    ensures loads { λ r. ⌜
+        Performs true (format.load Width.Word f s) r x flags (now (regs .entry)) (entering rom wram vram pak device)
+        (now (regs .exit)) (entering rom wram vram pak device)
+        ⌝ }
+    ensures inputs { λ r. ⌜
+        Performs true (format.input Width.Word f s) r x flags (now (regs .entry)) (entering rom wram vram pak device)
+        (now (regs .exit)) (entering rom wram vram pak device)
+        ⌝ }
 {
     let a = address(regs, f, s);
     let v = bus::load::word(rom, wram, vram, pak, device, a);
@@ -120,7 +136,10 @@ pub fn input_byte(
     flags: Flags,
 ) -> Quick
     requires { ⌜ Lengths (length (now rom)) (length (now wram)) (length (now vram)) (length (now pak)) × (s < 65536) ⌝ }
-    ensures { λ r. ⌜ Performs true (format.input Width.Byte f s) r x flags (now (regs .entry)) (memoryOf (now (rom .entry)) (now (wram .entry)) (now (vram .entry)) (now (pak .entry)) (now (device .entry))) (now (regs .exit)) (memoryOf (now (rom .entry)) (now (wram .entry)) (now (vram .entry)) (now (pak .entry)) (now (device .entry))) ⌝ }
+    ensures { λ r. ⌜
+        Performs true (format.input Width.Byte f s) r x flags (now (regs .entry)) (entering rom wram vram pak device)
+        (now (regs .exit)) (entering rom wram vram pak device)
+        ⌝ }
 {
     let a = address(regs, f, s);
     let v = bus::load::byte(rom, wram, vram, pak, device, a);
@@ -141,7 +160,10 @@ pub fn input_half(
     flags: Flags,
 ) -> Quick
     requires { ⌜ Lengths (length (now rom)) (length (now wram)) (length (now vram)) (length (now pak)) × (s < 65536) ⌝ }
-    ensures { λ r. ⌜ Performs true (format.input Width.Half f s) r x flags (now (regs .entry)) (memoryOf (now (rom .entry)) (now (wram .entry)) (now (vram .entry)) (now (pak .entry)) (now (device .entry))) (now (regs .exit)) (memoryOf (now (rom .entry)) (now (wram .entry)) (now (vram .entry)) (now (pak .entry)) (now (device .entry))) ⌝ }
+    ensures { λ r. ⌜
+        Performs true (format.input Width.Half f s) r x flags (now (regs .entry)) (entering rom wram vram pak device)
+        (now (regs .exit)) (entering rom wram vram pak device)
+        ⌝ }
 {
     let a = address(regs, f, s);
     let v = bus::load::half(rom, wram, vram, pak, device, a);
@@ -151,8 +173,13 @@ pub fn input_half(
 
 // Whether a byte was stored; nothing changes where it was not.
 fn put_byte(wram: &mut [u8], vram: &mut [u8], a: u32, v: u32) -> bool
-    requires { ⌜ (length (now wram) ≡ 65536) × (length (now vram) ≡ 262144) ⌝ }
-    ensures { λ r. ⌜ ((rom pak device : List ℕ) → memoryOf rom (now (wram .exit)) (now (vram .exit)) pak device ≡ pick r (storeOf (memoryOf rom (now (wram .entry)) (now (vram .entry)) pak device) 1 a v) (memoryOf rom (now (wram .entry)) (now (vram .entry)) pak device)) ⌝ }
+    requires { ⌜ (length (now wram) ≡ 65536) × (length (now vram) ≡ vramBytes) ⌝ }
+    ensures { λ r. ⌜
+        ((rom pak device : List ℕ)
+        → memoryOf rom (now (wram .exit)) (now (vram .exit)) pak device
+        ≡ pick r (storeOf (memoryOf rom (now (wram .entry)) (now (vram .entry)) pak device) 1 a v)
+        (memoryOf rom (now (wram .entry)) (now (vram .entry)) pak device))
+        ⌝ }
 {
     let region = a / 16777216 % 8;
     if region == 5 {
@@ -180,9 +207,19 @@ pub fn store_byte(
     x: u32,
     flags: Flags,
 ) -> Quick
-    requires { ⌜ (length (now wram) ≡ 65536) × (length (now vram) ≡ 262144) × (s < 65536) ⌝ }
-    ensures stores { λ r. ⌜ ((rom pak device : List ℕ) → Performs true (format.store Width.Byte f s) r x flags (now (regs .entry)) (memoryOf rom (now (wram .entry)) (now (vram .entry)) pak device) (now (regs .entry)) (memoryOf rom (now (wram .exit)) (now (vram .exit)) pak device)) ⌝ }
-    ensures outputs { λ r. ⌜ ((rom pak device : List ℕ) → Performs true (format.output Width.Byte f s) r x flags (now (regs .entry)) (memoryOf rom (now (wram .entry)) (now (vram .entry)) pak device) (now (regs .entry)) (memoryOf rom (now (wram .exit)) (now (vram .exit)) pak device)) ⌝ }
+    requires { ⌜ (length (now wram) ≡ 65536) × (length (now vram) ≡ vramBytes) × (s < 65536) ⌝ }
+    ensures stores { λ r. ⌜
+        ((rom pak device : List ℕ)
+        → Performs true (format.store Width.Byte f s) r x flags (now (regs .entry))
+        (memoryOf rom (now (wram .entry)) (now (vram .entry)) pak device) (now (regs .entry))
+        (memoryOf rom (now (wram .exit)) (now (vram .exit)) pak device))
+        ⌝ }
+    ensures outputs { λ r. ⌜
+        ((rom pak device : List ℕ)
+        → Performs true (format.output Width.Byte f s) r x flags (now (regs .entry))
+        (memoryOf rom (now (wram .entry)) (now (vram .entry)) pak device) (now (regs .entry))
+        (memoryOf rom (now (wram .exit)) (now (vram .exit)) pak device))
+        ⌝ }
 {
     let a = address(regs, f, s);
     let v = reg2(regs, f);
@@ -198,8 +235,13 @@ pub fn store_byte(
 
 // Whether a half was stored; nothing changes where it was not.
 fn put_half(wram: &mut [u8], vram: &mut [u8], a: u32, v: u32) -> bool
-    requires { ⌜ (length (now wram) ≡ 65536) × (length (now vram) ≡ 262144) ⌝ }
-    ensures { λ r. ⌜ ((rom pak device : List ℕ) → memoryOf rom (now (wram .exit)) (now (vram .exit)) pak device ≡ pick r (storeOf (memoryOf rom (now (wram .entry)) (now (vram .entry)) pak device) 2 a v) (memoryOf rom (now (wram .entry)) (now (vram .entry)) pak device)) ⌝ }
+    requires { ⌜ (length (now wram) ≡ 65536) × (length (now vram) ≡ vramBytes) ⌝ }
+    ensures { λ r. ⌜
+        ((rom pak device : List ℕ)
+        → memoryOf rom (now (wram .exit)) (now (vram .exit)) pak device
+        ≡ pick r (storeOf (memoryOf rom (now (wram .entry)) (now (vram .entry)) pak device) 2 a v)
+        (memoryOf rom (now (wram .entry)) (now (vram .entry)) pak device))
+        ⌝ }
 {
     let region = a / 16777216 % 8;
     if region == 5 {
@@ -227,9 +269,19 @@ pub fn store_half(
     x: u32,
     flags: Flags,
 ) -> Quick
-    requires { ⌜ (length (now wram) ≡ 65536) × (length (now vram) ≡ 262144) × (s < 65536) ⌝ }
-    ensures stores { λ r. ⌜ ((rom pak device : List ℕ) → Performs true (format.store Width.Half f s) r x flags (now (regs .entry)) (memoryOf rom (now (wram .entry)) (now (vram .entry)) pak device) (now (regs .entry)) (memoryOf rom (now (wram .exit)) (now (vram .exit)) pak device)) ⌝ }
-    ensures outputs { λ r. ⌜ ((rom pak device : List ℕ) → Performs true (format.output Width.Half f s) r x flags (now (regs .entry)) (memoryOf rom (now (wram .entry)) (now (vram .entry)) pak device) (now (regs .entry)) (memoryOf rom (now (wram .exit)) (now (vram .exit)) pak device)) ⌝ }
+    requires { ⌜ (length (now wram) ≡ 65536) × (length (now vram) ≡ vramBytes) × (s < 65536) ⌝ }
+    ensures stores { λ r. ⌜
+        ((rom pak device : List ℕ)
+        → Performs true (format.store Width.Half f s) r x flags (now (regs .entry))
+        (memoryOf rom (now (wram .entry)) (now (vram .entry)) pak device) (now (regs .entry))
+        (memoryOf rom (now (wram .exit)) (now (vram .exit)) pak device))
+        ⌝ }
+    ensures outputs { λ r. ⌜
+        ((rom pak device : List ℕ)
+        → Performs true (format.output Width.Half f s) r x flags (now (regs .entry))
+        (memoryOf rom (now (wram .entry)) (now (vram .entry)) pak device) (now (regs .entry))
+        (memoryOf rom (now (wram .exit)) (now (vram .exit)) pak device))
+        ⌝ }
 {
     let a = address(regs, f, s);
     let v = reg2(regs, f);
@@ -245,8 +297,13 @@ pub fn store_half(
 
 // Whether a word was stored; nothing changes where it was not.
 fn put_word(wram: &mut [u8], vram: &mut [u8], a: u32, v: u32) -> bool
-    requires { ⌜ (length (now wram) ≡ 65536) × (length (now vram) ≡ 262144) ⌝ }
-    ensures { λ r. ⌜ ((rom pak device : List ℕ) → memoryOf rom (now (wram .exit)) (now (vram .exit)) pak device ≡ pick r (storeOf (memoryOf rom (now (wram .entry)) (now (vram .entry)) pak device) 4 a v) (memoryOf rom (now (wram .entry)) (now (vram .entry)) pak device)) ⌝ }
+    requires { ⌜ (length (now wram) ≡ 65536) × (length (now vram) ≡ vramBytes) ⌝ }
+    ensures { λ r. ⌜
+        ((rom pak device : List ℕ)
+        → memoryOf rom (now (wram .exit)) (now (vram .exit)) pak device
+        ≡ pick r (storeOf (memoryOf rom (now (wram .entry)) (now (vram .entry)) pak device) 4 a v)
+        (memoryOf rom (now (wram .entry)) (now (vram .entry)) pak device))
+        ⌝ }
 {
     let region = a / 16777216 % 8;
     if region == 5 {
@@ -274,9 +331,19 @@ pub fn store_word(
     x: u32,
     flags: Flags,
 ) -> Quick
-    requires { ⌜ (length (now wram) ≡ 65536) × (length (now vram) ≡ 262144) × (s < 65536) ⌝ }
-    ensures stores { λ r. ⌜ ((rom pak device : List ℕ) → Performs true (format.store Width.Word f s) r x flags (now (regs .entry)) (memoryOf rom (now (wram .entry)) (now (vram .entry)) pak device) (now (regs .entry)) (memoryOf rom (now (wram .exit)) (now (vram .exit)) pak device)) ⌝ }
-    ensures outputs { λ r. ⌜ ((rom pak device : List ℕ) → Performs true (format.output Width.Word f s) r x flags (now (regs .entry)) (memoryOf rom (now (wram .entry)) (now (vram .entry)) pak device) (now (regs .entry)) (memoryOf rom (now (wram .exit)) (now (vram .exit)) pak device)) ⌝ }
+    requires { ⌜ (length (now wram) ≡ 65536) × (length (now vram) ≡ vramBytes) × (s < 65536) ⌝ }
+    ensures stores { λ r. ⌜
+        ((rom pak device : List ℕ)
+        → Performs true (format.store Width.Word f s) r x flags (now (regs .entry))
+        (memoryOf rom (now (wram .entry)) (now (vram .entry)) pak device) (now (regs .entry))
+        (memoryOf rom (now (wram .exit)) (now (vram .exit)) pak device))
+        ⌝ }
+    ensures outputs { λ r. ⌜
+        ((rom pak device : List ℕ)
+        → Performs true (format.output Width.Word f s) r x flags (now (regs .entry))
+        (memoryOf rom (now (wram .entry)) (now (vram .entry)) pak device) (now (regs .entry))
+        (memoryOf rom (now (wram .exit)) (now (vram .exit)) pak device))
+        ⌝ }
 {
     let a = address(regs, f, s);
     let v = reg2(regs, f);

@@ -1,6 +1,6 @@
--- Which bytes that a step read are undefined (paper 02, W2): "Loads and fetches pass the fact on; the step's answer holds
--- it for each fetched halfword and for the load apart, a byte not read counting as defined." As masks: bit k is set where
--- byte k was read and is undefined.
+-- Which bytes that a step read are undefined (paper 02, W2): "Loads and fetches pass the fact on; the step's answer
+-- holds it for each fetched halfword and for the load apart, a byte not read counting as defined." As masks: bit k is
+-- set where byte k was read and is undefined.
 use Prim.Native.Nat.{ℕ, _+_, _%_, _^_}
 use Rattle.word.specs.Choose.{pick}
 use Rattle.bus.specs.Memory.{Memory}
@@ -8,12 +8,16 @@ use Rattle.bus_defined.specs.Defined.{undefinedOf}
 use Rattle.processor_decode.specs.Format.{twoOf}
 use Rattle.processor_decode.specs.Opcode.{decodeOf}
 use Rattle.processor_decode.specs.declared.Instruction.{Instruction}
-use Rattle.processor_decode.specs.declared.Instruction.the-variants.{Register, Mul, Div, Mulu, Divu, Jmp, Immediate, Setf, Cli, Sei, Trap, Reti, Halt, Ldsr, Stsr, Bcond, Jr, Jal, Long, Load, In, Store, Out, Illegal, Cmpf, Floating, Nintendo}
+use Rattle.processor_decode.specs.declared.Instruction.the-variants.{Register, Mul, Div, Mulu, Divu, Jmp, Immediate}
+use Rattle.processor_decode.specs.declared.Instruction.the-variants.{Setf, Cli, Sei, Trap, Reti, Halt, Ldsr, Stsr}
+use Rattle.processor_decode.specs.declared.Instruction.the-variants.{Bcond, Jr, Jal, Long, Load, In, Store, Out}
+use Rattle.processor_decode.specs.declared.Instruction.the-variants.{Illegal, Cmpf, Floating, Nintendo}
 use Rattle.processor_decode.specs.declared.Decoded.{Decoded}
 use Rattle.processor_decode.specs.declared.Decoded.the-variants.{Modelled, NotModelled}
 use Rattle.processor_machine.specs.State.{State, regOf}
 use Rattle.processor_machine.specs.declared.Answer.{Answer}
-use Rattle.processor_machine.specs.declared.Answer.the-variants.{Ended, Trapped, Interrupted, TurnedFatal, WasHalted, WasFatal, Refused}
+use Rattle.processor_machine.specs.declared.Answer.the-variants.{Ended, Trapped, Interrupted, TurnedFatal, WasHalted}
+use Rattle.processor_machine.specs.declared.Answer.the-variants.{WasFatal, Refused}
 use Rattle.processor_execute.specs.Transfer.{sizeOf}
 use Rattle.processor_execute.specs.Execute.{plusOf}
 use Rattle.processor_step.specs.Step.{stepOf, fetchedOf}
@@ -71,8 +75,8 @@ readOf h s m =
 abbrev pub noneOf : Undefined
 noneOf = record { first = 0; second = 0; load = 0 }
 
--- by the answer: a trapped step and one that turned fatal have fetched; a step in halted or fatal mode and one that accepted
--- an interrupt have not, and a refusal answers its number alone
+-- by the answer: a trapped step and one that turned fatal have fetched; a step in halted or fatal mode and one that
+-- accepted an interrupt have not, and a refusal answers its number alone
 abbrev pub undefinedWhen : Answer → Undefined → Undefined
 undefinedWhen Ended u = u
 undefinedWhen (Trapped cause) u = u

@@ -1,6 +1,6 @@
-// Which bytes that a step read are undefined (paper 02, W2): of its first halfword, of its second and of its load. It is
-// worked out from the halfwords that the step fetched and the registers before it, so that nothing is fetched again, and
-// only for the call that asks: a run does not. These functions are `pub` for the crate processor.
+// Which bytes that a step read are undefined (paper 02, W2): of its first halfword, of its second and of its load. It
+// is worked out from the halfwords that the step fetched and the registers before it, so that nothing is fetched again,
+// and only for the call that asks: a run does not. These functions are `pub` for the crate processor.
 mod load;
 
 use crate::load::load;
@@ -47,7 +47,10 @@ fn second(pc: u32, first: u16) -> u32
 
 // Those of a step that fetched these halfwords.
 fn read(pc: u32, fetched: Fetched, regs: &[u32; 32]) -> Undefined
-    ensures { λ r. ⌜ ((sys : List ℕ) (psw : ℕ) (mode : Mode) (m : Memory) → r ≡ readOf fetched (stateOf (now (regs .entry)) sys pc psw mode) m) ⌝ }
+    ensures { λ r. ⌜
+        ((sys : List ℕ) (psw : ℕ) (mode : Mode) (m : Memory)
+        → r ≡ readOf fetched (stateOf (now (regs .entry)) sys pc psw mode) m)
+        ⌝ }
 {
     Undefined {
         first: bus_defined::half(pc),
@@ -59,7 +62,10 @@ fn read(pc: u32, fetched: Fetched, regs: &[u32; 32]) -> Undefined
 // Those of a step with its answer: it fetched nothing in halted or fatal mode or where it accepted an interrupt, and a
 // refusal answers its number alone.
 pub fn masks(answer: Answer, pc: u32, fetched: Fetched, regs: &[u32; 32]) -> Undefined
-    ensures { λ r. ⌜ ((sys : List ℕ) (psw : ℕ) (mode : Mode) (m : Memory) → r ≡ undefinedWhen answer (readOf fetched (stateOf (now (regs .entry)) sys pc psw mode) m)) ⌝ }
+    ensures { λ r. ⌜
+        ((sys : List ℕ) (psw : ℕ) (mode : Mode) (m : Memory)
+        → r ≡ undefinedWhen answer (readOf fetched (stateOf (now (regs .entry)) sys pc psw mode) m))
+        ⌝ }
 {
     match answer {
         Answer::Ended => read(pc, fetched, regs),

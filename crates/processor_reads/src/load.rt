@@ -12,7 +12,10 @@ ghost use Rattle.processor_reads.specs.Reads.{decodedLoadOf};
 
 // Its mask: LD.B, LD.H, LD.W and IN.B, IN.H, IN.W at the effective address.
 pub fn load(first: u16, second: u16, regs: &[u32; 32]) -> u32
-    ensures { λ r. ⌜ ((sys : List ℕ) (pc psw : ℕ) (mode : Mode) (m : Memory) → r ≡ decodedLoadOf (decodeOf first second) (stateOf (now (regs .entry)) sys pc psw mode) m) ⌝ }
+    ensures { λ r. ⌜
+        ((sys : List ℕ) (pc psw : ℕ) (mode : Mode) (m : Memory)
+        → r ≡ decodedLoadOf (decodeOf first second) (stateOf (now (regs .entry)) sys pc psw mode) m)
+        ⌝ }
 {
     let f = first as u32;
     let base = get(regs, f % 32);

@@ -1,6 +1,6 @@
 -- A step (paper 01, "Instructions"; paper 02, W6): an interrupt is accepted, or the instruction at PC is fetched once,
--- decoded and executed. In halted or fatal mode a step "does nothing and says which"; an instruction that is not modelled
--- is refusal 6.
+-- decoded and executed. In halted or fatal mode a step "does nothing and says which"; an instruction that is not
+-- modelled is refusal 6.
 use Prim.Native.Nat.{ℕ, _+_, _%_, _^_}
 use mathlib.Core.Bool.{Bool}
 use Rattle.word.specs.Choose.{pick}

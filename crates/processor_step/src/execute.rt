@@ -9,7 +9,8 @@ use processor_machine::Control;
 use processor_machine::Mode;
 ghost use lib.ListN.{length};
 ghost use mathlib.Core.Path.{_≡_};
-ghost use Rattle.bus.specs.Memory.{memoryOf, Lengths};
+ghost use Rattle.bus.specs.Memory.{Lengths};
+ghost use Rattle.bus.specs.Lent.{entering, leaving};
 ghost use Rattle.processor_machine.specs.State.{stateOf, leaves};
 ghost use Rattle.processor_execute.specs.Execute.{executeOf};
 
@@ -27,7 +28,11 @@ pub fn execute(
     psw: u32,
 ) -> Control
     requires { ⌜ Lengths (length (now rom)) (length (now wram)) (length (now vram)) (length (now pak)) ⌝ }
-    ensures { λ r. ⌜ leaves (now (regs .exit)) (now (sys .exit)) r (memoryOf (now (rom .entry)) (now (wram .exit)) (now (vram .exit)) (now (pak .exit)) (now (device .exit))) ≡ executeOf i next (stateOf (now (regs .entry)) (now (sys .entry)) pc psw Mode.Running) (memoryOf (now (rom .entry)) (now (wram .entry)) (now (vram .entry)) (now (pak .entry)) (now (device .entry))) ⌝ }
+    ensures { λ r. ⌜
+        leaves (now (regs .exit)) (now (sys .exit)) r (leaving rom wram vram pak device)
+        ≡ executeOf i next (stateOf (now (regs .entry)) (now (sys .entry)) pc psw Mode.Running)
+        (entering rom wram vram pak device)
+        ⌝ }
 {
     match i {
         Instruction::Register { op, reg1, reg2 } => compute::register(

@@ -13,11 +13,13 @@ ghost use lib.ListN.{length};
 ghost use mathlib.Core.Path.{_≡_};
 ghost use mathlib.Core.List.{List};
 ghost use Prim.Native.Nat.{ℕ};
-ghost use Rattle.bus.specs.Memory.{Memory, memoryOf, Lengths};
+ghost use Rattle.bus.specs.Memory.{Memory, Lengths};
+ghost use Rattle.bus.specs.Lent.{entering, leaving};
 ghost use Rattle.processor_machine.specs.State.{stateOf, steppedOf, leaves};
 ghost use Rattle.processor_machine.specs.declared.Mode.{Mode};
 ghost use Rattle.processor_interrupt.specs.Interrupt.{levelOf, interruptedOf};
-ghost use Rattle.processor_step.specs.Step.{firstOf, secondOf, nextOf, runningStepOf, instructionStepOf, stepOf, fetchedAt, notFetched, fetchedInOf, fetchedOf};
+ghost use Rattle.processor_step.specs.Step.{firstOf, secondOf, nextOf, runningStepOf, instructionStepOf, stepOf};
+ghost use Rattle.processor_step.specs.Step.{fetchedAt, notFetched, fetchedInOf, fetchedOf};
 
 // The halfwords that a step fetched; 0 for one that it did not.
 pub struct Fetched {
@@ -42,8 +44,8 @@ fn half(
     pc: u32,
 ) -> u16
     requires { ⌜ Lengths (length (now rom)) (length (now wram)) (length (now vram)) (length (now pak)) ⌝ }
-    ensures value { λ r. ⌜ r ≡ firstOf pc (memoryOf (now (rom .entry)) (now (wram .entry)) (now (vram .entry)) (now (pak .entry)) (now (device .entry))) ⌝ }
-    ensures kept { λ r. ⌜ memoryOf (now (rom .entry)) (now (wram .exit)) (now (vram .exit)) (now (pak .exit)) (now (device .exit)) ≡ memoryOf (now (rom .entry)) (now (wram .entry)) (now (vram .entry)) (now (pak .entry)) (now (device .entry)) ⌝ }
+    ensures value { λ r. ⌜ r ≡ firstOf pc (entering rom wram vram pak device) ⌝ }
+    ensures kept { λ r. ⌜ leaving rom wram vram pak device ≡ entering rom wram vram pak device ⌝ }
 {
     let region = pc / 16777216 % 8;
     if region == 7 {
@@ -67,8 +69,8 @@ fn second(
     two: bool,
 ) -> u16
     requires { ⌜ Lengths (length (now rom)) (length (now wram)) (length (now vram)) (length (now pak)) ⌝ }
-    ensures value { λ r. ⌜ r ≡ secondOf two pc (memoryOf (now (rom .entry)) (now (wram .entry)) (now (vram .entry)) (now (pak .entry)) (now (device .entry))) ⌝ }
-    ensures kept { λ r. ⌜ memoryOf (now (rom .entry)) (now (wram .exit)) (now (vram .exit)) (now (pak .exit)) (now (device .exit)) ≡ memoryOf (now (rom .entry)) (now (wram .entry)) (now (vram .entry)) (now (pak .entry)) (now (device .entry)) ⌝ }
+    ensures value { λ r. ⌜ r ≡ secondOf two pc (entering rom wram vram pak device) ⌝ }
+    ensures kept { λ r. ⌜ leaving rom wram vram pak device ≡ entering rom wram vram pak device ⌝ }
 {
     if !two {
         return 0;
@@ -106,8 +108,12 @@ fn running(
     psw: u32,
 ) -> Performed
     requires { ⌜ Lengths (length (now rom)) (length (now wram)) (length (now vram)) (length (now pak)) ⌝ }
-    ensures done { λ r. ⌜ leaves (now (regs .exit)) (now (sys .exit)) (r .control) (memoryOf (now (rom .entry)) (now (wram .exit)) (now (vram .exit)) (now (pak .exit)) (now (device .exit))) ≡ runningStepOf (stateOf (now (regs .entry)) (now (sys .entry)) pc psw Mode.Running) (memoryOf (now (rom .entry)) (now (wram .entry)) (now (vram .entry)) (now (pak .entry)) (now (device .entry))) ⌝ }
-    ensures fetched { λ r. ⌜ r .fetched ≡ fetchedAt pc (memoryOf (now (rom .entry)) (now (wram .entry)) (now (vram .entry)) (now (pak .entry)) (now (device .entry))) ⌝ }
+    ensures done { λ r. ⌜
+        leaves (now (regs .exit)) (now (sys .exit)) (r .control) (leaving rom wram vram pak device)
+        ≡ runningStepOf (stateOf (now (regs .entry)) (now (sys .entry)) pc psw Mode.Running)
+        (entering rom wram vram pak device)
+        ⌝ }
+    ensures fetched { λ r. ⌜ r .fetched ≡ fetchedAt pc (entering rom wram vram pak device) ⌝ }
 {
     let first = half(rom, wram, vram, pak, device, pc);
     let two = processor_decode::two(first);
@@ -147,8 +153,12 @@ fn instruction(
     mode: Mode,
 ) -> Performed
     requires { ⌜ Lengths (length (now rom)) (length (now wram)) (length (now vram)) (length (now pak)) ⌝ }
-    ensures done { λ r. ⌜ leaves (now (regs .exit)) (now (sys .exit)) (r .control) (memoryOf (now (rom .entry)) (now (wram .exit)) (now (vram .exit)) (now (pak .exit)) (now (device .exit))) ≡ instructionStepOf (stateOf (now (regs .entry)) (now (sys .entry)) pc psw mode) (memoryOf (now (rom .entry)) (now (wram .entry)) (now (vram .entry)) (now (pak .entry)) (now (device .entry))) ⌝ }
-    ensures fetched { λ r. ⌜ r .fetched ≡ fetchedInOf mode pc (memoryOf (now (rom .entry)) (now (wram .entry)) (now (vram .entry)) (now (pak .entry)) (now (device .entry))) ⌝ }
+    ensures done { λ r. ⌜
+        leaves (now (regs .exit)) (now (sys .exit)) (r .control) (leaving rom wram vram pak device)
+        ≡ instructionStepOf (stateOf (now (regs .entry)) (now (sys .entry)) pc psw mode)
+        (entering rom wram vram pak device)
+        ⌝ }
+    ensures fetched { λ r. ⌜ r .fetched ≡ fetchedInOf mode pc (entering rom wram vram pak device) ⌝ }
 {
     match mode {
         Mode::Running => running(rom, wram, vram, pak, device, regs, sys, pc, psw),
@@ -181,7 +191,12 @@ fn instruction(
 
 // The step that accepts an interrupt: nothing is fetched.
 fn interrupt(sys: &mut [u32; 8], lines: u16, pc: u32, psw: u32) -> Performed
-    ensures done { λ r. ⌜ ((regs : List ℕ) (mode : Mode) (m : Memory) → leaves regs (now (sys .exit)) (r .control) m ≡ steppedOf (Answer.Interrupted (levelOf lines)) (interruptedOf (levelOf lines) (stateOf regs (now (sys .entry)) pc psw mode)) m) ⌝ }
+    ensures done { λ r. ⌜
+        ((regs : List ℕ) (mode : Mode) (m : Memory)
+        → leaves regs (now (sys .exit)) (r .control) m
+        ≡ steppedOf (Answer.Interrupted (levelOf lines))
+        (interruptedOf (levelOf lines) (stateOf regs (now (sys .entry)) pc psw mode)) m)
+        ⌝ }
     ensures fetched { λ r. ⌜ r .fetched ≡ notFetched ⌝ }
 {
     let level = level(lines);
@@ -214,8 +229,14 @@ pub fn step(
     mode: Mode,
 ) -> Performed
     requires { ⌜ Lengths (length (now rom)) (length (now wram)) (length (now vram)) (length (now pak)) ⌝ }
-    ensures done { λ r. ⌜ leaves (now (regs .exit)) (now (sys .exit)) (r .control) (memoryOf (now (rom .entry)) (now (wram .exit)) (now (vram .exit)) (now (pak .exit)) (now (device .exit))) ≡ stepOf (stateOf (now (regs .entry)) (now (sys .entry)) pc psw mode) (memoryOf (now (rom .entry)) (now (wram .entry)) (now (vram .entry)) (now (pak .entry)) (now (device .entry))) ⌝ }
-    ensures fetched { λ r. ⌜ r .fetched ≡ fetchedOf (stateOf (now (regs .entry)) (now (sys .entry)) pc psw mode) (memoryOf (now (rom .entry)) (now (wram .entry)) (now (vram .entry)) (now (pak .entry)) (now (device .entry))) ⌝ }
+    ensures done { λ r. ⌜
+        leaves (now (regs .exit)) (now (sys .exit)) (r .control) (leaving rom wram vram pak device)
+        ≡ stepOf (stateOf (now (regs .entry)) (now (sys .entry)) pc psw mode) (entering rom wram vram pak device)
+        ⌝ }
+    ensures fetched { λ r. ⌜
+        r .fetched ≡ fetchedOf (stateOf (now (regs .entry)) (now (sys .entry)) pc psw mode)
+        (entering rom wram vram pak device)
+        ⌝ }
 {
     let lines = device[13];
     if accepts(lines, psw, mode) {

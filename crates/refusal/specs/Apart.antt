@@ -1,5 +1,5 @@
--- No two refusals have one number, and no refusal has that of an accepted call: so a number at the C boundary says which
--- case of the enum it was. The proofs are `numbers-apart` and `verdicts-apart` in proofs/Numbers.
+-- No two refusals have one number, and no refusal has that of an accepted call: so a number at the C boundary says
+-- which case of the enum it was. The proofs are `numbers-apart` and `verdicts-apart` in proofs/Numbers.
 use mathlib.Core.Path.{_≡_}
 use Rattle.refusal.specs.declared.Refusal.{Refusal}
 use Rattle.refusal.specs.declared.Verdict.{Verdict}

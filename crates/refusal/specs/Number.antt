@@ -2,8 +2,12 @@
 -- The conditions stand with what they test: lengths and registers in the bus, records and calls above it.
 use Prim.Native.Nat.{ℕ}
 use mathlib.Core.Bool.{Bool, true, false}
+use mathlib.Core.List.{List}
 use Rattle.refusal.specs.declared.Refusal as refusal
-use Rattle.refusal.specs.declared.Refusal.the-variants.{RomLength, WramLength, VramLength, PakLength, State, NotModelled, Frame, Index, FileLength, FileBytes, AccessList, Encoding, ProbeTarget, TraceLength, Display, NotAtReset, NoLayout}
+use Rattle.refusal.specs.declared.Refusal.the-variants.{RomLength, WramLength, VramLength, PakLength, State}
+use Rattle.refusal.specs.declared.Refusal.the-variants.{NotModelled, Frame, Index, FileLength, FileBytes}
+use Rattle.refusal.specs.declared.Refusal.the-variants.{AccessList, Encoding, ProbeTarget, TraceLength, Display}
+use Rattle.refusal.specs.declared.Refusal.the-variants.{NotAtReset, NoLayout}
 use Rattle.refusal.specs.declared.Verdict.{Verdict}
 use Rattle.refusal.specs.declared.Verdict.the-variants.{Accepted, Refused}
 
@@ -36,3 +40,13 @@ verdictNumber (Refused n) = numberOf n
 abbrev pub unless : Bool → refusal.Refusal → Verdict → Verdict
 unless true n later = later
 unless false n later = Refused n
+
+-- a later verdict, asked only where the one before accepts
+abbrev pub thenOf : Verdict → Verdict → Verdict
+thenOf Accepted later = later
+thenOf (Refused n) later = Refused n
+
+-- lent bytes after a call: the first where it is refused, else the second
+abbrev pub whenAccepted : Verdict → List ℕ → List ℕ → List ℕ
+whenAccepted Accepted refused accepted = accepted
+whenAccepted (Refused n) refused accepted = refused

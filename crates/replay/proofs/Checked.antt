@@ -6,7 +6,7 @@ use native.Mathlib.Omega.{arith}
 use borrow.Author.Tests.{eq-eqb, ne-eqb}
 use lib.ListN.{length}
 use Rattle.refusal.specs.declared.Refusal.{Refusal}
-use Rattle.refusal.specs.Number.{unless}
+use Rattle.refusal.specs.Number.{unless, thenOf}
 use Rattle.refusal.specs.declared.Refusal.the-variants.{State, TraceLength}
 use Rattle.refusal.specs.declared.Verdict.{Verdict}
 use Rattle.refusal.specs.declared.Verdict.the-variants as verdict
@@ -15,7 +15,7 @@ use Rattle.bus.specs.Memory.{Memory, Lengths, withRegs, verdictAt}
 use Rattle.bus.proofs.Accepted.{accepted-lengths}
 use Rattle.processor_machine.specs.State.{stateOf}
 use Rattle.processor.specs.Record.{systemIn, lentOf, processorOf}
-use Rattle.processor.specs.Acceptance.{thenOf, stateOk, acceptanceAt, acceptanceIn}
+use Rattle.processor.specs.Acceptance.{stateOk, acceptanceAt, acceptanceIn}
 use Rattle.processor.specs.declared.Processor.{Processor}
 use Rattle.replay.specs.declared.End.the-variants.{Refused}
 use Rattle.replay.specs.Replay.{Replay, recordsOf, replayOf}

@@ -1,17 +1,17 @@
--- What a replay's call answers, for every input (paper 02, W10): refusals 1 to 5, then 14, which change nothing and come
--- before any step; then the replay, whose own refusal is 6, met at a record.
+-- What a replay's call answers, for every input (paper 02, W10): refusals 1 to 5, then 14, which change nothing and
+-- come before any step; then the replay, whose own refusal is 6, met at a record.
 use Prim.Native.Nat.{ℕ, _%_}
 use mathlib.Core.Bool.{Bool}
 use mathlib.Core.List.{List}
 use lib.Dec.{eqb}
 use lib.ListN.{length}
-use Rattle.refusal.specs.Number.{unless}
+use Rattle.refusal.specs.Number.{unless, thenOf}
 use Rattle.refusal.specs.declared.Verdict.{Verdict}
 use Rattle.refusal.specs.declared.Verdict.the-variants as verdict
 use Rattle.refusal.specs.declared.Refusal.the-variants.{TraceLength}
 use Rattle.bus.specs.Memory.{Memory}
 use Rattle.processor.specs.Record.{stateIn, busOf, lentOf, processorOf}
-use Rattle.processor.specs.Acceptance.{thenOf, acceptanceIn}
+use Rattle.processor.specs.Acceptance.{acceptanceIn}
 use Rattle.processor.specs.declared.Processor.{Processor}
 use Rattle.replay.specs.declared.End.{End}
 use Rattle.replay.specs.declared.End.the-variants.{Refused}

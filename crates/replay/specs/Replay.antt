@@ -1,6 +1,7 @@
--- Replay of a recorded trace (paper 02, W10: "four little-endian words per completed step: PC before, PC after, PSW after, and
--- the sum of the 32 registers after, mod 2^32"), 16 bytes a record. The machine is stepped beside the trace; at each record
--- the model's own refusal, missing step or turn to fatal is told first, and then the first word that differs.
+-- Replay of a recorded trace (paper 02, W10: "four little-endian words per completed step: PC before, PC after, PSW
+-- after, and the sum of the 32 registers after, mod 2^32"), 16 bytes a record. The machine is stepped beside the trace;
+-- at each record the model's own refusal, missing step or turn to fatal is told first, and then the first word that
+-- differs.
 use Prim.Native.Nat.{ℕ, zero, suc, _+_, _*_, _/_, _%_, _^_}
 use mathlib.Core.List.{List}
 use lib.Dec.{eqb, ltb}
@@ -34,36 +35,37 @@ recordsOf trace = length trace / 16
 
 unfoldable pub recordAt : List ℕ → ℕ → Record
 recordAt trace k =
-    recordWith (wordAt trace (16 * k)) (wordAt trace (16 * k + 4)) (wordAt trace (16 * k + 8)) (wordAt trace (16 * k + 12))
+    recordWith (wordAt trace (16 * k)) (wordAt trace (16 * k + 4)) (wordAt trace (16 * k + 8))
+    (wordAt trace (16 * k + 12))
 
 -- the sum of n registers from register i on, and "the sum of the 32 registers .., mod 2^32"
 abbrev pub sumFrom : List ℕ → ℕ → ℕ → ℕ
 sumFrom regs i zero = 0
 sumFrom regs i (suc n) = getD regs i 0 + sumFrom regs (i + 1) n
 
-unfoldable pub sumOf : List ℕ → ℕ
-sumOf regs = sumFrom regs 0 32 % 2 ^ 32
+unfoldable pub registerSumOf : List ℕ → ℕ
+registerSumOf regs = sumFrom regs 0 32 % 2 ^ 32
 
 -- the record of a completed step, from the state before it and what it leaves
 unfoldable pub recordOf : State → Stepped → Record
-recordOf s t = recordWith (s .pc) (t .state .pc) (t .state .psw) (sumOf (t .state .regs))
+recordOf s t = recordWith (s .pc) (t .state .pc) (t .state .psw) (registerSumOf (t .state .regs))
 
 -- the first word in which two records differ, counted from 0; 4 where none does
-unfoldable pub differenceOf : Record → Record → ℕ
-differenceOf a b =
+unfoldable pub firstDifferenceOf : Record → Record → ℕ
+firstDifferenceOf a b =
     pick (eqb (a .before) (b .before))
     (pick (eqb (a .after) (b .after)) (pick (eqb (a .psw) (b .psw)) (pick (eqb (a .sum) (b .sum)) 4 3) 2) 1) 0
 
--- what a step's answer means to a replay: what counts in a run, an accepted interrupt among it, is a completed step, which
--- has a record; "the model refused, took no step because halted or fatal, or turned fatal there" ends it
-abbrev pub toldOf : Answer → Told
-toldOf answer.Ended = Completed
-toldOf (answer.Trapped cause) = Completed
-toldOf (answer.Interrupted level) = Completed
-toldOf (answer.TurnedFatal cause) = Ends end.TurnedFatal
-toldOf answer.WasHalted = Ends end.WasHalted
-toldOf answer.WasFatal = Ends end.WasFatal
-toldOf (answer.Refused n) = Ends (end.Refused n)
+-- what a step's answer means to a replay: what counts in a run, an accepted interrupt among it, is a completed step,
+-- which has a record; "the model refused, took no step because halted or fatal, or turned fatal there" ends it
+abbrev pub tellingOf : Answer → Told
+tellingOf answer.Ended = Completed
+tellingOf (answer.Trapped cause) = Completed
+tellingOf (answer.Interrupted level) = Completed
+tellingOf (answer.TurnedFatal cause) = Ends end.TurnedFatal
+tellingOf answer.WasHalted = Ends end.WasHalted
+tellingOf answer.WasFatal = Ends end.WasFatal
+tellingOf (answer.Refused n) = Ends (end.Refused n)
 
 -- what a replay gives: how it ended, the length of the longest agreeing prefix, and the machine afterwards
 pub record Replay : Type 0 where
@@ -90,7 +92,7 @@ unfoldable pub replayOf : ℕ → ℕ → List ℕ → State → Memory → Repl
 replayOf zero k trace s m = replayWith end.Agreed 0 s m
 replayOf (suc n) k trace s m =
     let t = stepOf s m in
-    afterStep (toldOf (t .answer)) (differenceOf (recordAt trace k) (recordOf s t)) t
+    afterStep (tellingOf (t .answer)) (firstDifferenceOf (recordAt trace k) (recordOf s t)) t
     (replayOf n (k + 1) trace (t .state) (t .memory))
 
 -- the same put together from the lent registers and memories and what the code returns

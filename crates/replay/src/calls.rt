@@ -11,7 +11,7 @@ use processor::record::system;
 use refusal::Refusal;
 use refusal::Verdict;
 ghost use mathlib.Core.Path.{_≡_};
-ghost use Rattle.bus.specs.Memory.{memoryOf};
+ghost use Rattle.bus.specs.Lent.{enteringWith, leavingWith};
 ghost use Rattle.replay.specs.Calls.{replayedOf, checkedReplayOf};
 
 // Steps the machine beside a trace.
@@ -24,7 +24,10 @@ pub fn replay(
     drawing: Drawing,
     trace: &[u8],
 ) -> Replayed
-    ensures { λ r. ⌜ replayedOf (r .end) (r .agreed) (r .processor) (memoryOf (now (rom .entry)) (now (wram .exit)) (now (vram .exit)) (now (pak .exit)) (r .drawing .regs)) ≡ checkedReplayOf processor (memoryOf (now (rom .entry)) (now (wram .entry)) (now (vram .entry)) (now (pak .entry)) (drawing .regs)) (now (trace .entry)) ⌝ }
+    ensures { λ r. ⌜
+        replayedOf (r .end) (r .agreed) (r .processor) (leavingWith rom wram vram pak (r .drawing .regs))
+        ≡ checkedReplayOf processor (enteringWith rom wram vram pak (drawing .regs)) (now (trace .entry))
+        ⌝ }
 {
     match processor::calls::verdict(rom, wram, vram, pak, processor, drawing) {
         Verdict::Refused(n) => Replayed {

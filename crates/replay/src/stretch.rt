@@ -9,14 +9,16 @@ use processor_step::step;
 ghost use mathlib.Core.Path.{_≡_};
 ghost use Prim.Native.Nat.{_+_, _*_, _<_};
 ghost use lib.ListN.{length};
-ghost use Rattle.bus.specs.Memory.{memoryOf, Lengths};
+ghost use Rattle.bus.specs.Memory.{Lengths};
+ghost use Rattle.bus.specs.Lent.{entering, leaving};
 ghost use Rattle.processor_machine.specs.State.{stateOf};
-ghost use Rattle.replay.specs.Replay.{recordWith, recordsOf, recordAt, sumOf, differenceOf, toldOf, replayOf, replayedBy};
+ghost use Rattle.replay.specs.Replay.{recordWith, recordsOf, recordAt, registerSumOf, firstDifferenceOf, tellingOf, replayOf};
+ghost use Rattle.replay.specs.Replay.{replayedBy};
 
-// An ended or trapped instruction and an accepted interrupt are completed steps; anything else ends the replay, whatever
-// the record says.
+// An ended or trapped instruction and an accepted interrupt are completed steps; anything else ends the replay,
+// whatever the record says.
 fn told(answer: Answer) -> Told
-    ensures { λ r. ⌜ r ≡ toldOf answer ⌝ }
+    ensures { λ r. ⌜ r ≡ tellingOf answer ⌝ }
 {
     match answer {
         Answer::Ended => Told::Completed,
@@ -31,7 +33,7 @@ fn told(answer: Answer) -> Told
 
 // The sum of the general registers, mod 2^32.
 fn sum(regs: &[u32; 32]) -> u32
-    ensures { λ r. ⌜ r ≡ sumOf (now (regs .entry)) ⌝ }
+    ensures { λ r. ⌜ r ≡ registerSumOf (now (regs .entry)) ⌝ }
 {
     let mut s: u32 = 0;
     let mut i = 0;
@@ -45,7 +47,7 @@ fn sum(regs: &[u32; 32]) -> u32
 // The first word in which record k differs from a step's; 4 where none does.
 fn difference(trace: &[u8], k: usize, before: u32, after: u32, psw: u32, sum: u32) -> u32
     requires { ⌜ 16 * k + 15 < length (now trace) ⌝ }
-    ensures { λ r. ⌜ r ≡ differenceOf (recordAt (now (trace .entry)) k) (recordWith before after psw sum) ⌝ }
+    ensures { λ r. ⌜ r ≡ firstDifferenceOf (recordAt (now (trace .entry)) k) (recordWith before after psw sum) ⌝ }
 {
     let i = 16 * k;
     if word::word_at(trace, i) != before {
@@ -78,7 +80,11 @@ pub fn replay(
     trace: &[u8],
 ) -> Finished
     requires { ⌜ Lengths (length (now rom)) (length (now wram)) (length (now vram)) (length (now pak)) ⌝ }
-    ensures { λ r. ⌜ replayedBy (now (regs .exit)) (now (sys .exit)) r (memoryOf (now (rom .entry)) (now (wram .exit)) (now (vram .exit)) (now (pak .exit)) (now (device .exit))) ≡ replayOf (recordsOf (now (trace .entry))) 0 (now (trace .entry)) (stateOf (now (regs .entry)) (now (sys .entry)) pc psw mode) (memoryOf (now (rom .entry)) (now (wram .entry)) (now (vram .entry)) (now (pak .entry)) (now (device .entry))) ⌝ }
+    ensures { λ r. ⌜
+        replayedBy (now (regs .exit)) (now (sys .exit)) r (leaving rom wram vram pak device)
+        ≡ replayOf (recordsOf (now (trace .entry))) 0 (now (trace .entry))
+        (stateOf (now (regs .entry)) (now (sys .entry)) pc psw mode) (entering rom wram vram pak device)
+        ⌝ }
 {
     let n = trace.len() / 16;
     let mut pc = pc;

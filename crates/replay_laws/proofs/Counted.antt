@@ -13,7 +13,7 @@ use Rattle.processor_machine.specs.declared.Answer.{Answer}
 use Rattle.processor_machine.specs.declared.Answer.the-variants as answer
 use Rattle.processor_step.specs.Step.{stepOf}
 use Rattle.processor.specs.Run.{Run, runWith, runOf, afterOf, afterStep as afterRunStep}
-use Rattle.replay.specs.Replay.{recordAt, recordOf, differenceOf, toldOf, Replay, replayWith, oneMore, afterStep, replayOf}
+use Rattle.replay.specs.Replay.{recordAt, recordOf, firstDifferenceOf, tellingOf, Replay, replayWith, oneMore, afterStep, replayOf}
 use Rattle.replay.specs.declared.End.the-variants.{Agreed, Differed}
 use Rattle.replay_laws.specs.Ending.{AgreedRun}
 
@@ -25,7 +25,7 @@ module _ (n : ℕ) (t : Stepped) (run : Run) (rest : Replay) (later : rest .end 
       absurd (omega arith)
   by-word false word e = rw (later e)
 
-  by-answer : (a : Answer) (word : ℕ) → let r = afterStep (toldOf a) word t rest in
+  by-answer : (a : Answer) (word : ℕ) → let r = afterStep (tellingOf a) word t rest in
       r .end ≡ Agreed → afterRunStep (afterOf a) t run ≡ runWith Accepted (suc n) (r .state) (r .memory)
   by-answer answer.Ended word e = by-word (ltb word 4) word e
   by-answer (answer.Trapped cause) word e = by-word (ltb word 4) word e
@@ -50,7 +50,7 @@ run-from zero k trace s m e = refl
 run-from (suc n) k trace s m e =
     let t = stepOf s m in
     by-answer n t (runOf n (t .state) (t .memory)) (replayOf n (k + 1) trace (t .state) (t .memory)) (run-from n (k + 1) trace (t .state) (t .memory)) (t .answer)
-    (differenceOf (recordAt trace k) (recordOf s t)) e
+    (firstDifferenceOf (recordAt trace k) (recordOf s t)) e
 
 pub agreed-run : AgreedRun
 agreed-run n trace s m e = run-from n 0 trace s m e

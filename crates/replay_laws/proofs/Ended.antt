@@ -11,7 +11,7 @@ use Rattle.bus.specs.Memory.{Memory}
 use Rattle.processor_machine.specs.State.{State}
 use Rattle.processor_step.specs.Step.{stepOf}
 use Rattle.processor_laws.specs.Steps.{stepsOf}
-use Rattle.replay.specs.Replay.{recordAt, recordOf, differenceOf, toldOf, Replay, afterStep, replayOf}
+use Rattle.replay.specs.Replay.{recordAt, recordOf, firstDifferenceOf, tellingOf, Replay, afterStep, replayOf}
 use Rattle.replay.specs.declared.End.the-variants.{Agreed, Differed}
 use Rattle.replay.specs.declared.Told.{Told}
 use Rattle.replay.specs.declared.Told.the-variants.{Completed, Ends}
@@ -32,7 +32,7 @@ record EndsFrom (k n : ℕ) (trace : List ℕ) (s : State) (m : Memory) (r : Rep
   all : r .agreed ≡ n → r .end ≡ Agreed
   next : r .agreed < n → (toldAt (r .agreed) s m ≡ Ends (r .end)) ⊎ PartsFrom k trace s m r
 
-module _ (k n : ℕ) (trace : List ℕ) (s : State) (m : Memory) (told : toldOf (stepOf s m .answer) ≡ Completed) (same : recordAt trace k ≡ recordOf s (stepOf s m)) where
+module _ (k n : ℕ) (trace : List ℕ) (s : State) (m : Memory) (told : tellingOf (stepOf s m .answer) ≡ Completed) (same : recordAt trace k ≡ recordOf s (stepOf s m)) where
   completed-again : (l : ℕ) → ((i : ℕ) → i < l → toldAt i (stepOf s m .state) (stepOf s m .memory) ≡ Completed)
       → (i : ℕ) → i < suc l → toldAt i s m ≡ Completed
   unfolding stepsOf
@@ -70,7 +70,7 @@ module _ (k n : ℕ) (trace : List ℕ) (s : State) (m : Memory) (told : toldOf 
       }
 
 module _ (k n : ℕ) (trace : List ℕ) (s : State) (m : Memory) (rest : Replay) (later : EndsFrom (k + 1) n trace (stepOf s m .state) (stepOf s m .memory) rest) where
-  by-told : (u : Told) (word : ℕ) → toldOf (stepOf s m .answer) ≡ u → word ≡ differenceOf (recordAt trace k) (recordOf s (stepOf s m))
+  by-told : (u : Told) (word : ℕ) → tellingOf (stepOf s m .answer) ≡ u → word ≡ firstDifferenceOf (recordAt trace k) (recordOf s (stepOf s m))
       → EndsFrom k (suc n) trace s m (afterStep u word (stepOf s m) rest)
   unfolding stepsOf
   by-told (Ends e) word t f =
@@ -112,8 +112,8 @@ ends-from zero k trace s m =
     }
 ends-from (suc n) k trace s m =
     let t = stepOf s m in
-    by-told k n trace s m (replayOf n (k + 1) trace (t .state) (t .memory)) (ends-from n (k + 1) trace (t .state) (t .memory)) (toldOf (t .answer))
-    (differenceOf (recordAt trace k) (recordOf s t)) refl refl
+    by-told k n trace s m (replayOf n (k + 1) trace (t .state) (t .memory)) (ends-from n (k + 1) trace (t .state) (t .memory)) (tellingOf (t .answer))
+    (firstDifferenceOf (recordAt trace k) (recordOf s t)) refl refl
 
 parts-first : (trace : List ℕ) (s : State) (m : Memory) (r : Replay) → PartsFrom 0 trace s m r → Parts trace s m r
 parts-first trace s m r p =

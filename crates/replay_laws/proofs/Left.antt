@@ -12,7 +12,7 @@ use Rattle.processor_machine.specs.declared.Answer.the-variants as answer
 use Rattle.processor_step.specs.Step.{stepOf}
 use Rattle.processor_laws.specs.Steps.{stepsOf}
 use Rattle.processor_laws.proofs.Runs.{Leaves, step-leaves}
-use Rattle.replay.specs.Replay.{recordAt, recordOf, differenceOf, toldOf, Replay, replayWith, oneMore, afterStep, replayOf}
+use Rattle.replay.specs.Replay.{recordAt, recordOf, firstDifferenceOf, tellingOf, Replay, replayWith, oneMore, afterStep, replayOf}
 use Rattle.replay.specs.declared.End.{End}
 use Rattle.replay.specs.declared.End.the-variants.{Refused, Agreed, Differed, WasHalted, WasFatal, TurnedFatal}
 use Rattle.replay_laws.specs.Ending.{leftOf, ReplaySteps}
@@ -35,7 +35,7 @@ module _ (s : State) (m : Memory) where
     by-word true word = refl
     by-word false word = later ∙ left-more (rest .end) (rest .agreed)
 
-    by-answer : (a : Answer) (word : ℕ) → Leaves a (stepOf s m) s m → let r = afterStep (toldOf a) word (stepOf s m) rest in
+    by-answer : (a : Answer) (word : ℕ) → Leaves a (stepOf s m) s m → let r = afterStep (tellingOf a) word (stepOf s m) rest in
         (r .state, r .memory) ≡ leftOf (r .end) (r .agreed) s m
     unfolding stepsOf
     by-answer answer.Ended word h = by-word (ltb word 4) word
@@ -53,7 +53,7 @@ left-from zero k trace s m = refl
 left-from (suc n) k trace s m =
     let t = stepOf s m in
     by-answer s m (replayOf n (k + 1) trace (t .state) (t .memory)) (left-from n (k + 1) trace (t .state) (t .memory)) (t .answer)
-    (differenceOf (recordAt trace k) (recordOf s t)) (step-leaves s m)
+    (firstDifferenceOf (recordAt trace k) (recordOf s t)) (step-leaves s m)
 
 pub replay-steps : ReplaySteps
 replay-steps n trace s m = left-from n 0 trace s m

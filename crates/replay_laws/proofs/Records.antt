@@ -6,7 +6,7 @@ use native.Mathlib.Omega.{arith}
 use borrow.Author.Tests.{eq-eqb, ne-eqb}
 use lib.Dec.{eqb}
 use Rattle.word.specs.Choose.{pick}
-use Rattle.replay.specs.Replay.{Record, recordWith, differenceOf}
+use Rattle.replay.specs.Replay.{Record, recordWith, firstDifferenceOf}
 use Rattle.replay_laws.specs.Ending.{wordOf, Differs}
 
 module _ (a b : Record) where
@@ -36,8 +36,8 @@ module _ (a b : Record) where
       e
 
   -- by the four tests
-  pub first-word : (word : ℕ) → word ≡ differenceOf a b → word < 4 → Differs word a b
-  unfolding differenceOf
+  pub first-word : (word : ℕ) → word ≡ firstDifferenceOf a b → word < 4 → Differs word a b
+  unfolding firstDifferenceOf
   first-word word e h =
       elim (ℕ-discrete (a .before) (b .before)) [
         | no p ↦
@@ -63,8 +63,8 @@ module _ (a b : Record) where
         ]
       ]
 
-  pub no-word : (word : ℕ) → word ≡ differenceOf a b → 4 ≤ word → a ≡ b
-  unfolding differenceOf
+  pub no-word : (word : ℕ) → word ≡ firstDifferenceOf a b → 4 ≤ word → a ≡ b
+  unfolding firstDifferenceOf
   no-word word e h =
       elim (ℕ-discrete (a .before) (b .before)) [
         | no p ↦

@@ -1,6 +1,7 @@
--- What a replay comes to in steps, and against a run (paper 02, W10: "all agreed; the first record that differs and its first
--- wrong word, both counted from 0; or that the model refused, took no step because halted or fatal, or turned fatal there"): the
--- statements. Their proofs are `replay-ends`, `replay-steps` and `agreed-run` in proofs/Ended, Left and Counted.
+-- What a replay comes to in steps, and against a run (paper 02, W10: "all agreed; the first record that differs and its
+-- first wrong word, both counted from 0; or that the model refused, took no step because halted or fatal, or turned
+-- fatal there"): the statements. Their proofs are `replay-ends`, `replay-steps` and `agreed-run` in proofs/Ended, Left
+-- and Counted.
 use Prim.Native.Nat.{ℕ, suc, _≤_, _<_}
 use mathlib.Core.List.{List}
 use mathlib.Core.Logic.{_⊎_}
@@ -14,7 +15,7 @@ use Rattle.processor_machine.specs.declared.Mode.the-variants as mode
 use Rattle.processor_step.specs.Step.{stepOf}
 use Rattle.processor.specs.Run.{runOf, runWith}
 use Rattle.processor_laws.specs.Steps.{stepsOf}
-use Rattle.replay.specs.Replay.{Record, recordAt, recordOf, toldOf, Replay, replayOf}
+use Rattle.replay.specs.Replay.{Record, recordAt, recordOf, tellingOf, Replay, replayOf}
 use Rattle.replay.specs.declared.End.{End}
 use Rattle.replay.specs.declared.End.the-variants.{Refused, Agreed, Differed, WasHalted, WasFatal, TurnedFatal}
 use Rattle.replay.specs.declared.Told.{Told}
@@ -25,7 +26,7 @@ abbrev pub stepAt : ℕ → State → Memory → Stepped
 stepAt i s m = stepOf (stepsOf i s m .0) (stepsOf i s m .1)
 
 abbrev pub toldAt : ℕ → State → Memory → Told
-toldAt i s m = toldOf (stepAt i s m .answer)
+toldAt i s m = tellingOf (stepAt i s m .answer)
 
 abbrev pub stepRecordAt : ℕ → State → Memory → Record
 stepRecordAt i s m = recordOf (stepsOf i s m .0) (stepAt i s m)
@@ -59,8 +60,8 @@ pub record EndsSo (n : ℕ) (trace : List ℕ) (s : State) (m : Memory) (r : Rep
 abbrev pub ReplayEnds : Type 0
 ReplayEnds = (n : ℕ) (trace : List ℕ) (s : State) (m : Memory) → EndsSo n trace s m (replayOf n 0 trace s m)
 
--- state and memory after k agreed records, by how the replay ended: a differing step stays made, a turn to fatal changes
--- the mode alone
+-- state and memory after k agreed records, by how the replay ended: a differing step stays made, a turn to fatal
+-- changes the mode alone
 abbrev pub leftOf : End → ℕ → State → Memory → State × Memory
 leftOf (Refused n) k s m = stepsOf k s m
 leftOf Agreed k s m = stepsOf k s m

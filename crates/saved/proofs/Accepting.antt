@@ -5,7 +5,7 @@ use mathlib.Core.Bool.{Bool, true, false}
 use mathlib.Core.List.{List}
 use mathlib.Core.Path.{_≡_, refl, sym, ap, _∙_}
 use lib.ListN.{length}
-use Rattle.refusal.specs.Number.{unless}
+use Rattle.refusal.specs.Number.{unless, thenOf}
 use Rattle.refusal.specs.declared.Refusal as refusal
 use Rattle.refusal.specs.declared.Verdict.{Verdict}
 use Rattle.refusal.specs.declared.Verdict.the-variants.{Accepted, Refused}
@@ -15,7 +15,7 @@ use Rattle.bus.specs.Memory.{Memory, verdictAt, Lengths}
 use Rattle.bus.proofs.Devices.{device-ok}
 use Rattle.bus.proofs.Accepted.{accepted-lengths, accepted-registers, lengths-accepted, unless-passed}
 use Rattle.processor.specs.Record.{systemIn, stateIn, busOf}
-use Rattle.processor.specs.Acceptance.{both, thenOf, stateOk, acceptanceAt, acceptanceIn}
+use Rattle.processor.specs.Acceptance.{both, stateOk, acceptanceAt, acceptanceIn}
 use Rattle.processor.specs.declared.Processor.{Processor}
 use Rattle.saved_kinds.proofs.Sizes.{pak-small}
 

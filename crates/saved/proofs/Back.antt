@@ -23,7 +23,7 @@ use Rattle.saved_layout.specs.declared.Form.{Form}
 use Rattle.saved_layout.specs.declared.Form.the-variants.{One, Two}
 use Rattle.saved_layout.proofs.Files.{bodies-same}
 use Rattle.saved_kinds.specs.Kinds.{generalFrom, restFrom, drawingFrom, hardwareFrom}
-use Rattle.saved.specs.Body.{modeWordOf, modeOf, restOf, wordsOf, linesOf, machineBodiesOf, processorOf, processorIn, memoryIn}
+use Rattle.saved.specs.Body.{modeWordOf, modeOf, restOf, recordWordsOf, linesOf, machineBodiesOf, restoredProcessorOf, processorIn, memoryIn}
 use Rattle.saved.specs.Calls.{formHolds}
 
 mode-back : (m : Mode) → modeOf (modeWordOf m) ≡ m
@@ -60,19 +60,19 @@ under-right n [] b u = u
 under-right n (x ∷ xs) b u = under-right n xs b (u .1)
 
 -- kind 1
-module _ (p : Processor) (l : length (p .regs) ≡ 32) (words : (k : ℕ) → getD (wordsOf p) k 0 < 2 ^ 32) where
+module _ (p : Processor) (l : length (p .regs) ≡ 32) (words : (k : ℕ) → getD (recordWordsOf p) k 0 < 2 ^ 32) where
   under-all : Under (2 ^ 32) (p .regs ++ restOf p)
-  unfolding wordsOf
+  unfolding recordWordsOf
   under-all = under (2 ^ 32) (p .regs ++ restOf p) words
 
-  pub general-back : generalFrom (bytesOf (halvesOf (wordsOf p))) ≡ p .regs
-  unfolding generalFrom wordsOf
+  pub general-back : generalFrom (bytesOf (halvesOf (recordWordsOf p))) ≡ p .regs
+  unfolding generalFrom recordWordsOf
   general-back =
       rw (bytes-append (p .regs) (restOf p), ← l)
       (words-back 0 [] (p .regs) (bytesOf (halvesOf (restOf p))) refl (under-left (2 ^ 32) (p .regs) (restOf p) under-all))
 
-  pub rest-back : restFrom (bytesOf (halvesOf (wordsOf p))) ≡ restOf p
-  unfolding restFrom wordsOf
+  pub rest-back : restFrom (bytesOf (halvesOf (recordWordsOf p))) ≡ restOf p
+  unfolding restFrom recordWordsOf
   rest-back =
       let n : length (bytesOf (halvesOf (p .regs))) ≡ 128 = omega (arith, length-bytes (halvesOf (p .regs)), length-halves (p .regs)) in
       ap (λ (xs : List ℕ). wordsFrom xs 128 11)
@@ -80,12 +80,12 @@ module _ (p : Processor) (l : length (p .regs) ≡ 32) (words : (k : ℕ) → ge
       ∙ rw (← length-rest p)
       (words-back 128 (bytesOf (halvesOf (p .regs))) (restOf p) [] n (under-right (2 ^ 32) (p .regs) (restOf p) under-all))
 
-  record-back : processorOf (p .regs) (restOf p) (p .hardware) ≡ p
-  unfolding processorOf restOf
+  record-back : restoredProcessorOf (p .regs) (restOf p) (p .hardware) ≡ p
+  unfolding restoredProcessorOf restOf
   record-back = rw (mode-back (p .mode))
 
-  pub processor-size : length (bytesOf (halvesOf (wordsOf p))) ≡ 172
-  unfolding wordsOf
+  pub processor-size : length (bytesOf (halvesOf (recordWordsOf p))) ≡ 172
+  unfolding recordWordsOf
   processor-size =
       omega (arith, length-bytes (halvesOf (p .regs ++ restOf p)), length-halves (p .regs ++ restOf p), length-append (p .regs) (restOf p), length-rest p)
 
@@ -114,7 +114,7 @@ unfolding linesOf bytesOf
 lines-size h = refl
 
 -- a whole machine
-module _ (p : Processor) (m : Memory) (l : length (p .regs) ≡ 32) (words : (k : ℕ) → getD (wordsOf p) k 0 < 2 ^ 32)
+module _ (p : Processor) (m : Memory) (l : length (p .regs) ≡ 32) (words : (k : ℕ) → getD (recordWordsOf p) k 0 < 2 ^ 32)
     (d : length (m .regs) ≡ 13) (halves : (k : ℕ) → getD (m .regs) k 0 < 65536) (lines : (k : ℕ) → getD (linesOf (p .hardware)) k 0 < 65536) where
   pub processor-in-back : processorIn (machineBodiesOf p m) ≡ p
   unfolding processorIn machineBodiesOf
@@ -154,16 +154,16 @@ unfolding elementsFrom
 elements zero xs k e = sym (drop-of-length-le xs {i = k} (omega arith))
 elements (suc n) xs k e = rw (elements n xs (suc k) (omega arith)) (sym (drop-cons xs k 0 (omega arith)))
 
-rest-again : (regs xs : List ℕ) (h : Hardware) → length xs ≡ 11 → getD xs 10 0 ≤ 2 → restOf (processorOf regs xs h) ≡ xs
-unfolding restOf processorOf elementsFrom
+rest-again : (regs xs : List ℕ) (h : Hardware) → length xs ≡ 11 → getD xs 10 0 ≤ 2 → restOf (restoredProcessorOf regs xs h) ≡ xs
+unfolding restOf restoredProcessorOf elementsFrom
 rest-again regs xs h l s = rw (mode-again (getD xs 10 0) s) (elements 11 xs 0 (omega arith))
 
-regs-again : (regs xs : List ℕ) (h : Hardware) → processorOf regs xs h .regs ≡ regs
-unfolding processorOf
+regs-again : (regs xs : List ℕ) (h : Hardware) → restoredProcessorOf regs xs h .regs ≡ regs
+unfolding restoredProcessorOf
 regs-again regs xs h = refl
 
-hardware-again : (regs xs : List ℕ) (h : Hardware) → processorOf regs xs h .hardware ≡ h
-unfolding processorOf
+hardware-again : (regs xs : List ℕ) (h : Hardware) → restoredProcessorOf regs xs h .hardware ≡ h
+unfolding restoredProcessorOf
 hardware-again regs xs h = refl
 
 -- the records of bodies of bytes, as bodies again
@@ -177,17 +177,17 @@ module _ (body : List ℕ) (bytes : (k : ℕ) → getD body k 0 < 256) where
   length-rest-from = length-words-from body 128 11
 
   words-are : (h : Hardware) → getD (restFrom body) 10 0 ≤ 2
-      → wordsOf (processorOf (generalFrom body) (restFrom body) h) ≡ generalFrom body ++ restFrom body
-  unfolding wordsOf
+      → recordWordsOf (restoredProcessorOf (generalFrom body) (restFrom body) h) ≡ generalFrom body ++ restFrom body
+  unfolding recordWordsOf
   words-are h s =
-      ap (λ (xs : List ℕ). xs ++ restOf (processorOf (generalFrom body) (restFrom body) h)) (regs-again (generalFrom body) (restFrom body) h)
+      ap (λ (xs : List ℕ). xs ++ restOf (restoredProcessorOf (generalFrom body) (restFrom body) h)) (regs-again (generalFrom body) (restFrom body) h)
       ∙ ap (λ (xs : List ℕ). generalFrom body ++ xs) (rest-again (generalFrom body) (restFrom body) h length-rest-from s)
 
-  pub words-held : (h : Hardware) → getD (restFrom body) 10 0 ≤ 2 → wordsOf (processorOf (generalFrom body) (restFrom body) h) ≡ wordsFrom body 0 43
+  pub words-held : (h : Hardware) → getD (restFrom body) 10 0 ≤ 2 → recordWordsOf (restoredProcessorOf (generalFrom body) (restFrom body) h) ≡ wordsFrom body 0 43
   words-held h s = words-are h s ∙ words-joined
 
   pub processor-again : (h : Hardware) → length body ≡ 172 → getD (restFrom body) 10 0 ≤ 2
-      → bytesOf (halvesOf (wordsOf (processorOf (generalFrom body) (restFrom body) h))) ≡ body
+      → bytesOf (halvesOf (recordWordsOf (restoredProcessorOf (generalFrom body) (restFrom body) h))) ≡ body
   processor-again h l s =
       ap (λ (xs : List ℕ). bytesOf (halvesOf xs)) (words-held h s)
       ∙ (ap bytesOf (reading.words-again body bytes 43 0) ∙ (halves-again body bytes 86 0 (omega arith) ∙ take-all 172 body (omega arith)))

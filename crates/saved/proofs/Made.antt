@@ -20,7 +20,7 @@ use Rattle.processor.specs.declared.Processor.{Processor}
 use Rattle.saved_bytes.specs.Numbers.{bytesOf, wordsFrom, halvesFrom}
 use Rattle.saved_bytes.proofs.LittleEndian.{length-words-from, getD-words-from, length-halves-from, getD-halves-from}
 use Rattle.saved_bytes.proofs.Reading.{same-self}
-use Rattle.saved_layout.specs.Layout.{placeOf, lastPlaceOf, fileLengthOf}
+use Rattle.saved_layout.specs.Layout.{bodyPlaceOf, lastPlaceOf, fileLengthOf}
 use Rattle.saved_layout.specs.File.{Bodies, fileOf, bodiesIn, contentsOk, hardwareIn, hardwareReset, Sized, HeldBy}
 use Rattle.saved_layout.specs.declared.Form.{Form}
 use Rattle.saved_layout.specs.declared.Form.the-variants.{One, Two}
@@ -28,8 +28,8 @@ use Rattle.saved_layout.proofs.Files.{file-length, file-held, contents-back, fi
 use Rattle.saved_kinds.specs.Fits.{formOf}
 use Rattle.saved_kinds.specs.Kinds.{generalFrom, restFrom, drawingFrom, hardwareFrom, systemOf, wordsOk, processorBodyOk, drawingBodyOk, hardwareBodyOk, bodiesOk, fileOk}
 use Rattle.saved_move.proofs.Returning.{form-back}
-use Rattle.saved.specs.Body.{restOf, wordsOf, linesOf, machineBodiesOf, processorOf, processorIn, memoryIn, modeWordOf}
-use Rattle.saved.specs.Calls.{stateFileOf, heldBodiesOf, heldProcessorOf, heldMemoryOf, formHolds, restoredOf, readOf}
+use Rattle.saved.specs.Body.{restOf, recordWordsOf, linesOf, machineBodiesOf, restoredProcessorOf, processorIn, memoryIn, modeWordOf}
+use Rattle.saved.specs.Calls.{stateFileOf, heldBodiesOf, heldProcessorOf, heldMemoryOf, formHolds, restoredOf, readBackOf}
 use Rattle.saved.specs.Exactly.{Savable, ReadWritten, Exactly, WrittenExactly}
 use Rattle.saved.proofs.Accepting.{Passed, passed, accepts, small, both-true}
 use Rattle.saved.proofs.Back.{mode-small, general-back, rest-back, drawing-back, lines-back, processor-in-back, memory-in-back, machine-sized, machine-held, bodies-again, words-held, lines-are, part-bytes, zero-bytes}
@@ -144,11 +144,11 @@ module _ (xs : List ℕ) (bytes : (k : ℕ) → getD xs k 0 < 256) where
 module _ (form : Form) (p : ℕ) (file : List ℕ) (whole : length file ≡ fileLengthOf form p) (bytes : (k : ℕ) → getD file k 0 < 256) where
   processor-bytes : (k : ℕ) → getD (bodiesIn form p file .processor) k 0 < 256
   unfolding bodiesIn
-  processor-bytes k = part-bytes file bytes (placeOf form p 0) 172 k
+  processor-bytes k = part-bytes file bytes (bodyPlaceOf form p 0) 172 k
 
   drawing-bytes : (k : ℕ) → getD (bodiesIn form p file .drawing) k 0 < 256
   unfolding bodiesIn
-  drawing-bytes k = part-bytes file bytes (placeOf form p 1) 26 k
+  drawing-bytes k = part-bytes file bytes (bodyPlaceOf form p 1) 26 k
 
   hardware-bytes : (k : ℕ) → getD (bodiesIn form p file .hardware) k 0 < 256
   unfolding bodiesIn
@@ -205,16 +205,16 @@ module _ (form : Form) (p : ℕ) (file : List ℕ) (whole : length file ≡ file
           }
 
       accepted-held : acceptanceIn (processorIn (bodiesIn form p file)) (memoryIn rom (bodiesIn form p file)) ≡ Accepted
-      unfolding processorIn processorOf memoryIn drawingBodyOk hardwareBodyOk
+      unfolding processorIn restoredProcessorOf memoryIn drawingBodyOk hardwareBodyOk
       accepted-held =
           accepts (processorIn (bodiesIn form p file)) (memoryIn rom (bodiesIn form p file))
           (record { lengths = lengths; state = words-ok .1; drawing = three .0 .1; hardware = three .1 })
 
       general-length : length (processorIn (bodiesIn form p file) .regs) ≡ 32
-      unfolding processorIn processorOf generalFrom
+      unfolding processorIn restoredProcessorOf generalFrom
       general-length = length-words-from (bodiesIn form p file .processor) 0 32
 
-      words-small : (k : ℕ) → getD (wordsOf (processorIn (bodiesIn form p file))) k 0 < 2 ^ 32
+      words-small : (k : ℕ) → getD (recordWordsOf (processorIn (bodiesIn form p file))) k 0 < 2 ^ 32
       unfolding processorIn
       words-small k =
           rw (words-held (bodiesIn form p file .processor) processor-bytes (hardwareFrom (bodiesIn form p file .hardware)) (words-ok .0))
@@ -229,12 +229,12 @@ module _ (form : Form) (p : ℕ) (file : List ℕ) (whole : length file ≡ file
       halves-small k = halves-fit (bodiesIn form p file .drawing) drawing-bytes 0 13 k
 
       lines-small : (k : ℕ) → getD (linesOf (processorIn (bodiesIn form p file) .hardware)) k 0 < 65536
-      unfolding processorIn processorOf
+      unfolding processorIn restoredProcessorOf
       lines-small k =
           rw (lines-are (bodiesIn form p file .hardware) hardware-bytes) (halves-fit (bodiesIn form p file .hardware) hardware-bytes 0 4 k)
 
       lines-held : formHolds form (linesOf (processorIn (bodiesIn form p file) .hardware)) ≡ true
-      unfolding processorIn processorOf
+      unfolding processorIn restoredProcessorOf
       lines-held = held-lines
 
       savable : Savable form (processorIn (bodiesIn form p file)) (memoryIn rom (bodiesIn form p file))

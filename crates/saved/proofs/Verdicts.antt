@@ -18,34 +18,34 @@ use Rattle.saved_layout.specs.File.{bodiesOf, fileOf, bodiesIn}
 use Rattle.saved_layout.specs.declared.Form.{Form}
 use Rattle.saved_kinds.specs.Fits.{formOf}
 use Rattle.saved_kinds.specs.Kinds.{drawingFrom, fileOk}
-use Rattle.saved.specs.Body.{restOf, wordsOf, linesOf, machineBodiesOf, processorIn, memoryIn}
-use Rattle.saved.specs.Calls.{stateFileOf, heldBodiesOf, heldProcessorOf, heldMemoryOf, formHolds, writeVerdictOf, writtenOf, readVerdictOf, restoredOf, readOf}
+use Rattle.saved.specs.Body.{restOf, recordWordsOf, linesOf, machineBodiesOf, processorIn, memoryIn}
+use Rattle.saved.specs.Calls.{stateFileOf, heldBodiesOf, heldProcessorOf, heldMemoryOf, formHolds, writeVerdictOf, writtenRoomOf, readVerdictOf, restoredOf, readBackOf}
 
 module _ (form : Form) (p : Processor) (m : Memory) (room : List ℕ) where
   pub write-refused : (n : refusal.Refusal) → acceptanceIn p m ≡ Refused n
-      → (Refused n ≡ writeVerdictOf form p m room) × (room ≡ writtenOf form p m room)
-  unfolding writtenOf writeVerdictOf
+      → (Refused n ≡ writeVerdictOf form p m room) × (room ≡ writtenRoomOf form p m room)
+  unfolding writtenRoomOf writeVerdictOf
   write-refused n e = (simp e, simp e)
 
   module _ (e : acceptanceIn p m ≡ Accepted) where
     pub write-length : (length room ≡ fileLengthOf form (length (m .pak)) → ⊥)
-        → (Refused FileLength ≡ writeVerdictOf form p m room) × (room ≡ writtenOf form p m room)
-    unfolding writtenOf writeVerdictOf
+        → (Refused FileLength ≡ writeVerdictOf form p m room) × (room ≡ writtenRoomOf form p m room)
+    unfolding writtenRoomOf writeVerdictOf
     write-length n = (simp (e, ne-eqb _ _ n), simp (e, ne-eqb _ _ n))
 
     pub write-reset : length room ≡ fileLengthOf form (length (m .pak)) → formHolds form (linesOf (p .hardware)) ≡ false
-        → (Refused NotAtReset ≡ writeVerdictOf form p m room) × (room ≡ writtenOf form p m room)
-    unfolding writtenOf writeVerdictOf
+        → (Refused NotAtReset ≡ writeVerdictOf form p m room) × (room ≡ writtenRoomOf form p m room)
+    unfolding writtenRoomOf writeVerdictOf
     write-reset l h = (simp (e, eq-eqb _ _ l, h), simp (e, eq-eqb _ _ l, h))
 
     pub write-accepted : length room ≡ fileLengthOf form (length (m .pak)) → formHolds form (linesOf (p .hardware)) ≡ true
-        → (Accepted ≡ writeVerdictOf form p m room) × (stateFileOf form p m ≡ writtenOf form p m room)
-    unfolding writtenOf writeVerdictOf
+        → (Accepted ≡ writeVerdictOf form p m room) × (stateFileOf form p m ≡ writtenRoomOf form p m room)
+    unfolding writtenRoomOf writeVerdictOf
     write-accepted l h = (simp (e, eq-eqb _ _ l, h), simp (e, eq-eqb _ _ l, h))
 
 pub file-of-records : (form : Form) (p : Processor) (m : Memory) (rest lines : List ℕ) → rest ≡ restOf p → lines ≡ linesOf (p .hardware)
     → fileOf form (bodiesOf (bytesOf (halvesOf (p .regs ++ rest))) (bytesOf (m .regs)) (m .wram) (m .vram) (m .pak) (bytesOf lines)) ≡ stateFileOf form p m
-unfolding stateFileOf machineBodiesOf wordsOf
+unfolding stateFileOf machineBodiesOf recordWordsOf
 file-of-records form p m rest lines e f = rw (e, f)
 
 -- ROM is not stored
@@ -54,23 +54,23 @@ unfolding stateFileOf machineBodiesOf
 file-beside form p m = refl
 
 module _ (p : Processor) (m : Memory) (file : List ℕ) where
-  pub read-refused : (n : refusal.Refusal) → acceptanceIn p m ≡ Refused n → restoredOf (Refused n) p m ≡ readOf p m file
-  unfolding readOf readVerdictOf
+  pub read-refused : (n : refusal.Refusal) → acceptanceIn p m ≡ Refused n → restoredOf (Refused n) p m ≡ readBackOf p m file
+  unfolding readBackOf readVerdictOf
   read-refused n e = simp e
 
   module _ (e : acceptanceIn p m ≡ Accepted) where
-    pub read-length : (length file ≡ fileLengthOf (formOf file) (length (m .pak)) → ⊥) → restoredOf (Refused FileLength) p m ≡ readOf p m file
-    unfolding readOf readVerdictOf
+    pub read-length : (length file ≡ fileLengthOf (formOf file) (length (m .pak)) → ⊥) → restoredOf (Refused FileLength) p m ≡ readBackOf p m file
+    unfolding readBackOf readVerdictOf
     read-length n = simp (e, ne-eqb _ _ n)
 
     module _ (l : length file ≡ fileLengthOf (formOf file) (length (m .pak))) where
-      pub read-bytes : fileOk (formOf file) (length (m .pak)) file ≡ false → restoredOf (Refused FileBytes) p m ≡ readOf p m file
-      unfolding readOf readVerdictOf
+      pub read-bytes : fileOk (formOf file) (length (m .pak)) file ≡ false → restoredOf (Refused FileBytes) p m ≡ readBackOf p m file
+      unfolding readBackOf readVerdictOf
       read-bytes n = simp (e, eq-eqb _ _ l, n)
 
       pub read-accepted : fileOk (formOf file) (length (m .pak)) file ≡ true
-          → restoredOf Accepted (heldProcessorOf m file) (heldMemoryOf m file) ≡ readOf p m file
-      unfolding readOf readVerdictOf
+          → restoredOf Accepted (heldProcessorOf m file) (heldMemoryOf m file) ≡ readBackOf p m file
+      unfolding readBackOf readVerdictOf
       read-accepted n = simp (e, eq-eqb _ _ l, n)
 
 -- what was taken from a file is what it holds

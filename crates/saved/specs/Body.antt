@@ -1,6 +1,7 @@
--- A machine's records as bodies, and the records that bodies stand for. Kind 1, 43 words (paper 02, W1): "32 registers, PC, EIPC, EIPSW,
--- FEPC, FEPSW, ECR, PSW, system registers 25 and 29, the value read from 31, mode: 0 running, 1 halted, 2 fatal"; kind 2, 13 halfwords;
--- kind 6, four halfwords (W12): "request lines (bit n for level n), timer count, reload, control bits".
+-- A machine's records as bodies, and the records that bodies stand for. Kind 1, 43 words (paper 02, W1): "32 registers,
+-- PC, EIPC, EIPSW, FEPC, FEPSW, ECR, PSW, system registers 25 and 29, the value read from 31, mode: 0 running, 1
+-- halted, 2 fatal"; kind 2, 13 halfwords; kind 6, four halfwords (W12): "request lines (bit n for level n), timer
+-- count, reload, control bits".
 use Prim.Native.Nat.{ℕ}
 use mathlib.Core.List.{List, [], _∷_, _++_}
 use lib.Dec.{eqb}
@@ -41,8 +42,8 @@ restOf p =
     ∷ []
 
 -- all 43
-unfoldable pub wordsOf : Processor → List ℕ
-wordsOf p = p .regs ++ restOf p
+unfoldable pub recordWordsOf : Processor → List ℕ
+recordWordsOf p = p .regs ++ restOf p
 
 -- kind 6's halfwords
 unfoldable pub linesOf : Hardware → List ℕ
@@ -51,11 +52,12 @@ linesOf h = h .lines ∷ h .count ∷ h .reload ∷ h .control ∷ []
 -- the bodies of a machine
 unfoldable pub machineBodiesOf : Processor → Memory → Bodies
 machineBodiesOf p m =
-    bodiesOf (bytesOf (halvesOf (wordsOf p))) (bytesOf (m .regs)) (m .wram) (m .vram) (m .pak) (bytesOf (linesOf (p .hardware)))
+    bodiesOf (bytesOf (halvesOf (recordWordsOf p))) (bytesOf (m .regs)) (m .wram) (m .vram) (m .pak)
+    (bytesOf (linesOf (p .hardware)))
 
 -- the record of the general registers, the eleven words, and the lines and the timer
-unfoldable pub processorOf : List ℕ → List ℕ → Hardware → Processor
-processorOf regs rest hardware =
+unfoldable pub restoredProcessorOf : List ℕ → List ℕ → Hardware → Processor
+restoredProcessorOf regs rest hardware =
     record {
       regs = regs;
       pc = getD rest 0 0;
@@ -74,7 +76,7 @@ processorOf regs rest hardware =
 
 -- the record that bodies stand for
 unfoldable pub processorIn : Bodies → Processor
-processorIn b = processorOf (generalFrom (b .processor)) (restFrom (b .processor)) (hardwareFrom (b .hardware))
+processorIn b = restoredProcessorOf (generalFrom (b .processor)) (restFrom (b .processor)) (hardwareFrom (b .hardware))
 
 -- the memories and drawing registers that they stand for, beside a ROM
 unfoldable pub memoryIn : List ℕ → Bodies → Memory

@@ -1,17 +1,18 @@
--- What writing and reading a state answer and leave, for every input (paper 02, W1 and W12): refusals 1 to 5, then 9 and, reading, 10;
--- writing form 1, 16. Reading takes the form from the file. A refusal changes nothing. ROM is tested and neither stored nor changed.
+-- What writing and reading a state answer and leave, for every input (paper 02, W1 and W12): refusals 1 to 5, then 9
+-- and, reading, 10; writing form 1, 16. Reading takes the form from the file. A refusal changes nothing. ROM is tested
+-- and neither stored nor changed.
 use Prim.Native.Nat.{ℕ}
 use mathlib.Core.Bool.{Bool, true}
 use mathlib.Core.List.{List}
 use lib.Dec.{eqb}
 use lib.ListN.{length, replicate}
-use Rattle.refusal.specs.Number.{unless}
+use Rattle.refusal.specs.Number.{unless, whenAccepted, thenOf}
 use Rattle.refusal.specs.declared.Verdict.{Verdict}
 use Rattle.refusal.specs.declared.Verdict.the-variants.{Accepted, Refused}
 use Rattle.refusal.specs.declared.Refusal.the-variants.{FileLength, FileBytes, NotAtReset}
 use Rattle.bus_timer.specs.declared.Hardware.{Hardware}
 use Rattle.bus.specs.Memory.{Memory}
-use Rattle.processor.specs.Acceptance.{thenOf, acceptanceIn}
+use Rattle.processor.specs.Acceptance.{acceptanceIn}
 use Rattle.processor.specs.declared.Processor.{Processor}
 use Rattle.saved_bytes.specs.Numbers.{sameOf}
 use Rattle.saved_layout.specs.Layout.{fileLengthOf}
@@ -20,7 +21,6 @@ use Rattle.saved_layout.specs.declared.Form.{Form}
 use Rattle.saved_layout.specs.declared.Form.the-variants.{One, Two}
 use Rattle.saved_kinds.specs.Fits.{formOf}
 use Rattle.saved_kinds.specs.Kinds.{fileOk}
-use Rattle.saved_kinds.specs.Room.{whenAccepted}
 use Rattle.saved.specs.Body.{linesOf, machineBodiesOf, processorIn, memoryIn}
 
 -- the file of a machine in a form
@@ -52,16 +52,18 @@ holdsOk form h = formHolds form (linesOf h)
 -- a writing call's verdict: 1 to 5, 9, 16; and the room afterwards
 unfoldable pub writeVerdictOf : Form → Processor → Memory → List ℕ → Verdict
 writeVerdictOf form p m room =
-    thenOf (acceptanceIn p m) (unless (lengthOk form m room) FileLength (unless (holdsOk form (p .hardware)) NotAtReset Accepted))
+    thenOf (acceptanceIn p m)
+    (unless (lengthOk form m room) FileLength (unless (holdsOk form (p .hardware)) NotAtReset Accepted))
 
-unfoldable pub writtenOf : Form → Processor → Memory → List ℕ → List ℕ
-writtenOf form p m room = whenAccepted (writeVerdictOf form p m room) room (stateFileOf form p m)
+unfoldable pub writtenRoomOf : Form → Processor → Memory → List ℕ → List ℕ
+writtenRoomOf form p m room = whenAccepted (writeVerdictOf form p m room) room (stateFileOf form p m)
 
 -- the reading call's verdict: 1 to 5, 9 by the file's form, 10
 unfoldable pub readVerdictOf : Processor → Memory → List ℕ → Verdict
 readVerdictOf p m file =
     thenOf (acceptanceIn p m)
-    (unless (lengthOk (formOf file) m file) FileLength (unless (fileOk (formOf file) (length (m .pak)) file) FileBytes Accepted))
+    (unless (lengthOk (formOf file) m file) FileLength
+    (unless (fileOk (formOf file) (length (m .pak)) file) FileBytes Accepted))
 
 -- what it gives: the verdict, the record and the memory afterwards
 pub record Restored : Type 0 where
@@ -76,5 +78,5 @@ abbrev pub restoredWhen : Verdict → Processor → Memory → List ℕ → Rest
 restoredWhen Accepted p m file = restoredOf Accepted (heldProcessorOf m file) (heldMemoryOf m file)
 restoredWhen (Refused n) p m file = restoredOf (Refused n) p m
 
-unfoldable pub readOf : Processor → Memory → List ℕ → Restored
-readOf p m file = restoredWhen (readVerdictOf p m file) p m file
+unfoldable pub readBackOf : Processor → Memory → List ℕ → Restored
+readBackOf p m file = restoredWhen (readVerdictOf p m file) p m file

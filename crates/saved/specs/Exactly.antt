@@ -1,5 +1,5 @@
--- "Reading gives the state written", refusal 10 exactly, and what a move writes (paper 02, W1 and W12): the statements. Their proofs are
--- `read-written`, `written-exactly` and `move-writes` in proofs/.
+-- "Reading gives the state written", refusal 10 exactly, and what a move writes (paper 02, W1 and W12): the statements.
+-- Their proofs are `read-written`, `written-exactly` and `move-writes` in proofs/.
 use Prim.Native.Nat.{ℕ, _^_, _<_}
 use mathlib.Core.Bool.{true, false}
 use mathlib.Core.List.{List}
@@ -14,30 +14,32 @@ use Rattle.saved_layout.specs.declared.Form.{Form}
 use Rattle.saved_kinds.specs.Fits.{formOf, pakLengthOf}
 use Rattle.saved_kinds.specs.Kinds.{fileOk}
 use Rattle.saved_move.specs.Move.{moveVerdictOf, movedOf}
-use Rattle.saved.specs.Body.{wordsOf, linesOf}
-use Rattle.saved.specs.Calls.{stateFileOf, heldProcessorOf, heldMemoryOf, holdsOk, restoredOf, readOf}
+use Rattle.saved.specs.Body.{recordWordsOf, linesOf}
+use Rattle.saved.specs.Calls.{stateFileOf, heldProcessorOf, heldMemoryOf, holdsOk, restoredOf, readBackOf}
 
--- a machine that 1 to 5 accept and a form holds, with the sizes that the Rattle types give any call: 32 general registers, words of 32
--- bits, 13 drawing registers and the fields of lines and timer of 16
+-- a machine that 1 to 5 accept and a form holds, with the sizes that the Rattle types give any call: 32 general
+-- registers, words of 32 bits, 13 drawing registers and the fields of lines and timer of 16
 pub record Savable (form : Form) (p : Processor) (m : Memory) : Type 0 where
   pub accepted : acceptanceIn p m ≡ Accepted
   pub held : holdsOk form (p .hardware) ≡ true
   pub general : length (p .regs) ≡ 32
-  pub words : (k : ℕ) → getD (wordsOf p) k 0 < 2 ^ 32
+  pub words : (k : ℕ) → getD (recordWordsOf p) k 0 < 2 ^ 32
   pub drawing : length (m .regs) ≡ 13
   pub halves : (k : ℕ) → getD (m .regs) k 0 < 65536
   pub lines : (k : ℕ) → getD (linesOf (p .hardware)) k 0 < 65536
 
--- what was written for an accepted machine is read, beside any accepted machine with pak RAM of the same length, without refusal
--- and gives that machine: both records and every byte of WRAM, VRAM and pak RAM. In form 1 lines and timer are at reset
+-- what was written for an accepted machine is read, beside any accepted machine with pak RAM of the same length,
+-- without refusal and gives that machine: both records and every byte of WRAM, VRAM and pak RAM. In form 1 lines and
+-- timer are at reset
 abbrev pub ReadWritten : Form → Type 0
 ReadWritten form =
-    (p q : Processor) (m n : Memory) → Savable form p m → acceptanceIn q n ≡ Accepted → length (n .pak) ≡ length (m .pak)
-    → readOf q n (stateFileOf form p m)
+    (p q : Processor) (m n : Memory) → Savable form p m → acceptanceIn q n ≡ Accepted
+    → length (n .pak) ≡ length (m .pak)
+    → readBackOf q n (stateFileOf form p m)
     ≡ restoredOf Accepted p (memoryOf (n .rom) (m .wram) (m .vram) (m .pak) (m .regs))
 
--- a file of the due length of its own form is refused by 10 exactly when no accepted machine is written as it; and what was read, written
--- again in that form, is the file
+-- a file of the due length of its own form is refused by 10 exactly when no accepted machine is written as it; and what
+-- was read, written again in that form, is the file
 pub record Exactly (n : Memory) (file : List ℕ) : Type 0 where
   pub refused : fileOk (formOf file) (length (n .pak)) file ≡ false
       → (p : Processor) (m : Memory) → Savable (formOf file) p m → length (m .pak) ≡ length (n .pak)
@@ -54,8 +56,8 @@ WrittenExactly =
     → ((k : ℕ) → getD file k 0 < 256)
     → Exactly n file
 
--- "writes what the other form's writer makes for the state held": an accepted move leaves the file, in the other form, of the machine that
--- reading gives beside a memory with pak RAM of the length that the file tells
+-- "writes what the other form's writer makes for the state held": an accepted move leaves the file, in the other form,
+-- of the machine that reading gives beside a memory with pak RAM of the length that the file tells
 abbrev pub MoveWrites : Type 0
 MoveWrites =
     (file room : List ℕ) (n : Memory) → ((k : ℕ) → getD file k 0 < 256) → moveVerdictOf file room ≡ Accepted

@@ -13,10 +13,12 @@ ghost use mathlib.Core.List.{[]};
 ghost use mathlib.Core.Path.{_≡_};
 ghost use Prim.Native.Nat.{_≤_};
 ghost use lib.ListN.{length};
+ghost use Rattle.bus.specs.Refusal.{vramBytes};
 ghost use Rattle.bus.specs.Memory.{memoryOf};
+ghost use Rattle.bus.specs.Lent.{enteringWith, leavingWith};
 ghost use Rattle.saved_layout.specs.Layout.{fileLengthOf};
 ghost use Rattle.saved_layout.specs.declared.Form.the-variants.{One, Two};
-ghost use Rattle.saved.specs.Calls.{stateFileOf, writeVerdictOf, writtenOf, restoredOf, readOf};
+ghost use Rattle.saved.specs.Calls.{stateFileOf, writeVerdictOf, writtenRoomOf, restoredOf, readBackOf};
 
 // Whether a read was refused, and both records afterwards.
 pub struct Restored {
@@ -35,9 +37,12 @@ fn put(
     drawing: Drawing,
     room: &mut [u8],
 )
-    requires { ⌜ (length (now wram) ≡ 65536) × ((length (now vram) ≡ 262144) × (length (now pak) ≤ 16777216)) ⌝ }
+    requires { ⌜ (length (now wram) ≡ 65536) × ((length (now vram) ≡ vramBytes) × (length (now pak) ≤ 16777216)) ⌝ }
     requires { ⌜ length (now room) ≡ fileLengthOf form (length (now pak)) ⌝ }
-    ensures { λ _. ⌜ now (room .exit) ≡ stateFileOf form processor (memoryOf [] (now (wram .entry)) (now (vram .entry)) (now (pak .entry)) (drawing .regs)) ⌝ }
+    ensures { λ _. ⌜
+        now (room .exit) ≡ stateFileOf form processor
+        (memoryOf [] (now (wram .entry)) (now (vram .entry)) (now (pak .entry)) (drawing .regs))
+        ⌝ }
 {
     let regs = processor.regs;
     let rest = records::rest(processor);
@@ -57,8 +62,12 @@ fn write_form(
     drawing: Drawing,
     room: &mut [u8],
 ) -> Verdict
-    ensures verdict { λ v. ⌜ v ≡ writeVerdictOf form processor (memoryOf (now (rom .entry)) (now (wram .entry)) (now (vram .entry)) (now (pak .entry)) (drawing .regs)) (now (room .entry)) ⌝ }
-    ensures room { λ _. ⌜ now (room .exit) ≡ writtenOf form processor (memoryOf (now (rom .entry)) (now (wram .entry)) (now (vram .entry)) (now (pak .entry)) (drawing .regs)) (now (room .entry)) ⌝ }
+    ensures verdict { λ v. ⌜
+        v ≡ writeVerdictOf form processor (enteringWith rom wram vram pak (drawing .regs)) (now (room .entry))
+        ⌝ }
+    ensures room { λ _. ⌜
+        now (room .exit) ≡ writtenRoomOf form processor (enteringWith rom wram vram pak (drawing .regs)) (now (room .entry))
+        ⌝ }
 {
     match processor::calls::verdict(rom, wram, vram, pak, processor, drawing) {
         Verdict::Refused(n) => Verdict::Refused(n),
@@ -85,8 +94,12 @@ pub fn write(
     drawing: Drawing,
     room: &mut [u8],
 ) -> Verdict
-    ensures verdict { λ v. ⌜ v ≡ writeVerdictOf One processor (memoryOf (now (rom .entry)) (now (wram .entry)) (now (vram .entry)) (now (pak .entry)) (drawing .regs)) (now (room .entry)) ⌝ }
-    ensures room { λ _. ⌜ now (room .exit) ≡ writtenOf One processor (memoryOf (now (rom .entry)) (now (wram .entry)) (now (vram .entry)) (now (pak .entry)) (drawing .regs)) (now (room .entry)) ⌝ }
+    ensures verdict { λ v. ⌜
+        v ≡ writeVerdictOf One processor (enteringWith rom wram vram pak (drawing .regs)) (now (room .entry))
+        ⌝ }
+    ensures room { λ _. ⌜
+        now (room .exit) ≡ writtenRoomOf One processor (enteringWith rom wram vram pak (drawing .regs)) (now (room .entry))
+        ⌝ }
 {
     write_form(Form::One, rom, wram, vram, pak, processor, drawing, room)
 }
@@ -101,13 +114,18 @@ pub fn write_2(
     drawing: Drawing,
     room: &mut [u8],
 ) -> Verdict
-    ensures verdict { λ v. ⌜ v ≡ writeVerdictOf Two processor (memoryOf (now (rom .entry)) (now (wram .entry)) (now (vram .entry)) (now (pak .entry)) (drawing .regs)) (now (room .entry)) ⌝ }
-    ensures room { λ _. ⌜ now (room .exit) ≡ writtenOf Two processor (memoryOf (now (rom .entry)) (now (wram .entry)) (now (vram .entry)) (now (pak .entry)) (drawing .regs)) (now (room .entry)) ⌝ }
+    ensures verdict { λ v. ⌜
+        v ≡ writeVerdictOf Two processor (enteringWith rom wram vram pak (drawing .regs)) (now (room .entry))
+        ⌝ }
+    ensures room { λ _. ⌜
+        now (room .exit) ≡ writtenRoomOf Two processor (enteringWith rom wram vram pak (drawing .regs)) (now (room .entry))
+        ⌝ }
 {
     write_form(Form::Two, rom, wram, vram, pak, processor, drawing, room)
 }
 
-// A machine from a file of either form: WRAM, VRAM, pak RAM and both records. The whole file is tested before a byte is stored.
+// A machine from a file of either form: WRAM, VRAM, pak RAM and both records. The whole file is tested before a byte is
+// stored.
 pub fn read(
     rom: &[u8],
     wram: &mut [u8],
@@ -117,7 +135,10 @@ pub fn read(
     drawing: Drawing,
     file: &[u8],
 ) -> Restored
-    ensures { λ r. ⌜ restoredOf (r .verdict) (r .processor) (memoryOf (now (rom .entry)) (now (wram .exit)) (now (vram .exit)) (now (pak .exit)) (r .drawing .regs)) ≡ readOf processor (memoryOf (now (rom .entry)) (now (wram .entry)) (now (vram .entry)) (now (pak .entry)) (drawing .regs)) (now (file .entry)) ⌝ }
+    ensures { λ r. ⌜
+        restoredOf (r .verdict) (r .processor) (leavingWith rom wram vram pak (r .drawing .regs))
+        ≡ readBackOf processor (enteringWith rom wram vram pak (drawing .regs)) (now (file .entry))
+        ⌝ }
 {
     match processor::calls::verdict(rom, wram, vram, pak, processor, drawing) {
         Verdict::Refused(n) => Restored {

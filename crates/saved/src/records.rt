@@ -12,7 +12,7 @@ ghost use Rattle.saved_bytes.specs.Numbers.{sameOf};
 ghost use Rattle.saved_layout.specs.Layout.{fileLengthOf};
 ghost use Rattle.saved_layout.specs.File.{bodiesIn};
 ghost use Rattle.saved_kinds.specs.Kinds.{generalFrom, restFrom, drawingFrom, hardwareFrom};
-ghost use Rattle.saved.specs.Body.{modeWordOf, modeOf, restOf, linesOf, processorOf, processorIn};
+ghost use Rattle.saved.specs.Body.{modeWordOf, modeOf, restOf, linesOf, restoredProcessorOf, processorIn};
 ghost use Rattle.saved.specs.Calls.{formHolds};
 
 fn mode_word(mode: Mode) -> u32
@@ -88,7 +88,7 @@ pub fn holds(form: Form, lines: [u16; 4]) -> bool
 
 // The record of the general registers, the eleven words, and lines and timer.
 fn processor_of(regs: [u32; 32], rest: [u32; 11], hardware: Hardware) -> Processor
-    ensures { λ r. ⌜ r ≡ processorOf regs rest hardware ⌝ }
+    ensures { λ r. ⌜ r ≡ restoredProcessorOf regs rest hardware ⌝ }
 {
     let mode = mode_of(rest[10]);
     Processor {
@@ -111,7 +111,7 @@ fn processor_of(regs: [u32; 32], rest: [u32; 11], hardware: Hardware) -> Process
 // The record of a body of kind 1.
 fn processor(body: &[u8], hardware: Hardware) -> Processor
     requires { ⌜ length (now body) ≡ 172 ⌝ }
-    ensures { λ r. ⌜ r ≡ processorOf (generalFrom (now (body .entry))) (restFrom (now (body .entry))) hardware ⌝ }
+    ensures { λ r. ⌜ r ≡ restoredProcessorOf (generalFrom (now (body .entry))) (restFrom (now (body .entry))) hardware ⌝ }
 {
     let mut regs = [0u32; 32];
     let mut rest = [0u32; 11];

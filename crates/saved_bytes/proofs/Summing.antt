@@ -9,7 +9,7 @@ use borrow.Author.Tests.{eq-eqb, ne-eqb}
 use lib.ListN.{length, getD, take, drop, set, length-set, replicate, length-replicate, getD-replicate}
 use lib.Seq.{paste, paste-suc, paste-zero, take-suc, take-length, drop-cons, drop-length}
 use Rattle.saved_bytes.specs.Numbers.{sameOf}
-use Rattle.saved_bytes.specs.Parts.{putAt, totalOf, sumOf}
+use Rattle.saved_bytes.specs.Parts.{putAt, totalOf, bodySumOf}
 use Rattle.saved_bytes.proofs.Filling.{Pasted}
 
 total-append : (xs ys : List ℕ) → totalOf (xs ++ ys) ≡ totalOf xs + totalOf ys
@@ -24,8 +24,8 @@ total-more xs k h =
     last : totalOf (take k xs) + totalOf (getD xs k 0 ∷ []) ≡ totalOf (take k xs) + getD xs k 0
     last = omega arith
 
-pub total-all : (xs : List ℕ) (k total : ℕ) → k ≡ length xs → total ≡ totalOf (take k xs) → total ≤ 255 * k → k ≤ 16777216 → total ≡ sumOf xs
-unfolding sumOf
+pub total-all : (xs : List ℕ) (k total : ℕ) → k ≡ length xs → total ≡ totalOf (take k xs) → total ≤ 255 * k → k ≤ 16777216 → total ≡ bodySumOf xs
+unfolding bodySumOf
 total-all xs k total e f small few =
     let g : total ≡ totalOf xs = f ∙ (ap (λ (n : ℕ). totalOf (take n xs)) e ∙ ap totalOf (take-length xs)) in
     omega arith

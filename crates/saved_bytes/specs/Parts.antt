@@ -1,4 +1,5 @@
--- Bytes put over a part of a room, and the sum of a body's bytes (paper 02, W12: "the sum of the body's bytes mod 2^32").
+-- Bytes put over a part of a room, and the sum of a body's bytes (paper 02, W12: "the sum of the body's bytes mod
+-- 2^32").
 use Prim.Native.Nat.{ℕ, _+_, _%_, _^_}
 use mathlib.Core.List.{List, [], _∷_, _++_}
 use lib.ListN.{length, take, drop}
@@ -13,5 +14,5 @@ totalOf [] = 0
 totalOf (b ∷ bs) = b + totalOf bs
 
 -- the same mod 2^32
-unfoldable pub sumOf : List ℕ → ℕ
-sumOf bytes = totalOf bytes % 2 ^ 32
+unfoldable pub bodySumOf : List ℕ → ℕ
+bodySumOf bytes = totalOf bytes % 2 ^ 32

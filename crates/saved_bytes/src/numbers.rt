@@ -56,7 +56,9 @@ pub fn take_words(file: &[u8], at: usize, words: &mut [u32])
 // Whether a file begins with these halfwords.
 pub fn same_halves(file: &[u8], halves: &[u16]) -> bool
     requires { ⌜ 2 * length (now halves) ≤ length (now file) ⌝ }
-    ensures { λ r. ⌜ r ≡ sameOf (halvesFrom (now (file .entry)) 0 (length (now (halves .entry)))) (now (halves .entry)) ⌝ }
+    ensures { λ r. ⌜
+        r ≡ sameOf (halvesFrom (now (file .entry)) 0 (length (now (halves .entry)))) (now (halves .entry))
+        ⌝ }
 {
     let mut k = 0;
     while k < halves.len() {

@@ -3,7 +3,7 @@ ghost use mathlib.Core.Path.{_≡_};
 ghost use Prim.Native.Nat.{_+_, _≤_};
 ghost use lib.ListN.{length, replicate};
 ghost use Rattle.saved_bytes.specs.Numbers.{sameOf};
-ghost use Rattle.saved_bytes.specs.Parts.{putAt, sumOf};
+ghost use Rattle.saved_bytes.specs.Parts.{putAt, bodySumOf};
 
 // Bytes over those from byte `at` on.
 pub fn put_bytes(room: &mut [u8], at: usize, bytes: &[u8])
@@ -43,7 +43,7 @@ pub fn same(a: &[u8], b: &[u8]) -> bool
 // The sum of a body's bytes. The longest body has 16,777,216 of them, so no sum reaches 2^32.
 pub fn sum(bytes: &[u8]) -> u32
     requires { ⌜ length (now bytes) ≤ 16777216 ⌝ }
-    ensures { λ r. ⌜ r ≡ sumOf (now (bytes .entry)) ⌝ }
+    ensures { λ r. ⌜ r ≡ bodySumOf (now (bytes .entry)) ⌝ }
 {
     let mut total = 0u32;
     let mut k = 0;

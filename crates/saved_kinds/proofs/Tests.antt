@@ -9,7 +9,7 @@ use lib.ListN.{getD, take, drop}
 use Rattle.processor.specs.Acceptance.{both, stateOk}
 use Rattle.bus_timer.specs.Ports.{controlBitsOf, hardwareOk}
 use Rattle.saved_bytes.specs.Numbers.{wordsFrom}
-use Rattle.saved_layout.specs.Layout.{placeOf}
+use Rattle.saved_layout.specs.Layout.{bodyPlaceOf}
 use Rattle.saved_layout.specs.File.{Bodies, bodiesIn, contentsOk, hardwareReset}
 use Rattle.saved_layout.specs.declared.Form.{Form}
 use Rattle.saved_layout.specs.declared.Form.the-variants.{One, Two}
@@ -53,7 +53,7 @@ both-last true = refl
 both-last false = refl
 
 -- the records of a file where they stand
-module _ (form : Form) (p at : ℕ) (file : List ℕ) (e : at ≡ placeOf form p 0) where
+module _ (form : Form) (p at : ℕ) (file : List ℕ) (e : at ≡ bodyPlaceOf form p 0) where
   records-are : recordsOk at file ≡ both (processorBodyOk (bodiesIn form p file .processor)) (drawingBodyOk (bodiesIn form p file .drawing))
   records-are =
       rw (processor-part form p at file e at 172 refl refl, drawing-part form p at file e (at + 172) 26 refl refl)

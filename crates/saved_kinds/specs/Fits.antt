@@ -1,6 +1,6 @@
--- The form of a file (paper 02, W12: "a file whose first halfword is 0 for form 2, any other for form 1"), and the pak RAM's length
--- that its own length tells: "its file's length fits no pak RAM size in that form". The statement `FitsExactly` says that the test is
--- that; its proof is `fits-exactly` in proofs/.
+-- The form of a file (paper 02, W12: "a file whose first halfword is 0 for form 2, any other for form 1"), and the pak
+-- RAM's length that its own length tells: "its file's length fits no pak RAM size in that form". The statement
+-- `FitsExactly` says that the test is that; its proof is `fits-exactly` in proofs/.
 use Prim.Native.Nat.{ℕ, _-_}
 use mathlib.Core.Bool.{Bool, true, false}
 use mathlib.Core.List.{List}

@@ -1,6 +1,6 @@
--- Whether a body is one that a writer makes for some accepted state: paper 02, W1's refusal 10 of kinds 1 and 2 and W12's of kind 6,
--- by the tests of refusal 5 (processor, Acceptance; bus, Registers; bus_timer, Ports). Kinds 3 to 5 are free. And the same of a whole
--- file, whose contents are right.
+-- Whether a body is one that a writer makes for some accepted state: paper 02, W1's refusal 10 of kinds 1 and 2 and
+-- W12's of kind 6, by the tests of refusal 5 (processor, Acceptance; bus, Registers; bus_timer, Ports). Kinds 3 to 5
+-- are free. And the same of a whole file, whose contents are right.
 use Prim.Native.Nat.{ℕ, _+_}
 use mathlib.Core.Bool.{Bool, true, false}
 use mathlib.Core.List.{List, [], _∷_}
@@ -16,7 +16,8 @@ use Rattle.saved_bytes.specs.Numbers.{halvesFrom, wordsFrom}
 use Rattle.saved_layout.specs.File.{Bodies, bodiesIn, contentsOk}
 use Rattle.saved_layout.specs.declared.Form.{Form}
 
--- kind 1's words: the general registers; PC, EIPC, EIPSW, FEPC, FEPSW, ECR, PSW, system registers 25, 29 and 31, and the mode
+-- kind 1's words: the general registers; PC, EIPC, EIPSW, FEPC, FEPSW, ECR, PSW, system registers 25, 29 and 31, and
+-- the mode
 unfoldable pub generalFrom : List ℕ → List ℕ
 generalFrom body = wordsFrom body 0 32
 

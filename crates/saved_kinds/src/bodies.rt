@@ -1,4 +1,5 @@
-// Whether a body is one that a writer makes for some accepted state, and the same of a whole file. WRAM, VRAM and pak RAM are free.
+// Whether a body is one that a writer makes for some accepted state, and the same of a whole file. WRAM, VRAM and pak
+// RAM are free.
 use bus_timer::Hardware;
 use saved_bytes::numbers;
 use saved_layout::Form;
@@ -9,7 +10,8 @@ ghost use Prim.Native.Nat.{_+_, _≤_};
 ghost use lib.ListN.{length};
 ghost use Rattle.saved_layout.specs.Layout.{fileLengthOf};
 ghost use Rattle.saved_layout.specs.declared.Form.the-variants.{One, Two};
-ghost use Rattle.saved_kinds.specs.Kinds.{processorBodyOk, drawingBodyOk, hardwareFrom, hardwareBodyOk, recordsOk, fileOk};
+ghost use Rattle.saved_kinds.specs.Kinds.{processorBodyOk, drawingBodyOk, hardwareFrom, hardwareBodyOk};
+ghost use Rattle.saved_kinds.specs.Kinds.{recordsOk, fileOk};
 
 // Kind 1.
 pub fn processor_ok(body: &[u8]) -> bool

@@ -7,7 +7,7 @@ use lib.ListN.{length, getD, take, drop, replicate}
 use Rattle.word.specs.Choose.{pick}
 use Rattle.saved_bytes.specs.Numbers.{bytesOf}
 use Rattle.saved_bytes.proofs.Reading.{Under}
-use Rattle.saved_layout.specs.Layout.{contentsOf, placeOf, lastPlaceOf}
+use Rattle.saved_layout.specs.Layout.{contentsOf, bodyPlaceOf, lastPlaceOf}
 use Rattle.saved_layout.specs.File.{Bodies, sumsOf, joinedOf, fileOf, bodiesIn}
 use Rattle.saved_layout.specs.declared.Form.the-variants.{Two}
 use Rattle.saved_salvage.specs.Keep.{orZeros, processorReset, keptBodiesOf}
@@ -75,11 +75,11 @@ module _ (k : Kept) (pak : ℕ) (file : List ℕ) (u : Under 256 file) where
   unfolding keptBodiesOf bodiesIn
   joined-bytes =
       let b = bodiesIn Two pak file in
-      joined-under (keptBodiesOf k b) (under-processor (k .processor) (b .processor) (part 172 (placeOf Two pak 0)))
-      (under-kept (k .drawing) (b .drawing) (part 26 (placeOf Two pak 1)))
-      (under-kept (k .wram) (b .wram) (part 65536 (placeOf Two pak 2)))
-      (under-kept (k .vram) (b .vram) (part 262144 (placeOf Two pak 3)))
-      (under-kept (k .pak) (b .pak) (part pak (placeOf Two pak 4)))
+      joined-under (keptBodiesOf k b) (under-processor (k .processor) (b .processor) (part 172 (bodyPlaceOf Two pak 0)))
+      (under-kept (k .drawing) (b .drawing) (part 26 (bodyPlaceOf Two pak 1)))
+      (under-kept (k .wram) (b .wram) (part 65536 (bodyPlaceOf Two pak 2)))
+      (under-kept (k .vram) (b .vram) (part 262144 (bodyPlaceOf Two pak 3)))
+      (under-kept (k .pak) (b .pak) (part pak (bodyPlaceOf Two pak 4)))
       (under-kept (k .hardware) (b .hardware) (part 8 (lastPlaceOf pak)))
 
   pub output-bytes : (i : ℕ) → getD (fileOf Two (keptBodiesOf k (bodiesIn Two pak file))) i 0 < 256

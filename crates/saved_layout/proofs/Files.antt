@@ -8,11 +8,11 @@ use mathlib.Core.List.{List, [], _∷_, _++_, append-nil}
 use lib.ListN.{length, getD, take, drop, length-append, length-take, length-drop, length-replicate, take-append-drop, drop-of-length-le}
 use lib.Seq.{take-all, take-at, drop-at, drop-drop}
 use Rattle.saved_bytes.specs.Numbers.{bytesOf, halvesFrom, sameOf}
-use Rattle.saved_bytes.specs.Parts.{putAt, sumOf}
+use Rattle.saved_bytes.specs.Parts.{putAt, bodySumOf}
 use Rattle.saved_bytes.proofs.LittleEndian.{length-bytes}
 use Rattle.saved_bytes.proofs.Reading.{Under, halves-back, same-self, same-equal, halves-again}
 use Rattle.saved_bytes.proofs.Putting.{put-first}
-use Rattle.saved_layout.specs.Layout.{contentsOf, placeOf, lastPlaceOf, fileLengthOf}
+use Rattle.saved_layout.specs.Layout.{contentsOf, bodyPlaceOf, lastPlaceOf, fileLengthOf}
 use Rattle.saved_layout.specs.File.{Bodies, bodiesOf, sumsOf, lastOf, joinedOf, fileOf, hardwareReset, hardwareIn, bodiesIn, contentsIn, contentsOk, Sized, HeldBy}
 use Rattle.saved_layout.specs.declared.Form.{Form}
 use Rattle.saved_layout.specs.declared.Form.the-variants.{One, Two}
@@ -79,8 +79,8 @@ pub plain-contents : (p : ℕ) (s t : List ℕ) → contentsOf One p s ≡ conte
 plain-contents zero s t = sym (one-empty s) ∙ one-empty t
 plain-contents (suc p) s t = sym (one-some (suc p) (omega arith) s) ∙ one-some (suc p) (omega arith) t
 
-sum-small : (xs : List ℕ) → sumOf xs < 2 ^ 32
-unfolding sumOf
+sum-small : (xs : List ℕ) → bodySumOf xs < 2 ^ 32
+unfolding bodySumOf
 sum-small xs = omega arith
 
 pub sums-small : (b : Bodies) (k : ℕ) → getD (sumsOf b) k 0 < 2 ^ 32
@@ -93,7 +93,7 @@ sums-small b (suc (suc (suc (suc zero)))) = sum-small (b .pak)
 sums-small b (suc (suc (suc (suc (suc zero))))) = sum-small (b .hardware)
 sums-small b (suc (suc (suc (suc (suc (suc k)))))) = omega arith
 
-pub length-contents : (form : Form) (p : ℕ) (s : List ℕ) → length (bytesOf (contentsOf form p s)) ≡ placeOf form p 0
+pub length-contents : (form : Form) (p : ℕ) (s : List ℕ) → length (bytesOf (contentsOf form p s)) ≡ bodyPlaceOf form p 0
 length-contents form p s = length-bytes (contentsOf form p s) ∙ contents-end form p s
 
 -- what stands behind a part, and the part
@@ -113,73 +113,73 @@ bodies-same p q r s t u = rw (p, q, r, s, t, u)
 
 -- bodies that stand one after the other from the first place on are those of the file
 module _ (b : Bodies) (s : Sized b) (file : List ℕ) where
-  module _ (form : Form) (start : drop (placeOf form (length (b .pak)) 0) file ≡ joinedOf form b) where
-    at0 : drop (placeOf form (length (b .pak)) 0) file ≡ b .processor ++ (b .drawing ++ (b .wram ++ (b .vram ++ (b .pak ++ lastOf form (b .hardware)))))
+  module _ (form : Form) (start : drop (bodyPlaceOf form (length (b .pak)) 0) file ≡ joinedOf form b) where
+    at0 : drop (bodyPlaceOf form (length (b .pak)) 0) file ≡ b .processor ++ (b .drawing ++ (b .wram ++ (b .vram ++ (b .pak ++ lastOf form (b .hardware)))))
     unfolding joinedOf
     at0 = start
 
-    at1 : drop (placeOf form (length (b .pak)) 1) file ≡ b .drawing ++ (b .wram ++ (b .vram ++ (b .pak ++ lastOf form (b .hardware))))
-    at1 = behind (placeOf form (length (b .pak)) 0) 172 (placeOf form (length (b .pak)) 1) file (b .processor) (b .drawing ++ (b .wram ++ (b .vram ++ (b .pak ++ lastOf form (b .hardware))))) at0 (s .processor) (second form (length (b .pak)))
+    at1 : drop (bodyPlaceOf form (length (b .pak)) 1) file ≡ b .drawing ++ (b .wram ++ (b .vram ++ (b .pak ++ lastOf form (b .hardware))))
+    at1 = behind (bodyPlaceOf form (length (b .pak)) 0) 172 (bodyPlaceOf form (length (b .pak)) 1) file (b .processor) (b .drawing ++ (b .wram ++ (b .vram ++ (b .pak ++ lastOf form (b .hardware))))) at0 (s .processor) (second form (length (b .pak)))
 
-    at2 : drop (placeOf form (length (b .pak)) 2) file ≡ b .wram ++ (b .vram ++ (b .pak ++ lastOf form (b .hardware)))
-    at2 = behind (placeOf form (length (b .pak)) 1) 26 (placeOf form (length (b .pak)) 2) file (b .drawing) (b .wram ++ (b .vram ++ (b .pak ++ lastOf form (b .hardware)))) at1 (s .drawing) (omega (arith, second form (length (b .pak)), third form (length (b .pak))))
+    at2 : drop (bodyPlaceOf form (length (b .pak)) 2) file ≡ b .wram ++ (b .vram ++ (b .pak ++ lastOf form (b .hardware)))
+    at2 = behind (bodyPlaceOf form (length (b .pak)) 1) 26 (bodyPlaceOf form (length (b .pak)) 2) file (b .drawing) (b .wram ++ (b .vram ++ (b .pak ++ lastOf form (b .hardware)))) at1 (s .drawing) (omega (arith, second form (length (b .pak)), third form (length (b .pak))))
 
-    at3 : drop (placeOf form (length (b .pak)) 3) file ≡ b .vram ++ (b .pak ++ lastOf form (b .hardware))
-    at3 = behind (placeOf form (length (b .pak)) 2) 65536 (placeOf form (length (b .pak)) 3) file (b .wram) (b .vram ++ (b .pak ++ lastOf form (b .hardware))) at2 (s .wram) (omega (arith, third form (length (b .pak)), fourth form (length (b .pak))))
+    at3 : drop (bodyPlaceOf form (length (b .pak)) 3) file ≡ b .vram ++ (b .pak ++ lastOf form (b .hardware))
+    at3 = behind (bodyPlaceOf form (length (b .pak)) 2) 65536 (bodyPlaceOf form (length (b .pak)) 3) file (b .wram) (b .vram ++ (b .pak ++ lastOf form (b .hardware))) at2 (s .wram) (omega (arith, third form (length (b .pak)), fourth form (length (b .pak))))
 
-    at4 : drop (placeOf form (length (b .pak)) 4) file ≡ b .pak ++ lastOf form (b .hardware)
-    at4 = behind (placeOf form (length (b .pak)) 3) 262144 (placeOf form (length (b .pak)) 4) file (b .vram) (b .pak ++ lastOf form (b .hardware)) at3 (s .vram) (omega (arith, fourth form (length (b .pak)), fifth form (length (b .pak))))
+    at4 : drop (bodyPlaceOf form (length (b .pak)) 4) file ≡ b .pak ++ lastOf form (b .hardware)
+    at4 = behind (bodyPlaceOf form (length (b .pak)) 3) 262144 (bodyPlaceOf form (length (b .pak)) 4) file (b .vram) (b .pak ++ lastOf form (b .hardware)) at3 (s .vram) (omega (arith, fourth form (length (b .pak)), fifth form (length (b .pak))))
 
-    at5 : (n : ℕ) → n ≡ placeOf form (length (b .pak)) 4 + (length (b .pak)) → drop n file ≡ lastOf form (b .hardware)
-    at5 n e = behind (placeOf form (length (b .pak)) 4) (length (b .pak)) n file (b .pak) (lastOf form (b .hardware)) at4 refl e
+    at5 : (n : ℕ) → n ≡ bodyPlaceOf form (length (b .pak)) 4 + (length (b .pak)) → drop n file ≡ lastOf form (b .hardware)
+    at5 n e = behind (bodyPlaceOf form (length (b .pak)) 4) (length (b .pak)) n file (b .pak) (lastOf form (b .hardware)) at4 refl e
 
     pub held : hardwareIn form (length (b .pak)) file ≡ b .hardware → bodiesIn form (length (b .pak)) file ≡ b
     unfolding bodiesIn
     held e =
         bodies-same
-        (here (placeOf form (length (b .pak)) 0) 172 file (b .processor) (b .drawing ++ (b .wram ++ (b .vram ++ (b .pak ++ lastOf form (b .hardware))))) at0 (s .processor))
-        (here (placeOf form (length (b .pak)) 1) 26 file (b .drawing) (b .wram ++ (b .vram ++ (b .pak ++ lastOf form (b .hardware)))) at1 (s .drawing))
-        (here (placeOf form (length (b .pak)) 2) 65536 file (b .wram) (b .vram ++ (b .pak ++ lastOf form (b .hardware))) at2 (s .wram))
-        (here (placeOf form (length (b .pak)) 3) 262144 file (b .vram) (b .pak ++ lastOf form (b .hardware)) at3 (s .vram))
-        (here (placeOf form (length (b .pak)) 4) (length (b .pak)) file (b .pak) (lastOf form (b .hardware)) at4 refl)
+        (here (bodyPlaceOf form (length (b .pak)) 0) 172 file (b .processor) (b .drawing ++ (b .wram ++ (b .vram ++ (b .pak ++ lastOf form (b .hardware))))) at0 (s .processor))
+        (here (bodyPlaceOf form (length (b .pak)) 1) 26 file (b .drawing) (b .wram ++ (b .vram ++ (b .pak ++ lastOf form (b .hardware)))) at1 (s .drawing))
+        (here (bodyPlaceOf form (length (b .pak)) 2) 65536 file (b .wram) (b .vram ++ (b .pak ++ lastOf form (b .hardware))) at2 (s .wram))
+        (here (bodyPlaceOf form (length (b .pak)) 3) 262144 file (b .vram) (b .pak ++ lastOf form (b .hardware)) at3 (s .vram))
+        (here (bodyPlaceOf form (length (b .pak)) 4) (length (b .pak)) file (b .pak) (lastOf form (b .hardware)) at4 refl)
         e
 
-  last-held : (form : Form) → drop (placeOf form (length (b .pak)) 0) file ≡ joinedOf form b → HeldBy form b
+  last-held : (form : Form) → drop (bodyPlaceOf form (length (b .pak)) 0) file ≡ joinedOf form b → HeldBy form b
       → hardwareIn form (length (b .pak)) file ≡ b .hardware
   last-held One start h = sym h
   last-held Two start h =
       here-last (lastPlaceOf (length (b .pak))) 8 file (b .hardware)
       (at5 Two start (lastPlaceOf (length (b .pak))) (omega (arith, last-place (length (b .pak)), fifth Two (length (b .pak))))) (s .hardware)
 
-  pub bodies-held : (form : Form) → drop (placeOf form (length (b .pak)) 0) file ≡ joinedOf form b → HeldBy form b
+  pub bodies-held : (form : Form) → drop (bodyPlaceOf form (length (b .pak)) 0) file ≡ joinedOf form b → HeldBy form b
       → bodiesIn form (length (b .pak)) file ≡ b
   bodies-held form start h = held form start (last-held form start h)
 
   -- the contents that they ask for
-  pub contents-held : (form : Form) → drop (placeOf form (length (b .pak)) 0) file ≡ joinedOf form b
+  pub contents-held : (form : Form) → drop (bodyPlaceOf form (length (b .pak)) 0) file ≡ joinedOf form b
       → contentsIn form (length (b .pak)) file ≡ contentsOf form (length (b .pak)) (sumsOf b)
   unfolding contentsIn
   contents-held One start = plain-contents (length (b .pak)) (sumsOf (bodiesIn One (length (b .pak)) file)) (sumsOf b)
   contents-held Two start = ap (λ (c : Bodies). contentsOf Two (length (b .pak)) (sumsOf c)) (bodies-held Two start tt)
 
   -- and with them put before the bodies, the room is the file
-  pub sealed : (form : Form) → drop (placeOf form (length (b .pak)) 0) file ≡ joinedOf form b
+  pub sealed : (form : Form) → drop (bodyPlaceOf form (length (b .pak)) 0) file ≡ joinedOf form b
       → putAt file 0 (bytesOf (contentsIn form (length (b .pak)) file)) ≡ fileOf form b
   unfolding fileOf
   sealed form start =
       rw (contents-held form start)
-      (put-first file (bytesOf (contentsOf form (length (b .pak)) (sumsOf b))) (placeOf form (length (b .pak)) 0) (length-contents form (length (b .pak)) (sumsOf b))
+      (put-first file (bytesOf (contentsOf form (length (b .pak)) (sumsOf b))) (bodyPlaceOf form (length (b .pak)) 0) (length-contents form (length (b .pak)) (sumsOf b))
       ∙ ap (λ (ys : List ℕ). bytesOf (contentsOf form (length (b .pak)) (sumsOf b)) ++ ys) start)
 
 module _ (form : Form) (b : Bodies) where
-  pub file-start : drop (placeOf form (length (b .pak)) 0) (fileOf form b) ≡ joinedOf form b
+  pub file-start : drop (bodyPlaceOf form (length (b .pak)) 0) (fileOf form b) ≡ joinedOf form b
   unfolding fileOf
   file-start =
-      drop-at (bytesOf (contentsOf form (length (b .pak)) (sumsOf b))) (joinedOf form b) (placeOf form (length (b .pak)) 0)
+      drop-at (bytesOf (contentsOf form (length (b .pak)) (sumsOf b))) (joinedOf form b) (bodyPlaceOf form (length (b .pak)) 0)
       (length-contents form (length (b .pak)) (sumsOf b))
 
 module _ (b : Bodies) (s : Sized b) where
-  pub joined-length : (form : Form) → length (joinedOf form b) + placeOf form (length (b .pak)) 0 ≡ fileLengthOf form (length (b .pak))
+  pub joined-length : (form : Form) → length (joinedOf form b) + bodyPlaceOf form (length (b .pak)) 0 ≡ fileLengthOf form (length (b .pak))
   unfolding joinedOf
   joined-length One = simp length-append (omega (arith, s .processor, s .drawing, s .wram, s .vram, length-is One (length (b .pak))))
   joined-length Two =
@@ -211,7 +211,7 @@ next a n m xs e =
     ∙ ap (λ (ys : List ℕ). take n (drop a xs) ++ ys) (drop-drop n a xs ∙ ap (λ (k : ℕ). drop k xs) (sym e))
 
 module _ (p : ℕ) (file : List ℕ) where
-  last-part : (form : Form) → length file ≡ fileLengthOf form p → (n : ℕ) → n ≡ placeOf form p 4 + p → drop n file ≡ lastOf form (hardwareIn form p file)
+  last-part : (form : Form) → length file ≡ fileLengthOf form p → (n : ℕ) → n ≡ bodyPlaceOf form p 4 + p → drop n file ≡ lastOf form (hardwareIn form p file)
   last-part One whole n e = drop-of-length-le file {i = n} (omega (arith, length-is One p, fifth One p))
   last-part Two whole n e =
       let f : n ≡ lastPlaceOf p = omega (arith, last-place p, fifth Two p) in
@@ -219,21 +219,21 @@ module _ (p : ℕ) (file : List ℕ) where
       ap (λ (k : ℕ). drop k file) f ∙ sym (take-all 8 (drop (lastPlaceOf p) file) l)
 
   module _ (form : Form) (whole : length file ≡ fileLengthOf form p) where
-    pub joined-again : joinedOf form (bodiesIn form p file) ≡ drop (placeOf form p 0) file
+    pub joined-again : joinedOf form (bodiesIn form p file) ≡ drop (bodyPlaceOf form p 0) file
     unfolding joinedOf bodiesIn
     joined-again =
-        let f5 = last-part form whole (placeOf form p 4 + p) refl in
-        let f4 = next (placeOf form p 4) p (placeOf form p 4 + p) file refl in
-        let f3 = next (placeOf form p 3) 262144 (placeOf form p 4) file (omega (arith, fourth form p, fifth form p)) in
-        let f2 = next (placeOf form p 2) 65536 (placeOf form p 3) file (omega (arith, third form p, fourth form p)) in
-        let f1 = next (placeOf form p 1) 26 (placeOf form p 2) file (omega (arith, second form p, third form p)) in
-        let f0 = next (placeOf form p 0) 172 (placeOf form p 1) file (second form p) in
+        let f5 = last-part form whole (bodyPlaceOf form p 4 + p) refl in
+        let f4 = next (bodyPlaceOf form p 4) p (bodyPlaceOf form p 4 + p) file refl in
+        let f3 = next (bodyPlaceOf form p 3) 262144 (bodyPlaceOf form p 4) file (omega (arith, fourth form p, fifth form p)) in
+        let f2 = next (bodyPlaceOf form p 2) 65536 (bodyPlaceOf form p 3) file (omega (arith, third form p, fourth form p)) in
+        let f1 = next (bodyPlaceOf form p 1) 26 (bodyPlaceOf form p 2) file (omega (arith, second form p, third form p)) in
+        let f0 = next (bodyPlaceOf form p 0) 172 (bodyPlaceOf form p 1) file (second form p) in
         sym
-        (f0 ∙ ap (λ (ys : List ℕ). take 172 (drop (placeOf form p 0) file) ++ ys)
-        (f1 ∙ ap (λ (ys : List ℕ). take 26 (drop (placeOf form p 1) file) ++ ys)
-        (f2 ∙ ap (λ (ys : List ℕ). take 65536 (drop (placeOf form p 2) file) ++ ys)
-        (f3 ∙ ap (λ (ys : List ℕ). take 262144 (drop (placeOf form p 3) file) ++ ys)
-        (f4 ∙ ap (λ (ys : List ℕ). take p (drop (placeOf form p 4) file) ++ ys) f5)))))
+        (f0 ∙ ap (λ (ys : List ℕ). take 172 (drop (bodyPlaceOf form p 0) file) ++ ys)
+        (f1 ∙ ap (λ (ys : List ℕ). take 26 (drop (bodyPlaceOf form p 1) file) ++ ys)
+        (f2 ∙ ap (λ (ys : List ℕ). take 65536 (drop (bodyPlaceOf form p 2) file) ++ ys)
+        (f3 ∙ ap (λ (ys : List ℕ). take 262144 (drop (bodyPlaceOf form p 3) file) ++ ys)
+        (f4 ∙ ap (λ (ys : List ℕ). take p (drop (bodyPlaceOf form p 4) file) ++ ys) f5)))))
 
     pub length-pak-in : length (bodiesIn form p file .pak) ≡ p
     unfolding bodiesIn
@@ -258,7 +258,7 @@ module _ (p : ℕ) (file : List ℕ) where
         }
 
     module _ (bytes : (k : ℕ) → getD file k 0 < 256) where
-      contents-part : contentsOk form p file ≡ true → bytesOf (contentsIn form p file) ≡ take (placeOf form p 0) file
+      contents-part : contentsOk form p file ≡ true → bytesOf (contentsIn form p file) ≡ take (bodyPlaceOf form p 0) file
       unfolding contentsOk contentsIn
       contents-part ok =
           let c = contentsOf form p (sumsOf (bodiesIn form p file)) in
@@ -268,7 +268,7 @@ module _ (p : ℕ) (file : List ℕ) where
 
       pub file-again : contentsOk form p file ≡ true → fileOf form (bodiesIn form p file) ≡ file
       unfolding fileOf contentsIn
-      file-again ok = rw (length-pak-in, contents-part ok, joined-again) (take-append-drop (placeOf form p 0) file)
+      file-again ok = rw (length-pak-in, contents-part ok, joined-again) (take-append-drop (bodyPlaceOf form p 0) file)
 
 -- what a file in form 1 holds has lines and timer at reset
 pub held-one : (p : ℕ) (file : List ℕ) → HeldBy One (bodiesIn One p file)

@@ -5,19 +5,19 @@ use mathlib.Core.Path.{_≡_, refl, sym, ap}
 use mathlib.Core.List.{List, [], _∷_}
 use lib.ListN.{length, take}
 use lib.Seq.{take-length}
-use Rattle.saved_layout.specs.Layout.{Part, partsOf, contentsEndOf, endFrom, placeOf, fileLengthOf}
-use Rattle.saved_layout.specs.Gaps.{sizeAt, NoGaps, LengthsDiffer}
+use Rattle.saved_layout.specs.Layout.{Part, partsOf, contentsEndOf, endFrom, bodyPlaceOf, fileLengthOf}
+use Rattle.saved_layout.specs.Gaps.{partSizeAt, NoGaps, LengthsDiffer}
 use Rattle.saved_layout.specs.declared.Form.{Form}
 use Rattle.saved_layout.specs.declared.Form.the-variants.{One, Two}
 use Rattle.saved_layout.proofs.Positions.{first-one-empty, first-one-some, first-two-empty, first-two-some, length-is, contents-end}
 
-follows : (at : ℕ) (parts : List Part) (i : ℕ) → i < length parts → endFrom at (take (suc i) parts) ≡ endFrom at (take i parts) + sizeAt parts i
+follows : (at : ℕ) (parts : List Part) (i : ℕ) → i < length parts → endFrom at (take (suc i) parts) ≡ endFrom at (take i parts) + partSizeAt parts i
 follows at [] i h = absurd (omega arith)
 follows at (part ∷ parts) zero h = refl
 follows at (part ∷ parts) (suc i) h = follows (at + part .size) parts i (omega arith)
 
 pub no-gaps : (form : Form) (pak : ℕ) → NoGaps form pak
-unfolding placeOf fileLengthOf
+unfolding bodyPlaceOf fileLengthOf
 no-gaps form pak =
     record {
       starts = λ sums. sym (contents-end form pak sums);

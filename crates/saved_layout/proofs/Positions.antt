@@ -6,30 +6,30 @@ use mathlib.Core.List.{List, [], _∷_}
 use lib.Dec.{eqb·suc-zero}
 use lib.ListN.{length, getD}
 use Rattle.saved_bytes.specs.Numbers.{halvesOf}
-use Rattle.saved_layout.specs.Layout.{contentsOf, placeOf, lastPlaceOf, fileLengthOf}
+use Rattle.saved_layout.specs.Layout.{contentsOf, bodyPlaceOf, lastPlaceOf, fileLengthOf}
 use Rattle.saved_layout.specs.declared.Form.{Form}
 use Rattle.saved_layout.specs.declared.Form.the-variants.{One, Two}
 
 -- the first body, where pak RAM is empty and where it is not
-pub first-one-empty : 42 ≡ placeOf One 0 0
-unfolding placeOf
+pub first-one-empty : 42 ≡ bodyPlaceOf One 0 0
+unfolding bodyPlaceOf
 first-one-empty = refl
 
-pub first-one-some : (p : ℕ) → 0 < p → 52 ≡ placeOf One p 0
-unfolding placeOf
+pub first-one-some : (p : ℕ) → 0 < p → 52 ≡ bodyPlaceOf One p 0
+unfolding bodyPlaceOf
 first-one-some zero h = absurd (omega arith)
 first-one-some (suc p) h = simp (eqb·suc-zero p)
 
-pub first-two-empty : 76 ≡ placeOf Two 0 0
-unfolding placeOf
+pub first-two-empty : 76 ≡ bodyPlaceOf Two 0 0
+unfolding bodyPlaceOf
 first-two-empty = refl
 
-pub first-two-some : (p : ℕ) → 0 < p → 90 ≡ placeOf Two p 0
-unfolding placeOf
+pub first-two-some : (p : ℕ) → 0 < p → 90 ≡ bodyPlaceOf Two p 0
+unfolding bodyPlaceOf
 first-two-some zero h = absurd (omega arith)
 first-two-some (suc p) h = simp (eqb·suc-zero p)
 
-pub first-small : (form : Form) (p : ℕ) → (42 ≤ placeOf form p 0) × (placeOf form p 0 ≤ 90)
+pub first-small : (form : Form) (p : ℕ) → (42 ≤ bodyPlaceOf form p 0) × (bodyPlaceOf form p 0 ≤ 90)
 first-small One zero = (omega (arith, first-one-empty), omega (arith, first-one-empty))
 first-small One (suc p) = let e = first-one-some (suc p) (omega arith) in (omega (arith, e), omega (arith, e))
 first-small Two zero = (omega (arith, first-two-empty), omega (arith, first-two-empty))
@@ -37,24 +37,24 @@ first-small Two (suc p) = let e = first-two-some (suc p) (omega arith) in (omega
 
 -- each next body where the one before it ends
 module _ (form : Form) (p : ℕ) where
-  pub second : placeOf form p 1 ≡ placeOf form p 0 + 172
-  unfolding placeOf
+  pub second : bodyPlaceOf form p 1 ≡ bodyPlaceOf form p 0 + 172
+  unfolding bodyPlaceOf
   second = refl
 
-  pub third : placeOf form p 2 ≡ placeOf form p 0 + 198
-  unfolding placeOf
+  pub third : bodyPlaceOf form p 2 ≡ bodyPlaceOf form p 0 + 198
+  unfolding bodyPlaceOf
   third = omega arith
 
-  pub fourth : placeOf form p 3 ≡ placeOf form p 0 + 65734
-  unfolding placeOf
+  pub fourth : bodyPlaceOf form p 3 ≡ bodyPlaceOf form p 0 + 65734
+  unfolding bodyPlaceOf
   fourth = omega arith
 
-  pub fifth : placeOf form p 4 ≡ placeOf form p 0 + 327878
-  unfolding placeOf
+  pub fifth : bodyPlaceOf form p 4 ≡ bodyPlaceOf form p 0 + 327878
+  unfolding bodyPlaceOf
   fifth = omega arith
 
-pub last-place : (p : ℕ) → lastPlaceOf p ≡ placeOf Two p 0 + 327878 + p
-unfolding placeOf lastPlaceOf
+pub last-place : (p : ℕ) → lastPlaceOf p ≡ bodyPlaceOf Two p 0 + 327878 + p
+unfolding bodyPlaceOf lastPlaceOf
 last-place zero = refl
 last-place (suc p) = simp (eqb·suc-zero p) (omega arith)
 
@@ -63,16 +63,16 @@ abbrev pub lastSizeOf : Form → ℕ
 lastSizeOf One = 0
 lastSizeOf Two = 8
 
-pub length-is : (form : Form) (p : ℕ) → fileLengthOf form p ≡ placeOf form p 0 + 327878 + p + lastSizeOf form
-unfolding placeOf fileLengthOf
+pub length-is : (form : Form) (p : ℕ) → fileLengthOf form p ≡ bodyPlaceOf form p 0 + 327878 + p + lastSizeOf form
+unfolding bodyPlaceOf fileLengthOf
 length-is One zero = refl
 length-is One (suc p) = simp (eqb·suc-zero p) (omega arith)
 length-is Two zero = refl
 length-is Two (suc p) = simp (eqb·suc-zero p) (omega arith)
 
 -- the contents end where the first body starts
-pub contents-end : (form : Form) (p : ℕ) (sums : List ℕ) → 2 * length (contentsOf form p sums) ≡ placeOf form p 0
-unfolding contentsOf placeOf halvesOf
+pub contents-end : (form : Form) (p : ℕ) (sums : List ℕ) → 2 * length (contentsOf form p sums) ≡ bodyPlaceOf form p 0
+unfolding contentsOf bodyPlaceOf halvesOf
 contents-end One zero sums = refl
 contents-end One (suc p) sums = simp (eqb·suc-zero p)
 contents-end Two zero sums = refl

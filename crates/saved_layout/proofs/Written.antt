@@ -6,10 +6,10 @@ use mathlib.Core.List.{List, [], _∷_, _++_, append-assoc, append-nil}
 use lib.ListN.{length, take, drop, length-append, length-take, length-drop, drop-of-length-le}
 use lib.Seq.{take-length, take-all, drop-at, length-take-le}
 use Rattle.saved_bytes.specs.Numbers.{bytesOf, halvesOf, halvesFrom, sameOf}
-use Rattle.saved_bytes.specs.Parts.{putAt, sumOf}
+use Rattle.saved_bytes.specs.Parts.{putAt, bodySumOf}
 use Rattle.saved_bytes.proofs.LittleEndian.{length-bytes, length-halves}
 use Rattle.saved_bytes.proofs.Putting.{length-put, put-put, put-last}
-use Rattle.saved_layout.specs.Layout.{contentsOf, placeOf, lastPlaceOf, fileLengthOf}
+use Rattle.saved_layout.specs.Layout.{contentsOf, bodyPlaceOf, lastPlaceOf, fileLengthOf}
 use Rattle.saved_layout.specs.File.{Bodies, bodiesOf, sumsOf, lastOf, joinedOf, fileOf, bodiesIn, contentsIn, contentsOk, Sized}
 use Rattle.saved_layout.specs.declared.Form.{Form}
 use Rattle.saved_layout.specs.declared.Form.the-variants.{One, Two}
@@ -86,7 +86,7 @@ module _ (regs rest halves wram vram pak hardware d : List ℕ) where
     ending at xs room e p =
         ap (drop at) (p ∙ put-last d at xs e) ∙ drop-at (take at d) xs at (length-take-le at d (omega arith))
 
-    pub wrote-one : (e f g : List ℕ) (at : ℕ) → at ≡ placeOf One (length pak) 0 → length d ≡ fileLengthOf One (length pak)
+    pub wrote-one : (e f g : List ℕ) (at : ℕ) → at ≡ bodyPlaceOf One (length pak) 0 → length d ≡ fileLengthOf One (length pak)
         → e ≡ putAt d at (bytesOf (halvesOf (regs ++ rest)) ++ bytesOf halves) → f ≡ putAt e (at + 198) (wram ++ (vram ++ pak))
         → g ≡ putAt f 0 (bytesOf (contentsIn One (length pak) f))
         → g ≡ fileOf One (bodiesOf (bytesOf (halvesOf (regs ++ rest))) (bytesOf halves) wram vram pak (bytesOf hardware))
@@ -98,7 +98,7 @@ module _ (regs rest halves wram vram pak hardware d : List ℕ) where
         ∙ (ending at ((bytesOf (halvesOf (regs ++ rest)) ++ bytesOf halves) ++ (wram ++ (vram ++ pak))) f (omega (arith, length-five)) (five e f at (omega arith) p q)
         ∙ joined-one (bytesOf (halvesOf (regs ++ rest))) (bytesOf halves) wram vram pak))
 
-    pub wrote-two : (e f g h : List ℕ) (at : ℕ) → at ≡ placeOf Two (length pak) 0 → length d ≡ fileLengthOf Two (length pak)
+    pub wrote-two : (e f g h : List ℕ) (at : ℕ) → at ≡ bodyPlaceOf Two (length pak) 0 → length d ≡ fileLengthOf Two (length pak)
         → e ≡ putAt d at (bytesOf (halvesOf (regs ++ rest)) ++ bytesOf halves) → f ≡ putAt e (at + 198) (wram ++ (vram ++ pak))
         → g ≡ putAt f (at + 327878 + length pak) (bytesOf hardware)
         → h ≡ putAt g 0 (bytesOf (contentsIn Two (length pak) g))
@@ -117,28 +117,28 @@ module _ (regs rest halves wram vram pak hardware d : List ℕ) where
         ∙ joined-two (bytesOf (halvesOf (regs ++ rest))) (bytesOf halves) wram vram pak (bytesOf hardware)))
 
 -- parts of a file where they stand
-module _ (form : Form) (p at : ℕ) (file : List ℕ) (e : at ≡ placeOf form p 0) where
+module _ (form : Form) (p at : ℕ) (file : List ℕ) (e : at ≡ bodyPlaceOf form p 0) where
   pub processor-part : (a n : ℕ) → a ≡ at → n ≡ 172 → take n (drop a file) ≡ bodiesIn form p file .processor
   unfolding bodiesIn
-  processor-part a n f g = let q : placeOf form p 0 ≡ a = omega arith in rw (q, g)
+  processor-part a n f g = let q : bodyPlaceOf form p 0 ≡ a = omega arith in rw (q, g)
 
   pub drawing-part : (a n : ℕ) → a ≡ at + 172 → n ≡ 26 → take n (drop a file) ≡ bodiesIn form p file .drawing
   unfolding bodiesIn
-  drawing-part a n f g = let q : placeOf form p 1 ≡ a = omega (arith, second form p) in rw (q, g)
+  drawing-part a n f g = let q : bodyPlaceOf form p 1 ≡ a = omega (arith, second form p) in rw (q, g)
 
   pub wram-part : (a n : ℕ) → a ≡ at + 198 → n ≡ 65536 → take n (drop a file) ≡ bodiesIn form p file .wram
   unfolding bodiesIn
-  wram-part a n f g = let q : placeOf form p 2 ≡ a = omega (arith, third form p) in rw (q, g)
+  wram-part a n f g = let q : bodyPlaceOf form p 2 ≡ a = omega (arith, third form p) in rw (q, g)
 
   pub vram-part : (a n : ℕ) → a ≡ at + 65734 → n ≡ 262144 → take n (drop a file) ≡ bodiesIn form p file .vram
   unfolding bodiesIn
-  vram-part a n f g = let q : placeOf form p 3 ≡ a = omega (arith, fourth form p) in rw (q, g)
+  vram-part a n f g = let q : bodyPlaceOf form p 3 ≡ a = omega (arith, fourth form p) in rw (q, g)
 
   pub pak-part : (a n : ℕ) → a ≡ at + 327878 → n ≡ p → take n (drop a file) ≡ bodiesIn form p file .pak
   unfolding bodiesIn
-  pak-part a n f g = let q : placeOf form p 4 ≡ a = omega (arith, fifth form p) in rw (q, g)
+  pak-part a n f g = let q : bodyPlaceOf form p 4 ≡ a = omega (arith, fifth form p) in rw (q, g)
 
-pub hardware-part : (p at : ℕ) (file : List ℕ) → at ≡ placeOf Two p 0 → (a n : ℕ) → a ≡ at + 327878 + p → n ≡ 8
+pub hardware-part : (p at : ℕ) (file : List ℕ) → at ≡ bodyPlaceOf Two p 0 → (a n : ℕ) → a ≡ at + 327878 + p → n ≡ 8
     → take n (drop a file) ≡ bodiesIn Two p file .hardware
 unfolding bodiesIn
 hardware-part p at file e a n f g = let q : lastPlaceOf p ≡ a = omega (arith, last-place p) in rw (q, g)
@@ -153,7 +153,7 @@ part-copied n a file d e h l f =
 
 -- six sums
 pub sums-are : {a1 a2 b1 b2 c1 c2 d1 d2 e1 e2 f1 f2 : List ℕ} → a1 ≡ a2 → b1 ≡ b2 → c1 ≡ c2 → d1 ≡ d2 → e1 ≡ e2 → f1 ≡ f2
-    → sumOf a1 ∷ sumOf b1 ∷ sumOf c1 ∷ sumOf d1 ∷ sumOf e1 ∷ sumOf f1 ∷ [] ≡ sumsOf (bodiesOf a2 b2 c2 d2 e2 f2)
+    → bodySumOf a1 ∷ bodySumOf b1 ∷ bodySumOf c1 ∷ bodySumOf d1 ∷ bodySumOf e1 ∷ bodySumOf f1 ∷ [] ≡ sumsOf (bodiesOf a2 b2 c2 d2 e2 f2)
 unfolding sumsOf
 sums-are p q r s t u = rw (p, q, r, s, t, u)
 
@@ -163,7 +163,7 @@ list-same p q r s t u = rw (p, q, r, s, t, u)
 
 -- halfwords that are the contents
 module _ (form : Form) (p : ℕ) (file xs sums : List ℕ) (same : xs ≡ contentsOf form p sums) where
-  pub contents-fit : 2 * length xs ≡ placeOf form p 0
+  pub contents-fit : 2 * length xs ≡ bodyPlaceOf form p 0
   contents-fit = ap (λ (ys : List ℕ). 2 * length ys) same ∙ contents-end form p sums
 
   module _ (right : contentsOf form p sums ≡ contentsIn form p file) where

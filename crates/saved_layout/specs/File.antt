@@ -1,13 +1,13 @@
--- A whole file (paper 02, W1 and W12), and what stands in one: the bytes of the processor, the drawing registers, WRAM, VRAM, pak RAM
--- and the request lines with the timer, each at the place that the form and the pak RAM's length give it.
+-- A whole file (paper 02, W1 and W12), and what stands in one: the bytes of the processor, the drawing registers, WRAM,
+-- VRAM, pak RAM and the request lines with the timer, each at the place that the form and the pak RAM's length give it.
 use Prim.Native.Nat.{ℕ}
 use mathlib.Core.Bool.{Bool}
 use mathlib.Core.List.{List, [], _∷_, _++_}
 use mathlib.Core.Path.{_≡_}
 use lib.ListN.{length, take, drop, replicate}
 use Rattle.saved_bytes.specs.Numbers.{bytesOf, halvesFrom, sameOf}
-use Rattle.saved_bytes.specs.Parts.{sumOf}
-use Rattle.saved_layout.specs.Layout.{contentsOf, placeOf, lastPlaceOf}
+use Rattle.saved_bytes.specs.Parts.{bodySumOf}
+use Rattle.saved_layout.specs.Layout.{contentsOf, bodyPlaceOf, lastPlaceOf}
 use Rattle.saved_layout.specs.declared.Form.{Form}
 use Rattle.saved_layout.specs.declared.Form.the-variants.{One, Two}
 
@@ -27,12 +27,12 @@ bodiesOf processor drawing wram vram pak hardware =
 -- the sums of kinds 1 to 6
 unfoldable pub sumsOf : Bodies → List ℕ
 sumsOf b =
-    sumOf (b .processor)
-    ∷ sumOf (b .drawing)
-    ∷ sumOf (b .wram)
-    ∷ sumOf (b .vram)
-    ∷ sumOf (b .pak)
-    ∷ sumOf (b .hardware)
+    bodySumOf (b .processor)
+    ∷ bodySumOf (b .drawing)
+    ∷ bodySumOf (b .wram)
+    ∷ bodySumOf (b .vram)
+    ∷ bodySumOf (b .pak)
+    ∷ bodySumOf (b .hardware)
     ∷ []
 
 -- kind 6 is left out of form 1
@@ -61,15 +61,16 @@ hardwareIn Two pak file = take 8 (drop (lastPlaceOf pak) file)
 -- what stands in a file, by the form and the pak RAM's length
 unfoldable pub bodiesIn : Form → ℕ → List ℕ → Bodies
 bodiesIn form pak file =
-    bodiesOf (take 172 (drop (placeOf form pak 0) file)) (take 26 (drop (placeOf form pak 1) file))
-    (take 65536 (drop (placeOf form pak 2) file)) (take 262144 (drop (placeOf form pak 3) file))
-    (take pak (drop (placeOf form pak 4) file)) (hardwareIn form pak file)
+    bodiesOf (take 172 (drop (bodyPlaceOf form pak 0) file)) (take 26 (drop (bodyPlaceOf form pak 1) file))
+    (take 65536 (drop (bodyPlaceOf form pak 2) file)) (take 262144 (drop (bodyPlaceOf form pak 3) file))
+    (take pak (drop (bodyPlaceOf form pak 4) file)) (hardwareIn form pak file)
 
 -- the contents that the bodies of a file ask for
 unfoldable pub contentsIn : Form → ℕ → List ℕ → List ℕ
 contentsIn form pak file = contentsOf form pak (sumsOf (bodiesIn form pak file))
 
--- whether everything before the first body is what the form, the pak RAM's length and, in form 2, the bodies' sums make it
+-- whether everything before the first body is what the form, the pak RAM's length and, in form 2, the bodies' sums make
+-- it
 unfoldable pub contentsOk : Form → ℕ → List ℕ → Bool
 contentsOk form pak file = sameOf (halvesFrom file 0 (length (contentsIn form pak file))) (contentsIn form pak file)
 

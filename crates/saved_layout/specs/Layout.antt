@@ -1,7 +1,7 @@
--- The layout of a saved state. Paper 02, W1, form 1: "a halfword count, then per body its kind (halfword), offset from the file's
--- start and length in bytes (words), then the bodies in kind order, no gaps". W12, form 2: it "begins with halfwords 0 and 2, then the
--- count; each contents entry ends with one word more, the sum of the body's bytes", and kind 6 follows the others.
--- All of it goes by the form and by the pak RAM's length. The contents are halfwords.
+-- The layout of a saved state. Paper 02, W1, form 1: "a halfword count, then per body its kind (halfword), offset from
+-- the file's start and length in bytes (words), then the bodies in kind order, no gaps". W12, form 2: it "begins with
+-- halfwords 0 and 2, then the count; each contents entry ends with one word more, the sum of the body's bytes", and
+-- kind 6 follows the others. All of it goes by the form and by the pak RAM's length. The contents are halfwords.
 use Prim.Native.Nat.{ℕ, _+_, _-_, _*_}
 use mathlib.Core.List.{List, [], _∷_, _++_}
 use lib.Dec.{eqb}
@@ -44,9 +44,9 @@ leadingOf One = []
 leadingOf Two = 0 ∷ 2 ∷ []
 
 -- the entry of a body that starts at byte `at`: kind, offset, length, and in form 2 the sum of its bytes
-abbrev pub entryOf : Form → Part → ℕ → ℕ → List ℕ
-entryOf One part at sum = part .kind ∷ halvesOf (at ∷ part .size ∷ [])
-entryOf Two part at sum = part .kind ∷ halvesOf (at ∷ part .size ∷ sum ∷ [])
+abbrev pub contentsEntryOf : Form → Part → ℕ → ℕ → List ℕ
+contentsEntryOf One part at sum = part .kind ∷ halvesOf (at ∷ part .size ∷ [])
+contentsEntryOf Two part at sum = part .kind ∷ halvesOf (at ∷ part .size ∷ sum ∷ [])
 
 -- how many halfwords an entry has
 abbrev pub entryHalvesOf : Form → ℕ
@@ -60,7 +60,7 @@ sumAt sums kind = getD sums (kind - 1) 0
 abbrev pub entriesFrom : Form → ℕ → List Part → List ℕ → List ℕ
 entriesFrom form at [] sums = []
 entriesFrom form at (part ∷ parts) sums =
-    entryOf form part at (sumAt sums (part .kind)) ++ entriesFrom form (at + part .size) parts sums
+    contentsEntryOf form part at (sumAt sums (part .kind)) ++ entriesFrom form (at + part .size) parts sums
 
 -- where the contents end, and the first body starts, with n bodies
 abbrev pub contentsEndOf : Form → ℕ → ℕ
@@ -79,12 +79,12 @@ endFrom at [] = at
 endFrom at (part ∷ parts) = endFrom (at + part .size) parts
 
 -- where body i starts, counted from 0: each where the one before it ends
-unfoldable pub placeOf : Form → ℕ → ℕ → ℕ
-placeOf form pak i = endFrom (contentsEndOf form (length (partsOf form pak))) (take i (partsOf form pak))
+unfoldable pub bodyPlaceOf : Form → ℕ → ℕ → ℕ
+bodyPlaceOf form pak i = endFrom (contentsEndOf form (length (partsOf form pak))) (take i (partsOf form pak))
 
 -- where kind 6 starts, the last body of form 2
 unfoldable pub lastPlaceOf : ℕ → ℕ
-lastPlaceOf pak = placeOf Two pak (length (partsOf Two pak) - 1)
+lastPlaceOf pak = bodyPlaceOf Two pak (length (partsOf Two pak) - 1)
 
 -- the length of a file
 unfoldable pub fileLengthOf : Form → ℕ → ℕ

@@ -17,7 +17,10 @@ ghost use Rattle.saved_layout.specs.File.{bodiesOf, bodiesIn, fileOf};
 fn put_records(room: &mut [u8], at: usize, regs: &[u32; 32], rest: &[u32; 11], halves: &[u16; 13])
     requires { ⌜ (length (now regs) ≡ 32) × ((length (now rest) ≡ 11) × (length (now halves) ≡ 13)) ⌝ }
     requires { ⌜ at + 198 ≤ length (now room) ⌝ }
-    ensures { λ _. ⌜ now (room .exit) ≡ putAt (now (room .entry)) at (bytesOf (halvesOf (now (regs .entry) ++ now (rest .entry))) ++ bytesOf (now (halves .entry))) ⌝ }
+    ensures { λ _. ⌜
+        now (room .exit) ≡ putAt (now (room .entry)) at
+        (bytesOf (halvesOf (now (regs .entry) ++ now (rest .entry))) ++ bytesOf (now (halves .entry)))
+        ⌝ }
 {
     numbers::put_words(room, at, regs);
     numbers::put_words(room, at + 128, rest);
@@ -27,7 +30,9 @@ fn put_records(room: &mut [u8], at: usize, regs: &[u32; 32], rest: &[u32; 11], h
 // Kinds 3 to 5 from byte `at` on.
 fn put_memories(room: &mut [u8], at: usize, wram: &[u8], vram: &[u8], pak: &[u8])
     requires { ⌜ at + length (now wram) + length (now vram) + length (now pak) ≤ length (now room) ⌝ }
-    ensures { λ _. ⌜ now (room .exit) ≡ putAt (now (room .entry)) at (now (wram .entry) ++ (now (vram .entry) ++ now (pak .entry))) ⌝ }
+    ensures { λ _. ⌜
+        now (room .exit) ≡ putAt (now (room .entry)) at (now (wram .entry) ++ (now (vram .entry) ++ now (pak .entry)))
+        ⌝ }
 {
     parts::put_bytes(room, at, wram);
     parts::put_bytes(room, at + wram.len(), vram);
@@ -49,7 +54,11 @@ pub fn write(
     requires { ⌜ (length (now regs) ≡ 32) × ((length (now rest) ≡ 11) × (length (now halves) ≡ 13)) ⌝ }
     requires { ⌜ (length (now wram) ≡ 65536) × ((length (now vram) ≡ 262144) × (length (now pak) ≤ 16777216)) ⌝ }
     requires { ⌜ (length (now hardware) ≡ 4) × (length (now room) ≡ fileLengthOf form (length (now pak))) ⌝ }
-    ensures { λ _. ⌜ now (room .exit) ≡ fileOf form (bodiesOf (bytesOf (halvesOf (now (regs .entry) ++ now (rest .entry)))) (bytesOf (now (halves .entry))) (now (wram .entry)) (now (vram .entry)) (now (pak .entry)) (bytesOf (now (hardware .entry)))) ⌝ }
+    ensures { λ _. ⌜
+        now (room .exit) ≡ fileOf form
+        (bodiesOf (bytesOf (halvesOf (now (regs .entry) ++ now (rest .entry)))) (bytesOf (now (halves .entry)))
+        (now (wram .entry)) (now (vram .entry)) (now (pak .entry)) (bytesOf (now (hardware .entry))))
+        ⌝ }
 {
     let at = places::first(form, pak.len());
     put_records(room, at, regs, rest, halves);

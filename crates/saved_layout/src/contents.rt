@@ -1,5 +1,5 @@
-// The contents of a file: a form's leading halfwords, the count of bodies, and for each its kind, offset and length, with its sum in
-// form 2.
+// The contents of a file: a form's leading halfwords, the count of bodies, and for each its kind, offset and length,
+// with its sum in form 2.
 use crate::Form;
 use crate::places;
 use saved_bytes::numbers;
@@ -219,7 +219,9 @@ pub fn sums(file: &[u8], pak: usize) -> [u32; 6]
 // The contents of form 1 into a room.
 fn put_plain(room: &mut [u8], pak: usize)
     requires { ⌜ (length (now room) ≡ fileLengthOf One pak) × (pak ≤ 16777216) ⌝ }
-    ensures { λ _. ⌜ now (room .exit) ≡ putAt (now (room .entry)) 0 (bytesOf (contentsIn One pak (now (room .entry)))) ⌝ }
+    ensures { λ _. ⌜
+        now (room .exit) ≡ putAt (now (room .entry)) 0 (bytesOf (contentsIn One pak (now (room .entry))))
+        ⌝ }
 {
     if pak == 0 {
         let contents = without_pak();
@@ -233,7 +235,9 @@ fn put_plain(room: &mut [u8], pak: usize)
 // The contents of form 2 into a room whose bodies stand at their places.
 fn put_summed(room: &mut [u8], pak: usize)
     requires { ⌜ (length (now room) ≡ fileLengthOf Two pak) × (pak ≤ 16777216) ⌝ }
-    ensures { λ _. ⌜ now (room .exit) ≡ putAt (now (room .entry)) 0 (bytesOf (contentsIn Two pak (now (room .entry)))) ⌝ }
+    ensures { λ _. ⌜
+        now (room .exit) ≡ putAt (now (room .entry)) 0 (bytesOf (contentsIn Two pak (now (room .entry))))
+        ⌝ }
 {
     let six = sums(room, pak);
     if pak == 0 {
@@ -248,7 +252,9 @@ fn put_summed(room: &mut [u8], pak: usize)
 // The contents into a room whose bodies stand at their places.
 pub fn put(form: Form, room: &mut [u8], pak: usize)
     requires { ⌜ (length (now room) ≡ fileLengthOf form pak) × (pak ≤ 16777216) ⌝ }
-    ensures { λ _. ⌜ now (room .exit) ≡ putAt (now (room .entry)) 0 (bytesOf (contentsIn form pak (now (room .entry)))) ⌝ }
+    ensures { λ _. ⌜
+        now (room .exit) ≡ putAt (now (room .entry)) 0 (bytesOf (contentsIn form pak (now (room .entry))))
+        ⌝ }
 {
     match form {
         Form::One => put_plain(room, pak),

@@ -2,7 +2,7 @@
 use crate::Form;
 ghost use mathlib.Core.Path.{_≡_};
 ghost use Prim.Native.Nat.{_≤_};
-ghost use Rattle.saved_layout.specs.Layout.{otherOf, placeOf, fileLengthOf};
+ghost use Rattle.saved_layout.specs.Layout.{otherOf, bodyPlaceOf, fileLengthOf};
 
 // The form that a file is moved to.
 pub fn other(form: Form) -> Form
@@ -16,7 +16,7 @@ pub fn other(form: Form) -> Form
 
 // Where the first body starts.
 pub fn first(form: Form, pak: usize) -> usize
-    ensures { λ r. ⌜ (r ≡ placeOf form pak 0) × (r ≤ 90) ⌝ }
+    ensures { λ r. ⌜ (r ≡ bodyPlaceOf form pak 0) × (r ≤ 90) ⌝ }
 {
     match form {
         Form::One => {

@@ -8,7 +8,7 @@ use lib.Seq.{take-at, drop-at, length-take-le}
 use Rattle.saved_bytes.specs.Numbers.{bytesOf}
 use Rattle.saved_bytes.specs.Parts.{putAt}
 use Rattle.saved_bytes.proofs.Putting.{put-put, put-last}
-use Rattle.saved_layout.specs.Layout.{placeOf, fileLengthOf}
+use Rattle.saved_layout.specs.Layout.{bodyPlaceOf, fileLengthOf}
 use Rattle.saved_layout.specs.File.{Bodies, bodiesOf, lastOf, joinedOf, fileOf, hardwareReset, bodiesIn, contentsIn, Sized}
 use Rattle.saved_layout.specs.declared.Form.{Form}
 use Rattle.saved_layout.specs.declared.Form.the-variants.{One, Two}
@@ -31,7 +31,7 @@ module _ (form : Form) (p : ℕ) (file : List ℕ) (whole : length file ≡ file
   five-in : length (fiveOf (bodiesIn form p file)) ≡ 327878 + p
   five-in = five-length (bodiesIn form p file) (sized-in p file form whole) ∙ ap (λ (n : ℕ). 327878 + n) (length-pak-in p file form whole)
 
-  pub five-taken : (at n : ℕ) → at ≡ placeOf form p 0 → n ≡ 327878 + p → take n (drop at file) ≡ fiveOf (bodiesIn form p file)
+  pub five-taken : (at n : ℕ) → at ≡ bodyPlaceOf form p 0 → n ≡ 327878 + p → take n (drop at file) ≡ fiveOf (bodiesIn form p file)
   five-taken at n e f =
       ap (λ (a : ℕ). take n (drop a file)) e
       ∙ (ap (take n) (sym (joined-again p file form whole) ∙ five-joined form (bodiesIn form p file))
@@ -42,7 +42,7 @@ ending : (d : List ℕ) (at : ℕ) (xs room : List ℕ) → at + length xs ≡ l
 ending d at xs room e p =
     ap (drop at) (p ∙ put-last d at xs e) ∙ drop-at (take at d) xs at (length-take-le at d (omega arith))
 
-sealed-at : (b : Bodies) (form : Form) (p : ℕ) (room : List ℕ) → Sized b → length (b .pak) ≡ p → drop (placeOf form p 0) room ≡ joinedOf form b
+sealed-at : (b : Bodies) (form : Form) (p : ℕ) (room : List ℕ) → Sized b → length (b .pak) ≡ p → drop (bodyPlaceOf form p 0) room ≡ joinedOf form b
     → putAt room 0 (bytesOf (contentsIn form p room)) ≡ fileOf form b
 sealed-at b form p room s e start = rw (← e) (sealed b s room form (rw (← e) at start))
 
@@ -53,7 +53,7 @@ one-reset p file = refl
 module _ (p : ℕ) (file d : List ℕ) where
   -- form 1 into form 2
   module _ (whole : length file ≡ fileLengthOf One p) (room : length d ≡ fileLengthOf Two p) where
-    pub moved-two : (from at n : ℕ) (e f g : List ℕ) → from ≡ placeOf One p 0 → at ≡ placeOf Two p 0 → n ≡ 327878 + p
+    pub moved-two : (from at n : ℕ) (e f g : List ℕ) → from ≡ bodyPlaceOf One p 0 → at ≡ bodyPlaceOf Two p 0 → n ≡ 327878 + p
         → e ≡ putAt d at (take n (drop from file)) → f ≡ putAt e (at + 327878 + p) (replicate 8 0)
         → g ≡ putAt f 0 (bytesOf (contentsIn Two p f)) → g ≡ fileOf Two (bodiesIn One p file)
     moved-two from at n e f g l1 l2 l3 q r t =
@@ -73,7 +73,7 @@ module _ (p : ℕ) (file d : List ℕ) where
 
   -- form 2 into form 1
   module _ (whole : length file ≡ fileLengthOf Two p) (room : length d ≡ fileLengthOf One p) where
-    pub moved-one : (from at n : ℕ) (e g : List ℕ) → from ≡ placeOf Two p 0 → at ≡ placeOf One p 0 → n ≡ 327878 + p
+    pub moved-one : (from at n : ℕ) (e g : List ℕ) → from ≡ bodyPlaceOf Two p 0 → at ≡ bodyPlaceOf One p 0 → n ≡ 327878 + p
         → e ≡ putAt d at (take n (drop from file))
         → g ≡ putAt e 0 (bytesOf (contentsIn One p e)) → g ≡ fileOf One (bodiesIn Two p file)
     moved-one from at n e g l1 l2 l3 q t =

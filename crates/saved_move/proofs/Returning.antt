@@ -8,7 +8,7 @@ use borrow.Author.Tests.{eqb-true, eq-eqb, ne-eqb}
 use lib.Dec.{eqb}
 use lib.ListN.{length, getD}
 use Rattle.word.specs.LittleEndian.{halfAt}
-use Rattle.refusal.specs.Number.{unless}
+use Rattle.refusal.specs.Number.{unless, whenAccepted}
 use Rattle.refusal.specs.declared.Refusal as refusal
 use Rattle.refusal.specs.declared.Verdict.{Verdict}
 use Rattle.refusal.specs.declared.Verdict.the-variants.{Accepted, Refused}
@@ -25,7 +25,6 @@ use Rattle.saved_layout.proofs.Positions.{one-empty, one-some, two-empty, two-s
 use Rattle.saved_layout.proofs.Files.{file-length, file-held, contents-back, file-again, length-pak-in, sized-in, held-one}
 use Rattle.saved_kinds.specs.Fits.{formOf, pakLengthOf, fitsOk}
 use Rattle.saved_kinds.specs.Kinds.{bodiesOk, fileOk}
-use Rattle.saved_kinds.specs.Room.{whenAccepted}
 use Rattle.saved_kinds.proofs.Sizes.{pak-small, fits-exactly}
 use Rattle.saved_move.specs.Move.{pakIn, heldIn, lengthsOk, holdsOk, moveVerdictOf, movedOf}
 use Rattle.saved_move.specs.Back.{ThereAndBack, SixteenExactly}

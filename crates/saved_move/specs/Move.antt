@@ -1,12 +1,13 @@
--- What a move answers and leaves (paper 02, W12): "A move takes its file's form as reading does and writes what the other form's writer
--- makes for the state held." It "refuses by 9 when its file's length fits no pak RAM size in that form or its room isn't the length due,
--- then by 10", and by 16 where lines and timer are not at reset and the other form is 1. A refusal changes nothing.
+-- What a move answers and leaves (paper 02, W12): "A move takes its file's form as reading does and writes what the
+-- other form's writer makes for the state held." It "refuses by 9 when its file's length fits no pak RAM size in that
+-- form or its room isn't the length due, then by 10", and by 16 where lines and timer are not at reset and the other
+-- form is 1. A refusal changes nothing.
 use Prim.Native.Nat.{ℕ}
 use mathlib.Core.Bool.{Bool, true}
 use mathlib.Core.List.{List}
 use lib.Dec.{eqb}
 use lib.ListN.{length}
-use Rattle.refusal.specs.Number.{unless}
+use Rattle.refusal.specs.Number.{unless, whenAccepted}
 use Rattle.refusal.specs.declared.Verdict.{Verdict}
 use Rattle.refusal.specs.declared.Verdict.the-variants.{Accepted}
 use Rattle.refusal.specs.declared.Refusal.the-variants.{FileLength, FileBytes, NotAtReset}
@@ -18,7 +19,6 @@ use Rattle.saved_layout.specs.declared.Form.{Form}
 use Rattle.saved_layout.specs.declared.Form.the-variants.{One, Two}
 use Rattle.saved_kinds.specs.Fits.{formOf, pakLengthOf, fitsOk}
 use Rattle.saved_kinds.specs.Kinds.{fileOk}
-use Rattle.saved_kinds.specs.Room.{whenAccepted}
 
 -- the pak RAM's length and the bodies of a file, whose form and length tell them
 unfoldable pub pakIn : List ℕ → ℕ

@@ -9,7 +9,7 @@ use lib.Dec.{eqb}
 use lib.ListN.{getD}
 use Rattle.word.specs.LittleEndian.{wordAt}
 use Rattle.processor.specs.Acceptance.{both}
-use Rattle.saved_bytes.specs.Parts.{sumOf}
+use Rattle.saved_bytes.specs.Parts.{bodySumOf}
 use Rattle.saved_layout.specs.File.{Bodies, sumsOf, bodiesIn}
 use Rattle.saved_layout.specs.declared.Form.the-variants.{Two}
 use Rattle.saved_kinds.specs.Kinds.{processorBodyOk, drawingBodyOk, hardwareBodyOk}
@@ -18,32 +18,32 @@ use Rattle.saved_salvage.specs.Keep.{keepsOf, lastSumPlace, keptFrom, ke
 
 -- one body
 pub keeps-is : {r : Bool} {stored sum : ℕ} {made : Bool} (word : ℕ) (body : List ℕ) (m : Bool)
-    → r ≡ both (eqb stored sum) made → stored ≡ word → sum ≡ sumOf body → made ≡ m → r ≡ keepsOf word body m
+    → r ≡ both (eqb stored sum) made → stored ≡ word → sum ≡ bodySumOf body → made ≡ m → r ≡ keepsOf word body m
 keeps-is word body m e f g h = e ∙ rw (f, g, h)
 
 -- the sums by kind
 module _ (xs : List ℕ) (b : Bodies) (e : xs ≡ sumsOf b) where
-  pub sum-1 : getD xs 0 0 ≡ sumOf (b .processor)
+  pub sum-1 : getD xs 0 0 ≡ bodySumOf (b .processor)
   unfolding sumsOf
   sum-1 = rw e
 
-  pub sum-2 : getD xs 1 0 ≡ sumOf (b .drawing)
+  pub sum-2 : getD xs 1 0 ≡ bodySumOf (b .drawing)
   unfolding sumsOf
   sum-2 = rw e
 
-  pub sum-3 : getD xs 2 0 ≡ sumOf (b .wram)
+  pub sum-3 : getD xs 2 0 ≡ bodySumOf (b .wram)
   unfolding sumsOf
   sum-3 = rw e
 
-  pub sum-4 : getD xs 3 0 ≡ sumOf (b .vram)
+  pub sum-4 : getD xs 3 0 ≡ bodySumOf (b .vram)
   unfolding sumsOf
   sum-4 = rw e
 
-  pub sum-5 : getD xs 4 0 ≡ sumOf (b .pak)
+  pub sum-5 : getD xs 4 0 ≡ bodySumOf (b .pak)
   unfolding sumsOf
   sum-5 = rw e
 
-  pub sum-6 : getD xs 5 0 ≡ sumOf (b .hardware)
+  pub sum-6 : getD xs 5 0 ≡ bodySumOf (b .hardware)
   unfolding sumsOf
   sum-6 = rw e
 

@@ -9,10 +9,10 @@ use lib.Seq.{set-append-seam, append-snoc}
 use Rattle.word.specs.Choose.{pick}
 use Rattle.saved_salvage.specs.declared.Kept.{Kept}
 use Rattle.saved_salvage.specs.declared.Listed.{Listed}
-use Rattle.saved_salvage.specs.Told.{withKind, replacedOf, listedOf, addedOf}
+use Rattle.saved_salvage.specs.Told.{withKind, replacedOf, listedKindsOf, addedOf}
 
-pub none-count : (l : Listed) → l ≡ listedOf [] → l .count ≡ 0
-unfolding listedOf
+pub none-count : (l : Listed) → l ≡ listedKindsOf [] → l .count ≡ 0
+unfolding listedKindsOf
 none-count l e = ap (λ (m : Listed). m .count) e
 
 zeros-more : (n : ℕ) → n < 6 → replicate {A = ℕ} (6 - n) 0 ≡ 0 ∷ replicate (6 - (n + 1)) 0
@@ -21,17 +21,17 @@ zeros-more n h =
     rw e refl
 
 module _ (xs : List ℕ) (kind : ℕ) (few : length xs < 6) where
-  more : addedOf (listedOf xs) kind false ≡ listedOf (xs ++ (kind ∷ []))
-  unfolding addedOf listedOf
+  more : addedOf (listedKindsOf xs) kind false ≡ listedKindsOf (xs ++ (kind ∷ []))
+  unfolding addedOf listedKindsOf
   more =
       let l : length (xs ++ (kind ∷ [])) ≡ length xs + 1 = simp length-append refl in
       rw (l, zeros-more (length xs) few, set-append-seam xs 0 (replicate (6 - (length xs + 1)) 0) kind, append-assoc xs (kind ∷ []) (replicate (6 - (length xs + 1)) 0))
 
-  kept-same : addedOf (listedOf xs) kind true ≡ listedOf xs
+  kept-same : addedOf (listedKindsOf xs) kind true ≡ listedKindsOf xs
   unfolding addedOf
   kept-same = refl
 
-  pub added-listed : (kept : Bool) → addedOf (listedOf xs) kind kept ≡ listedOf (withKind xs kind kept)
+  pub added-listed : (kept : Bool) → addedOf (listedKindsOf xs) kind kept ≡ listedKindsOf (withKind xs kind kept)
   added-listed true = kept-same
   added-listed false = more
 
@@ -40,14 +40,14 @@ with-length xs kind true = omega arith
 with-length xs kind false = simp length-append (omega arith)
 
 -- one kind after the other
-step : (xs : List ℕ) (kind : ℕ) (kept : Bool) (l m : Listed) (n : ℕ) → n < 6 → length xs ≤ n → l ≡ listedOf xs → m ≡ addedOf l kind kept
-    → (m ≡ listedOf (withKind xs kind kept)) × (length (withKind xs kind kept) ≤ n + 1)
+step : (xs : List ℕ) (kind : ℕ) (kept : Bool) (l m : Listed) (n : ℕ) → n < 6 → length xs ≤ n → l ≡ listedKindsOf xs → m ≡ addedOf l kind kept
+    → (m ≡ listedKindsOf (withKind xs kind kept)) × (length (withKind xs kind kept) ≤ n + 1)
 step xs kind kept l m n few small e f =
     (f ∙ (ap (λ (x : Listed). addedOf x kind kept) e ∙ added-listed xs kind (omega arith) kept), omega (arith, with-length xs kind kept))
 
-pub all-listed : (k : Kept) (l0 l1 l2 l3 l4 l5 l6 : Listed) → l0 ≡ listedOf [] → l1 ≡ addedOf l0 1 (k .processor) → l2 ≡ addedOf l1 2 (k .drawing)
+pub all-listed : (k : Kept) (l0 l1 l2 l3 l4 l5 l6 : Listed) → l0 ≡ listedKindsOf [] → l1 ≡ addedOf l0 1 (k .processor) → l2 ≡ addedOf l1 2 (k .drawing)
     → l3 ≡ addedOf l2 3 (k .wram) → l4 ≡ addedOf l3 4 (k .vram) → l5 ≡ addedOf l4 5 (k .pak) → l6 ≡ addedOf l5 6 (k .hardware)
-    → l6 ≡ listedOf (replacedOf k)
+    → l6 ≡ listedKindsOf (replacedOf k)
 unfolding replacedOf
 all-listed k l0 l1 l2 l3 l4 l5 l6 e0 e1 e2 e3 e4 e5 e6 =
     let s1 = step [] 1 (k .processor) l0 l1 0 (omega arith) (omega arith) e0 e1 in

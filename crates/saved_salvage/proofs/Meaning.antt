@@ -14,10 +14,10 @@ use Rattle.word.specs.LittleEndian.{halfAt, wordAt}
 use Rattle.refusal.specs.declared.Verdict.the-variants.{Accepted}
 use Rattle.processor.specs.Acceptance.{both}
 use Rattle.saved_bytes.specs.Numbers.{bytesOf, halvesOf, halvesFrom, sameOf}
-use Rattle.saved_bytes.specs.Parts.{sumOf}
+use Rattle.saved_bytes.specs.Parts.{bodySumOf}
 use Rattle.saved_bytes.proofs.LittleEndian.{length-bytes, length-halves-from}
 use Rattle.saved_bytes.proofs.Reading.{Under, same-self}
-use Rattle.saved_layout.specs.Layout.{Part, partsOf, sumAt, entriesFrom, contentsEndOf, contentsOf, fileLengthOf, placeOf}
+use Rattle.saved_layout.specs.Layout.{Part, partsOf, sumAt, entriesFrom, contentsEndOf, contentsOf, fileLengthOf, bodyPlaceOf}
 use Rattle.saved_layout.specs.File.{Bodies, sumsOf, joinedOf, fileOf, bodiesIn}
 use Rattle.saved_layout.specs.declared.Form.the-variants.{Two}
 use Rattle.saved_layout.proofs.Positions.{contents-end, length-is}
@@ -211,8 +211,8 @@ module _ (file output : List ℕ) (bytes : (k : ℕ) → getD file k 0 < 256) wh
 
 -- the output's sums where a body is kept
 module _ (pak : ℕ) (file : List ℕ) (b : Bodies) where
-  sum-kept : (word : ℕ) (body other : List ℕ) (made kept : Bool) → kept ≡ keepsOf word body made → kept ≡ true → word ≡ sumOf (pick kept body other)
-  sum-kept word body other made kept e t = rw t (eqb-true word (sumOf body) (both-true (eqb word (sumOf body)) made (sym e ∙ t) .0))
+  sum-kept : (word : ℕ) (body other : List ℕ) (made kept : Bool) → kept ≡ keepsOf word body made → kept ≡ true → word ≡ bodySumOf (pick kept body other)
+  sum-kept word body other made kept e t = rw t (eqb-true word (bodySumOf body) (both-true (eqb word (bodySumOf body)) made (sym e ∙ t) .0))
 
 matches : (p : ℕ) (file : List ℕ) (b : Bodies)
     → Matches file (sumsOf (keptBodiesOf (keptFrom p file b) b)) 6 (partsOf Two p) (entriesKept p (keptFrom p file b))
@@ -262,8 +262,8 @@ three-length : (p : ℕ) → length (three p) ≡ 3
 unfolding three
 three-length p = refl
 
-first-is : (p : ℕ) → placeOf Two p 0 ≡ 6 + 14 * length (partsOf Two p)
-unfolding placeOf
+first-is : (p : ℕ) → bodyPlaceOf Two p 0 ≡ 6 + 14 * length (partsOf Two p)
+unfolding bodyPlaceOf
 first-is p = omega arith
 
 module _ (p : ℕ) (file sums rest : List ℕ) (few : p ≤ 16777216) (small : (k : ℕ) → getD sums k 0 < 2 ^ 32) (bytes : (k : ℕ) → getD file k 0 < 256)

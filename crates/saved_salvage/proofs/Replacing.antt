@@ -11,7 +11,7 @@ use Rattle.saved_bytes.specs.Numbers.{bytesOf, halvesOf}
 use Rattle.saved_bytes.specs.Parts.{putAt}
 use Rattle.saved_bytes.proofs.LittleEndian.{length-bytes, length-halves}
 use Rattle.saved_bytes.proofs.Putting.{length-put, put-put, put-last}
-use Rattle.saved_layout.specs.Layout.{placeOf, fileLengthOf}
+use Rattle.saved_layout.specs.Layout.{bodyPlaceOf, fileLengthOf}
 use Rattle.saved_layout.specs.File.{Bodies, bodiesOf, joinedOf, fileOf, bodiesIn, contentsIn, Sized}
 use Rattle.saved_layout.specs.declared.Form.the-variants.{Two}
 use Rattle.saved_layout.proofs.Positions.{length-is}
@@ -104,11 +104,11 @@ module _ (k : Kept) (b : Bodies) (s : Sized b) (p : ℕ) (e : length (b .pak) �
 
 -- with the contents before them the room is the output
 module _ (p : ℕ) (b : Bodies) (s : Sized b) (e : length (b .pak) ≡ p) (d : List ℕ) (whole : length d ≡ fileLengthOf Two p) where
-  pub output-sealed : (f g : List ℕ) → f ≡ putAt d (placeOf Two p 0) (joinedOf Two b) → g ≡ putAt f 0 (bytesOf (contentsIn Two p f)) → g ≡ fileOf Two b
+  pub output-sealed : (f g : List ℕ) → f ≡ putAt d (bodyPlaceOf Two p 0) (joinedOf Two b) → g ≡ putAt f 0 (bytesOf (contentsIn Two p f)) → g ≡ fileOf Two b
   output-sealed f g q r =
       let l = joined-length b s Two in
-      let w : placeOf Two p 0 + length (joinedOf Two b) ≡ length d = omega (arith, rw e at l) in
-      let start : drop (placeOf Two p 0) f ≡ joinedOf Two b
-      = ap (drop (placeOf Two p 0)) (q ∙ put-last d (placeOf Two p 0) (joinedOf Two b) w)
-      ∙ drop-at (take (placeOf Two p 0) d) (joinedOf Two b) (placeOf Two p 0) (length-take-le (placeOf Two p 0) d (omega arith)) in
+      let w : bodyPlaceOf Two p 0 + length (joinedOf Two b) ≡ length d = omega (arith, rw e at l) in
+      let start : drop (bodyPlaceOf Two p 0) f ≡ joinedOf Two b
+      = ap (drop (bodyPlaceOf Two p 0)) (q ∙ put-last d (bodyPlaceOf Two p 0) (joinedOf Two b) w)
+      ∙ drop-at (take (bodyPlaceOf Two p 0) d) (joinedOf Two b) (bodyPlaceOf Two p 0) (length-take-le (bodyPlaceOf Two p 0) d (omega arith)) in
       r ∙ rw (← e) (sealed b s f Two (rw (← e) at start))

@@ -12,18 +12,18 @@ use Rattle.refusal.specs.declared.Refusal.the-variants.{FileLength, NoLayout}
 use Rattle.bus.specs.Refusal.{pakOk}
 use Rattle.saved_bytes.specs.Numbers.{bytesOf}
 use Rattle.saved_bytes.specs.Parts.{putAt}
-use Rattle.saved_layout.specs.Layout.{placeOf, fileLengthOf}
+use Rattle.saved_layout.specs.Layout.{bodyPlaceOf, fileLengthOf}
 use Rattle.saved_layout.specs.File.{Bodies, joinedOf, fileOf, bodiesIn, contentsIn}
 use Rattle.saved_layout.specs.declared.Form.the-variants.{Two}
 use Rattle.saved_layout.proofs.Files.{length-pak-in, sized-in}
 use Rattle.saved_kinds.specs.Fits.{pakLengthOf, fitsOk}
-use Rattle.saved_kinds.specs.Room.{whenAccepted}
+use Rattle.refusal.specs.Number.{whenAccepted}
 use Rattle.saved_kinds.proofs.Sizes.{pak-small, fits-exactly}
 use Rattle.saved_salvage.specs.declared.Kept.{Kept}
 use Rattle.saved_salvage.specs.declared.Listed.{Listed}
 use Rattle.saved_salvage.specs.declared.Salvaged.{Salvaged}
 use Rattle.saved_salvage.specs.Keep.{keptIn, keptBodiesOf}
-use Rattle.saved_salvage.specs.Told.{listedOf, replacedOf}
+use Rattle.saved_salvage.specs.Told.{listedKindsOf, replacedOf}
 use Rattle.saved_salvage.specs.Differ.{contentsDiffer}
 use Rattle.saved_salvage.specs.Salvage.{outputOf, pakIn, salvageVerdictOf, toldOf, toldWhen, salvageOf, salvagedRoomOf}
 use Rattle.saved_salvage.proofs.Replacing.{kept-sized, kept-pak, output-sealed}
@@ -55,18 +55,18 @@ module _ (file room : List ℕ) where
   unfolding salvageVerdictOf
   verdict-accepted e f = simp (eq-eqb _ _ e, f)
 
-  refused : (n : refusal.Refusal) (l : Listed) → salvageVerdictOf file room ≡ Refused n → l ≡ listedOf [] → Leaves file room (toldOf (Refused n) l false) room
+  refused : (n : refusal.Refusal) (l : Listed) → salvageVerdictOf file room ≡ Refused n → l ≡ listedKindsOf [] → Leaves file room (toldOf (Refused n) l false) room
   refused n l e f = let v = by-verdict (Refused n) e in (ap (λ (x : Listed). toldOf (Refused n) x false) f ∙ v .0, v .1)
 
-  pub no-length : (l : Listed) → (length room ≡ length file → ⊥) → l ≡ listedOf [] → Leaves file room (toldOf (Refused FileLength) l false) room
+  pub no-length : (l : Listed) → (length room ≡ length file → ⊥) → l ≡ listedKindsOf [] → Leaves file room (toldOf (Refused FileLength) l false) room
   no-length l n f = refused FileLength l (length-refused n) f
 
-  pub no-layout : (l : Listed) → length room ≡ length file → fitsOk Two (length file) ≡ false → l ≡ listedOf []
+  pub no-layout : (l : Listed) → length room ≡ length file → fitsOk Two (length file) ≡ false → l ≡ listedKindsOf []
       → Leaves file room (toldOf (Refused NoLayout) l false) room
   no-layout l e g f = refused NoLayout l (layout-refused e g) f
 
   module _ (alike : length room ≡ length file) (fits : fitsOk Two (length file) ≡ true) (pak : ℕ) (told : pak ≡ pakLengthOf Two (length file)) (kept : Kept) (k : kept ≡ keptIn pak file) where
-    output : (f g : List ℕ) → f ≡ putAt room (placeOf Two pak 0) (joinedOf Two (keptBodiesOf kept (bodiesIn Two pak file)))
+    output : (f g : List ℕ) → f ≡ putAt room (bodyPlaceOf Two pak 0) (joinedOf Two (keptBodiesOf kept (bodiesIn Two pak file)))
         → g ≡ putAt f 0 (bytesOf (contentsIn Two pak f)) → g ≡ outputOf pak file
     unfolding outputOf
     output f g p q =
@@ -76,13 +76,13 @@ module _ (file room : List ℕ) where
         (kept-pak kept (bodiesIn Two pak file) s ∙ length-pak-in pak file Two whole) room (alike ∙ whole) f g p q
         ∙ ap (λ (x : Kept). fileOf Two (keptBodiesOf x (bodiesIn Two pak file))) k
 
-    pub accepted : (f g : List ℕ) (l : Listed) (t : Bool) → f ≡ putAt room (placeOf Two pak 0) (joinedOf Two (keptBodiesOf kept (bodiesIn Two pak file)))
-        → g ≡ putAt f 0 (bytesOf (contentsIn Two pak f)) → l ≡ listedOf (replacedOf kept) → t ≡ contentsDiffer pak kept file g
+    pub accepted : (f g : List ℕ) (l : Listed) (t : Bool) → f ≡ putAt room (bodyPlaceOf Two pak 0) (joinedOf Two (keptBodiesOf kept (bodiesIn Two pak file)))
+        → g ≡ putAt f 0 (bytesOf (contentsIn Two pak f)) → l ≡ listedKindsOf (replacedOf kept) → t ≡ contentsDiffer pak kept file g
         → Leaves file room (toldOf Accepted l t) g
     accepted f g l t p q r u =
         let v = by-verdict Accepted (verdict-accepted alike fits) in
         let o = output f g p q in (
-          told-same l t (r ∙ ap (λ (x : Kept). listedOf (replacedOf x)) k ∙ ap (λ (n : ℕ). listedOf (replacedOf (keptIn n file))) told)
+          told-same l t (r ∙ ap (λ (x : Kept). listedKindsOf (replacedOf x)) k ∙ ap (λ (n : ℕ). listedKindsOf (replacedOf (keptIn n file))) told)
               (u ∙ (ap (contentsDiffer pak kept file) o ∙ (ap (λ (x : Kept). contentsDiffer pak x file (outputOf pak file)) k
               ∙ ap (λ (n : ℕ). contentsDiffer n (keptIn n file) file (outputOf n file)) told)))
               ∙ v .0,

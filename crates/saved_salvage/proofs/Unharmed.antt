@@ -9,7 +9,7 @@ use lib.Dec.{eqb, eqb·suc-zero}
 use lib.ListN.{length, getD, take, drop, replicate}
 use Rattle.word.specs.Choose.{pick, member}
 use Rattle.word.specs.LittleEndian.{halfAt, wordAt}
-use Rattle.refusal.specs.Number.{unless}
+use Rattle.refusal.specs.Number.{unless, whenAccepted}
 use Rattle.refusal.specs.declared.Refusal as refusal
 use Rattle.refusal.specs.declared.Verdict.{Verdict}
 use Rattle.refusal.specs.declared.Verdict.the-variants.{Accepted, Refused}
@@ -19,7 +19,7 @@ use Rattle.bus.specs.Registers.{drawingOk}
 use Rattle.processor_machine.specs.System.{pswBitsOf}
 use Rattle.processor.specs.Acceptance.{both, evenOk, formatsOk, stateOk}
 use Rattle.saved_bytes.specs.Numbers.{bytesOf, halvesOf, halvesFrom, wordsFrom, sameOf}
-use Rattle.saved_bytes.specs.Parts.{sumOf}
+use Rattle.saved_bytes.specs.Parts.{bodySumOf}
 use Rattle.saved_bytes.proofs.Reading.{same-self}
 use Rattle.saved_layout.specs.Layout.{contentsOf, fileLengthOf}
 use Rattle.saved_layout.specs.File.{Bodies, sumsOf, joinedOf, fileOf, bodiesIn, contentsOk, Sized, HeldBy}
@@ -28,12 +28,11 @@ use Rattle.saved_layout.proofs.Positions.{two-empty, two-some}
 use Rattle.saved_layout.proofs.Files.{sums-small, file-length, file-held, contents-back, file-again, length-pak-in, sized-in}
 use Rattle.saved_kinds.specs.Fits.{pakLengthOf, fitsOk}
 use Rattle.saved_kinds.specs.Kinds.{generalFrom, restFrom, wordsOk, processorBodyOk, drawingFrom, drawingBodyOk, hardwareFrom, hardwareBodyOk, bodiesOk, fileOk}
-use Rattle.saved_kinds.specs.Room.{whenAccepted}
 use Rattle.saved_kinds.proofs.Sizes.{pak-small, fits-exactly}
 use Rattle.saved_kinds.proofs.Tests.{reset-ok}
 use Rattle.saved_salvage.specs.declared.Kept.{Kept}
 use Rattle.saved_salvage.specs.Keep.{keepsOf, lastSumPlace, keptFrom, keptIn, resetWords, processorReset, orZeros, keptBodiesOf}
-use Rattle.saved_salvage.specs.Told.{withKind, replacedOf, listedOf}
+use Rattle.saved_salvage.specs.Told.{withKind, replacedOf, listedKindsOf}
 use Rattle.saved_salvage.specs.Differ.{partDiffers, entryDiffers, entriesDiffer, entriesKept, contentsDiffer}
 use Rattle.saved_salvage.specs.Salvage.{outputOf, pakIn, toldOf, toldWhen, salvageVerdictOf, salvageOf, salvagedRoomOf}
 use Rattle.saved_salvage.specs.Right.{Right, SalvagedRight, Unchanged, UndamagedEqual, SalvageAgain, listsOf, KeptExactly, KeptExactlyAll}
@@ -71,15 +70,15 @@ hardware-made false body l e = rw l reset-ok
 module _ (pak : ℕ) (file : List ℕ) (b : Bodies) (s : Sized b) where
   kept-processor : keptFrom pak file b .processor ≡ true → processorBodyOk (b .processor) ≡ true
   unfolding keptFrom
-  kept-processor e = both-true (eqb (wordAt file 16) (sumOf (b .processor))) (processorBodyOk (b .processor)) e .1
+  kept-processor e = both-true (eqb (wordAt file 16) (bodySumOf (b .processor))) (processorBodyOk (b .processor)) e .1
 
   kept-drawing : keptFrom pak file b .drawing ≡ true → drawingBodyOk (b .drawing) ≡ true
   unfolding keptFrom
-  kept-drawing e = both-true (eqb (wordAt file 30) (sumOf (b .drawing))) (drawingBodyOk (b .drawing)) e .1
+  kept-drawing e = both-true (eqb (wordAt file 30) (bodySumOf (b .drawing))) (drawingBodyOk (b .drawing)) e .1
 
   kept-hardware : keptFrom pak file b .hardware ≡ true → hardwareBodyOk (b .hardware) ≡ true
   unfolding keptFrom
-  kept-hardware e = both-true (eqb (wordAt file (lastSumPlace pak)) (sumOf (b .hardware))) (hardwareBodyOk (b .hardware)) e .1
+  kept-hardware e = both-true (eqb (wordAt file (lastSumPlace pak)) (bodySumOf (b .hardware))) (hardwareBodyOk (b .hardware)) e .1
 
   output-made : bodiesOk (keptBodiesOf (keptFrom pak file b) b) ≡ true
   unfolding bodiesOk keptBodiesOf
@@ -174,8 +173,8 @@ module _ (s rest : List ℕ) (small : (k : ℕ) → getD s k 0 < 2 ^ 32) where
 allKept : Kept
 allKept = record { processor = true; drawing = true; wram = true; vram = true; pak = true; hardware = true }
 
-keeps-made : (word : ℕ) (body : List ℕ) (made : Bool) → word ≡ sumOf body → made ≡ true → keepsOf word body made ≡ true
-keeps-made word body made e f = simp (eq-eqb word (sumOf body) e) f
+keeps-made : (word : ℕ) (body : List ℕ) (made : Bool) → word ≡ bodySumOf body → made ≡ true → keepsOf word body made ≡ true
+keeps-made word body made e f = simp (eq-eqb word (bodySumOf body) e) f
 
 kept-same : {a1 a2 b1 b2 c1 c2 d1 d2 e1 e2 f1 f2 : Bool} → a1 ≡ a2 → b1 ≡ b2 → c1 ≡ c2 → d1 ≡ d2 → e1 ≡ e2 → f1 ≡ f2
     → _≡_ {A = Kept} (record { processor = a1; drawing = b1; wram = c1; vram = d1; pak = e1; hardware = f1 }) (record { processor = a2; drawing = b2; wram = c2; vram = d2; pak = e2; hardware = f2 })
@@ -257,8 +256,8 @@ module _ (b : Bodies) (s : Sized b) (legal : pakOk (length (b .pak)) ≡ true) (
         told = sym (v .0) ∙ rw (told-pak .1, kept-all, output-same, contents-self (length (b .pak)) allKept (fileOf Two b)) none;
       }
     where
-      none : toldOf Accepted (listedOf (replacedOf allKept)) false ≡ toldOf Accepted (listedOf []) false
-      none = ap (λ (xs : List ℕ). toldOf Accepted (listedOf xs) false) replaced-none
+      none : toldOf Accepted (listedKindsOf (replacedOf allKept)) false ≡ toldOf Accepted (listedKindsOf []) false
+      none = ap (λ (xs : List ℕ). toldOf Accepted (listedKindsOf xs) false) replaced-none
 
 pub undamaged-equal : UndamagedEqual
 undamaged-equal file room bytes e ok =

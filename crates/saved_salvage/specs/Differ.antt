@@ -1,5 +1,5 @@
--- "whether, sums of replaced bodies aside, any byte before the first body differs in the output" (paper 02, W13): the six bytes before the
--- entries, then each entry of fourteen bytes, of which the last four are its sum.
+-- "whether, sums of replaced bodies aside, any byte before the first body differs in the output" (paper 02, W13): the
+-- six bytes before the entries, then each entry of fourteen bytes, of which the last four are its sum.
 use Prim.Native.Nat.{ℕ, _+_}
 use mathlib.Core.Bool.{Bool, true, false}
 use mathlib.Core.List.{List, [], _∷_, _++_}
@@ -23,7 +23,8 @@ entryDiffers at kept file output = pick kept (partDiffers at 14 file output) (pa
 -- the entries from byte `at` on
 abbrev pub entriesDiffer : ℕ → List Bool → List ℕ → List ℕ → Bool
 entriesDiffer at [] file output = false
-entriesDiffer at (kept ∷ more) file output = either (entryDiffers at kept file output) (entriesDiffer (at + 14) more file output)
+entriesDiffer at (kept ∷ more) file output =
+    either (entryDiffers at kept file output) (entriesDiffer (at + 14) more file output)
 
 -- which of the bodies that have an entry are kept
 abbrev pub entriesKept : ℕ → Kept → List Bool
@@ -31,4 +32,5 @@ entriesKept pak k =
     k .processor ∷ k .drawing ∷ k .wram ∷ k .vram ∷ (pick (eqb pak 0) [] (k .pak ∷ []) ++ (k .hardware ∷ []))
 
 unfoldable pub contentsDiffer : ℕ → Kept → List ℕ → List ℕ → Bool
-contentsDiffer pak k file output = either (partDiffers 0 6 file output) (entriesDiffer 6 (entriesKept pak k) file output)
+contentsDiffer pak k file output =
+    either (partDiffers 0 6 file output) (entriesDiffer 6 (entriesKept pak k) file output)

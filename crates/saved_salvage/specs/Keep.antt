@@ -1,6 +1,7 @@
--- Which bodies a salvage keeps (paper 02, W13): it "keeps each body whose stored sum matches and which the writer could have made for some
--- accepted state, and sets every other to reset values (3 to 5: zeros)". A stored sum is the word at its own place in the contents,
--- whatever stands beside it; pak RAM that is empty has no entry and no body, and counts as kept.
+-- Which bodies a salvage keeps (paper 02, W13): it "keeps each body whose stored sum matches and which the writer could
+-- have made for some accepted state, and sets every other to reset values (3 to 5: zeros)". A stored sum is the word at
+-- its own place in the contents, whatever stands beside it; pak RAM that is empty has no entry and no body, and counts
+-- as kept.
 use Prim.Native.Nat.{ℕ}
 use mathlib.Core.Bool.{Bool, true, false}
 use mathlib.Core.List.{List, [], _∷_, _++_}
@@ -10,7 +11,7 @@ use Rattle.word.specs.Choose.{pick}
 use Rattle.word.specs.LittleEndian.{wordAt}
 use Rattle.processor.specs.Acceptance.{both}
 use Rattle.saved_bytes.specs.Numbers.{bytesOf, halvesOf}
-use Rattle.saved_bytes.specs.Parts.{sumOf}
+use Rattle.saved_bytes.specs.Parts.{bodySumOf}
 use Rattle.saved_layout.specs.File.{Bodies, bodiesOf, bodiesIn, hardwareReset}
 use Rattle.saved_layout.specs.declared.Form.the-variants.{Two}
 use Rattle.saved_kinds.specs.Kinds.{processorBodyOk, drawingBodyOk, hardwareBodyOk}
@@ -18,7 +19,7 @@ use Rattle.saved_salvage.specs.declared.Kept.{Kept}
 
 -- whether a body is kept, by its stored sum and whether a writer can have made it
 abbrev pub keepsOf : ℕ → List ℕ → Bool → Bool
-keepsOf stored body made = both (eqb stored (sumOf body)) made
+keepsOf stored body made = both (eqb stored (bodySumOf body)) made
 
 -- the stored sum of kind 6 stands in the last entry
 abbrev pub lastSumPlace : ℕ → ℕ
@@ -53,5 +54,6 @@ orZeros kept body = pick kept body (replicate (length body) 0)
 -- the bodies of the output
 unfoldable pub keptBodiesOf : Kept → Bodies → Bodies
 keptBodiesOf k b =
-    bodiesOf (pick (k .processor) (b .processor) processorReset) (orZeros (k .drawing) (b .drawing)) (orZeros (k .wram) (b .wram))
+    bodiesOf (pick (k .processor) (b .processor) processorReset) (orZeros (k .drawing) (b .drawing))
+    (orZeros (k .wram) (b .wram))
     (orZeros (k .vram) (b .vram)) (orZeros (k .pak) (b .pak)) (orZeros (k .hardware) (b .hardware))

@@ -1,5 +1,6 @@
--- What "any byte before the first body differs" comes to (paper 02, W13): since a kept body's sum is the stored one, that the halfwords 0 and
--- 2, the count, or some entry's kind, offset or length was not the right one. The statement; its proof is `contents-differ-means` in proofs/.
+-- What "any byte before the first body differs" comes to (paper 02, W13): since a kept body's sum is the stored one,
+-- that the halfwords 0 and 2, the count, or some entry's kind, offset or length was not the right one. The statement;
+-- its proof is `contents-differ-means` in proofs/.
 use Prim.Native.Nat.{ℕ, _+_, _<_}
 use mathlib.Core.Bool.{Bool, true, false}
 use mathlib.Core.List.{List, [], _∷_}

@@ -1,6 +1,6 @@
--- "It writes a right form 2 file", "An undamaged file comes out equal, with an empty list; salvaging the output again changes nothing"
--- (paper 02, W13), and which bodies are kept: the statements. Their proofs are `salvaged-right`, `undamaged-equal`, `salvage-again` and
--- `kept-exactly` in proofs/.
+-- "It writes a right form 2 file", "An undamaged file comes out equal, with an empty list; salvaging the output again
+-- changes nothing" (paper 02, W13), and which bodies are kept: the statements. Their proofs are `salvaged-right`,
+-- `undamaged-equal`, `salvage-again` and `kept-exactly` in proofs/.
 use Prim.Native.Nat.{ℕ, _<_}
 use mathlib.Core.Bool.{Bool, true, false}
 use mathlib.Core.List.{List, []}
@@ -12,12 +12,12 @@ use Rattle.saved_layout.specs.File.{bodiesIn}
 use Rattle.saved_layout.specs.declared.Form.the-variants.{Two}
 use Rattle.saved_kinds.specs.Kinds.{fileOk}
 use Rattle.saved_salvage.specs.Keep.{keptIn, keptBodiesOf}
-use Rattle.saved_salvage.specs.Told.{listedOf, replacedOf}
+use Rattle.saved_salvage.specs.Told.{listedKindsOf, replacedOf}
 use Rattle.saved_salvage.specs.Salvage.{pakIn, toldOf, salvageVerdictOf, salvageOf, salvagedRoomOf}
 use Rattle.saved_salvage.specs.declared.Kept.{Kept}
 
--- the output has the file's length, and reading it with pak RAM of that length refuses neither by 9 nor by 10: it is what form 2's writer makes
--- for an accepted state (`salvaged-accepted` of the crate saved_laws)
+-- the output has the file's length, and reading it with pak RAM of that length refuses neither by 9 nor by 10: it is
+-- what form 2's writer makes for an accepted state (`salvaged-accepted` of the crate saved_laws)
 pub record Right (file room : List ℕ) : Type 0 where
   pub whole : length (salvagedRoomOf file room) ≡ length file
   pub right : fileOk Two (pakIn file) (salvagedRoomOf file room) ≡ true
@@ -28,23 +28,26 @@ SalvagedRight = (file room : List ℕ) → salvageVerdictOf file room ≡ Accept
 -- the output is the file, no kind is listed, and nothing before the first body differs
 pub record Unchanged (file room : List ℕ) : Type 0 where
   pub same : salvagedRoomOf file room ≡ file
-  pub told : salvageOf file room ≡ toldOf Accepted (listedOf []) false
+  pub told : salvageOf file room ≡ toldOf Accepted (listedKindsOf []) false
 
 abbrev pub UndamagedEqual : Type 0
 UndamagedEqual =
-    (file room : List ℕ) → ((k : ℕ) → getD file k 0 < 256) → salvageVerdictOf file room ≡ Accepted → fileOk Two (pakIn file) file ≡ true
+    (file room : List ℕ) → ((k : ℕ) → getD file k 0 < 256) → salvageVerdictOf file room ≡ Accepted
+    → fileOk Two (pakIn file) file ≡ true
     → Unchanged file room
 
 -- of its own output, in any room of the same length
 abbrev pub SalvageAgain : Type 0
 SalvageAgain =
-    (file room again : List ℕ) → salvageVerdictOf file room ≡ Accepted → length again ≡ length file → Unchanged (salvagedRoomOf file room) again
+    (file room again : List ℕ) → salvageVerdictOf file room ≡ Accepted → length again ≡ length file
+    → Unchanged (salvagedRoomOf file room) again
 
 -- a kind is listed exactly where its body is not kept
 abbrev pub listsOf : Kept → ℕ → Bool → Type 0
 listsOf k kind kept = member kind (replacedOf k) ≡ pick kept false true
 
--- the output's bodies are the file's where they are kept and reset's where not (Keep), and the list has the kinds of the second
+-- the output's bodies are the file's where they are kept and reset's where not (Keep), and the list has the kinds of
+-- the second
 pub record KeptExactly (file room : List ℕ) (k : Kept) : Type 0 where
   pub bodies : bodiesIn Two (pakIn file) (salvagedRoomOf file room) ≡ keptBodiesOf k (bodiesIn Two (pakIn file) file)
   pub processor : listsOf k 1 (k .processor)

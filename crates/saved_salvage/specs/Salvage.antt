@@ -1,20 +1,19 @@
--- What a salvage tells and leaves (paper 02, W13). "Refusal 9 first: the output room isn't as long as the file; then 17: no form 2 layout has
--- this length." Nothing else is tested; a refusal changes nothing.
+-- What a salvage tells and leaves (paper 02, W13). "Refusal 9 first: the output room isn't as long as the file; then
+-- 17: no form 2 layout has this length." Nothing else is tested; a refusal changes nothing.
 use Prim.Native.Nat.{ℕ}
 use mathlib.Core.Bool.{Bool, false}
 use mathlib.Core.List.{List, []}
 use lib.Dec.{eqb}
 use lib.ListN.{length}
-use Rattle.refusal.specs.Number.{unless}
+use Rattle.refusal.specs.Number.{unless, whenAccepted}
 use Rattle.refusal.specs.declared.Verdict.{Verdict}
 use Rattle.refusal.specs.declared.Verdict.the-variants.{Accepted, Refused}
 use Rattle.refusal.specs.declared.Refusal.the-variants.{FileLength, NoLayout}
 use Rattle.saved_layout.specs.File.{fileOf, bodiesIn}
 use Rattle.saved_layout.specs.declared.Form.the-variants.{Two}
 use Rattle.saved_kinds.specs.Fits.{pakLengthOf, fitsOk}
-use Rattle.saved_kinds.specs.Room.{whenAccepted}
 use Rattle.saved_salvage.specs.Keep.{keptIn, keptBodiesOf}
-use Rattle.saved_salvage.specs.Told.{listedOf, replacedOf}
+use Rattle.saved_salvage.specs.Told.{listedKindsOf, replacedOf}
 use Rattle.saved_salvage.specs.Differ.{contentsDiffer}
 use Rattle.saved_salvage.specs.declared.Salvaged.{Salvaged}
 use Rattle.saved_salvage.specs.declared.Listed.{Listed}
@@ -37,9 +36,9 @@ toldOf verdict list differ = record { verdict = verdict; list = list; differ = d
 
 abbrev pub toldWhen : Verdict → List ℕ → Salvaged
 toldWhen Accepted file =
-    toldOf Accepted (listedOf (replacedOf (keptIn (pakIn file) file)))
+    toldOf Accepted (listedKindsOf (replacedOf (keptIn (pakIn file) file)))
     (contentsDiffer (pakIn file) (keptIn (pakIn file) file) file (outputOf (pakIn file) file))
-toldWhen (Refused n) file = toldOf (Refused n) (listedOf []) false
+toldWhen (Refused n) file = toldOf (Refused n) (listedKindsOf []) false
 
 unfoldable pub salvageOf : List ℕ → List ℕ → Salvaged
 salvageOf file room = toldWhen (salvageVerdictOf file room) file

@@ -20,8 +20,8 @@ replacedOf k =
     6 (k .hardware)
 
 -- a list of at most six kinds, as it is told
-unfoldable pub listedOf : List ℕ → Listed
-listedOf kinds = record { count = length kinds; kinds = kinds ++ replicate (6 - length kinds) 0 }
+unfoldable pub listedKindsOf : List ℕ → Listed
+listedKindsOf kinds = record { count = length kinds; kinds = kinds ++ replicate (6 - length kinds) 0 }
 
 -- what is told, with one kind more
 unfoldable pub addedOf : Listed → ℕ → Bool → Listed

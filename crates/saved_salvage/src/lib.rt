@@ -28,7 +28,8 @@ pub struct Listed {
     pub kinds: [u32; 6],
 }
 
-// Whether a salvage was refused, the kinds replaced, and whether anything else before the first body differs from the file.
+// Whether a salvage was refused, the kinds replaced, and whether anything else before the first body differs from the
+// file.
 pub struct Salvaged {
     pub verdict: Verdict,
     pub list: Listed,

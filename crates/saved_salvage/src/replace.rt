@@ -9,7 +9,7 @@ ghost use Prim.Native.Nat.{_+_, _≤_};
 ghost use lib.ListN.{length, take, drop};
 ghost use Rattle.word.specs.Choose.{pick};
 ghost use Rattle.saved_bytes.specs.Parts.{putAt};
-ghost use Rattle.saved_layout.specs.Layout.{fileLengthOf, placeOf};
+ghost use Rattle.saved_layout.specs.Layout.{fileLengthOf, bodyPlaceOf};
 ghost use Rattle.saved_layout.specs.File.{bodiesIn, joinedOf};
 ghost use Rattle.saved_layout.specs.declared.Form.the-variants.{Two};
 ghost use Rattle.saved_salvage.specs.Keep.{processorReset, orZeros, keptBodiesOf};
@@ -17,7 +17,10 @@ ghost use Rattle.saved_salvage.specs.Keep.{processorReset, orZeros, kept
 // Kind 1, which starts at byte `at` in both.
 fn put_processor(file: &[u8], room: &mut [u8], at: usize, kept: bool)
     requires { ⌜ (at + 172 ≤ length (now file)) × (at + 172 ≤ length (now room)) ⌝ }
-    ensures { λ _. ⌜ now (room .exit) ≡ putAt (now (room .entry)) at (pick kept (take 172 (drop at (now (file .entry)))) processorReset) ⌝ }
+    ensures { λ _. ⌜
+        now (room .exit) ≡ putAt (now (room .entry)) at
+        (pick kept (take 172 (drop at (now (file .entry)))) processorReset)
+        ⌝ }
 {
     if kept {
         let end = at + 172;
@@ -75,7 +78,9 @@ fn put_processor(file: &[u8], room: &mut [u8], at: usize, kept: bool)
 // Another kind of `size` bytes, whose reset values are zeros.
 fn put_body(file: &[u8], room: &mut [u8], at: usize, size: usize, kept: bool)
     requires { ⌜ (at + size ≤ length (now file)) × (at + size ≤ length (now room)) ⌝ }
-    ensures { λ _. ⌜ now (room .exit) ≡ putAt (now (room .entry)) at (orZeros kept (take size (drop at (now (file .entry))))) ⌝ }
+    ensures { λ _. ⌜
+        now (room .exit) ≡ putAt (now (room .entry)) at (orZeros kept (take size (drop at (now (file .entry)))))
+        ⌝ }
 {
     if kept {
         let end = at + size;
@@ -89,7 +94,10 @@ fn put_body(file: &[u8], room: &mut [u8], at: usize, size: usize, kept: bool)
 pub fn put_bodies(file: &[u8], room: &mut [u8], pak: usize, kept: Kept)
     requires { ⌜ (length (now file) ≡ fileLengthOf Two pak) × (pak ≤ 16777216) ⌝ }
     requires { ⌜ length (now room) ≡ fileLengthOf Two pak ⌝ }
-    ensures { λ _. ⌜ now (room .exit) ≡ putAt (now (room .entry)) (placeOf Two pak 0) (joinedOf Two (keptBodiesOf kept (bodiesIn Two pak (now (file .entry))))) ⌝ }
+    ensures { λ _. ⌜
+        now (room .exit) ≡ putAt (now (room .entry)) (bodyPlaceOf Two pak 0)
+        (joinedOf Two (keptBodiesOf kept (bodiesIn Two pak (now (file .entry)))))
+        ⌝ }
 {
     let at = places::first(Form::Two, pak);
     put_processor(file, room, at, kept.processor);

@@ -4,11 +4,11 @@ use crate::Listed;
 ghost use mathlib.Core.Path.{_≡_};
 ghost use Prim.Native.Nat.{_+_, _<_, _≤_};
 ghost use mathlib.Core.List.{[]};
-ghost use Rattle.saved_salvage.specs.Told.{listedOf, addedOf, replacedOf};
+ghost use Rattle.saved_salvage.specs.Told.{listedKindsOf, addedOf, replacedOf};
 
 // No kind.
 pub fn none() -> Listed
-    ensures { λ r. ⌜ r ≡ listedOf [] ⌝ }
+    ensures { λ r. ⌜ r ≡ listedKindsOf [] ⌝ }
 {
     Listed {
         count: 0,
@@ -34,7 +34,7 @@ fn added(list: Listed, kind: u32, kept: bool) -> Listed
 }
 
 pub fn replaced(kept: Kept) -> Listed
-    ensures { λ r. ⌜ r ≡ listedOf (replacedOf kept) ⌝ }
+    ensures { λ r. ⌜ r ≡ listedKindsOf (replacedOf kept) ⌝ }
 {
     let one = added(none(), 1, kept.processor);
     let two = added(one, 2, kept.drawing);

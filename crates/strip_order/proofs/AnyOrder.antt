@@ -14,7 +14,7 @@ use borrow.Author.Tests.{ltb-true, eqb-true, lt-ltb, eq-eqb}
 use Rattle.word.specs.Choose.{pick, member}
 use Rattle.drawing.specs.Calls.{drawStripOf, drawFrameOf}
 use Rattle.drawing_laws.specs.Demand3.{SameByte}
-use Rattle.drawing_laws.specs.Drawn.{frameCall, stripCall, drawsStripOf, afterOf, inImagesOf}
+use Rattle.drawing_laws.specs.Drawn.{frameCall, stripCall, drawsStripOf, drawnBy, inImagesOf}
 use Rattle.drawing_laws.proofs.Verdicts.{stripTest}
 use Rattle.drawing_laws.proofs.CallDrawn.{byte-kept, length-kept}
 use Rattle.strip_order.specs.Order.{afterStripsOf, NamesEach, AnyOrder}
@@ -27,7 +27,7 @@ module _ (regs : List ℕ) (frame : ℕ) where
     outside : (a : ℕ) → inImagesOf frame a ≡ false → SameByte vram now a
 
   mixed-strip : (vram now : List ℕ) (s : ℕ) → Mixed vram now → Mixed vram (drawStripOf now regs frame s)
-  unfolding afterOf
+  unfolding drawnBy
   mixed-strip vram now s m =
       record {
         same-length = length-kept now regs frame (stripCall s) ∙ m .same-length;
@@ -35,7 +35,7 @@ module _ (regs : List ℕ) (frame : ℕ) where
       }
 
   strips-length : (now : List ℕ) (strips : List ℕ) → length (afterStripsOf now regs frame strips) ≡ length now
-  unfolding afterStripsOf afterOf
+  unfolding afterStripsOf drawnBy
   strips-length now [] = refl
   strips-length now (s ∷ rest) = strips-length (drawStripOf now regs frame s) rest ∙ length-kept now regs frame (stripCall s)
 
@@ -56,14 +56,14 @@ module _ (regs : List ℕ) (frame : ℕ) where
 
     own-drawn : (now : List ℕ) (s : ℕ) → Mixed vram now → a % 64 / 2 ≡ s
         → getD (drawStripOf now regs frame s) a 0 ≡ pixelsAtOf vram regs a
-    unfolding afterOf
+    unfolding drawnBy
     own-drawn now s m q =
         byte-drawn now regs frame (stripCall s) a (rw (m .same-length) h) (own-draws now s (m .same-length) q)
         ∙ pixels-same vram now regs frame a (d .registers-ok) (m .outside)
 
     other-left : (now : List ℕ) (s : ℕ) → eqb (a % 64 / 2) s ≡ false
         → getD (drawStripOf now regs frame s) a 0 ≡ getD now a 0
-    unfolding afterOf drawsStripOf
+    unfolding drawnBy drawsStripOf
     other-left now s q = byte-kept now regs frame (stripCall s) a (rw (d .in-image) q)
 
     -- a byte that has its pixels, or whose strip is still to come, has them after the list
@@ -107,14 +107,14 @@ module _ (regs : List ℕ) (frame : ℕ) where
 
   strips-left : (a : ℕ) (strips now : List ℕ) → drawsByteOf (length now) regs frame frameCall a ≡ false
       → getD (afterStripsOf now regs frame strips) a 0 ≡ getD now a 0
-  unfolding afterStripsOf afterOf
+  unfolding afterStripsOf drawnBy
   strips-left a [] now e = refl
   strips-left a (s ∷ rest) now e =
       strips-left a rest (drawStripOf now regs frame s) (rw (length-kept now regs frame (stripCall s)) e)
       ∙ byte-left now regs frame (stripCall s) a (no-strip (length now) a e s)
 
 pub any-order : AnyOrder
-unfolding afterOf drawsStripOf
+unfolding drawnBy drawsStripOf
 any-order vram regs frame strips names =
     ext-getD 0 (afterStripsOf vram regs frame strips) (drawFrameOf vram regs frame) same-length same-byte
   where

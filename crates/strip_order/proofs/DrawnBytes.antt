@@ -11,15 +11,15 @@ use lib.ListN.{length, getD}
 use lib.Dec.{eqb, ltb}
 use borrow.Author.Tests.{ltb-true, eqb-true, lt-ltb, eq-eqb, ne-eqb}
 use Rattle.bus.specs.Registers.{drawingOk}
-use Rattle.refusal.specs.Number.{unless}
+use Rattle.refusal.specs.Number.{unless, whenAccepted}
 use Rattle.bus.specs.Refusal.{vramOk}
 use Rattle.refusal.specs.declared.Refusal.{Refusal}
 use Rattle.refusal.specs.declared.Verdict.the-variants.{Accepted}
 use Rattle.drawing_pixel.specs.Pixel.{pixelOf}
 use Rattle.drawing_pixel.specs.Strip.{inStripOf, fourPixelsOf, stripOf, stripsOf, frameOf}
-use Rattle.drawing.specs.Calls.{whenAccepted, stripVerdictOf, drawStripOf, frameVerdictOf, drawFrameOf}
+use Rattle.drawing.specs.Calls.{stripVerdictOf, drawStripOf, frameVerdictOf, drawFrameOf}
 use Rattle.drawing_laws.specs.Demand3.{SameByte}
-use Rattle.drawing_laws.specs.Drawn.{Call, frameCall, stripCall, drawsStripOf, afterOf, inImagesOf}
+use Rattle.drawing_laws.specs.Drawn.{Call, frameCall, stripCall, drawsStripOf, drawnBy, inImagesOf}
 use Rattle.drawing_laws.proofs.Verdicts.{stripTest}
 use Rattle.drawing_laws.proofs.CallDrawn.{in-strip-is, outside-strip, strips-length, strips-kept, frame-accepted, strip-accepted, byte-kept}
 use Rattle.drawing_laws.proofs.Images.{pixel-outside-images}
@@ -117,8 +117,8 @@ module _ (vram regs : List ℕ) (frame a : ℕ) (ok : drawingOk regs ≡ true) (
 -- a byte that a call draws
 pub byte-drawn : (vram regs : List ℕ) (frame : ℕ) (call : Call) (a : ℕ) → a < length vram
     → Draws (length vram) regs frame call a
-    → getD (afterOf vram regs frame call) a 0 ≡ pixelsAtOf vram regs a
-unfolding afterOf drawsStripOf stripTest frameOf
+    → getD (drawnBy vram regs frame call) a 0 ≡ pixelsAtOf vram regs a
+unfolding drawnBy drawsStripOf stripTest frameOf
 byte-drawn vram regs frame frameCall a h d =
     rw (frame-accepted vram regs frame (d .vram-ok) (d .registers-ok) (d .frame-ok))
     (strips-drawn vram regs frame a (d .registers-ok) (d .in-image) h 28 (ltb-true (a % 64 / 2) 28 (d .in-strip)))
@@ -143,8 +143,8 @@ refused-strip r t u v true true true false before after e = refl
 refused-strip r t u v true true true true before after e = absurd (true≢false e)
 
 refused : (vram regs : List ℕ) (frame : ℕ) (call : Call) → acceptsOf (length vram) regs frame call ≡ false
-    → afterOf vram regs frame call ≡ vram
-unfolding afterOf acceptsOf stripTest drawFrameOf frameVerdictOf drawStripOf stripVerdictOf
+    → drawnBy vram regs frame call ≡ vram
+unfolding drawnBy acceptsOf stripTest drawFrameOf frameVerdictOf drawStripOf stripVerdictOf
 refused vram regs frame frameCall e =
     refused-frame _ _ _ (vramOk (length vram)) (drawingOk regs) (ltb frame 2) vram (frameOf vram regs frame) e
 refused vram regs frame (stripCall s) e =
@@ -153,11 +153,11 @@ refused vram regs frame (stripCall s) e =
 -- a byte that a call does not draw, refused or not
 pub byte-left : (vram regs : List ℕ) (frame : ℕ) (call : Call) (a : ℕ)
     → drawsByteOf (length vram) regs frame call a ≡ false
-    → getD (afterOf vram regs frame call) a 0 ≡ getD vram a 0
+    → getD (drawnBy vram regs frame call) a 0 ≡ getD vram a 0
 unfolding drawsByteOf
 byte-left vram regs frame call a e = go (acceptsOf (length vram) regs frame call) refl
   where
     go : (b : Bool) → acceptsOf (length vram) regs frame call ≡ b
-        → getD (afterOf vram regs frame call) a 0 ≡ getD vram a 0
+        → getD (drawnBy vram regs frame call) a 0 ≡ getD vram a 0
     go true q = byte-kept vram regs frame call a (rw q at e)
     go false q = ap (λ xs. getD xs a 0) (refused vram regs frame call q)

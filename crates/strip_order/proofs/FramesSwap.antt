@@ -11,10 +11,10 @@ use lib.Dec.{eqb, ltb}
 use borrow.Author.Tests.{eqb-true, ne-eqb}
 use Rattle.drawing_laws.specs.Drawn.{inImagesOf, drawsStripOf}
 use Rattle.drawing_laws.proofs.CallDrawn.{byte-kept, length-kept}
-use Rattle.strip_order.specs.Order.{Drawing, drawnOf, allDrawnOf, Differ, FramesSwap, ListsSwap}
+use Rattle.strip_order.specs.Order.{Drawing, stripsDrawnOf, allDrawnOf, Differ, FramesSwap, ListsSwap}
 use Rattle.strip_order.proofs.DrawnBytes.{pixelsAtOf, pixels-same, drawsByteOf, Draws, draws, byte-drawn, byte-left}
 
-drawn-length : (vram : List ℕ) (frame : ℕ) (d : Drawing) → length (drawnOf vram frame d) ≡ length vram
+drawn-length : (vram : List ℕ) (frame : ℕ) (d : Drawing) → length (stripsDrawnOf vram frame d) ≡ length vram
 drawn-length vram frame d = length-kept vram (d .regs) frame (d .call)
 
 -- whether a drawing over VRAM of n bytes draws the byte at an address
@@ -35,24 +35,24 @@ images-apart frame another a differ e = go (ltb a 0x20000) (eqb (a / 0x8000 % 2)
         rw (ne-eqb (a / 0x8000 % 2) another (λ o. omega arith))
 
 outside-kept : (vram : List ℕ) (frame : ℕ) (d : Drawing) (a : ℕ) → inImagesOf frame a ≡ false
-    → getD (drawnOf vram frame d) a 0 ≡ getD vram a 0
+    → getD (stripsDrawnOf vram frame d) a 0 ≡ getD vram a 0
 outside-kept vram frame d a o = byte-kept vram (d .regs) frame (d .call) a (rw o)
 
 -- a byte that one of two drawings draws has its pixels after both, in either order
 module _ (vram : List ℕ) (frame another : ℕ) (one other : Drawing) (differ : Differ frame another) (a : ℕ) (h : a < length vram)
     (q : drawsOf (length vram) frame one a ≡ true) where
-  drawn-first : getD (drawnOf (drawnOf vram frame one) another other) a 0 ≡ pixelsAtOf vram (one .regs) a
+  drawn-first : getD (stripsDrawnOf (stripsDrawnOf vram frame one) another other) a 0 ≡ pixelsAtOf vram (one .regs) a
   unfolding drawsOf
   drawn-first =
       let d = draws (length vram) (one .regs) frame (one .call) a q in
-      outside-kept (drawnOf vram frame one) another other a (images-apart frame another a differ (d .in-image))
+      outside-kept (stripsDrawnOf vram frame one) another other a (images-apart frame another a differ (d .in-image))
       ∙ byte-drawn vram (one .regs) frame (one .call) a h d
 
-  drawn-last : getD (drawnOf (drawnOf vram another other) frame one) a 0 ≡ pixelsAtOf vram (one .regs) a
+  drawn-last : getD (stripsDrawnOf (stripsDrawnOf vram another other) frame one) a 0 ≡ pixelsAtOf vram (one .regs) a
   unfolding drawsOf
   drawn-last =
       let d = draws (length vram) (one .regs) frame (one .call) a q in
-      let now = drawnOf vram another other in
+      let now = stripsDrawnOf vram another other in
       byte-drawn now (one .regs) frame (one .call) a (rw (drawn-length vram another other) h)
       (rw (drawn-length vram another other) d)
       ∙ pixels-same vram now (one .regs) another a (d .registers-ok) (λ b o. outside-kept vram another other b o)
@@ -60,26 +60,26 @@ module _ (vram : List ℕ) (frame another : ℕ) (one other : Drawing) (differ :
 drawn-left : (vram : List ℕ) (frame another : ℕ) (one other : Drawing) (a : ℕ)
     → drawsOf (length vram) frame one a ≡ false
     → drawsOf (length vram) another other a ≡ false
-    → getD (drawnOf (drawnOf vram frame one) another other) a 0 ≡ getD vram a 0
+    → getD (stripsDrawnOf (stripsDrawnOf vram frame one) another other) a 0 ≡ getD vram a 0
 unfolding drawsOf
 drawn-left vram frame another one other a p q =
-    byte-left (drawnOf vram frame one) (other .regs) another (other .call) a (rw (drawn-length vram frame one) q)
+    byte-left (stripsDrawnOf vram frame one) (other .regs) another (other .call) a (rw (drawn-length vram frame one) q)
     ∙ byte-left vram (one .regs) frame (one .call) a p
 
 pub frames-swap : FramesSwap
 frames-swap vram frame another one other differ =
-    ext-getD 0 (drawnOf (drawnOf vram frame one) another other) (drawnOf (drawnOf vram another other) frame one)
-    (first-length ∙ sym (drawn-length (drawnOf vram another other) frame one ∙ drawn-length vram another other))
+    ext-getD 0 (stripsDrawnOf (stripsDrawnOf vram frame one) another other) (stripsDrawnOf (stripsDrawnOf vram another other) frame one)
+    (first-length ∙ sym (drawn-length (stripsDrawnOf vram another other) frame one ∙ drawn-length vram another other))
     (λ a h.
     go a (rw first-length at h) (drawsOf (length vram) frame one a) (drawsOf (length vram) another other a) refl refl)
   where
-    first-length : length (drawnOf (drawnOf vram frame one) another other) ≡ length vram
-    first-length = drawn-length (drawnOf vram frame one) another other ∙ drawn-length vram frame one
+    first-length : length (stripsDrawnOf (stripsDrawnOf vram frame one) another other) ≡ length vram
+    first-length = drawn-length (stripsDrawnOf vram frame one) another other ∙ drawn-length vram frame one
 
     go : (a : ℕ) → a < length vram → (p q : Bool) → drawsOf (length vram) frame one a ≡ p
         → drawsOf (length vram) another other a ≡ q
-        → getD (drawnOf (drawnOf vram frame one) another other) a 0
-        ≡ getD (drawnOf (drawnOf vram another other) frame one) a 0
+        → getD (stripsDrawnOf (stripsDrawnOf vram frame one) another other) a 0
+        ≡ getD (stripsDrawnOf (stripsDrawnOf vram another other) frame one) a 0
     go a h true q e f =
         drawn-first vram frame another one other differ a h e ∙ sym (drawn-last vram frame another one other differ a h e)
     go a h false true e f =
@@ -90,11 +90,11 @@ frames-swap vram frame another one other differ =
 
 -- a drawing of one frame before or after drawings of the other
 one-swap : (vram : List ℕ) (frame another : ℕ) (ones : List Drawing) (other : Drawing) → Differ frame another
-    → drawnOf (allDrawnOf vram frame ones) another other ≡ allDrawnOf (drawnOf vram another other) frame ones
+    → stripsDrawnOf (allDrawnOf vram frame ones) another other ≡ allDrawnOf (stripsDrawnOf vram another other) frame ones
 unfolding allDrawnOf
 one-swap vram frame another [] other differ = refl
 one-swap vram frame another (one ∷ rest) other differ =
-    one-swap (drawnOf vram frame one) frame another rest other differ
+    one-swap (stripsDrawnOf vram frame one) frame another rest other differ
     ∙ ap (λ now. allDrawnOf now frame rest) (frames-swap vram frame another one other differ)
 
 pub lists-swap : ListsSwap
@@ -102,4 +102,4 @@ unfolding allDrawnOf
 lists-swap vram frame another ones [] differ = refl
 lists-swap vram frame another ones (other ∷ rest) differ =
     ap (λ now. allDrawnOf now another rest) (one-swap vram frame another ones other differ)
-    ∙ lists-swap (drawnOf vram another other) frame another ones rest differ
+    ∙ lists-swap (stripsDrawnOf vram another other) frame another ones rest differ

@@ -7,7 +7,7 @@ use mathlib.Core.List.{List, [], _∷_}
 use mathlib.Core.Path.{_≡_}
 use Rattle.word.specs.Choose.{member}
 use Rattle.drawing.specs.Calls.{drawStripOf, drawFrameOf}
-use Rattle.drawing_laws.specs.Drawn.{Call, afterOf}
+use Rattle.drawing_laws.specs.Drawn.{Call, drawnBy}
 
 -- VRAM after strip calls for one frame, with one set of registers, one for each number of a list and in its order
 unfoldable pub afterStripsOf : List ℕ → List ℕ → ℕ → List ℕ → List ℕ
@@ -30,13 +30,13 @@ pub record Drawing : Type 0 where
   pub regs : List ℕ
 
 -- VRAM after a drawing of a frame
-abbrev pub drawnOf : List ℕ → ℕ → Drawing → List ℕ
-drawnOf vram frame d = afterOf vram (d .regs) frame (d .call)
+abbrev pub stripsDrawnOf : List ℕ → ℕ → Drawing → List ℕ
+stripsDrawnOf vram frame d = drawnBy vram (d .regs) frame (d .call)
 
 -- VRAM after a list of drawings of one frame
 unfoldable pub allDrawnOf : List ℕ → ℕ → List Drawing → List ℕ
 allDrawnOf vram frame [] = vram
-allDrawnOf vram frame (d ∷ rest) = allDrawnOf (drawnOf vram frame d) frame rest
+allDrawnOf vram frame (d ∷ rest) = allDrawnOf (stripsDrawnOf vram frame d) frame rest
 
 -- two frame numbers that differ, as 0 and 1 do
 abbrev pub Differ : ℕ → ℕ → Type 0
@@ -46,7 +46,7 @@ Differ frame another = frame ≡ another → ⊥
 abbrev pub FramesSwap : Type 0
 FramesSwap =
     (vram : List ℕ) (frame another : ℕ) (one other : Drawing) → Differ frame another
-    → drawnOf (drawnOf vram frame one) another other ≡ drawnOf (drawnOf vram another other) frame one
+    → stripsDrawnOf (stripsDrawnOf vram frame one) another other ≡ stripsDrawnOf (stripsDrawnOf vram another other) frame one
 
 -- and so may two lists of drawings
 abbrev pub ListsSwap : Type 0

@@ -17,6 +17,16 @@ pub fn pak_lengths() -> impl Iterator<Item = usize> {
     std::iter::once(0).chain((0..=24).map(|power| 1 << power))
 }
 
+/// Those lengths with a generator for each of some rounds, fewer for the longest.
+pub fn rounds_of_paks(seed: u64) -> impl Iterator<Item = (usize, Random, String)> {
+    pak_lengths().flat_map(move |pak| {
+        let rounds = if pak > 1 << 20 { 1 } else { 6 };
+        (0..rounds).map(move |round| {
+            (pak, Random::new(seed + round), format!("pak RAM {pak}, round {round}"))
+        })
+    })
+}
+
 /// Room of this length, filled.
 pub fn filled(length: usize) -> Box<[u8]> {
     vec![FILLED; length].into_boxed_slice()
@@ -135,6 +145,17 @@ impl State {
             assert_eq!(restored.refusal, number);
             read.expect_equal(if number == 0 { &self.buffers } else { &blank });
         }
+    }
+
+    /// The file of this state, which another machine reads back whole and writes again.
+    pub fn expect_kept(&self, form: Form, other: &State, what: &str) -> Box<[u8]> {
+        let file = self.file(form, what);
+        let (number, read) = other.read(&file, what);
+        assert_eq!(number, 0, "{what}");
+        read.expect_read(self, what);
+        assert!(read.buffers.rom == other.buffers.rom, "ROM is not stored; {what}");
+        assert!(read.file(form, what) == file, "written again; {what}");
+        file
     }
 
     /// Rooms and files of these lengths: every one but that of the file itself is

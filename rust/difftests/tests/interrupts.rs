@@ -244,24 +244,23 @@ fn the_period() {
     }
 }
 
+/// Of a worked row.
+fn hardware_of([lines, count, reload, control]: [u16; 4]) -> Hardware {
+    hardware(lines, count, reload, control)
+}
+
 /// The request's worked ticks and writes, by the library.
 #[test]
 fn worked_timers() {
     for row in worked::TICKS {
-        let [before, after] =
-            row.map(|[lines, count, reload, control]| hardware(lines, count, reload, control));
+        let [before, after] = row.map(hardware_of);
         let ticked = vbsys::tick(hardware_to_library(&before));
         assert_eq!((ticked.refusal, hardware_to_model(&ticked.hardware)), (0, after));
     }
     let mut buffers = Buffers::zeroed(1_024, 65_536, 262_144, 0);
-    for (before, address, value, after) in [
-        (hardware(0x1F, 0, 5, 0x0B), 0x0200_0020, 0x0D, hardware(0x1D, 0, 5, 0x09)),
-        (hardware(0x02, 3, 5, 0x0B), 0x0200_0020, 0x01, hardware(0x00, 3, 5, 0x03)),
-        (hardware(0x00, 3, 5, 0x03), 0x0200_0020, 0x09, hardware(0x00, 3, 5, 0x0B)),
-        (hardware(0x02, 3, 5, 0x0B), 0x0200_0020, 0x0B, hardware(0x02, 3, 5, 0x0B)),
-        (hardware(0x02, 3, 5, 0x02), 0x0200_0020, 0xFF, hardware(0x00, 3, 5, 0x19)),
-        (hardware(0, 7, 0x1200, 1), 0x0200_0018, 0x34, hardware(0, 0x1234, 0x1234, 1)),
-    ] {
+    for (before, offset, value, after) in worked::TIMER_WRITES {
+        let (before, after) = (hardware_of(before), hardware_of(after));
+        let address = 0x0200_0000 + offset;
         let registers = Registers { hardware: before, ..Registers::default() };
         let stored = by_library(Call::StoreByte, &mut buffers, registers, address, value);
         assert_eq!((stored.refusal, stored.hardware), (0, after), "{value:X} over {before:X?}");

@@ -145,7 +145,8 @@ fn system_instructions_with_lines() {
         twin.put_code(place, &code);
         start(&mut random, &mut twin, place);
         let processor = &mut twin.processor;
-        processor.hardware.lines = random.pick(&[0, 1 << random.below(5), random.half() & 0x1F]);
+        let (one, any) = (1 << random.below(5), random.half() & 0x1F);
+        processor.hardware.lines = random.pick(&[0, one, any]);
         let masks = random.pick(&[0, 0x1000, 0x1000, 0x1000, 0x4000, 0x8000, 0x5000]);
         processor.psw = processor.psw & 0x23FF | random.below(7) << 16 | masks;
         // a PSW for LDSR that lets some lines through, and one that masks all

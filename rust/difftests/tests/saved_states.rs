@@ -6,7 +6,7 @@
 use difftests::broken::Broken;
 use difftests::machine::{random_hardware, to_library};
 use difftests::random::Random;
-use difftests::state::{field_values, pak_lengths, State};
+use difftests::state::{field_values, rounds_of_paks, State};
 use difftests::twin::processor_to_library;
 use model::saved::{file_length, Form};
 use model::Hardware;
@@ -20,21 +20,10 @@ fn file_of(state: &State, what: &str) -> Box<[u8]> {
 /// into another machine, and that machine writes it again.
 #[test]
 fn every_pak_length() {
-    for pak in pak_lengths() {
-        let rounds = if pak > 1 << 20 { 1 } else { 6 };
-        for number in 0..rounds {
-            let mut random = Random::new(0x1001_0000 + number);
-            let state = State::at_reset(&mut random, pak);
-            let what = format!("pak RAM {pak}, round {number}");
-            let file = file_of(&state, &what);
-            assert_eq!(file.len(), if pak == 0 { 327_920 } else { 327_930 + pak });
-            let other = State::random(&mut random, pak);
-            let (number, read) = other.read(&file, &what);
-            assert_eq!(number, 0, "{what}");
-            read.expect_read(&state, &what);
-            assert!(read.buffers.rom == other.buffers.rom, "ROM is not stored; {what}");
-            assert!(file_of(&read, &what) == file, "written again; {what}");
-        }
+    for (pak, mut random, what) in rounds_of_paks(0x1001_0000) {
+        let state = State::at_reset(&mut random, pak);
+        let file = state.expect_kept(Form::One, &State::random(&mut random, pak), &what);
+        assert_eq!(file.len(), if pak == 0 { 327_920 } else { 327_930 + pak });
     }
 }
 

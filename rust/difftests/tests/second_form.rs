@@ -6,7 +6,9 @@
 use difftests::broken::Broken;
 use difftests::machine::{expect_same_bytes, to_library, Buffers};
 use difftests::random::Random;
-use difftests::state::{bodies, field_values, filled, is_untouched, pak_lengths, sum, Body, State};
+use difftests::state::{
+    bodies, field_values, filled, is_untouched, pak_lengths, rounds_of_paks, sum, Body, State,
+};
 use difftests::twin::processor_to_library;
 use model::saved::{file_length, Form};
 use model::{Hardware, Refusal};
@@ -26,24 +28,13 @@ fn moved(file: &[u8], room: usize, what: &str) -> (u32, Box<[u8]>) {
 /// whole, lines and timer among it, and written again.
 #[test]
 fn every_pak_length() {
-    for pak in pak_lengths() {
-        let rounds = if pak > 1 << 20 { 1 } else { 6 };
-        for number in 0..rounds {
-            let mut random = Random::new(0x1201_0000 + number);
-            let state = State::random(&mut random, pak);
-            let what = format!("pak RAM {pak}, round {number}");
-            let file = state.file(Form::Two, &what);
-            assert_eq!(file.len(), if pak == 0 { 327_962 } else { 327_976 + pak });
-            for Body { kind, place, length, sum_place } in bodies(pak) {
-                let stored = u32::from_le_bytes(file[sum_place..sum_place + 4].try_into().unwrap());
-                assert_eq!(stored, sum(&file[place..place + length]), "kind {kind}, {what}");
-            }
-            let other = State::random(&mut random, pak);
-            let (number, read) = other.read(&file, &what);
-            assert_eq!(number, 0, "{what}");
-            read.expect_read(&state, &what);
-            assert!(read.buffers.rom == other.buffers.rom, "ROM is not stored; {what}");
-            assert!(read.file(Form::Two, &what) == file, "written again; {what}");
+    for (pak, mut random, what) in rounds_of_paks(0x1201_0000) {
+        let state = State::random(&mut random, pak);
+        let file = state.expect_kept(Form::Two, &State::random(&mut random, pak), &what);
+        assert_eq!(file.len(), if pak == 0 { 327_962 } else { 327_976 + pak });
+        for Body { kind, place, length, sum_place } in bodies(pak) {
+            let stored = u32::from_le_bytes(file[sum_place..sum_place + 4].try_into().unwrap());
+            assert_eq!(stored, sum(&file[place..place + length]), "kind {kind}, {what}");
         }
     }
 }

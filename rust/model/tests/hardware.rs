@@ -16,6 +16,11 @@ const fn hardware(lines: u16, count: u16, reload: u16, control: u16) -> Hardware
     Hardware { lines, count, reload, control }
 }
 
+/// Of a worked row.
+fn hardware_of([lines, count, reload, control]: [u16; 4]) -> Hardware {
+    hardware(lines, count, reload, control)
+}
+
 const HALT: u16 = 0b011010 << 10;
 const CLI: u16 = 0b010110 << 10;
 const CAXI: u16 = 0b111010 << 10;
@@ -117,8 +122,7 @@ fn worked_runs() {
 #[test]
 fn worked_ticks() {
     for row in worked::TICKS {
-        let [before, after] =
-            row.map(|[lines, count, reload, control]| hardware(lines, count, reload, control));
+        let [before, after] = row.map(hardware_of);
         let mut found = before;
         tick(&mut found).unwrap();
         assert_eq!(found, after, "{before:X?}");
@@ -139,19 +143,8 @@ fn the_period() {
 
 #[test]
 fn worked_writes() {
-    for (before, address, value, after) in [
-        (hardware(0x1F, 0, 5, 0x0B), 0x20, 0x0D, hardware(0x1D, 0, 5, 0x09)),
-        (hardware(0x02, 3, 5, 0x0B), 0x20, 0x01, hardware(0x00, 3, 5, 0x03)),
-        (hardware(0x00, 3, 5, 0x03), 0x20, 0x09, hardware(0x00, 3, 5, 0x0B)),
-        (hardware(0x02, 3, 5, 0x0B), 0x20, 0x0B, hardware(0x02, 3, 5, 0x0B)),
-        (hardware(0x02, 3, 5, 0x02), 0x20, 0xFF, hardware(0x00, 3, 5, 0x19)),
-        (hardware(0, 7, 0x1200, 0x01), 0x18, 0x34, hardware(0, 0x1234, 0x1234, 0x01)),
-        (hardware(0, 7, 0x1200, 0x01), 0x1C, 0x34, hardware(0, 0x3400, 0x3400, 0x01)),
-        (hardware(2, 7, 0x0001, 0x0B), 0x18, 0x00, hardware(2, 0, 0, 0x0B)),
-        (hardware(0x1F, 7, 9, 0x1B), 0x21, 0x00, hardware(0x1F, 7, 9, 0x1B)),
-        (hardware(0x1F, 7, 9, 0x1B), 0x24, 0x00, hardware(0x1F, 7, 9, 0x1B)),
-        (hardware(0x1F, 7, 9, 0x1B), 0x120, 0x00, hardware(0x1F, 7, 9, 0x1B)),
-    ] {
+    for (before, address, value, after) in worked::TIMER_WRITES {
+        let (before, after) = (hardware_of(before), hardware_of(after));
         for region in [0x0200_0000, 0x0A00_0000, 0xFA00_0000] {
             let mut machine = machine_of(&[], 0, 0);
             machine.processor.hardware = before;

@@ -48,11 +48,15 @@ fn hardware(lines: u16, count: u16, reload: u16, control: u16) -> Hardware {
     Hardware { lines, count, reload, control }
 }
 
+/// Of a worked row.
+fn hardware_of([lines, count, reload, control]: [u16; 4]) -> Hardware {
+    hardware(lines, count, reload, control)
+}
+
 #[test]
 fn worked_ticks() {
     for row in worked::TICKS {
-        let [before, after] =
-            row.map(|[lines, count, reload, control]| hardware(lines, count, reload, control));
+        let [before, after] = row.map(hardware_of);
         let mut machine = Bench::new(before).machine;
         machine.tick().expect("not refused");
         assert_eq!(machine.processor.hardware, after);
@@ -61,15 +65,12 @@ fn worked_ticks() {
 
 #[test]
 fn worked_stores_of_each_width() {
-    for (before, address, value, after) in [
-        (hardware(0x1F, 0, 5, 0x0B), TCR, 0x0D, hardware(0x1D, 0, 5, 0x09)),
-        (hardware(0x02, 3, 5, 0x0B), TCR, 0x01, hardware(0x00, 3, 5, 0x03)),
-        (hardware(0x00, 3, 5, 0x03), TCR, 0x09, hardware(0x00, 3, 5, 0x0B)),
-        (hardware(0x02, 3, 5, 0x0B), TCR, 0x0B, hardware(0x02, 3, 5, 0x0B)),
-        (hardware(0x02, 3, 5, 0x02), TCR, 0xFF, hardware(0x00, 3, 5, 0x19)),
-        (hardware(0x00, 7, 0x1200, 0x01), TLR, 0x34, hardware(0x00, 0x1234, 0x1234, 0x01)),
-        (hardware(0x00, 7, 0x0034, 0x01), THR, 0x12, hardware(0x00, 0x1234, 0x1234, 0x01)),
-    ] {
+    // a wider store drops the low bits of an offset, so that those of a word's first byte alone go for all
+    for (before, offset, value, after) in
+        worked::TIMER_WRITES.into_iter().filter(|row| row.1 % 4 == 0)
+    {
+        let (before, after) = (hardware_of(before), hardware_of(after));
+        let address = 0x0200_0000 + offset;
         for (size, store) in STORES {
             for mirror in [0, 0x0800_0000, 0xF800_0000] {
                 for byte in 0..size {

@@ -82,6 +82,19 @@ impl Folder {
         Ran::of(output)
     }
 
+    /// The commands as the help lists them.
+    pub fn commands(&self) -> Vec<String> {
+        let help = self.vbmodel("--help").text;
+        let lines = help.lines().skip_while(|line| *line != "Commands:").skip(1);
+        let names: Vec<String> = lines
+            .map_while(|line| line.strip_prefix("  "))
+            .filter_map(|line| line.split_whitespace().next().map(str::to_string))
+            .filter(|name| name != "help")
+            .collect();
+        assert!(names.len() >= 14, "{help}");
+        names
+    }
+
     /// What a line of shell shows here on a terminal, which `script` stands in for; none where that is not installed. The
     /// tool's path is in $VB.
     pub fn terminal(&self, line: &str) -> Option<String> {

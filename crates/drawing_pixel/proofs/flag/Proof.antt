@@ -2,14 +2,14 @@
 use Rattle.drawing_pixel.proofs.flag.Statement.{statement}
 use Rattle.drawing_pixel.proofs.flag.Tie as tie
 use borrow.Author.Tests.{eq-eqb, ne-eqb}
-use Rattle.drawing_pixel.specs.Signed.{flagOf}
+use Rattle.drawing_pixel.specs.Signed.{eyeFlagOf}
 
 returns : tie.Need-returns
-unfolding flagOf
+unfolding eyeFlagOf
 returns c = simp (eq-eqb _ _ (c .if1 .taken))
 
 returns-2 : tie.Need-returns-2
-unfolding flagOf
+unfolding eyeFlagOf
 returns-2 c = simp (ne-eqb _ _ (c .if1 .left))
 
 pub flag-spec : {M : Type 1} → statement M

@@ -4,7 +4,7 @@ use Rattle.drawing_pixel.proofs.pair.Statement.{statement}
 use Rattle.drawing_pixel.proofs.pair.Tie as tie
 use native.Mathlib.Omega.{arith}
 use mathlib.Core.Path.{refl}
-use Rattle.drawing_pixel.specs.Character.{pairOf}
+use Rattle.drawing_pixel.specs.Character.{twoBitsOf}
 
 mul-result : tie.Need-mul-result
 mul-result c = search needs
@@ -13,7 +13,7 @@ shr-result : tie.Need-shr-result
 shr-result c = search needs
 
 returns : tie.Need-returns
-unfolding pairOf
+unfolding twoBitsOf
 returns c = (refl, omega arith)
 
 pub pair-spec : {M : Type 1} → statement M

@@ -2,7 +2,7 @@
 -- values. Assumes nothing.
 use Prim.Native.Nat.{_+_, _-_, _≤_}
 use native.Mathlib.Omega.{arith}
-use Rattle.drawing_pixel.specs.Character.{shadeOf, valueOf}
+use Rattle.drawing_pixel.specs.Character.{shadeOf, pixelValueOf}
 use mathlib.Core.Path.{_≡_, ap}
 use Rattle.drawing_pixel.specs.Buffer.{Span}
 use Rattle.drawing_pixel.proofs.Spans.{span-none, span-more, span-change}
@@ -12,7 +12,7 @@ use Rattle.drawing_pixel.proofs.span.Tie as tie
 abbrev Inv-loop : tie.InvT-loop
 Inv-loop buffer₀ from to r cell row palette column x₀ buffer x =
     (from ≤ x)
-    × ((x ≤ to) × Span r from x (λ y. shadeOf palette (valueOf cell row (column + (y - from)))) buffer₀ buffer)
+    × ((x ≤ to) × Span r from x (λ y. shadeOf palette (pixelValueOf cell row (column + (y - from)))) buffer₀ buffer)
 
 abbrev μ-loop : tie.MeasureT-loop
 μ-loop buffer₀ from to r cell row palette column x₀ buffer x = to - x
@@ -27,7 +27,7 @@ returns : tie.Need-returns Inv-loop μ-loop
 returns c =
     let a = c .before .before .before .args in
     span-change _ _ _ _ _ _ _
-    (λ x v l h. let e : x - a .from ≡ a .column + (x - a .from) = omega arith in ap (λ n. shadeOf (a .palette) (valueOf (a .cell) (a .row) n) v) e)
+    (λ x v l h. let e : x - a .from ≡ a .column + (x - a .from) = omega arith in ap (λ n. shadeOf (a .palette) (pixelValueOf (a .cell) (a .row) n) v) e)
     (rw (c .before .before .if1 .taken) at (c .eight .ensures))
 
 loop-holds : tie.Need-loop-holds Inv-loop μ-loop

@@ -4,7 +4,7 @@ use Rattle.drawing_pixel.proofs.tint.Statement.{statement}
 use Rattle.drawing_pixel.proofs.tint.Tie as tie
 use Prim.Native.Nat.{_<_}
 use native.Mathlib.Omega.{arith}
-use Rattle.drawing_pixel.specs.Character.{pairOf}
+use Rattle.drawing_pixel.specs.Character.{twoBitsOf}
 use Rattle.drawing_pixel.proofs.Pairs.{pair-lt}
 use Rattle.drawing_pixel.proofs.Masks.{choice-small, three-small, one-of-three}
 
@@ -47,7 +47,7 @@ returns c =
       three-small _ _ _ one two three,
       λ p l e.
           rw (c .choice3 .ensures, c .before .shade3 .ensures .0, c .before .before .holds3 .ensures p l e, c .before .before .before .choice2 .ensures, c .before .before .before .before .shade2 .ensures .0, c .before .before .before .before .before .holds2 .ensures p l e, c .before .before .before .before .before .before .choice .ensures, c .before .before .before .before .before .before .before .shade .ensures .0, c .before .before .before .before .before .before .before .before .holds .ensures p l e)
-          (one-of-three (a .palette) (pairOf (a .row) p) (pair-lt (a .row) p)),
+          (one-of-three (a .palette) (twoBitsOf (a .row) p) (pair-lt (a .row) p)),
     )
 
 pub tint-spec : {M : Type 1} → statement M

@@ -1,7 +1,7 @@
 -- `capi::accesses::vb_load_word` meets its contract: the public call's answer, as numbers.
 -- Assumes nothing.
 use mathlib.Core.Path.{_≡_, ap, _∙_}
-use Rattle.capi.specs.Answers.{loadedOf}
+use Rattle.capi.specs.Answers.{loadOut}
 use borrow.Author.Needs.{needs}
 use Rattle.capi.proofs.accesses.vb_load_word.Statement.{statement}
 use Rattle.capi.proofs.accesses.vb_load_word.Tie as tie
@@ -17,7 +17,7 @@ loaded-requires c κs = search needs
 
 returns : tie.Need-returns
 returns c =
-    c .loaded .ensures ∙ ap loadedOf (rw (c .before .before .hardware-given .ensures) at (c .before .load-word .ensures))
+    c .loaded .ensures ∙ ap loadOut (rw (c .before .before .hardware-given .ensures) at (c .before .load-word .ensures))
 
 pub vb-load-word-spec : {M : Type 1} → statement M
 vb-load-word-spec =

@@ -1,6 +1,6 @@
 -- `capi::ticks::vb_tick` meets its contract: the public call's answer, as numbers. Assumes nothing.
 use mathlib.Core.Path.{_≡_, ap, _∙_}
-use Rattle.capi.specs.Answers.{tickedOf}
+use Rattle.capi.specs.Answers.{tickOut}
 use borrow.Author.Needs.{needs}
 use Rattle.capi.proofs.ticks.vb_tick.Statement.{statement}
 use Rattle.capi.proofs.ticks.vb_tick.Tie as tie
@@ -20,7 +20,7 @@ hardware-out-requires c κs = search needs
 returns : tie.Need-returns
 returns c =
     rw (c .before .verdict-number .ensures, c .hardware-out .ensures)
-    (ap tickedOf (rw (c .before .before .before .before .hardware-given .ensures) at (c .before .before .before .tick .ensures)))
+    (ap tickOut (rw (c .before .before .before .before .hardware-given .ensures) at (c .before .before .before .tick .ensures)))
 
 pub vb-tick-spec : {M : Type 1} → statement M
 vb-tick-spec =

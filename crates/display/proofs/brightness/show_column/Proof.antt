@@ -5,14 +5,14 @@ use Prim.Native.Nat.{ℕ, _+_, _-_, _≤_}
 use native.Mathlib.Omega.{arith}
 use mathlib.Core.Path.{_≡_, ap}
 use lib.ListN.{getD}
-use Rattle.drawing_pixel.specs.Character.{pairOf}
+use Rattle.drawing_pixel.specs.Character.{twoBitsOf}
 use Rattle.display.specs.Room.{Column}
 use Rattle.display.proofs.Filling.{column-none, column-more}
 use Rattle.display.proofs.brightness.show_column.Statement.{statement}
 use Rattle.display.proofs.brightness.show_column.Tie as tie
 
 abbrev Inv-loop : tie.InvT-loop
-Inv-loop room₀ levels at group column r₀ room r = (r ≤ 8) × Column at r (λ k. getD levels (group + pairOf column k) 0) room₀ room
+Inv-loop room₀ levels at group column r₀ room r = (r ≤ 8) × Column at r (λ k. getD levels (group + twoBitsOf column k) 0) room₀ room
 
 abbrev μ-loop : tie.MeasureT-loop
 μ-loop room₀ levels at group column r₀ room r = 8 - r

@@ -1,7 +1,7 @@
 -- `display::column_table::entry` meets its contract: the const array is the printed table. Assumes nothing.
 use borrow.Author.Needs.{needs}
 use mathlib.Core.Path.{refl}
-use Rattle.display.specs.ColumnTable.{joinedOf, printedRows, columnTable}
+use Rattle.display.specs.ColumnTable.{joinedRows, printedRows, columnTable}
 use Rattle.display.proofs.column_table.entry.Statement.{statement}
 use Rattle.display.proofs.column_table.entry.Tie as tie
 
@@ -12,7 +12,7 @@ array-read-result : tie.Need-array-read-result
 array-read-result c = search needs
 
 returns : tie.Need-returns
-unfolding joinedOf printedRows columnTable
+unfolding joinedRows printedRows columnTable
 returns c = refl
 
 pub entry-spec : {M : Type 1} → statement M

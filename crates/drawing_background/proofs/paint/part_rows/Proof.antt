@@ -5,7 +5,7 @@ use Prim.Native.Nat.{_+_, _-_, _≤_}
 use native.Mathlib.Omega.{arith}
 use mathlib.Core.Path.{_≡_, ap, _∙_}
 use Rattle.word.specs.LittleEndian.{halfAt}
-use Rattle.drawing_pixel.specs.Character.{rowAddressOf, valueOf, shadeOf}
+use Rattle.drawing_pixel.specs.Character.{rowAddressOf, pixelValueOf, shadeOf}
 use Rattle.drawing_pixel.specs.Buffer.{Block}
 use Rattle.drawing_pixel.proofs.Spans.{span-change}
 use Rattle.drawing_pixel.proofs.Blocks.{block-no-row, block-row}
@@ -15,7 +15,7 @@ abbrev Inv-loop : tie.InvT-loop
 Inv-loop vram buffer₀ top bottom from to cell palette column y r₀ buffer r =
     (top ≤ r)
     × ((r ≤ bottom)
-    × Block top r from to (λ x q. shadeOf palette (valueOf cell (halfAt vram (rowAddressOf cell (y + (q - top)))) (column + (x - from)))) buffer₀ buffer)
+    × Block top r from to (λ x q. shadeOf palette (pixelValueOf cell (halfAt vram (rowAddressOf cell (y + (q - top)))) (column + (x - from)))) buffer₀ buffer)
 
 abbrev μ-loop : tie.MeasureT-loop
 μ-loop vram buffer₀ top bottom from to cell palette column y r₀ buffer r = bottom - r
@@ -59,7 +59,7 @@ loop-again c =
       (
         omega arith,
         block-row _ _ _ _ _ _ _ _ (inv .0) (omega arith) (λ x v h. shade-small _ _ v h) (inv .1 .1)
-            (span-change _ _ _ _ _ _ _ (λ x v l h. ap (λ n. shadeOf (a .palette) (valueOf (a .cell) n (a .column + (x - a .from))) v) e) (c .span .ensures)),
+            (span-change _ _ _ _ _ _ _ (λ x v l h. ap (λ n. shadeOf (a .palette) (pixelValueOf (a .cell) n (a .column + (x - a .from))) v) e) (c .span .ensures)),
       ),
     )
 

@@ -3,7 +3,7 @@ use mathlib.Core.Path.{_≡_, ap, _∙_}
 use mathlib.Core.List.{List}
 use Prim.Native.Nat.{ℕ}
 use Rattle.saved_kinds.specs.Kinds.{generalFrom, restFrom}
-use Rattle.saved.specs.Body.{processorOf}
+use Rattle.saved.specs.Body.{restoredProcessorOf}
 use borrow.Author.Needs.{needs}
 use Rattle.saved.proofs.records.processor.Statement.{statement}
 use Rattle.saved.proofs.records.processor.Tie as tie

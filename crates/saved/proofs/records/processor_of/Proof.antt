@@ -1,5 +1,5 @@
 -- `saved::records::processor_of` meets its contract: field by field. Assumes nothing.
-use Rattle.saved.specs.Body.{processorOf}
+use Rattle.saved.specs.Body.{restoredProcessorOf}
 use borrow.Author.Needs.{needs}
 use Rattle.saved.proofs.records.processor_of.Statement.{statement}
 use Rattle.saved.proofs.records.processor_of.Tie as tie
@@ -41,7 +41,7 @@ array-read-t37 : tie.Need-array-read-t37
 array-read-t37 c = search needs
 
 returns : tie.Need-returns
-unfolding processorOf
+unfolding restoredProcessorOf
 returns c = rw ((c .mode-of .ensures))
 
 pub processor-of-spec : {M : Type 1} → statement M

@@ -6,7 +6,7 @@ use mathlib.Core.List.{List}
 use Prim.Native.Nat.{ℕ}
 use borrow.Author.Tests.{not-true, not-false}
 use lib.ListN.{length}
-use Rattle.saved_layout.specs.Layout.{placeOf, fileLengthOf}
+use Rattle.saved_layout.specs.Layout.{bodyPlaceOf, fileLengthOf}
 use Rattle.saved_layout.specs.declared.Form.the-variants.{One, Two}
 use Rattle.saved_layout.proofs.Positions.{length-is}
 use Rattle.saved_layout.proofs.Written.{hardware-part}
@@ -20,7 +20,7 @@ ok-requires : tie.Need-ok-requires
 ok-requires c κs = search needs
 
 returns : tie.Need-returns
-returns c = file-contents ((c .before .before .before .args .form)) ((c .before .before .before .args .pak)) (placeOf ((c .before .before .before .args .form)) ((c .before .before .before .args .pak)) 0) ((c .before .before .before .args .file .now)) refl (sym ((c .before .ok .ensures)) ∙ not-true _ ((c .if1 .taken)))
+returns c = file-contents ((c .before .before .before .args .form)) ((c .before .before .before .args .pak)) (bodyPlaceOf ((c .before .before .before .args .form)) ((c .before .before .before .args .pak)) 0) ((c .before .before .before .args .file .now)) refl (sym ((c .before .ok .ensures)) ∙ not-true _ ((c .if1 .taken)))
 
 first-requires : tie.Need-first-requires
 first-requires c κs = search needs
@@ -54,7 +54,7 @@ part-hardware-ok-start c = search needs
 
 part-hardware-ok-end : tie.Need-part-hardware-ok-end
 part-hardware-ok-end c = let w : length ((c .before .before .before .before .before .before .before .before .args .file .now)) ≡ fileLengthOf Two ((c .before .before .before .before .before .before .before .before .args .pak)) = rw ((c .enum-told2 .given .1)) at ((c .before .before .before .before .before .before .before .before .pre .0)) in
-    let f : (c .before .before .before .before .first .result) ≡ placeOf Two ((c .before .before .before .before .before .before .before .before .args .pak)) 0 = rw ((c .enum-told2 .given .1)) at ((c .before .before .before .before .first .ensures .0)) in
+    let f : (c .before .before .before .before .first .result) ≡ bodyPlaceOf Two ((c .before .before .before .before .before .before .before .before .args .pak)) 0 = rw ((c .enum-told2 .given .1)) at ((c .before .before .before .before .first .ensures .0)) in
     omega (arith, w, f, length-is Two ((c .before .before .before .before .before .before .before .before .args .pak)))
 
 hardware-ok-requires : tie.Need-hardware-ok-requires
@@ -66,7 +66,7 @@ returns-3 c = rw ((c .enum-told .given .1))
 
 returns-4 : tie.Need-returns-4
 returns-4 c = let at = (c .before .before .before .before .before .before .first .result) in
-    let f : (c .before .before .before .before .before .before .first .result) ≡ placeOf Two ((c .before .before .before .before .before .before .before .before .before .before .args .pak)) 0 = rw ((c .before .before .enum-told2 .given .1)) at ((c .before .before .before .before .before .before .first .ensures .0)) in
+    let f : (c .before .before .before .before .before .before .first .result) ≡ bodyPlaceOf Two ((c .before .before .before .before .before .before .before .before .before .before .args .pak)) 0 = rw ((c .before .before .enum-told2 .given .1)) at ((c .before .before .before .before .before .before .first .ensures .0)) in
     rw ((c .before .before .enum-told2 .given .1))
     ((c .hardware-ok .ensures)
     ∙ (ap hardwareBodyOk (hardware-part ((c .before .before .before .before .before .before .before .before .before .before .args .pak)) at ((c .before .before .before .before .before .before .before .before .before .before .args .file .now)) f (at + 327878 + ((c .before .before .before .before .before .before .before .before .before .before .args .pak))) (at + 327878 + ((c .before .before .before .before .before .before .before .before .before .before .args .pak)) + 8 - (at + 327878 + ((c .before .before .before .before .before .before .before .before .before .before .args .pak)))) refl (omega arith))

@@ -3,7 +3,7 @@ use native.Mathlib.Omega.{arith}
 use mathlib.Core.Path.{_≡_, sym, ap, _∙_}
 use lib.ListN.{length}
 use Rattle.saved_bytes.proofs.LittleEndian.{length-bytes}
-use Rattle.saved_layout.specs.Layout.{placeOf, fileLengthOf}
+use Rattle.saved_layout.specs.Layout.{bodyPlaceOf, fileLengthOf}
 use Rattle.saved_layout.specs.File.{fileOf, bodiesOf}
 use Rattle.saved_layout.specs.declared.Form.the-variants.{One, Two}
 use Rattle.saved_layout.specs.declared.Form.{Form}
@@ -43,7 +43,7 @@ add-put-halves-2 c = search needs
 put-halves-requires : tie.Need-put-halves-requires
 put-halves-requires c κs = let p = length ((c .before .before .before .before .before .before .before .before .before .before .before .before .before .before .before .before .before .args .pak .now)) in
     let w : length ((c .before .before .before .before .before .before .before .before .before .before .before .before .before .before .before .before .before .args .room .now)) ≡ fileLengthOf Two (length ((c .before .before .before .before .before .before .before .before .before .before .before .before .before .before .before .before .before .args .pak .now))) = rw ((c .before .before .enum-told2 .given .1)) at ((c .before .before .before .before .before .before .before .before .before .before .before .before .before .before .before .before .before .pre .1 .1 .1)) in
-    let f : (c .before .before .before .before .before .before .before .before .before .before .before .before .first .result) ≡ placeOf Two (length ((c .before .before .before .before .before .before .before .before .before .before .before .before .before .before .before .before .before .args .pak .now))) 0 = rw ((c .before .before .enum-told2 .given .1)) at ((c .before .before .before .before .before .before .before .before .before .before .before .before .first .ensures .0)) in
+    let f : (c .before .before .before .before .before .before .before .before .before .before .before .before .first .result) ≡ bodyPlaceOf Two (length ((c .before .before .before .before .before .before .before .before .before .before .before .before .before .before .before .before .before .args .pak .now))) 0 = rw ((c .before .before .enum-told2 .given .1)) at ((c .before .before .before .before .before .before .before .before .before .before .before .before .first .ensures .0)) in
     omega (arith, w, f, length-is Two p, (c .before .before .before .before .before .room2 .given), (c .before .before .before .before .before .before .before .before .before .room .given))
 
 put-requires-2 : tie.Need-put-requires-2

@@ -3,7 +3,7 @@ use native.Mathlib.Omega.{arith}
 use Prim.Native.Nat.{_+_, _-_}
 use mathlib.Core.Path.{_≡_, refl, ap, _∙_}
 use lib.ListN.{length, length-take, length-drop}
-use Rattle.saved_bytes.specs.Parts.{sumOf}
+use Rattle.saved_bytes.specs.Parts.{bodySumOf}
 use Rattle.saved_layout.specs.declared.Form.the-variants.{One, Two}
 use Rattle.saved_layout.proofs.Positions.{length-is}
 use Rattle.saved_layout.proofs.Written.{processor-part, drawing-part, wram-part, vram-part, pak-part, hardware-part, sums-are, list-same}
