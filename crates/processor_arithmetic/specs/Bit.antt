@@ -1,4 +1,4 @@
--- Bit k of a number, and when two numbers agree in it: what the laws of Places rest on.
+-- Bit k of a number: CY of a shift is said by it, and each flag at its place (Places).
 use Prim.Native.Nat.{ℕ, _-_, _/_, _%_, _^_}
 
 -- bit k of a number

@@ -1,5 +1,4 @@
--- Division towards zero. `Truncated` is what it means; the lemmas under it give it at each pair of signs, from the
--- division of the magnitudes.
+-- Division towards zero: what it means that a quotient and a remainder are those of a truncated division.
 use Prim.Native.Nat.{zero, _+_, _*_, _<_, _≤_}
 use mathlib.Core.Path.{_≡_}
 use lib.IntN.{ℤ, pos, natAbs, _+ℤ_, _*ℤ_}
