@@ -26,7 +26,7 @@ pub data Question : Type 0 where
   halfword : ℕ → Question
   -- where a character's bytes begin
   character : ℕ → Question
-  -- where a pixel stands in an image
+  -- where a pixel stands in an image; `pixel-drawn` (drawing_laws) ties the place to the lists that contracts name
   pixel : ℕ → ℕ → Question
   -- what values 1, 2 and 3 become in a palette
   palette : ℕ → Question
