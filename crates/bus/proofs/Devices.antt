@@ -1,17 +1,17 @@
 -- The device registers, put together and taken apart. Assumes nothing.
 use Prim.Native.Nat.{ℕ, zero, suc, _+_, _-_, _<_, _≤_}
 use mathlib.Core.Bool.{false}
-use mathlib.Core.List.{List, [], _∷_}
-use mathlib.Core.Path.{_≡_, refl, ap, _∙_}
+use mathlib.Core.List.{List, [], _∷_, _++_}
+use mathlib.Core.Path.{_≡_, refl, sym, ap, _∙_}
 use native.Mathlib.Decide.{decLt}
 use native.Mathlib.Omega.{arith}
 use lib.ListN.{length, getD, set, length-set, length-append, List·getD-append, List·getD-eq-default}
-use lib.Seq.{getD-set-same, getD-set-other, getD-append-add, set-out, set-getD}
+use lib.Seq.{getD-set-same, getD-set-other, set-out, set-getD}
 use Rattle.word.specs.Choose.{pick}
 use Rattle.bus_timer.specs.Ports.{hardwareOk, controlBitsOf}
 use Rattle.bus_timer.proofs.Accepting.{Fits}
 use Rattle.bus_timer.specs.declared.Hardware.{Hardware}
-use Rattle.bus.specs.Registers.{withinFrom, drawingOk, registersFrom, drawingIn, hardwareIn, withHardware, deviceOf, registersOk}
+use Rattle.bus.specs.Registers.{withinFrom, drawingOk, deviceLength, linesPlace, registersFrom, drawingIn, hardwareIn, hardwareHalfwordsOf, setFrom, withHardware, deviceOf, registersOk}
 
 -- the registers from k on, one by one
 from-tail : (x : ℕ) (d : List ℕ) (k n : ℕ) → registersFrom (x ∷ d) (suc k) n ≡ registersFrom d k n
@@ -46,7 +46,7 @@ pub drawing-length : (d : List ℕ) → length (drawingIn d) ≡ 13
 unfolding drawingIn
 drawing-length d = from-length d 0 13
 
-pub device-length : (d : List ℕ) (h : Hardware) → length (deviceOf d h) ≡ 17
+pub device-length : (d : List ℕ) (h : Hardware) → length (deviceOf d h) ≡ deviceLength
 unfolding deviceOf
 device-length d h = simp length-append
 
@@ -70,20 +70,14 @@ drawing-ok-in d = drawing-ok-same (drawingIn d) d (drawing-register d)
 
 -- what was put together, taken apart
 module _ (d : List ℕ) (h : Hardware) where
-  behind : (j : ℕ) → getD (deviceOf d h) (13 + j) 0 ≡ getD (h .lines ∷ h .count ∷ h .reload ∷ h .control ∷ []) j 0
-  unfolding deviceOf
-  behind j =
-      rw (← from-length d 0 13)
-      (getD-append-add (registersFrom d 0 13) (h .lines ∷ h .count ∷ h .reload ∷ h .control ∷ []) j 0)
-
   pub hardware-device : hardwareIn (deviceOf d h) ≡ h
-  unfolding hardwareIn
-  hardware-device = rw (behind 0, behind 1, behind 2, behind 3)
+  unfolding hardwareIn deviceOf
+  hardware-device = refl
 
   pub device-register : (k : ℕ) → k < 13 → getD (deviceOf d h) k 0 ≡ getD d k 0
   unfolding deviceOf
   device-register k less =
-      List·getD-append (registersFrom d 0 13) (h .lines ∷ h .count ∷ h .reload ∷ h .control ∷ []) 0 k (omega (arith, from-length d 0 13))
+      List·getD-append (registersFrom d 0 13) (hardwareHalfwordsOf h) 0 k (omega (arith, from-length d 0 13))
       ∙ from-first d 13 k less
 
   -- refusal 5 of both records
@@ -96,9 +90,9 @@ pub parts-ok : (d : List ℕ) → registersOk (deviceOf (drawingIn d) (hardwareI
 unfolding registersOk
 parts-ok d = device-ok (drawingIn d) (hardwareIn d) ∙ rw (drawing-ok-in d)
 
-pub device-whole : (d : List ℕ) → length d ≡ 17 → deviceOf (drawingIn d) (hardwareIn d) ≡ d
+pub device-whole : (d : List ℕ) → length d ≡ deviceLength → deviceOf (drawingIn d) (hardwareIn d) ≡ d
 unfolding deviceOf hardwareIn drawingIn
-device-whole d l = from-whole d 17 l
+device-whole d l = from-whole d deviceLength l
 
 -- an entry that was set, also past the end
 set-each : (P : ℕ → Type 0) (d : List ℕ) (k x : ℕ) → P x → P 0 → P (getD (set d k x) k 0)
@@ -108,59 +102,83 @@ set-each P d k x given none =
       | no outside ↦ rw (set-out d k x (omega arith), List·getD-eq-default d 0 {n = k} (omega arith)) none
     ]
 
+-- registers with others from k on: those before k stay, those from k on are the others, or none past the end
+set-from-before : (d : List ℕ) (k : ℕ) (xs : List ℕ) (j : ℕ) → j < k → getD (setFrom d k xs) j 0 ≡ getD d j 0
+set-from-before d k [] j less = refl
+set-from-before d k (x ∷ xs) j less =
+    set-from-before (set d k x) (suc k) xs j (omega arith) ∙ getD-set-other d k j x 0 (λ e. omega arith)
+
+set-from-each : (P : ℕ → Type 0) (d : List ℕ) (k : ℕ) (xs : List ℕ) (j : ℕ) → j < length xs → P (getD xs j 0) → P 0
+    → P (getD (setFrom d k xs) (k + j) 0)
+set-from-each P d k [] j less given none = absurd (omega arith)
+set-from-each P d k (x ∷ xs) zero less given none =
+    let e : k + 0 ≡ k = omega arith in
+    rw (e, set-from-before (set d k x) (suc k) xs k (omega arith)) (set-each P d k x given none)
+set-from-each P d k (x ∷ xs) (suc j) less given none =
+    let e : k + suc j ≡ suc k + j = omega arith in
+    rw e (set-from-each P (set d k x) (suc k) xs j (omega arith) given none)
+
+set-from-length : (d : List ℕ) (k : ℕ) (xs : List ℕ) → length (setFrom d k xs) ≡ length d
+set-from-length d k [] = refl
+set-from-length d k (x ∷ xs) = set-from-length (set d k x) (suc k) xs ∙ length-set d k x
+
+set-from-same : (d : List ℕ) (k n : ℕ) → setFrom d k (registersFrom d k n) ≡ d
+set-from-same d k zero = refl
+set-from-same d k (suc n) =
+    ap (λ (e : List ℕ). setFrom e (suc k) (registersFrom d (suc k) n)) (set-getD d k 0) ∙ set-from-same d (suc k) n
+
+-- the registers behind one that is set
+from-set : (d : List ℕ) (k x j n : ℕ) → k < j → registersFrom (set d k x) j n ≡ registersFrom d j n
+from-set d k x j zero less = refl
+from-set d k x j (suc n) less = rw (getD-set-other d k j x 0 (λ e. omega arith), from-set d k x (suc j) n (omega arith))
+
+-- the lines and the timer are what stands behind the drawing registers
+abbrev behindOf : List ℕ → List ℕ
+behindOf d = registersFrom d linesPlace (deviceLength - linesPlace)
+
+hardware-behind : (d : List ℕ) → hardwareIn d ≡ hardwareIn (registersFrom [] 0 13 ++ behindOf d)
+unfolding hardwareIn
+hardware-behind d = refl
+
+pub set-hardware : (d : List ℕ) (k x : ℕ) → k < 13 → hardwareIn (set d k x) ≡ hardwareIn d
+set-hardware d k x less =
+    hardware-behind (set d k x)
+    ∙ (ap (λ (xs : List ℕ). hardwareIn (registersFrom [] 0 13 ++ xs)) (from-set d k x linesPlace (deviceLength - linesPlace) less)
+    ∙ sym (hardware-behind d))
+
 -- other lines and another timer leave the drawing registers, and are what is there then
 module _ (d : List ℕ) (h : Hardware) where
   pub with-register : (k : ℕ) → k < 13 → getD (withHardware d h) k 0 ≡ getD d k 0
   unfolding withHardware
-  with-register k less =
-      let a = set d 13 (h .lines) in
-      let b = set a 14 (h .count) in
-      let e = set b 15 (h .reload) in
-      getD-set-other e 16 k (h .control) 0 (λ x. omega arith)
-      ∙ (getD-set-other b 15 k (h .reload) 0 (λ x. omega arith)
-      ∙ (getD-set-other a 14 k (h .count) 0 (λ x. omega arith) ∙ getD-set-other d 13 k (h .lines) 0 (λ x. omega arith)))
+  with-register k less = set-from-before d linesPlace (hardwareHalfwordsOf h) k less
 
   -- also where the list is too short for them
+  with-each : (P : ℕ → Type 0) (j : ℕ) → j < length (hardwareHalfwordsOf h) → P (getD (hardwareHalfwordsOf h) j 0) → P 0
+      → P (getD (withHardware d h) (linesPlace + j) 0)
+  unfolding withHardware
+  with-each P j less given none = set-from-each P d linesPlace (hardwareHalfwordsOf h) j less given none
+
   pub with-fits : Fits h → Fits (hardwareIn (withHardware d h))
-  unfolding hardwareIn withHardware controlBitsOf
+  unfolding hardwareIn controlBitsOf
   with-fits f =
-      let a = set d 13 (h .lines) in
-      let b = set a 14 (h .count) in
-      let e = set b 15 (h .reload) in
-      let at-lines =
-      getD-set-other e 16 13 (h .control) 0 (λ x. omega arith)
-      ∙ (getD-set-other b 15 13 (h .reload) 0 (λ x. omega arith)
-      ∙ getD-set-other a 14 13 (h .count) 0 (λ x. omega arith)) in
       record {
-        lines = rw at-lines (set-each (λ x. x < 32) d 13 (h .lines) (f .lines) (omega arith));
-        control = set-each (λ x. controlBitsOf x ≡ x) e 16 (h .control) (f .control) refl;
+        lines = with-each (λ x. x < 32) 0 (omega arith) (f .lines) (omega arith);
+        control = with-each (λ x. controlBitsOf x ≡ x) 3 (omega arith) (f .control) refl;
       }
 
-  pub hardware-with : length d ≡ 17 → hardwareIn (withHardware d h) ≡ h
-  unfolding hardwareIn withHardware
-  hardware-with l =
-      let a = set d 13 (h .lines) in
-      let b = set a 14 (h .count) in
-      let e = set b 15 (h .reload) in
-      let la : length a ≡ 17 = length-set d 13 (h .lines) ∙ l in
-      let lb : length b ≡ 17 = length-set a 14 (h .count) ∙ la in
-      let le : length e ≡ 17 = length-set b 15 (h .reload) ∙ lb in
-      let at-control = getD-set-same e 16 (h .control) 0 (omega arith) in
-      let at-reload = getD-set-other e 16 15 (h .control) 0 (λ x. omega arith) ∙ getD-set-same b 15 (h .reload) 0 (omega arith) in
-      let at-count =
-      getD-set-other e 16 14 (h .control) 0 (λ x. omega arith)
-      ∙ (getD-set-other b 15 14 (h .reload) 0 (λ x. omega arith) ∙ getD-set-same a 14 (h .count) 0 (omega arith)) in
-      let at-lines =
-      getD-set-other e 16 13 (h .control) 0 (λ x. omega arith)
-      ∙ (getD-set-other b 15 13 (h .reload) 0 (λ x. omega arith)
-      ∙ (getD-set-other a 14 13 (h .count) 0 (λ x. omega arith) ∙ getD-set-same d 13 (h .lines) 0 (omega arith))) in
-      rw (at-lines, at-count, at-reload, at-control)
+  -- where it is long enough
+  whole-with : hardwareIn (withHardware (deviceOf (drawingIn d) (hardwareIn d)) h) ≡ h
+  unfolding hardwareIn withHardware deviceOf
+  whole-with = refl
+
+  pub hardware-with : length d ≡ deviceLength → hardwareIn (withHardware d h) ≡ h
+  hardware-with l = rw (device-whole d l) at whole-with
 
   pub with-length : length (withHardware d h) ≡ length d
   unfolding withHardware
-  with-length = simp length-set
+  with-length = set-from-length d linesPlace (hardwareHalfwordsOf h)
 
 -- what is there, put there again
 pub with-same : (d : List ℕ) → withHardware d (hardwareIn d) ≡ d
 unfolding withHardware hardwareIn
-with-same d = rw (set-getD d 13 0, set-getD d 14 0, set-getD d 15 0, set-getD d 16 0)
+with-same d = set-from-same d linesPlace (deviceLength - linesPlace)

@@ -19,7 +19,7 @@ use Rattle.bus.specs.Registers.{widthOf, keptOf, withinFrom, drawingOk, 
 use Rattle.bus.specs.Place.{Place, vramAt, wramAt, pakAt, romAt, drawingAt, versionAt, silent, unlisted, unmapped, hardwareAt, soundUnit, nothing, expansion}
 use Rattle.bus.specs.Memory.{Memory, Lengths, verdictOf, putPlace, putDrawing, placeIn, putByte, putRegister, putHalfword, putFrom, storeOf}
 use Rattle.bus.proofs.Accepted.{accepted-lengths, accepted-registers, lengths-accepted}
-use Rattle.bus.proofs.Devices.{drawing-ok-same, with-register, with-length, with-fits}
+use Rattle.bus.proofs.Devices.{drawing-ok-same, set-hardware, with-register, with-length, with-fits}
 use Rattle.bus.proofs.DrawingPlaces.{Proper, place-proper}
 
 -- drawingOk, register by register
@@ -86,15 +86,6 @@ set-drawing d k v h = within-drawing (set d k (keptOf k v)) each
             | no outside ↦ rw (set-out d k (keptOf k v) (omega arith)) (drawing-within d h j less)
           ]
         ]
-
-pub set-hardware : (d : List ℕ) (k x : ℕ) → k < 13 → hardwareIn (set d k x) ≡ hardwareIn d
-unfolding hardwareIn
-set-hardware d k x less =
-    let a : 13 ≡ k → ⊥ = λ e. omega arith in
-    let b : 14 ≡ k → ⊥ = λ e. omega arith in
-    let f : 15 ≡ k → ⊥ = λ e. omega arith in
-    let g : 16 ≡ k → ⊥ = λ e. omega arith in
-    rw (getD-set-other d k 13 x 0 a, getD-set-other d k 14 x 0 b, getD-set-other d k 15 x 0 f, getD-set-other d k 16 x 0 g)
 
 set-within : (d : List ℕ) (k v : ℕ) → k < 13 → registersOk d ≡ true → registersOk (set d k (keptOf k v)) ≡ true
 set-within d k v less h =

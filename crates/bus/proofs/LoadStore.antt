@@ -12,9 +12,9 @@ use Rattle.bus_timer.specs.declared.Hardware.{Hardware}
 use Rattle.bus.specs.Registers.{keptOf, hardwareIn}
 use Rattle.bus.specs.Place.{Place, vramAt, wramAt, pakAt, romAt, drawingAt, versionAt, silent, unlisted, unmapped, hardwareAt, soundUnit, nothing, expansion}
 use Rattle.bus.specs.Memory.{Memory, byteOf, loadOf, readPlace, placeIn, putPlace, putDrawing, putByte, putRegister, putHalfword, alignedOf, putFrom, storeOf, withWram, withVram}
-use Rattle.bus.proofs.Devices.{with-register}
+use Rattle.bus.proofs.Devices.{set-hardware, with-register}
 use Rattle.bus.proofs.DrawingPlaces.{Proper, place-proper}
-use Rattle.bus.proofs.Kept.{Shape, set-hardware, byte-shape, register-shape, halfword-shape}
+use Rattle.bus.proofs.Kept.{Shape, byte-shape, register-shape, halfword-shape}
 use Rattle.bus.proofs.Halfwords.{byte-load, byte-store}
 use Rattle.bus.proofs.Spans.{Span, span-half, span-word, half-wram, half-vram, word-wram, word-vram}
 

@@ -8,7 +8,7 @@ use mathlib.Core.List.{List, [], _∷_, _++_}
 use lib.ListN.{getD, set}
 use lib.Dec.{ltb}
 use Rattle.word.specs.Choose.{pick}
-use Rattle.bus_timer.specs.Timer.{hardwareOf}
+use Rattle.bus_timer.specs.Record.{hardwareOf}
 use Rattle.bus_timer.specs.Ports.{hardwareOk}
 use Rattle.bus_timer.specs.declared.Hardware.{Hardware}
 
@@ -119,15 +119,22 @@ drawingIn d = registersFrom d 0 13
 unfoldable pub hardwareIn : List ℕ → Hardware
 hardwareIn d = hardwareOf (getD d linesPlace 0) (getD d countPlace 0) (getD d reloadPlace 0) (getD d controlPlace 0)
 
+-- the request lines and the timer as they stand there, from linesPlace on
+abbrev pub hardwareHalfwordsOf : Hardware → List ℕ
+hardwareHalfwordsOf h = h .lines ∷ h .count ∷ h .reload ∷ h .control ∷ []
+
+-- registers with others in place of those from k on
+abbrev pub setFrom : List ℕ → ℕ → List ℕ → List ℕ
+setFrom d k [] = d
+setFrom d k (x ∷ xs) = setFrom (set d k x) (suc k) xs
+
 -- the device registers with other request lines and another timer
 unfoldable pub withHardware : List ℕ → Hardware → List ℕ
-withHardware d h =
-    set (set (set (set d linesPlace (h .lines)) countPlace (h .count)) reloadPlace (h .reload))
-    controlPlace (h .control)
+withHardware d h = setFrom d linesPlace (hardwareHalfwordsOf h)
 
 -- the device registers of 13 drawing registers, the request lines and the timer
 unfoldable pub deviceOf : List ℕ → Hardware → List ℕ
-deviceOf drawing h = registersFrom drawing 0 13 ++ (h .lines ∷ h .count ∷ h .reload ∷ h .control ∷ [])
+deviceOf drawing h = registersFrom drawing 0 13 ++ hardwareHalfwordsOf h
 
 -- 5, of the device registers: no drawing register, request line or field of the timer exceeds its width
 unfoldable pub registersOk : List ℕ → Bool

@@ -1,6 +1,10 @@
 // The device registers, put together of the records of the public calls and taken apart.
+use crate::CONTROL_PLACE;
+use crate::COUNT_PLACE;
 use crate::Device;
 use crate::DrawingRegisters;
+use crate::LINES_PLACE;
+use crate::RELOAD_PLACE;
 use bus_timer::Hardware;
 ghost use mathlib.Core.Path.{_≡_};
 ghost use Rattle.bus.specs.Registers.{drawingIn, hardwareIn, withHardware, deviceOf};
@@ -56,10 +60,10 @@ pub fn hardware_in(device: &Device) -> Hardware
     ensures { λ r. ⌜ r ≡ hardwareIn (now (device .entry)) ⌝ }
 {
     Hardware {
-        lines: device[13],
-        count: device[14],
-        reload: device[15],
-        control: device[16],
+        lines: device[LINES_PLACE],
+        count: device[COUNT_PLACE],
+        reload: device[RELOAD_PLACE],
+        control: device[CONTROL_PLACE],
     }
 }
 
@@ -67,8 +71,8 @@ pub fn hardware_in(device: &Device) -> Hardware
 pub fn put_hardware(device: &mut Device, hardware: Hardware)
     ensures { λ _. ⌜ now (device .exit) ≡ withHardware (now (device .entry)) hardware ⌝ }
 {
-    device[13] = hardware.lines;
-    device[14] = hardware.count;
-    device[15] = hardware.reload;
-    device[16] = hardware.control;
+    device[LINES_PLACE] = hardware.lines;
+    device[COUNT_PLACE] = hardware.count;
+    device[RELOAD_PLACE] = hardware.reload;
+    device[CONTROL_PLACE] = hardware.control;
 }

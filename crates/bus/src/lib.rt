@@ -10,6 +10,7 @@ pub mod refusals;
 mod registers;
 pub mod store;
 mod vip;
+mod wrap;
 
 // The drawing registers: SPT0 to SPT3, GPLT0 to GPLT3, JPLT0 to JPLT3, BKCOL.
 pub type DrawingRegisters = [u16; 13];
@@ -18,6 +19,15 @@ pub type DrawingRegisters = [u16; 13];
 // count, reload and control bits. It is lent as an array, because a reference to a struct is not walked by the prover
 // and a struct by value costs a run its speed.
 pub type Device = [u16; 17];
+
+// Where the lines and the timer stand there.
+pub const LINES_PLACE: usize = 13;
+
+pub const COUNT_PLACE: usize = 14;
+
+pub const RELOAD_PLACE: usize = 15;
+
+pub const CONTROL_PLACE: usize = 16;
 
 pub struct Drawing {
     pub regs: DrawingRegisters,

@@ -4,6 +4,7 @@ use crate::Loaded;
 use crate::pak;
 use crate::ports;
 use crate::vip;
+use crate::wrap;
 ghost use mathlib.Core.Path.{_≡_};
 ghost use mathlib.Core.List.{List};
 ghost use Prim.Native.Nat.{ℕ, _+_, _-_, _/_, _%_, _<_, _≤_};
@@ -84,7 +85,7 @@ fn word_elsewhere(vram: &[u8], pak: &[u8], regs: &Device, address: u32) -> u32
     0
 }
 
-// One of these, by its bytes `address` to `last`. It stands apart from the ways to WRAM and ROM, which are short.
+// One of these, by its bytes `address` to `last`. It stands apart from the fast paths to WRAM and ROM.
 fn elsewhere(vram: &[u8], pak: &[u8], regs: &Device, address: u32, last: u32) -> u32
     requires { ⌜
         (length (now vram) ≡ vramBytes) × (pakOk (length (now pak)) ≡ true) × (regionOf address ≡ 5 → ⊥)
@@ -125,7 +126,7 @@ pub fn rom_half(rom: &[u8], address: u32) -> u32
         × (r < 65536)
         ⌝ }
 {
-    let i = pak::masked(address - address % 2, rom.len());
+    let i = wrap::wrapped(address - address % 2, rom.len());
     word::half_at(rom, i)
 }
 
@@ -141,7 +142,7 @@ pub fn byte(rom: &[u8], wram: &[u8], vram: &[u8], pak: &[u8], regs: &Device, add
         };
     }
     if region == 7 {
-        let i = pak::masked(address, rom.len());
+        let i = wrap::wrapped(address, rom.len());
         return Loaded {
             value: word::byte_at(rom, i),
         };
@@ -183,7 +184,7 @@ pub fn word(rom: &[u8], wram: &[u8], vram: &[u8], pak: &[u8], regs: &Device, add
         };
     }
     if region == 7 {
-        let i = pak::masked(address - address % 4, rom.len());
+        let i = wrap::wrapped(address - address % 4, rom.len());
         return Loaded {
             value: word::word_at(rom, i),
         };

@@ -2,6 +2,7 @@
 // accesses of a call that tests its arguments need none. Addresses are those of the bus.
 use crate::load;
 use crate::pak;
+use crate::wrap;
 ghost use mathlib.Core.Path.{_≡_};
 ghost use mathlib.Core.Bool.{true};
 ghost use mathlib.Core.List.{List};
@@ -27,7 +28,7 @@ pub fn byte(rom: &[u8], wram: &[u8], pak: &[u8], address: u32) -> u32
         return word::byte_at(wram, i);
     }
     if region == 7 {
-        let i = pak::masked(address, rom.len());
+        let i = wrap::wrapped(address, rom.len());
         return word::byte_at(rom, i);
     }
     if region == 6 {
@@ -75,7 +76,7 @@ pub fn word(rom: &[u8], wram: &[u8], pak: &[u8], address: u32) -> u32
         return word::word_at(wram, i);
     }
     if region == 7 {
-        let i = pak::masked(address - address % 4, rom.len());
+        let i = wrap::wrapped(address - address % 4, rom.len());
         return word::word_at(rom, i);
     }
     if region == 6 {

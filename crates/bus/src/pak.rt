@@ -1,20 +1,13 @@
 // Region 6 of the bus, pak RAM: each byte's address mod its length. Addresses are those of the bus.
+use crate::wrap;
 ghost use mathlib.Core.Path.{_≡_};
 ghost use mathlib.Core.Bool.{true};
 ghost use mathlib.Core.List.{List};
-ghost use Prim.Native.Nat.{ℕ, _%_, _<_, _*_};
+ghost use Prim.Native.Nat.{ℕ};
 ghost use lib.ListN.{length};
 ghost use Rattle.bus.specs.Place.{regionOf};
 ghost use Rattle.bus.specs.Refusal.{pakOk};
 ghost use Rattle.bus.specs.Memory.{memoryOf, Reads, storeOf};
-
-// An address mod the length of a memory, which is a power of two.
-pub fn masked(address: u32, length: usize) -> usize
-    requires { ⌜ (pakOk length ≡ true) × (0 < length) ⌝ }
-    ensures { λ r. ⌜ (r ≡ address % length) × (r < length) ⌝ }
-{
-    (address as usize) & (length - 1)
-}
 
 // A byte, a halfword and a word of pak RAM; empty pak RAM reads 0.
 pub fn byte(pak: &[u8], address: u32) -> u32
@@ -26,7 +19,7 @@ pub fn byte(pak: &[u8], address: u32) -> u32
     if pak.len() == 0 {
         return 0;
     }
-    word::byte_at(pak, masked(address, pak.len()))
+    word::byte_at(pak, wrap::wrapped(address, pak.len()))
 }
 
 pub fn half(pak: &[u8], address: u32) -> u32
@@ -61,7 +54,7 @@ pub fn put_byte(pak: &mut [u8], address: u32, value: u32)
     if pak.len() == 0 {
         return;
     }
-    let i = masked(address, pak.len());
+    let i = wrap::wrapped(address, pak.len());
     pak[i] = (value % 256) as u8;
 }
 

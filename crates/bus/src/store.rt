@@ -81,7 +81,7 @@ fn word_elsewhere(vram: &mut [u8], pak: &mut [u8], regs: &mut Device, address: u
     }
 }
 
-// One of these, into the bytes `address` to `last`, which wraps. It stands apart from the way to WRAM, which is short.
+// One of these, into the bytes `address` to `last`, which wraps. It stands apart from the fast path to WRAM.
 fn elsewhere(
     vram: &mut [u8],
     pak: &mut [u8],

@@ -8,41 +8,42 @@ use Rattle.bus.specs.Place.{regionOf, registerPlace, vipPlace, mirrorOf, placeO
 use Rattle.bus.specs.Memory.{Memory}
 use Rattle.bus_defined.specs.Defined.{definedOf, undefinedOf}
 
-pub record Row : Type 0 where
+pub record MaskRow : Type 0 where
   pub size : ℕ
   pub address : ℕ
   pub mask : ℕ
 
-abbrev row : ℕ → ℕ → ℕ → Row
-row size address mask = record { size = size; address = address; mask = mask }
+abbrev maskRow : ℕ → ℕ → ℕ → MaskRow
+maskRow size address mask = record { size = size; address = address; mask = mask }
 
-abbrev pub rows : List Row
-rows =
-    row 1 0x0003FFFF 0
-    ∷ row 1 0x00040000 1
-    ∷ row 1 0x0005DFFF 1
-    ∷ row 1 0x0005F7FF 1
-    ∷ row 2 0x0005F801 0
-    ∷ row 2 0x0005F847 3
-    ∷ row 1 0x0005F805 0
-    ∷ row 1 0x00077FFF 1
-    ∷ row 1 0x00078000 0
-    ∷ row 4 0x0005F804 0xC
-    ∷ row 4 0x0005F82D 3
-    ∷ row 4 0x0005F830 0xC
-    ∷ row 4 0x0005F847 0xC
-    ∷ row 4 0x0005F870 0xC
-    ∷ row 4 0x0005F874 0xF
-    ∷ row 4 0x000DF82C 3
-    ∷ row 4 0xF805F82C 3
-    ∷ row 4 0x01000000 0
-    ∷ row 4 0x02000018 0
-    ∷ row 4 0x03000000 0
-    ∷ row 4 0x04000000 0
-    ∷ row 4 0x06000000 0
+abbrev pub maskRows : List MaskRow
+maskRows =
+    maskRow 1 0x0003FFFF 0
+    ∷ maskRow 1 0x00040000 1
+    ∷ maskRow 1 0x0005DFFF 1
+    ∷ maskRow 1 0x0005F7FF 1
+    ∷ maskRow 2 0x0005F801 0
+    ∷ maskRow 2 0x0005F847 3
+    ∷ maskRow 1 0x0005F805 0
+    ∷ maskRow 1 0x00077FFF 1
+    ∷ maskRow 1 0x00078000 0
+    ∷ maskRow 4 0x0005F804 0xC
+    ∷ maskRow 4 0x0005F82D 3
+    ∷ maskRow 4 0x0005F830 0xC
+    ∷ maskRow 4 0x0005F847 0xC
+    ∷ maskRow 4 0x0005F870 0xC
+    ∷ maskRow 4 0x0005F874 0xF
+    ∷ maskRow 4 0x000DF82C 3
+    ∷ maskRow 4 0xF805F82C 3
+    ∷ maskRow 4 0x01000000 0
+    ∷ maskRow 4 0x02000018 0
+    ∷ maskRow 4 0x03000000 0
+    ∷ maskRow 4 0x04000000 0
+    ∷ maskRow 4 0x06000000 0
     ∷ []
 
 pub worked :
-    (m : Memory) → map (λ (r : Row). undefinedOf m (r .size) (r .address)) rows ≡ map (λ (r : Row). r .mask) rows
+    (m : Memory) → map (λ (r : MaskRow). undefinedOf m (r .size) (r .address)) maskRows
+    ≡ map (λ (r : MaskRow). r .mask) maskRows
 unfolding undefinedOf definedOf placeOf vipPlace registerPlace mirrorOf regionOf
 worked m = refl

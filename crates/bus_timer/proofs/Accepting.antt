@@ -10,7 +10,8 @@ use lib.Bits.{bitAnd, and-block, and-mask}
 use lib.Dec.{eqb, ltb}
 use lib.Pow.{split}
 use Rattle.word.specs.Choose.{pick}
-use Rattle.bus_timer.specs.Timer.{hardwareOf, bitOfMask, hasBit, setBitOf, clearBitOf, tEnb, timZInt, tClkSel, zStat, zStatClr, startOf, tickedCountOf, reachedZeroOf, countedOf, tickOf}
+use Rattle.bus_timer.specs.Record.{withCount}
+use Rattle.bus_timer.specs.Timer.{bitOfMask, hasBit, setBitOf, clearBitOf, tEnb, timZInt, tClkSel, zStat, zStatClr, startOf, tickedCountOf, reachedZeroOf, countedOf, tickOf}
 use Rattle.bus_timer.specs.Ports.{tlr, thr, tcr, controlBitsOf, reloadWrittenOf, lowWrittenOf, highWrittenOf, controlWrittenOf, lineAfterControl, tcrWrittenOf, portWrittenOf, hardwareOk}
 use Rattle.bus_timer.specs.Accepted.{TickAccepted, WriteAccepted, Means, AcceptedMeans, MeansAccepted, Halfwords, TickHalfwords, WriteHalfwords}
 use Rattle.bus_timer.specs.declared.Hardware.{Hardware}
@@ -69,7 +70,7 @@ unfolding tickOf countedOf reachedZeroOf
 tick-control-each P h same set =
     pick-each (λ t. P (t .control)) (hasBit tEnb (h .control)) (countedOf h) h
     (pick-each (λ t. P (t .control)) (eqb (tickedCountOf h) 0) (reachedZeroOf h)
-    (hardwareOf (h .lines) (tickedCountOf h) (h .reload) (h .control)) set same)
+    (withCount h (tickedCountOf h)) set same)
     same
 
 -- what holds of every record that a write can leave
@@ -145,7 +146,7 @@ tick-count n h some count reload =
     let start : startOf h < n = pick-each (λ x. x < n) (eqb (h .count) 0) (h .reload) (h .count) reload count in
     pick-each (λ t. t .count < n) (hasBit tEnb (h .control)) (countedOf h) h
     (pick-each (λ t. t .count < n) (eqb (tickedCountOf h) 0) (reachedZeroOf h)
-    (hardwareOf (h .lines) (tickedCountOf h) (h .reload) (h .control)) some (less-one n (startOf h) start))
+    (withCount h (tickedCountOf h)) some (less-one n (startOf h) start))
     count
 
 tick-reload : (h : Hardware) → tickOf h .reload ≡ h .reload
@@ -153,7 +154,7 @@ unfolding tickOf countedOf reachedZeroOf
 tick-reload h =
     pick-each (λ t. t .reload ≡ h .reload) (hasBit tEnb (h .control)) (countedOf h) h
     (pick-each (λ t. t .reload ≡ h .reload) (eqb (tickedCountOf h) 0) (reachedZeroOf h)
-    (hardwareOf (h .lines) (tickedCountOf h) (h .reload) (h .control)) refl refl)
+    (withCount h (tickedCountOf h)) refl refl)
     refl
 
 pub tick-halfwords : TickHalfwords

@@ -8,7 +8,8 @@ use native.Mathlib.Omega.{arith}
 use borrow.Author.Tests.{eq-eqb, ne-eqb}
 use lib.Dec.{eqb, eqb·suc-zero}
 use Rattle.word.specs.Choose.{pick}
-use Rattle.bus_timer.specs.Timer.{hardwareOf, bitOfMask, hasBit, setBitOf, clearBitOf, timerLine, tEnb, zStat, timZInt, tClkSel, startOf, tickedCountOf, reachedZeroOf, countedOf, tickOf}
+use Rattle.bus_timer.specs.Record.{withCount}
+use Rattle.bus_timer.specs.Timer.{bitOfMask, hasBit, setBitOf, clearBitOf, timerLine, tEnb, zStat, timZInt, tClkSel, startOf, tickedCountOf, reachedZeroOf, countedOf, tickOf}
 use Rattle.bus_timer.specs.Period.{ticksOf, FirstZero, Period, withClock, ClockSelection}
 use Rattle.bus_timer.specs.declared.Hardware.{Hardware}
 use Rattle.bus_timer.proofs.Digits.{set-second, set-first, clock-first, clock-eighth, clock-set}
@@ -22,7 +23,7 @@ module _ (h : Hardware) (on : bitOfMask tEnb (h .control) ≡ 1) where
       simp (eq-eqb _ _ on, eq-eqb _ _ z)
 
   -- one that counts down from more
-  tick-more : (n : ℕ) → startOf h ≡ suc (suc n) → tickOf h ≡ hardwareOf (h .lines) (suc n) (h .reload) (h .control)
+  tick-more : (n : ℕ) → startOf h ≡ suc (suc n) → tickOf h ≡ withCount h (suc n)
   unfolding tickOf countedOf tickedCountOf
   tick-more n e =
       let more : startOf h - 1 ≡ suc n = omega arith in
@@ -94,7 +95,7 @@ first : (n : ℕ) (h : Hardware) → startOf h ≡ suc n → bitOfMask tEnb (h .
     → FirstZero (suc n) h
 first zero h e on clear = first-last h on clear e
 first (suc n) h e on clear =
-    let t = hardwareOf (h .lines) (suc n) (h .reload) (h .control) in
+    let t = withCount h (suc n) in
     first-more (suc n) h t (tick-more h on n e) refl refl refl clear (first n t (start-count n t refl) on clear)
 
 pub period : Period
@@ -116,7 +117,7 @@ module _ (b : ℕ) (h : Hardware) (less : b < 2) where
   clock-counted =
       rw clock-zero
       (clock-pick b (eqb (tickedCountOf h) 0) (reachedZeroOf h)
-      (hardwareOf (h .lines) (tickedCountOf h) (h .reload) (h .control)))
+      (withCount h (tickedCountOf h)))
 
   clock-tick : tickOf (withClock b h) ≡ withClock b (tickOf h)
   unfolding tickOf

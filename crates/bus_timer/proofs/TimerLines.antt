@@ -7,7 +7,8 @@ use native.Mathlib.Omega.{arith}
 use lib.Dec.{eqb}
 use lib.Pow.{pow-add}
 use Rattle.word.specs.Choose.{pick}
-use Rattle.bus_timer.specs.Timer.{hardwareOf, hasBit, bitOfMask, setBitOf, clearBitOf, timerLine, tEnb, timZInt, zStatClr, tickedCountOf, reachedZeroOf, countedOf, tickOf}
+use Rattle.bus_timer.specs.Record.{withCount}
+use Rattle.bus_timer.specs.Timer.{hasBit, bitOfMask, setBitOf, clearBitOf, timerLine, tEnb, timZInt, zStatClr, tickedCountOf, reachedZeroOf, countedOf, tickOf}
 use Rattle.bus_timer.specs.Ports.{tlr, thr, tcr, reloadWrittenOf, lowWrittenOf, highWrittenOf, lineAfterControl, tcrWrittenOf, portWrittenOf}
 use Rattle.bus_timer.specs.Lines.{hardwareLineOf, TickLines, TickKeepsLine, WriteLines, WriteKeepsDown}
 use Rattle.bus_timer.specs.declared.Hardware.{Hardware}
@@ -53,7 +54,7 @@ module _ (P : ℕ → Type 0) (h : Hardware) (same : P (h .lines)) where
   tick-each raised =
       pick-each Lined (hasBit tEnb (h .control)) (countedOf h) h
       (pick-each Lined (eqb (tickedCountOf h) 0) (reachedZeroOf h)
-      (hardwareOf (h .lines) (tickedCountOf h) (h .reload) (h .control)) (zero-each raised) same)
+      (withCount h (tickedCountOf h)) (zero-each raised) same)
       same
 
   -- and with the timer's lowered, after a write

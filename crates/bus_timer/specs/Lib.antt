@@ -1,3 +1,4 @@
+pub mod Record
 pub mod Timer
 pub mod Ports
 pub mod Period

@@ -20,7 +20,8 @@ TickKeepsLine = (h : Hardware) → hardwareLineOf 1 h ≤ hardwareLineOf 1 (tick
 
 -- a write leaves every line but the timer's, and never raises that
 abbrev pub WriteLines : Type 0
-WriteLines = (n : ℕ) (h : Hardware) (o v : ℕ) → (n ≡ 1 → ⊥) → hardwareLineOf n (portWrittenOf h o v) ≡ hardwareLineOf n h
+WriteLines =
+    (n : ℕ) (h : Hardware) (o v : ℕ) → (n ≡ 1 → ⊥) → hardwareLineOf n (portWrittenOf h o v) ≡ hardwareLineOf n h
 
 abbrev pub WriteKeepsDown : Type 0
 WriteKeepsDown = (h : Hardware) (o v : ℕ) → hardwareLineOf 1 (portWrittenOf h o v) ≤ hardwareLineOf 1 h

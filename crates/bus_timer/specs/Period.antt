@@ -2,7 +2,8 @@
 -- in proofs/Periods.
 use Prim.Native.Nat.{ℕ, zero, suc, _+_, _*_, _<_}
 use mathlib.Core.Path.{_≡_}
-use Rattle.bus_timer.specs.Timer.{hardwareOf, bitOfMask, clearBitOf, timerLine, tEnb, zStat, timZInt, tClkSel}
+use Rattle.bus_timer.specs.Record.{withControl}
+use Rattle.bus_timer.specs.Timer.{bitOfMask, clearBitOf, timerLine, tEnb, zStat, timZInt, tClkSel}
 use Rattle.bus_timer.specs.Timer.{startOf, tickOf}
 use Rattle.bus_timer.specs.declared.Hardware.{Hardware}
 
@@ -29,7 +30,7 @@ Period =
 
 -- the record with another T-Clk-Sel
 abbrev pub withClock : ℕ → Hardware → Hardware
-withClock b h = hardwareOf (h .lines) (h .count) (h .reload) (clearBitOf tClkSel (h .control) + b * tClkSel)
+withClock b h = withControl h (clearBitOf tClkSel (h .control) + b * tClkSel)
 
 -- T11: T-Clk-Sel "is stored and has no other effect": a tick does with either value what it does with the other
 abbrev pub ClockSelection : Type 0

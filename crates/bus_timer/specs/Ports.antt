@@ -4,7 +4,8 @@ use Prim.Native.Nat.{ℕ, _+_, _*_, _/_, _%_, _^_}
 use mathlib.Core.Bool.{Bool, false}
 use lib.Dec.{eqb, ltb}
 use Rattle.word.specs.Choose.{pick}
-use Rattle.bus_timer.specs.Timer.{hardwareOf, bitOfMask, hasBit, clearBitOf, timerLine, tEnb, zStat, zStatClr}
+use Rattle.bus_timer.specs.Record.{withLines, withCount, withReload, withControl}
+use Rattle.bus_timer.specs.Timer.{bitOfMask, hasBit, clearBitOf, timerLine, tEnb, zStat, zStatClr}
 use Rattle.bus_timer.specs.Timer.{timZInt, tClkSel}
 use Rattle.bus_timer.specs.declared.Hardware.{Hardware}
 
@@ -34,7 +35,7 @@ portByteOf h o =
 
 -- T4: reload with a byte written to TLR, and to THR; count becomes the whole new reload at once
 abbrev pub reloadWrittenOf : ℕ → Hardware → Hardware
-reloadWrittenOf reload h = hardwareOf (h .lines) reload reload (h .control)
+reloadWrittenOf reload h = withCount (withReload h reload) reload
 
 abbrev pub lowWrittenOf : ℕ → ℕ → ℕ
 lowWrittenOf reload v = reload / 256 * 256 + v
@@ -57,7 +58,7 @@ lineAfterControl lines v =
 -- TCR with the byte v written to it; count and reload stay
 unfoldable pub tcrWrittenOf : Hardware → ℕ → Hardware
 tcrWrittenOf h v =
-    hardwareOf (lineAfterControl (h .lines) v) (h .count) (h .reload) (controlWrittenOf (h .control) v)
+    withControl (withLines h (lineAfterControl (h .lines) v)) (controlWrittenOf (h .control) v)
 
 -- the byte v written at an offset
 unfoldable pub portWrittenOf : Hardware → ℕ → ℕ → Hardware

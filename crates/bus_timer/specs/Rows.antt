@@ -2,7 +2,8 @@
 use Prim.Native.Nat.{ℕ}
 use mathlib.Core.List.{List, [], _∷_, map}
 use mathlib.Core.Path.{_≡_, refl}
-use Rattle.bus_timer.specs.Timer.{hardwareOf, startOf, reachedZeroOf, tickedCountOf, countedOf, tickOf}
+use Rattle.bus_timer.specs.Record.{hardwareOf, resetHardware}
+use Rattle.bus_timer.specs.Timer.{startOf, reachedZeroOf, tickedCountOf, countedOf, tickOf}
 use Rattle.bus_timer.specs.Ports.{tlr, tcr, controlBitsOf, portByteOf, controlWrittenOf, lineAfterControl}
 use Rattle.bus_timer.specs.Ports.{tcrWrittenOf, portWrittenOf}
 use Rattle.bus_timer.specs.declared.Hardware.{Hardware}
@@ -16,8 +17,8 @@ pub record Row : Type 0 where
 abbrev row : Hardware → ℕ → Hardware → Row
 row before byte after = record { before = before; byte = byte; after = after }
 
-abbrev afterOf : Row → Hardware
-afterOf r = r .after
+abbrev recordAfter : Row → Hardware
+recordAfter r = r .after
 
 abbrev pub tickRows : List Row
 tickRows =
@@ -30,7 +31,7 @@ tickRows =
     ∷ row (hardwareOf 0x1F 1 5 0x08) 0 (hardwareOf 0x1F 1 5 0x08)
     ∷ []
 
-pub tick-rows : map (λ (r : Row). tickOf (r .before)) tickRows ≡ map afterOf tickRows
+pub tick-rows : map (λ (r : Row). tickOf (r .before)) tickRows ≡ map recordAfter tickRows
 unfolding tickOf countedOf tickedCountOf reachedZeroOf startOf
 tick-rows = refl
 
@@ -44,7 +45,7 @@ controlRows =
     ∷ row (hardwareOf 0x02 3 5 0x02) 0xFF (hardwareOf 0x00 3 5 0x19)
     ∷ []
 
-pub control-rows : map (λ (r : Row). portWrittenOf (r .before) tcr (r .byte)) controlRows ≡ map afterOf controlRows
+pub control-rows : map (λ (r : Row). portWrittenOf (r .before) tcr (r .byte)) controlRows ≡ map recordAfter controlRows
 unfolding portWrittenOf tcrWrittenOf controlWrittenOf lineAfterControl
 control-rows = refl
 
@@ -52,6 +53,6 @@ pub reload-row : portWrittenOf (hardwareOf 0x00 7 0x1200 0x01) tlr 0x34 ≡ hard
 unfolding portWrittenOf
 reload-row = refl
 
-pub control-read-row : portByteOf (hardwareOf 0 0 0 0) tcr ≡ 0xE4
+pub control-read-row : portByteOf resetHardware tcr ≡ 0xE4
 unfolding portByteOf controlBitsOf
 control-read-row = refl

@@ -6,11 +6,8 @@ use Prim.Native.Nat.{ℕ, _+_, _-_, _*_, _/_, _%_}
 use mathlib.Core.Bool.{Bool}
 use lib.Dec.{eqb}
 use Rattle.word.specs.Choose.{pick}
+use Rattle.bus_timer.specs.Record.{withLines, withCount, withControl}
 use Rattle.bus_timer.specs.declared.Hardware.{Hardware}
-
-abbrev pub hardwareOf : ℕ → ℕ → ℕ → ℕ → Hardware
-hardwareOf lines count reload control =
-    record { lines = lines; count = count; reload = reload; control = control }
 
 -- the bit of weight w; whether it is set; the number with it cleared, and set
 abbrev pub bitOfMask : ℕ → ℕ → ℕ
@@ -51,8 +48,8 @@ startOf h = pick (eqb (h .count) 0) (h .reload) (h .count)
 -- T9, T10: the count is 0: Z-Stat is set whether or not Tim-Z-Int is, and the line is raised if it is
 unfoldable pub reachedZeroOf : Hardware → Hardware
 reachedZeroOf h =
-    hardwareOf (pick (hasBit timZInt (h .control)) (setBitOf timerLine (h .lines)) (h .lines)) 0 (h .reload)
-    (setBitOf zStat (h .control))
+    withLines (withCount (withControl h (setBitOf zStat (h .control))) 0)
+    (pick (hasBit timZInt (h .control)) (setBitOf timerLine (h .lines)) (h .lines))
 
 -- T9: the count after a tick: "a count that is not 0 becomes one less", and 0 - 1 is 0
 unfoldable pub tickedCountOf : Hardware → ℕ
@@ -60,8 +57,7 @@ tickedCountOf h = startOf h - 1
 
 -- T9: a tick of an enabled timer
 unfoldable pub countedOf : Hardware → Hardware
-countedOf h =
-    pick (eqb (tickedCountOf h) 0) (reachedZeroOf h) (hardwareOf (h .lines) (tickedCountOf h) (h .reload) (h .control))
+countedOf h = pick (eqb (tickedCountOf h) 0) (reachedZeroOf h) (withCount h (tickedCountOf h))
 
 -- T9: a tick; with T-Enb clear it does nothing
 unfoldable pub tickOf : Hardware → Hardware

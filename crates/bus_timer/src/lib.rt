@@ -3,6 +3,7 @@
 // refuses is that of the crate bus_tick.
 mod bits;
 pub mod ports;
+pub mod record;
 pub mod timer;
 
 // The request lines (bit n is the line of level n), the timer's count, what it is reloaded with, and its control bits

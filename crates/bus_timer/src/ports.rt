@@ -1,6 +1,7 @@
 // The timer's registers: TLR, THR and TCR, bytes of region 2 by their offset there.
 use crate::Hardware;
 use crate::bits;
+use crate::record;
 ghost use mathlib.Core.Path.{_≡_};
 ghost use Prim.Native.Nat.{_%_, _<_};
 ghost use Rattle.bus_timer.specs.Ports.{controlBitsOf, portByteOf, controlWrittenOf, lineAfterControl};
@@ -60,29 +61,15 @@ pub fn write(h: Hardware, offset: u32, value: u32) -> Hardware
     let v = (value % 256) as u16;
     if offset == 0x18 {
         let reload = h.reload / 256 * 256 + v;
-        return Hardware {
-            lines: h.lines,
-            count: reload,
-            reload,
-            control: h.control,
-        };
+        return record::with_count(record::with_reload(h, reload), reload);
     }
     if offset == 0x1C {
         let reload = h.reload % 256 + 256 * v;
-        return Hardware {
-            lines: h.lines,
-            count: reload,
-            reload,
-            control: h.control,
-        };
+        return record::with_count(record::with_reload(h, reload), reload);
     }
     if offset == 0x20 {
-        return Hardware {
-            lines: line_after_control(h.lines, v),
-            count: h.count,
-            reload: h.reload,
-            control: control_written(h.control, v),
-        };
+        let lowered = record::with_lines(h, line_after_control(h.lines, v));
+        return record::with_control(lowered, control_written(h.control, v));
     }
     h
 }

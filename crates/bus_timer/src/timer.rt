@@ -1,6 +1,7 @@
 // The timer: what a tick does to it and to its line.
 use crate::Hardware;
 use crate::bits;
+use crate::record;
 ghost use mathlib.Core.Path.{_≡_};
 ghost use Rattle.bus_timer.specs.Timer.{startOf, reachedZeroOf, tickOf};
 
@@ -18,21 +19,11 @@ fn start(h: Hardware) -> u16
 fn reached_zero(h: Hardware) -> Hardware
     ensures { λ r. ⌜ r ≡ reachedZeroOf h ⌝ }
 {
-    let control = bits::set_second(h.control);
+    let zero = record::with_count(record::with_control(h, bits::set_second(h.control)), 0);
     if h.control / 8 % 2 == 1 {
-        return Hardware {
-            lines: bits::set_second(h.lines),
-            count: 0,
-            reload: h.reload,
-            control,
-        };
+        return record::with_lines(zero, bits::set_second(h.lines));
     }
-    Hardware {
-        lines: h.lines,
-        count: 0,
-        reload: h.reload,
-        control,
-    }
+    zero
 }
 
 // One tick.
@@ -46,10 +37,5 @@ pub fn tick(h: Hardware) -> Hardware
     if from < 2 {
         return reached_zero(h);
     }
-    Hardware {
-        lines: h.lines,
-        count: from - 1,
-        reload: h.reload,
-        control: h.control,
-    }
+    record::with_count(h, from - 1)
 }

@@ -11,9 +11,9 @@ use Rattle.bus_timer.proofs.TimerLines.{write-lines, write-keeps-down}
 use Rattle.bus.specs.Registers.{deviceLength, keptOf}
 use Rattle.bus.specs.Place.{Place, vramAt, wramAt, pakAt, romAt, drawingAt, versionAt, silent, unlisted, unmapped, hardwareAt, soundUnit, nothing, expansion}
 use Rattle.bus.specs.Memory.{Memory, putPlace, putDrawing, placeIn, putByte, putRegister, putHalfword, putFrom, storeOf}
-use Rattle.bus.proofs.Devices.{hardware-with}
+use Rattle.bus.proofs.Devices.{set-hardware, hardware-with}
 use Rattle.bus.proofs.DrawingPlaces.{Proper, place-proper}
-use Rattle.bus.proofs.Kept.{set-hardware, byte-shape, halfword-shape}
+use Rattle.bus.proofs.Kept.{byte-shape, halfword-shape}
 use Rattle.bus_timer_laws.specs.Writing.{timerIn, LinesKept, LineNeverRises}
 
 -- what a step of a store leaves of the lines

@@ -1,7 +1,7 @@
 -- What stores do in region 2 and to the request lines (paper 02, W6; docs/DECISIONS.md, T4 to T8, T13, W6.1 to W6.3):
 -- the statements. Their proofs are `tlr-stores`, `thr-stores`, `tcr-stores`, `rest-stores`, `half-stores`,
 -- `word-stores` and `timed-hardware` in proofs/Writings, `lines-kept` and `line-never-rises` in proofs/LinesKept. A
--- memory's registers are the bus's list of 17.
+-- memory's registers are the bus's list of device registers.
 use Prim.Native.Nat.{ℕ, _%_, _≤_}
 use mathlib.Core.Path.{_≡_}
 use lib.ListN.{length}

@@ -1,4 +1,4 @@
--- The request lines and the timer at the C boundary (include/vb.h, `vb_hardware`): the same four halfwords.
+-- The request lines and the timer at the C boundary (include/vb.h, `vb_hardware`): the same halfwords.
 use Rattle.bus_timer.specs.declared.Hardware.{Hardware}
 use Rattle.capi.specs.declared.hardware.VbHardware.{VbHardware}
 

@@ -49,7 +49,7 @@ pub extern "C" fn vb_character(vram: &[u8], character: u32) -> VbPart
     match verdict {
         Verdict::Accepted => VbPart {
             refusal: 0,
-            offset: drawing_pixel::character_address(character as usize) as u64,
+            offset: drawing_pixel::character::character_address(character as usize) as u64,
             length,
         },
         Verdict::Refused(refusal) => VbPart {

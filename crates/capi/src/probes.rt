@@ -5,7 +5,7 @@ use probe::probe_word;
 use refusal::verdict_number;
 ghost use mathlib.Core.Path.{_≡_};
 ghost use Rattle.refusal.specs.Number.{verdictNumber};
-ghost use Rattle.probe.specs.Lent.{verdictOf, vramOf};
+ghost use Rattle.probe.specs.Lent.{lentVerdictOf, vramOf};
 
 #[no_mangle]
 pub extern "C" fn vb_probe_byte(
@@ -16,7 +16,7 @@ pub extern "C" fn vb_probe_byte(
     address: u32,
     value: u32,
 ) -> u32
-    ensures refusal { λ r. ⌜ r ≡ verdictNumber (verdictOf 1 rom wram vram pak address) ⌝ }
+    ensures refusal { λ r. ⌜ r ≡ verdictNumber (lentVerdictOf 1 rom wram vram pak address) ⌝ }
     ensures memory { λ _. ⌜ now (vram .exit) ≡ vramOf 1 rom wram vram pak address value ⌝ }
 {
     verdict_number(probe_byte(rom, wram, vram, pak, address, value))
@@ -31,7 +31,7 @@ pub extern "C" fn vb_probe_half(
     address: u32,
     value: u32,
 ) -> u32
-    ensures refusal { λ r. ⌜ r ≡ verdictNumber (verdictOf 2 rom wram vram pak address) ⌝ }
+    ensures refusal { λ r. ⌜ r ≡ verdictNumber (lentVerdictOf 2 rom wram vram pak address) ⌝ }
     ensures memory { λ _. ⌜ now (vram .exit) ≡ vramOf 2 rom wram vram pak address value ⌝ }
 {
     verdict_number(probe_half(rom, wram, vram, pak, address, value))
@@ -46,7 +46,7 @@ pub extern "C" fn vb_probe_word(
     address: u32,
     value: u32,
 ) -> u32
-    ensures refusal { λ r. ⌜ r ≡ verdictNumber (verdictOf 4 rom wram vram pak address) ⌝ }
+    ensures refusal { λ r. ⌜ r ≡ verdictNumber (lentVerdictOf 4 rom wram vram pak address) ⌝ }
     ensures memory { λ _. ⌜ now (vram .exit) ≡ vramOf 4 rom wram vram pak address value ⌝ }
 {
     verdict_number(probe_word(rom, wram, vram, pak, address, value))

@@ -1,9 +1,9 @@
 // What is shown: the levels of every group of four columns first, then the pixels, strip by strip.
 use crate::Durations;
 use crate::View;
-use drawing_pixel::half;
-use drawing_pixel::pair;
-use drawing_pixel::wide;
+use drawing_pixel::field::half;
+use drawing_pixel::field::pair;
+use drawing_pixel::field::wide;
 ghost use mathlib.Core.Path.{_≡_};
 ghost use Prim.Native.Nat.{ℕ, _+_, _-_, _*_, _/_, _%_, _<_, _≤_};
 ghost use lib.ListN.{length, getD};
@@ -61,7 +61,8 @@ fn levels(vram: &[u8], durations: Durations, table: usize, start: usize) -> [u8;
 fn show_column(room: &mut [u8], levels: &[u8; 384], at: usize, group: usize, column: usize)
     requires { ⌜ (at + 2688 < length (now room)) × (group ≤ 380) ⌝ }
     ensures { λ _. ⌜
-        Column at 8 (λ r. getD (now (levels .entry)) (group + twoBitsOf column r) 0) (now (room .entry)) (now (room .exit))
+        Column at 8 (λ r. getD (now (levels .entry)) (group + twoBitsOf column r) 0)
+        (now (room .entry)) (now (room .exit))
         ⌝ }
 {
     let mut r = 0;

@@ -1,5 +1,5 @@
 // The recommended column table, as document 000 prints it.
-use drawing_pixel::wide;
+use drawing_pixel::field::wide;
 ghost use mathlib.Core.Path.{_≡_};
 ghost use Prim.Native.Nat.{_/_, _%_, _<_};
 ghost use lib.ListN.{length, getD};

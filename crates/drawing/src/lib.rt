@@ -66,7 +66,7 @@ pub fn character(vram: &[u8], c: u32) -> &[u8]
     if 2047 < c {
         return &vram[..0];
     }
-    let start = drawing_pixel::character_address(c as usize);
+    let start = drawing_pixel::character::character_address(c as usize);
     let end = start + 16;
     &vram[start..end]
 }

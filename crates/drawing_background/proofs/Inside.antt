@@ -1,14 +1,15 @@
 -- The tests that decide whether a cell column and row lie in a background, and the cell that is used then. Assumes nothing.
 use Prim.Native.Nat.{ℕ, _+_, _*_, _/_, _%_, _^_, _<_, _≤_}
 use native.Mathlib.Omega.{arith}
-use mathlib.Core.Path.{_≡_}
-use mathlib.Core.Bool.{true, false, and-false}
+use mathlib.Core.Path.{_≡_, sym, _∙_}
+use mathlib.Core.Bool.{Bool, true, false, and-false}
 use mathlib.Core.List.{List}
 use lib.ListN.{getD}
 use lib.Dec.{ltb}
 use borrow.Author.Tests.{lt-leb, le-leb, le-ltb, lt-ltb, eq-eqb, ne-eqb}
-use Rattle.drawing_pixel.specs.World.{scxOf, scyOf}
-use Rattle.drawing_pixel.specs.Background.{insideOf, cellAddressOf, mapCellAddressOf}
+use Rattle.drawing_pixel.specs.World.{scxOf, scyOf, overOf}
+use Rattle.drawing_pixel.specs.Background.{insideOf, cellAddressOf, mapCellAddressOf, mapNumberOf, mapsAcrossOf}
+use Rattle.drawing_background.specs.Row.{MapsOf}
 
 pub outside-left : (w : List ℕ) (u v : ℕ) → u < 1048576 → false ≡ insideOf w u v
 unfolding insideOf
@@ -31,6 +32,13 @@ inside-down w u v a d e f l h m = rw (← e, ← f) (simp (le-leb _ _ l, lt-ltb 
 pub cell-wrapped : (w : List ℕ) (u v : ℕ) → getD w 0 0 / 128 % 2 ≡ 0 → mapCellAddressOf w u v ≡ cellAddressOf w u v
 unfolding cellAddressOf
 cell-wrapped w u v e = simp (ne-eqb (getD w 0 0 / 128 % 2) 1 (λ f. omega arith))
+
+-- .. by what the maps of a world are
+pub cell-arranged : (w : List ℕ) (u v : ℕ) {over : Bool} {first beside across down : ℕ} → MapsOf w over first beside across down → over ≡ false
+    → 131072 + 8192 * ((first + (v % 2 ^ down / 64 * 2 ^ beside + u % 2 ^ across / 64 % 2 ^ beside)) % 16) + 2 * (64 * (v % 64) + u % 64)
+    ≡ cellAddressOf w u v
+unfolding cellAddressOf mapCellAddressOf mapNumberOf mapsAcrossOf
+cell-arranged w u v m e = rw (sym (m .overplane) ∙ e, m .first, m .repeats, m .width, m .height)
 
 pub cell-inside : (w : List ℕ) (u v : ℕ) → insideOf w u v ≡ true → mapCellAddressOf w u v ≡ cellAddressOf w u v
 unfolding cellAddressOf

@@ -50,9 +50,9 @@ module _ (vram regs w : List ℕ) (top bottom from to sx sy half address cell pa
         (λ x r v l h t u. source-pixel-near vram regs w sx sy cell palette (c ∙ (d ∙ ap (halfAt vram) e)) g (x - from) (r - top) (omega arith) (omega arith) v)
         s
 
-    pub block-of-whole : from + 8 ≡ to → Block top bottom from (from + 8) (λ x r. shadeOf palette (pixelValueOf cell (halfAt vram (rowAddressOf cell (sy % 8 + (r - top)))) (x - from))) a b
+    pub block-of-whole : from + 8 ≡ to → Block top bottom from to (λ x r. shadeOf palette (pixelValueOf cell (halfAt vram (rowAddressOf cell (sy % 8 + (r - top)))) (x - from))) a b
         → Block top bottom from to (λ x r. sourcePixelOf vram regs w (sx + (x - from)) (sy + (r - top))) a b
-    block-of-whole q s = block-of-part (block-change top bottom from to _ _ a b zero (rw q at s))
+    block-of-whole q s = block-of-part (block-change top bottom from to _ _ a b zero s)
       where
         zero : (x r v : ℕ) → from ≤ x → x < to → top ≤ r → r < bottom
             → shadeOf palette (pixelValueOf cell (halfAt vram (rowAddressOf cell (sy % 8 + (r - top)))) (x - from)) v

@@ -2,7 +2,8 @@
 ghost use mathlib.Core.Path.{_≡_};
 ghost use Prim.Native.Nat.{_+_, _*_, _-_, _%_, _<_, _≤_, _^_, min};
 ghost use Rattle.drawing_pixel.specs.Background.{cellAddressOf, insideOf, mapNumberOf, mapCellAddressOf};
-use drawing_pixel::wide;
+ghost use Rattle.drawing_background.specs.Row.{MapsOf};
+use drawing_pixel::field::wide;
 
 // The low k bits of a number.
 pub fn low_bits(u: usize, k: usize) -> usize
@@ -39,6 +40,14 @@ pub fn across(scx: usize, scy: usize) -> usize
     3 - scy
 }
 
+// The map at a map column and row of a background whose first map is given, with 2^k maps side by side.
+pub fn map_at(first: usize, k: usize, column: usize, r: usize) -> usize
+    requires { ⌜ (first < 16) × ((k < 4) × (r < 8)) ⌝ }
+    ensures { λ m. ⌜ (m ≡ (first + (r * 2 ^ k + column % 2 ^ k)) % 16) × (m < 16) ⌝ }
+{
+    (first + (maps_above(r, k) + low_bits(column, k))) % 16
+}
+
 // The map at a map column and row of a world's background.
 pub fn map_number(w: &[u16; 11], column: usize, r: usize) -> usize
     requires { ⌜ r < 8 ⌝ }
@@ -46,7 +55,7 @@ pub fn map_number(w: &[u16; 11], column: usize, r: usize) -> usize
 {
     let flags = wide(w[0]);
     let k = across(flags / 1024 % 4, flags / 256 % 4);
-    (flags % 16 + (maps_above(r, k) + low_bits(column, k))) % 16
+    map_at(flags % 16, k, column, r)
 }
 
 // Whether a cell column and row lie in a world's background.
@@ -90,4 +99,51 @@ pub fn cell_address(w: &[u16; 11], u: usize, v: usize) -> usize
         return map_cell_address(w, u, v);
     }
     131072 + 2 * wide(w[10])
+}
+
+// How a world's background is made of maps, worked out once for many cells: OVER, the first map, the exponent of how
+// many maps stand side by side before they repeat, and the exponents of the background's width and height in cells.
+pub struct Maps {
+    pub over: bool,
+    pub first: usize,
+    pub beside: usize,
+    pub across: usize,
+    pub down: usize,
+}
+
+// The maps of a world's background.
+pub fn maps_of(w: &[u16; 11]) -> Maps
+    ensures { λ m. ⌜
+        MapsOf (now (w .entry)) (m .over) (m .first) (m .beside) (m .across) (m .down)
+        ⌝ }
+{
+    let flags = wide(w[0]);
+    let scx = flags / 1024 % 4;
+    let scy = flags / 256 % 4;
+    let over = flags / 128 % 2 == 1;
+    let first = flags % 16;
+    let beside = across(scx, scy);
+    let across = 6 + scx;
+    let down = 6 + scy;
+    Maps {
+        over,
+        first,
+        beside,
+        across,
+        down,
+    }
+}
+
+// Where the cell used at a cell column and row lies, by the maps of its world.
+pub fn address_in(w: &[u16; 11], maps: Maps, u: usize, v: usize) -> usize
+    requires { ⌜ MapsOf (now w) (maps .over) (maps .first) (maps .beside) (maps .across) (maps .down) ⌝ }
+    ensures { λ r. ⌜ (r ≡ cellAddressOf (now (w .entry)) u v) × (r < 262143) ⌝ }
+{
+    if maps.over {
+        return cell_address(w, u, v);
+    }
+    let column = low_bits(u, maps.across) / 64;
+    let row = low_bits(v, maps.down) / 64;
+    let map = map_at(maps.first, maps.beside, column, row);
+    131072 + 8192 * map + 2 * (64 * (v % 64) + u % 64)
 }

@@ -5,8 +5,8 @@ ghost use lib.ListN.{length};
 ghost use Rattle.bus.specs.Refusal.{vramBytes};
 ghost use Rattle.drawing_pixel.specs.Background.{parameterOf, plainLeftOf, normalYOf, biasIndexOf, affineShiftOf};
 ghost use Rattle.drawing_pixel.specs.Background.{affineFloorOf, affineParameterOf};
-use drawing_pixel::half;
-use drawing_pixel::wide;
+use drawing_pixel::field::half;
+use drawing_pixel::field::wide;
 
 // Parameter k of a world; its index wraps at 16 bits.
 pub fn parameter(vram: &[u8], w: &[u16; 11], k: usize) -> usize

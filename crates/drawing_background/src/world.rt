@@ -9,7 +9,10 @@ ghost use Rattle.drawing_pixel.specs.World.{bgmOf, windowLeftOf, columnsOf, wor
 ghost use Rattle.drawing_pixel.specs.Background.{sourcePixelOf, sourceXOf, sourceYOf, backgroundPixelOf};
 ghost use Rattle.drawing_pixel.specs.Buffer.{Span, Block, Strip};
 ghost use Rattle.drawing_background.specs.Row.{rowBiasOf};
-use crate::paint::along_span;
+use crate::affine::Course;
+use crate::affine::along_span;
+use crate::paint::Area;
+use crate::paint::Source;
 use crate::paint::plain_block;
 use crate::paint::plain_span;
 use crate::source::affine_parameter;
@@ -18,58 +21,60 @@ use crate::source::bias_index;
 use crate::source::normal_y;
 use crate::source::parameter;
 use crate::source::plain_left;
-use drawing_pixel::clipped;
-use drawing_pixel::columns;
-use drawing_pixel::flag;
-use drawing_pixel::least;
-use drawing_pixel::rows;
-use drawing_pixel::wide;
-use drawing_pixel::window_left;
+use drawing_pixel::field::clipped;
+use drawing_pixel::field::flag;
+use drawing_pixel::field::least;
+use drawing_pixel::field::wide;
+use drawing_pixel::paint::Run;
+use drawing_pixel::paint::View;
+use drawing_pixel::world::columns;
+use drawing_pixel::world::rows;
+use drawing_pixel::world::window_left;
 
-// Columns `from` to `to` - 1 of row j of an affine world, on row r of the strip.
+// Offsets in a world's window: column i of its row j.
+pub struct Offsets {
+    pub i: usize,
+    pub j: usize,
+}
+
+// A run whose first column has these offsets in an affine world's window.
 pub fn affine_row(
     vram: &[u8],
     registers: &DrawingRegisters,
     w: &[u16; 11],
     buffer: &mut [u16; 384],
-    r: usize,
-    from: usize,
-    to: usize,
+    run: Run,
     eye: usize,
-    i: usize,
-    j: usize,
+    offsets: Offsets,
 )
     requires { ⌜ length (now buffer) ≡ 384 ⌝ }
     requires { ⌜
         (length (now vram) ≡ vramBytes)
-        × ((from ≤ to) × ((to ≤ 384) × ((r < 8) × ((i < 2048) × ((j < 65536) × (2 ≤ bgmOf (now w)))))))
+        × ((run .from ≤ run .to)
+        × ((run .to ≤ 384)
+        × ((run .row < 8) × ((offsets .i < 2048) × ((offsets .j < 65536) × (2 ≤ bgmOf (now w)))))))
         ⌝ }
     ensures { λ _. ⌜
-        Span r from to
+        Span (run .row) (run .from) (run .to)
         (λ x. sourcePixelOf (now (vram .entry)) (now (registers .entry)) (now (w .entry))
-        (sourceXOf (now (vram .entry)) (now (w .entry)) eye (i + (x - from)) j)
-        (sourceYOf (now (vram .entry)) (now (w .entry)) eye (i + (x - from)) j))
+        (sourceXOf (now (vram .entry)) (now (w .entry)) eye (offsets .i + (x - run .from)) (offsets .j))
+        (sourceYOf (now (vram .entry)) (now (w .entry)) eye (offsets .i + (x - run .from)) (offsets .j)))
         (now (buffer .entry)) (now (buffer .exit))
         ⌝ }
 {
-    let mx = affine_parameter(vram, w, j, 0);
-    let mp = affine_parameter(vram, w, j, 1);
-    let my = affine_parameter(vram, w, j, 2);
-    let dx = affine_parameter(vram, w, j, 3);
-    let dy = affine_parameter(vram, w, j, 4);
+    let mx = affine_parameter(vram, w, offsets.j, 0);
+    let mp = affine_parameter(vram, w, offsets.j, 1);
+    let my = affine_parameter(vram, w, offsets.j, 2);
+    let dx = affine_parameter(vram, w, offsets.j, 3);
+    let dy = affine_parameter(vram, w, offsets.j, 4);
+    let n = offsets.i + affine_shift(eye, mp);
     along_span(
         vram,
         registers,
         w,
         buffer,
-        r,
-        from,
-        to,
-        mx,
-        my,
-        dx,
-        dy,
-        i + affine_shift(eye, mp),
+        run,
+        Course { mx, my, dx, dy, n },
     );
 }
 
@@ -84,83 +89,76 @@ pub fn row_bias(vram: &[u8], w: &[u16; 11], eye: usize, j: usize) -> usize
     4096
 }
 
-// Columns `from` to `to` - 1 of row j of a world, the first at offset i of its window, on row r of the strip.
+// A run whose first column has these offsets in a world's window.
 pub fn row(
     vram: &[u8],
     registers: &DrawingRegisters,
     w: &[u16; 11],
     buffer: &mut [u16; 384],
-    r: usize,
-    from: usize,
-    to: usize,
+    run: Run,
     eye: usize,
-    i: usize,
-    j: usize,
+    offsets: Offsets,
 )
     requires { ⌜ length (now buffer) ≡ 384 ⌝ }
     requires { ⌜
-        (length (now vram) ≡ vramBytes) × ((from ≤ to) × ((to ≤ 384) × ((r < 8) × ((i < 2048) × (j < 65536)))))
+        (length (now vram) ≡ vramBytes)
+        × ((run .from ≤ run .to)
+        × ((run .to ≤ 384) × ((run .row < 8) × ((offsets .i < 2048) × (offsets .j < 65536)))))
         ⌝ }
     ensures { λ _. ⌜
-        Span r from to
+        Span (run .row) (run .from) (run .to)
         (λ x. sourcePixelOf (now (vram .entry)) (now (registers .entry)) (now (w .entry))
-        (sourceXOf (now (vram .entry)) (now (w .entry)) eye (i + (x - from)) j)
-        (sourceYOf (now (vram .entry)) (now (w .entry)) eye (i + (x - from)) j))
+        (sourceXOf (now (vram .entry)) (now (w .entry)) eye (offsets .i + (x - run .from)) (offsets .j))
+        (sourceYOf (now (vram .entry)) (now (w .entry)) eye (offsets .i + (x - run .from)) (offsets .j)))
         (now (buffer .entry)) (now (buffer .exit))
         ⌝ }
 {
     if 2 <= w[0] / 4096 % 4 {
-        affine_row(vram, registers, w, buffer, r, from, to, eye, i, j);
+        affine_row(vram, registers, w, buffer, run, eye, offsets);
         return;
     }
-    let sx = plain_left(w, eye) + i + row_bias(vram, w, eye, j) - 4096;
-    plain_span(vram, registers, w, buffer, r, from, to, sx, normal_y(w, j));
+    let sx = plain_left(w, eye) + offsets.i + row_bias(vram, w, eye, offsets.j) - 4096;
+    let sy = normal_y(w, offsets.j);
+    plain_span(vram, registers, w, buffer, run, Source { x: sx, y: sy });
 }
 
-// Row r of a strip, whose columns `from` to `to` - 1 are in the world's window; the row may be outside of it.
+// A run of a strip whose columns are in the world's window; the row may be outside of it.
 pub fn strip_row(
     vram: &[u8],
     registers: &DrawingRegisters,
     w: &[u16; 11],
     buffer: &mut [u16; 384],
-    r: usize,
-    from: usize,
-    to: usize,
-    eye: usize,
-    strip: usize,
+    run: Run,
+    view: View,
 )
     requires { ⌜ length (now buffer) ≡ 384 ⌝ }
-    requires { ⌜ (length (now vram) ≡ vramBytes) × ((from ≤ to) × ((to ≤ 384) × ((r < 8) × (strip < 28)))) ⌝ }
     requires { ⌜
-        (worldShownOf (now w) eye ≡ true)
-        × ((windowLeftOf (now w) eye ≤ from + 1024) × (to + 1024 ≤ windowLeftOf (now w) eye + columnsOf (now w)))
+        (length (now vram) ≡ vramBytes)
+        × ((run .from ≤ run .to) × ((run .to ≤ 384) × ((run .row < 8) × (view .strip < 28))))
+        ⌝ }
+    requires { ⌜
+        (worldShownOf (now w) (view .eye) ≡ true)
+        × ((windowLeftOf (now w) (view .eye) ≤ run .from + 1024)
+        × (run .to + 1024 ≤ windowLeftOf (now w) (view .eye) + columnsOf (now w)))
         ⌝ }
     ensures { λ _. ⌜
-        Span r from to
-        (λ x. backgroundPixelOf (now (vram .entry)) (now (registers .entry)) (now (w .entry)) eye x (8 * strip + r))
+        Span (run .row) (run .from) (run .to)
+        (λ x. backgroundPixelOf (now (vram .entry)) (now (registers .entry)) (now (w .entry)) (view .eye)
+        x (8 * view .strip + run .row))
         (now (buffer .entry)) (now (buffer .exit))
         ⌝ }
 {
     let top = (wide(w[3]) + 32768) % 65536;
-    let y = 8 * strip + r + 32768;
+    let y = 8 * view.strip + run.row + 32768;
     if y < top {
         return;
     }
     if top + rows(w) <= y {
         return;
     }
-    row(
-        vram,
-        registers,
-        w,
-        buffer,
-        r,
-        from,
-        to,
-        eye,
-        from + 1024 - window_left(w, eye),
-        y - top,
-    );
+    let i = run.from + 1024 - window_left(w, view.eye);
+    let j = y - top;
+    row(vram, registers, w, buffer, run, view.eye, Offsets { i, j });
 }
 
 // How far a is past b, 0 where it is not.
@@ -181,33 +179,40 @@ pub fn normal_block(
     buffer: &mut [u16; 384],
     from: usize,
     to: usize,
-    eye: usize,
-    strip: usize,
+    view: View,
 )
     requires { ⌜ length (now buffer) ≡ 384 ⌝ }
     requires { ⌜
-        (length (now vram) ≡ vramBytes) × ((from ≤ to) × ((to ≤ 384) × ((strip < 28) × (bgmOf (now w) ≡ 0))))
+        (length (now vram) ≡ vramBytes) × ((from ≤ to) × ((to ≤ 384) × ((view .strip < 28) × (bgmOf (now w) ≡ 0))))
         ⌝ }
     requires { ⌜
-        (worldShownOf (now w) eye ≡ true)
-        × ((windowLeftOf (now w) eye ≤ from + 1024) × (to + 1024 ≤ windowLeftOf (now w) eye + columnsOf (now w)))
+        (worldShownOf (now w) (view .eye) ≡ true)
+        × ((windowLeftOf (now w) (view .eye) ≤ from + 1024)
+        × (to + 1024 ≤ windowLeftOf (now w) (view .eye) + columnsOf (now w)))
         ⌝ }
     ensures { λ _. ⌜
         Block 0 8 from to
-        (λ x r. backgroundPixelOf (now (vram .entry)) (now (registers .entry)) (now (w .entry)) eye x (8 * strip + r))
+        (λ x r. backgroundPixelOf (now (vram .entry)) (now (registers .entry)) (now (w .entry)) (view .eye)
+        x (8 * view .strip + r))
         (now (buffer .entry)) (now (buffer .exit))
         ⌝ }
 {
     let top = (wide(w[3]) + 32768) % 65536;
-    let y = 8 * strip + 32768;
+    let y = 8 * view.strip + 32768;
     let first = least(8, past(top, y));
     let last = least(8, past(top + rows(w), y));
     if last <= first {
         return;
     }
-    let sx = plain_left(w, eye) + (from + 1024 - window_left(w, eye));
+    let sx = plain_left(w, view.eye) + (from + 1024 - window_left(w, view.eye));
     let sy = normal_y(w, y + first - top);
-    plain_block(vram, registers, w, buffer, first, last, from, to, sx, sy);
+    let area = Area {
+        top: first,
+        bottom: last,
+        from,
+        to,
+    };
+    plain_block(vram, registers, w, buffer, area, Source { x: sx, y: sy });
 }
 
 // What a background world shows an eye of a strip, painted over what is there.
@@ -237,12 +242,13 @@ pub fn strip(
         return;
     }
     if w[0] / 4096 % 4 == 0 {
-        normal_block(vram, registers, w, buffer, from, to, eye, strip);
+        normal_block(vram, registers, w, buffer, from, to, View { eye, strip });
         return;
     }
     let mut r = 0;
     while r < 8 {
-        strip_row(vram, registers, w, buffer, r, from, to, eye, strip);
+        let run = Run { row: r, from, to };
+        strip_row(vram, registers, w, buffer, run, View { eye, strip });
         r += 1;
     }
 }

@@ -9,7 +9,7 @@ use borrow.Author.Tests.{lt-leb, le-leb, le-ltb, lt-ltb, leb-true, ltb-true}
 use Rattle.drawing_pixel.specs.Signed.{eyeFlagOf}
 use Rattle.drawing_pixel.specs.World.{gyOf, rowsOf, columnsOf, windowLeftOf, worldShownOf, columnCoveredOf, rowCoveredOf, worldCoversOf}
 use Rattle.drawing_pixel.specs.Object.{objectShownOf, objectRowOf, objectLeftOf, objectCoversOf}
-use Rattle.drawing_laws.proofs.Choices.{and-left, and-right}
+use Rattle.word.proofs.Choices.{and-left, and-right}
 
 module _ (w : List ℕ) (eye x y : ℕ) where
   pub world-hidden : eyeFlagOf eye (getD w 0 0) ≡ false → false ≡ worldCoversOf w eye x y

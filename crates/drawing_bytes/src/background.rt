@@ -18,14 +18,14 @@ use drawing_background::source::bias_index;
 use drawing_background::source::normal_y;
 use drawing_background::source::parameter;
 use drawing_background::source::plain_left;
-use drawing_pixel::columns;
-use drawing_pixel::flag;
-use drawing_pixel::half;
-use drawing_pixel::row_address;
-use drawing_pixel::rows;
-use drawing_pixel::wide;
-use drawing_pixel::window_left;
-use drawing_pixel::world;
+use drawing_pixel::character::row_address;
+use drawing_pixel::field::flag;
+use drawing_pixel::field::half;
+use drawing_pixel::field::wide;
+use drawing_pixel::world::columns;
+use drawing_pixel::world::rows;
+use drawing_pixel::world::window_left;
+use drawing_pixel::world::world;
 
 // Where parameter k of a world lies; its index wraps at 16 bits.
 pub fn parameter_address(w: &[u16; 11], k: usize) -> usize

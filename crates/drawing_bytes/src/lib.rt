@@ -3,6 +3,7 @@ mod background;
 mod objects;
 mod room;
 
+use crate::objects::Pixel;
 use bus::Drawing;
 use bus::DrawingRegisters;
 use bus::refusals;
@@ -39,7 +40,8 @@ fn list(
 {
     let n = background::list_worlds(vram, room, eye, x, y);
     let worlds = objects::object_worlds(vram);
-    objects::list_objects(vram, registers, room, n, worlds, eye, x, y)
+    let pixel = Pixel { eye, x, y };
+    objects::list_objects(vram, registers, room, n, worlds, pixel)
 }
 
 // The bytes that pixel (x, y) of an eye's image answers to: how many there are, and their addresses in VRAM in the

@@ -16,12 +16,12 @@ ghost use Rattle.drawing_bytes.specs.Groups.{reachedObjectWorldsOf, inGr
 use crate::room::put_half;
 use drawing_objects::group_count;
 use drawing_objects::object_row;
-use drawing_pixel::flag;
-use drawing_pixel::half;
-use drawing_pixel::object;
-use drawing_pixel::object_left;
-use drawing_pixel::row_address;
-use drawing_pixel::wide;
+use drawing_pixel::character::row_address;
+use drawing_pixel::field::flag;
+use drawing_pixel::field::half;
+use drawing_pixel::field::wide;
+use drawing_pixel::object::object;
+use drawing_pixel::object::object_left;
 
 // 1 for a world whose first halfword makes it draw objects, else 0.
 pub fn draws_objects(flags: usize) -> usize
@@ -98,6 +98,13 @@ pub fn covers(o: &[u16; 4], eye: usize, x: usize, y: usize) -> bool
     x + 1024 < left + 8
 }
 
+// A pixel of an eye's image.
+pub struct Pixel {
+    pub eye: usize,
+    pub x: usize,
+    pub y: usize,
+}
+
 // Object k's bytes, none where no reached object world draws it over the pixel.
 pub fn list_object(
     vram: &[u8],
@@ -106,24 +113,27 @@ pub fn list_object(
     n: usize,
     k: usize,
     worlds: usize,
-    eye: usize,
-    x: usize,
-    y: usize,
+    pixel: Pixel,
 ) -> usize
-    requires { ⌜ (length (now vram) ≡ vramBytes) × ((n < 4096) × ((k < 1024) × ((x < 384) × (y < 224)))) ⌝ }
+    requires { ⌜
+        (length (now vram) ≡ vramBytes) × ((n < 4096) × ((k < 1024) × ((pixel .x < 384) × (pixel .y < 224))))
+        ⌝ }
     requires { ⌜ (worlds ≡ reachedObjectWorldsOf (now vram) 32) × (worlds ≤ 32) ⌝ }
     requires { ⌜ ((g : ℕ) → g < 4 → sptOf (now registers) g < 1024) ⌝ }
-    ensures { λ r. ⌜ Lists room n (objectListOf (now (vram .entry)) (now (registers .entry)) eye x y k) r ⌝ }
+    ensures { λ r. ⌜
+        Lists room n
+        (objectListOf (now (vram .entry)) (now (registers .entry)) (pixel .eye) (pixel .x) (pixel .y) k) r
+        ⌝ }
     ensures { λ r. ⌜ r ≤ n + 2 ⌝ }
 {
     let o = object(vram, k);
-    if !covers(&o, eye, x, y) {
+    if !covers(&o, pixel.eye, pixel.x, pixel.y) {
         return n;
     }
     if !in_groups(registers, worlds, k) {
         return n;
     }
-    put_half(room, n, row_address(wide(o[3]), object_row(&o, y)))
+    put_half(room, n, row_address(wide(o[3]), object_row(&o, pixel.y)))
 }
 
 // The bytes of objects 1,023 to 0.
@@ -133,19 +143,20 @@ pub fn list_objects(
     room: &mut [u32],
     start: usize,
     worlds: usize,
-    eye: usize,
-    x: usize,
-    y: usize,
+    pixel: Pixel,
 ) -> usize
-    requires { ⌜ (length (now vram) ≡ vramBytes) × ((start < 1024) × ((x < 384) × (y < 224))) ⌝ }
+    requires { ⌜ (length (now vram) ≡ vramBytes) × ((start < 1024) × ((pixel .x < 384) × (pixel .y < 224))) ⌝ }
     requires { ⌜ (worlds ≡ reachedObjectWorldsOf (now vram) 32) × (worlds ≤ 32) ⌝ }
     requires { ⌜ ((g : ℕ) → g < 4 → sptOf (now registers) g < 1024) ⌝ }
-    ensures { λ r. ⌜ Lists room start (objectsBytesOf (now (vram .entry)) (now (registers .entry)) eye x y 1024) r ⌝ }
+    ensures { λ r. ⌜
+        Lists room start
+        (objectsBytesOf (now (vram .entry)) (now (registers .entry)) (pixel .eye) (pixel .x) (pixel .y) 1024) r
+        ⌝ }
 {
     let mut n = start;
     let mut k = 1024;
     while 0 < k {
-        n = list_object(vram, registers, room, n, k - 1, worlds, eye, x, y);
+        n = list_object(vram, registers, room, n, k - 1, worlds, pixel);
         k -= 1;
     }
     n

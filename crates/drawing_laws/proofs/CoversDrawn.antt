@@ -1,6 +1,6 @@
 -- An object that covers a pixel, as Covers says it, is drawn over it by the loop over worlds. Assumes nothing.
 use Prim.Native.Nat.{ℕ, zero, suc, _+_, _-_, _%_, _<_, _≤_}
-use mathlib.Core.Bool.{Bool, true, false, _||_, not}
+use mathlib.Core.Bool.{Bool, true, false, _||_, not, false≢true}
 use mathlib.Core.List.{List}
 use mathlib.Core.Path.{_≡_, refl, sym, _∙_}
 use native.Mathlib.Nat.{add-zero}
@@ -15,7 +15,7 @@ use Rattle.drawing_pixel.proofs.Painting.{object-covered}
 use Rattle.drawing_laws.specs.Covers.{noEndOf, reachedOf, objectWorldsOf, groupOf, inGroupOf, drawsOverOf, someBelow, objectCoversPixelOf}
 use Rattle.drawing_laws.specs.PixelBytes.{amongOf}
 use Rattle.drawing_laws.specs.SourceBytes.{worldDrawsOf, worldsDrawOf}
-use Rattle.drawing_laws.proofs.Choices.{and-left, and-right, and-both, or-left, or-right, or-cases, false-not-true}
+use Rattle.word.proofs.Choices.{and-left, and-right, and-both, or-left, or-right, or-cases}
 use Rattle.drawing_laws.proofs.Groups.{in-group-among, object-worlds-below, counter-step}
 use Rattle.drawing_laws.proofs.DrawnCovers.{no-end-more, group-is}
 use Rattle.drawing_laws.proofs.PixelSame.{Starts, counter-below}
@@ -35,12 +35,12 @@ pub end-stops : (vram : List ℕ) (n m : ℕ) → n < 32 → m ≤ n → endOf (
 unfolding reachedOf
 end-stops vram n m b l e r =
     let here : m + (n - m) ≡ n = omega arith in
-    false-not-true (sym (rw here at (no-end-at vram m (32 - m) (n - m) r (omega arith))) ∙ e)
+    false≢true (sym (rw here at (no-end-at vram m (32 - m) (n - m) r (omega arith))) ∙ e)
 
 -- a test that holds of some number below n
 some-at : (n : ℕ) (f : ℕ → Bool) (A : Type 0) → someBelow n f ≡ true → ((m : ℕ) → m < n → f m ≡ true → A) → A
 unfolding someBelow
-some-at zero f A e h = absurd (false-not-true e)
+some-at zero f A e h = absurd (false≢true e)
 some-at (suc n) f A e h =
     or-cases (f n) _ e (h n (omega arith)) (λ g. some-at n f A g (λ m l. h m (omega arith)))
 
@@ -70,7 +70,7 @@ module _ (vram regs : List ℕ) (starts : Starts regs) (eye x y j : ℕ) (b : j 
       → someBelow n (drawsOverOf vram regs eye x y j) ≡ true
       → worldsDrawOf vram regs eye x y n counter j ≡ true
   unfolding worldsDrawOf someBelow objectWorldsOf
-  some-drawn zero k counter q h u c d = absurd (false-not-true d)
+  some-drawn zero k counter q h u c d = absurd (false≢true d)
   some-drawn (suc n) k counter q h u c d =
       go (endOf (worldOf vram n)) refl (some-drawn n (suc k) (counterOf (worldOf vram n) counter) (omega arith))
     where

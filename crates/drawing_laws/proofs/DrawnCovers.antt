@@ -1,6 +1,6 @@
 -- An object that the loop over worlds draws over a pixel covers the pixel, as Covers says it. Assumes nothing.
 use Prim.Native.Nat.{ℕ, zero, suc, _+_, _-_, _%_, _<_, _≤_}
-use mathlib.Core.Bool.{true, false}
+use mathlib.Core.Bool.{true, false, false≢true}
 use mathlib.Core.List.{List}
 use mathlib.Core.Path.{_≡_, refl, sym, ap, _∙_}
 use native.Mathlib.Omega.{arith}
@@ -12,7 +12,7 @@ use Rattle.drawing_pixel.proofs.Painting.{object-covered}
 use Rattle.drawing_laws.specs.Covers.{noEndOf, reachedOf, objectWorldsOf, groupOf, inGroupOf, drawsOverOf, someBelow, objectCoversPixelOf}
 use Rattle.drawing_laws.specs.PixelBytes.{amongOf}
 use Rattle.drawing_laws.specs.SourceBytes.{worldDrawsOf, worldsDrawOf}
-use Rattle.drawing_laws.proofs.Choices.{and-left, and-right, and-both, or-left, or-right, or-cases, pick-second, not-of-false, false-not-true}
+use Rattle.word.proofs.Choices.{and-left, and-right, and-both, or-left, or-right, or-cases, pick-second, not-of-false}
 use Rattle.drawing_laws.proofs.Groups.{among-in-group, object-worlds-below, counter-step}
 
 -- one world more without END
@@ -55,7 +55,7 @@ module _ (vram regs : List ℕ) (eye x y j : ℕ) (b : j < 1024) where
       → worldsDrawOf vram regs eye x y n counter j ≡ true
       → someBelow n (drawsOverOf vram regs eye x y j) ≡ true
   unfolding worldsDrawOf someBelow objectWorldsOf
-  worlds-draw zero k counter q h c d = absurd (false-not-true d)
+  worlds-draw zero k counter q h c d = absurd (false≢true d)
   worlds-draw (suc n) k counter q h c d =
       pick-second (endOf (worldOf vram n)) _ d
       (λ e f.

@@ -1,7 +1,7 @@
 -- Groups of objects: a group draws the objects that are of it (`among-in-group`, `in-group-among`), and the object counter
 -- is the group's number as it is counted from above (`counter-step`). Assumes nothing.
 use Prim.Native.Nat.{ℕ, zero, suc, _+_, _-_, _%_, _<_, _≤_}
-use mathlib.Core.Bool.{Bool, true, false, _||_}
+use mathlib.Core.Bool.{Bool, true, false, _||_, false≢true}
 use mathlib.Core.List.{List}
 use mathlib.Core.Path.{_≡_, refl}
 use native.Mathlib.Omega.{arith}
@@ -14,11 +14,11 @@ use Rattle.drawing_pixel.specs.Object.{objectAfterOf, groupCountOf}
 use Rattle.drawing_pixel.specs.Pixel.{counterAfterOf, drawsObjectsOf, counterOf}
 use Rattle.drawing_laws.specs.Covers.{objectWorldsOf, inGroupOf}
 use Rattle.drawing_laws.specs.PixelBytes.{amongOf}
-use Rattle.drawing_laws.proofs.Choices.{or-cases, false-not-true}
+use Rattle.word.proofs.Choices.{or-cases}
 
 among-below : (count j k : ℕ) → k < 1024 → amongOf count j k ≡ true → (j + 1024 - k) % 1024 < count
 unfolding amongOf objectAfterOf
-among-below zero j k h e = absurd (false-not-true e)
+among-below zero j k h e = absurd (false≢true e)
 among-below (suc count) j k h e =
     or-cases (eqb j k) _ e
     (λ q. let same : j ≡ k = eqb-true j k q in omega arith)

@@ -1,7 +1,7 @@
 -- How long the list is: `listed-length`, 4 bytes for each covering normal world, 6 for H-bias, 14 for affine, and 2 for
 -- each covering object. Assumes nothing.
 use Prim.Native.Nat.{ℕ, zero, suc, _+_, _*_, _<_, _≤_}
-use mathlib.Core.Bool.{Bool, true, false, _&&_, _||_, not}
+use mathlib.Core.Bool.{Bool, true, false, _&&_, _||_, not, false≢true}
 use mathlib.Core.List.{List, [], _++_}
 use mathlib.Core.Path.{_≡_, refl, ap, _∙_}
 use native.Mathlib.Omega.{arith}
@@ -19,7 +19,7 @@ use Rattle.drawing_laws.specs.Demand3.{worldBytesCountOf, sumBelow, List
 use Rattle.drawing_pixel.proofs.Painting.{world-covers}
 use Rattle.drawing_laws.proofs.PixelBytes.{listed-formula}
 use Rattle.drawing_laws.proofs.DrawnCovers.{no-end-more, reached}
-use Rattle.drawing_laws.proofs.Choices.{and-left, false-not-true}
+use Rattle.word.proofs.Choices.{and-left}
 use Rattle.drawing_laws.proofs.Registers.{spt-below}
 use Rattle.drawing_laws.proofs.PixelSame.{Starts}
 use Rattle.drawing_laws.proofs.CoversDrawn.{end-stops, covers-drawn}
@@ -36,10 +36,10 @@ sum-none (suc n) test f h = go (test n) refl (sum-none n test f (λ m l. h m (om
 
 -- a world that is skipped is shown to no eye
 hidden : (left a b : Bool) → not (a || b) ≡ true → pick left a b ≡ true → ⊥
-hidden left true b s c = false-not-true s
-hidden left false true s c = false-not-true s
-hidden true false false s c = false-not-true c
-hidden false false false s c = false-not-true c
+hidden left true b s c = false≢true s
+hidden left false true s c = false≢true s
+hidden true false false s c = false≢true c
+hidden false false false s c = false≢true c
 
 skipped-hidden : (w : List ℕ) (eye x y : ℕ) → skippedOf w ≡ true → worldCoversOf w eye x y ≡ true → ⊥
 unfolding skippedOf worldCoversOf worldShownOf eyeFlagOf

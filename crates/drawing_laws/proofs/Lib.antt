@@ -7,7 +7,6 @@ pub mod Images
 pub mod ListedAddresses
 pub mod ShortWorlds
 mod BackgroundSame
-pub mod Choices
 mod CoversDrawn
 mod DrawnCovers
 mod Each

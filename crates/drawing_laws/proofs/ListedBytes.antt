@@ -1,6 +1,6 @@
 -- What holds of the bytes of every parameter, cell and character row holds of every listed byte. Assumes nothing.
 use Prim.Native.Nat.{ℕ, zero, suc, _+_, _*_, _%_, _<_}
-use mathlib.Core.Bool.{true}
+use mathlib.Core.Bool.{true, false≢true}
 use mathlib.Core.List.{List, []}
 use mathlib.Core.Path.{_≡_}
 use lib.ListN.{getD}
@@ -19,7 +19,7 @@ use Rattle.drawing_laws.specs.Demand3.{Each}
 use Rattle.drawing_laws.specs.PixelBytes.{halfBytesOf, amongOf, affineBytesOf, parameterBytesOf}
 use Rattle.drawing_laws.specs.SourceBytes.{cellBytesOf, backgroundBytesOf, worldBytesOf, worldsBytesOf, worldDrawsOf, worldsDrawOf, objectBytesOf, objectsBytesOf, sourceBytesOf}
 use Rattle.drawing_laws.proofs.Each.{each-join, each-pick}
-use Rattle.drawing_laws.proofs.Choices.{and-left, and-right, or-cases, pick-second, false-not-true}
+use Rattle.word.proofs.Choices.{and-left, and-right, or-cases, pick-second}
 
 -- an object that covers a pixel has a row there
 covers-row : (w o : List ℕ) (eye x y : ℕ) → objectCoversOf w o eye x y ≡ true → objectRowOf o y < 8
@@ -31,7 +31,7 @@ covers-row w o eye x y e =
 pub drawn-row : (vram regs : List ℕ) (eye x y n counter k : ℕ) → worldsDrawOf vram regs eye x y n counter k ≡ true
     → objectRowOf (objectOf vram k) y < 8
 unfolding worldsDrawOf worldDrawsOf
-drawn-row vram regs eye x y zero counter k e = absurd (false-not-true e)
+drawn-row vram regs eye x y zero counter k e = absurd (false≢true e)
 drawn-row vram regs eye x y (suc n) counter k e =
     pick-second (endOf (worldOf vram n)) _ e
     (λ _ f.

@@ -17,7 +17,7 @@ use Rattle.drawing_pixel.proofs.Painting.{pixel-formula}
 use Rattle.drawing_laws.specs.Demand3.{Each, SameByte, SameTables}
 use Rattle.drawing_laws.specs.SourceBytes.{worldDrawsOf, worldsDrawOf, objectBytesOf, objectsBytesOf, worldBytesOf, worldsBytesOf, sourceBytesOf}
 use Rattle.drawing_laws.proofs.Each.{each-left, each-right}
-use Rattle.drawing_laws.proofs.Choices.{pick-same, and-both, not-of-false, or-left, or-right}
+use Rattle.word.proofs.Choices.{pick-same, and-both, not-of-false, or-left, or-right}
 use Rattle.drawing_laws.proofs.Halfwords.{world-same}
 use Rattle.drawing_laws.proofs.BackgroundSame.{background-same}
 use Rattle.drawing_laws.proofs.ObjectsSame.{objects-same}

@@ -11,14 +11,14 @@ use lib.IntN.{pos, _+ℤ_}
 use Rattle.word.specs.Choose.{pick}
 use Rattle.drawing_pixel.specs.World.{worldOf, bgmOf, gyOf, heightOf, topInImageOf, rowsOf, worldShownOf, columnCoveredOf, rowCoveredOf, worldCoversOf}
 use Rattle.drawing_pixel.specs.Fields.{GY}
-use Rattle.drawing_pixel.specs.Integers.{aboveZero}
+use Rattle.word.specs.Integers.{aboveZero}
 use Rattle.drawing_pixel.proofs.HeightFormulas.{world-height}
 use Rattle.drawing_pixel.specs.WindowFormulas.{plainRow}
 use Rattle.drawing_pixel.proofs.WindowFormulas.{window-top, plain-row}
 use Rattle.drawing_pixel.proofs.Painting.{world-covers}
 use Rattle.drawing_laws.specs.Covers.{reachedOf, backgroundCoversOf}
-use Rattle.drawing_laws.specs.ShortWorlds.{Showing, TopInImage, StripCovered, AddedInStrip, PlainCovered, AffinePlain, FiveRows}
-use Rattle.drawing_laws.proofs.Choices.{and-left, and-right, and-both, not-of-false, false-not-true}
+use Rattle.drawing_laws.specs.ShortWorlds.{Showing, WorldTopInImage, StripCovered, AddedInStrip, PlainCovered, AffinePlain, FiveRows}
+use Rattle.word.proofs.Choices.{and-left, and-right, and-both, not-of-false}
 
 -- GY as it is kept
 top-is : (w : List ℕ) (g : ℕ) → GY w ≡ pos g → gyOf w ≡ g + 32768

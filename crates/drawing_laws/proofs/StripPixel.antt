@@ -11,7 +11,7 @@ use Rattle.drawing_pixel.specs.Character.{twoBitsOf}
 use Rattle.drawing_pixel.specs.Pixel.{pixelOf}
 use Rattle.drawing_pixel.specs.Strip.{imageOf, storedPixelOf, inStripOf, fourPixelsOf, stripOf}
 use Rattle.drawing_pixel.proofs.Pairs.{below-eight}
-use Rattle.drawing_laws.proofs.Choices.{and-both}
+use Rattle.word.proofs.Choices.{and-both}
 use Rattle.drawing_laws.proofs.StripBytes.{strip-kept, strip-drawn}
 
 -- eight values of two bits, four to a byte, are read back one by one

@@ -14,8 +14,8 @@ use Rattle.drawing_pixel.specs.Character.{rowAddressOf}
 use Rattle.drawing_pixel.specs.World.{worldOf, endOf, skippedOf, bgmOf}
 use Rattle.drawing_pixel.specs.Background.{parameterAddressOf, biasIndexOf}
 use Rattle.drawing_pixel.specs.Object.{objectOf, objectAfterOf, groupCountOf}
-use Rattle.drawing_pixel.specs.Integers.{aboveZero}
-use Rattle.drawing_pixel.specs.Floors.{modZ}
+use Rattle.word.specs.Integers.{aboveZero}
+use Rattle.word.specs.Floors.{modZ}
 use Rattle.drawing_pixel.specs.Fields.{GY}
 use Rattle.drawing_pixel.specs.WindowFormulas.{windowLeft}
 use Rattle.drawing_pixel.specs.SourceFormulas.{sourceX, sourceY}

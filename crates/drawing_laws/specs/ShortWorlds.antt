@@ -18,7 +18,7 @@ pub record Showing (vram : List ℕ) (eye x n : ℕ) : Type 0 where
   pub column : columnCoveredOf (worldOf vram n) eye x ≡ true
 
 -- world n is normal or H-bias, and its GY is g, from 0 to 223
-pub record TopInImage (vram : List ℕ) (n g : ℕ) : Type 0 where
+pub record WorldTopInImage (vram : List ℕ) (n g : ℕ) : Type 0 where
   pub mode : bgmOf (worldOf vram n) < 2
   pub top : GY (worldOf vram n) ≡ pos g
   pub inImage : g ≤ 223
@@ -28,7 +28,7 @@ pub record TopInImage (vram : List ℕ) (n g : ℕ) : Type 0 where
 abbrev pub StripCovered : Type 0
 StripCovered =
     (vram : List ℕ) (eye x y n g : ℕ) → Showing vram eye x n
-    → TopInImage vram n g
+    → WorldTopInImage vram n g
     → g ≤ y
     → y < 8 * (g / 8 + 1)
     → backgroundCoversOf vram eye x y n ≡ true
@@ -36,7 +36,7 @@ StripCovered =
 -- a row that H + 1 does not cover is covered only in the strip that holds GY
 abbrev pub AddedInStrip : Type 0
 AddedInStrip =
-    (vram : List ℕ) (eye x y n g : ℕ) → TopInImage vram n g
+    (vram : List ℕ) (eye x y n g : ℕ) → WorldTopInImage vram n g
     → plainRow (worldOf vram n) y ≡ false
     → backgroundCoversOf vram eye x y n ≡ true
     → y / 8 ≡ g / 8

@@ -10,14 +10,16 @@ ghost use Rattle.bus.specs.Registers.{sptOf};
 ghost use Rattle.drawing_pixel.specs.Object.{objectOf, objectShownOf, objectRowOf, objectLeftOf, objectPixelOf};
 ghost use Rattle.drawing_pixel.specs.Object.{groupCountOf, groupPixelOf};
 ghost use Rattle.drawing_pixel.specs.Buffer.{Span, Strip};
-use drawing_pixel::clipped;
-use drawing_pixel::flag;
-use drawing_pixel::half;
-use drawing_pixel::object;
-use drawing_pixel::object_left;
-use drawing_pixel::row_address;
-use drawing_pixel::span;
-use drawing_pixel::wide;
+use drawing_pixel::character::row_address;
+use drawing_pixel::field::clipped;
+use drawing_pixel::field::flag;
+use drawing_pixel::field::half;
+use drawing_pixel::field::wide;
+use drawing_pixel::object::object;
+use drawing_pixel::object::object_left;
+use drawing_pixel::paint::Run;
+use drawing_pixel::paint::View;
+use drawing_pixel::paint::span;
 
 // Whether an object of an object world is shown to an eye; the world's own flags hide nothing.
 pub fn shown(w: &[u16; 11], o: &[u16; 4], eye: usize) -> bool
@@ -34,49 +36,42 @@ pub fn object_row(o: &[u16; 4], y: usize) -> usize
     (y + 256 - wide(o[2]) % 256) % 256
 }
 
-// Row r of a strip, whose columns `from` to `to` - 1 are in the object's square; the row may be outside of it.
+// A run of a strip whose columns are in the object's square; the row may be outside of it.
 pub fn object_span(
     vram: &[u8],
     registers: &DrawingRegisters,
     w: &[u16; 11],
     o: &[u16; 4],
     buffer: &mut [u16; 384],
-    r: usize,
-    from: usize,
-    to: usize,
-    eye: usize,
-    strip: usize,
+    run: Run,
+    view: View,
 )
     requires { ⌜ length (now buffer) ≡ 384 ⌝ }
-    requires { ⌜ (length (now vram) ≡ vramBytes) × ((from ≤ to) × ((to ≤ 384) × ((r < 8) × (strip < 28)))) ⌝ }
     requires { ⌜
-        (objectShownOf (now w) (now o) eye ≡ true)
-        × ((objectLeftOf (now o) eye ≤ from + 1024) × (to + 1024 ≤ objectLeftOf (now o) eye + 8))
+        (length (now vram) ≡ vramBytes)
+        × ((run .from ≤ run .to) × ((run .to ≤ 384) × ((run .row < 8) × (view .strip < 28))))
+        ⌝ }
+    requires { ⌜
+        (objectShownOf (now w) (now o) (view .eye) ≡ true)
+        × ((objectLeftOf (now o) (view .eye) ≤ run .from + 1024)
+        × (run .to + 1024 ≤ objectLeftOf (now o) (view .eye) + 8))
         ⌝ }
     ensures { λ _. ⌜
-        Span r from to
-        (λ x. objectPixelOf (now (vram .entry)) (now (registers .entry)) (now (w .entry)) (now (o .entry)) eye
-        x (8 * strip + r))
+        Span (run .row) (run .from) (run .to)
+        (λ x. objectPixelOf (now (vram .entry)) (now (registers .entry)) (now (w .entry)) (now (o .entry)) (view .eye)
+        x (8 * view .strip + run .row))
         (now (buffer .entry)) (now (buffer .exit))
         ⌝ }
 {
-    let row = object_row(o, 8 * strip + r);
+    let row = object_row(o, 8 * view.strip + run.row);
     if 8 <= row {
         return;
     }
     let cell = wide(o[3]);
     let pixels = wide(half(vram, row_address(cell, row)));
     let palette = wide(registers[8 + cell / 16384]);
-    span(
-        buffer,
-        from,
-        to,
-        r,
-        cell,
-        pixels,
-        palette,
-        from + 1024 - object_left(o, eye),
-    );
+    let column = run.from + 1024 - object_left(o, view.eye);
+    span(buffer, run, cell, pixels, palette, column);
 }
 
 // What an object shows an eye of a strip, painted over what is there.
@@ -109,7 +104,8 @@ pub fn object_strip(
     }
     let mut r = 0;
     while r < 8 {
-        object_span(vram, registers, w, o, buffer, r, from, to, eye, strip);
+        let run = Run { row: r, from, to };
+        object_span(vram, registers, w, o, buffer, run, View { eye, strip });
         r += 1;
     }
 }

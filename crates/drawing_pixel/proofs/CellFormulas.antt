@@ -2,16 +2,16 @@
 use Prim.Native.Nat.{ℕ, zero, suc, _+_, _-_, _*_, _/_, _%_, _^_, _<_, min}
 use native.Mathlib.Omega.{arith}
 use mathlib.Core.Path.{_≡_, refl, sym, ap, _∙_}
-use lib.Dec.{leb, ltb, leb→le, ltb→lt, le→leb, lt→ltb}
+use lib.Dec.{leb, ltb, leb→le, le→leb}
 use lib.IntN.{ℤ, pos}
 use lib.Signed.{leZ, ltZ}
 use Rattle.word.specs.Choose.{pick}
 use Rattle.drawing_pixel.specs.World.{scxOf, scyOf}
 use Rattle.drawing_pixel.specs.Background.{mapsAcrossOf, insideOf, mapCellAddressOf}
-use Rattle.drawing_pixel.proofs.Integers.{Is}
-use Rattle.drawing_pixel.proofs.Integers.{is-of, is-pos, is-le-test, is-lt-test, bool-same}
-use Rattle.drawing_pixel.specs.Floors.{modZ}
-use Rattle.drawing_pixel.proofs.Floors.{is-mod}
+use Rattle.word.proofs.Choices.{bool-same, less-same}
+use Rattle.word.proofs.Integers.{Is, is-of, is-pos, is-le-test, is-lt-test}
+use Rattle.word.specs.Floors.{modZ}
+use Rattle.word.proofs.Floors.{is-mod}
 use Rattle.drawing_pixel.specs.CellFormulas.{SourceWraps, SourceWrapsDown, SourceInCell, SourceInside, MapsAcross, MapCell}
 
 -- a claim about SCX or SCY, by its four values
@@ -47,10 +47,7 @@ low x a i =
     ∙ sym (is-le-test (is-pos 0) i)
 
 eighth : (a k : ℕ) → ltb (a / 8) (1048576 + k) ≡ ltb (a + 0) (8 * k + 8388608)
-eighth a k =
-    bool-same _ _
-    (λ t. let l = ltb→lt (a / 8) (1048576 + k) t in lt→ltb (a + 0) (8 * k + 8388608) (omega arith))
-    (λ t. let l = ltb→lt (a + 0) (8 * k + 8388608) t in lt→ltb (a / 8) (1048576 + k) (omega arith))
+eighth a k = less-same (a / 8) (1048576 + k) (a + 0) (8 * k + 8388608) (λ l. omega arith) (λ l. omega arith)
 
 high : (c : ℕ) → c < 4 → (x : ℤ) (a : ℕ) → Is x a 8388608 → ltb (a / 8) (1048576 + 2 ^ (6 + c)) ≡ ltZ x (pos (512 * 2 ^ c))
 high =

@@ -11,10 +11,11 @@ use lib.IntN.{pos, _-ℤ_}
 use lib.Signed.{leZ, ltZ}
 use Rattle.drawing_pixel.specs.Signed.{biasedOf}
 use Rattle.drawing_pixel.specs.World.{gyOf, heightOf, stripRestOf, rowsOf}
-use Rattle.drawing_pixel.specs.Integers.{aboveZero}
-use Rattle.drawing_pixel.proofs.Integers.{is-pos, is-difference, is-le-test, is-lt-test, is-above, bool-same}
-use Rattle.drawing_pixel.specs.Floors.{modZ}
-use Rattle.drawing_pixel.proofs.Floors.{is-mod}
+use Rattle.word.specs.Integers.{aboveZero}
+use Rattle.word.proofs.Choices.{bool-same}
+use Rattle.word.proofs.Integers.{is-pos, is-difference, is-le-test, is-lt-test, is-above}
+use Rattle.word.specs.Floors.{modZ}
+use Rattle.word.proofs.Floors.{is-mod}
 use Rattle.drawing_pixel.specs.Fields.{GY, H}
 use Rattle.drawing_pixel.proofs.Fields.{is-field, field-plus-one}
 use Rattle.drawing_pixel.specs.HeightFormulas.{WorldHeight, TopInImage, StripRest, WorldRows}

@@ -14,8 +14,6 @@ mod Heights
 pub mod Lists
 pub mod Strips
 pub mod RowBits
-pub mod Integers
-pub mod Floors
 pub mod Fields
 pub mod HeightFormulas
 pub mod WindowFormulas

@@ -3,13 +3,13 @@
 use Prim.Native.Nat.{ℕ, zero, suc, _+_, _-_, _*_, _/_, _%_, _^_, _<_, _≤_}
 use native.Mathlib.Nat as NatL
 use native.Mathlib.Omega.{arith}
-use native.Mathlib.Decide.{ℕ-discrete}
-use borrow.Author.Tests.{eq-eqb, ne-eqb}
+use borrow.Author.Tests.{ne-eqb}
 use mathlib.Core.Bool.{Bool, true, false}
 use mathlib.Core.Path.{_≡_, refl, sym, ap, _∙_}
 use lib.Dec.{eqb}
 use lib.Bits.{bitAnd, bitOr, and-high, and-zero-r, or-zero-l, or-zero-r, or-lt}
 use Rattle.word.specs.Choose.{pick}
+use Rattle.word.proofs.Choices.{equal-same}
 use Rattle.drawing_pixel.specs.Character.{twoBitsOf, shadeOf}
 use Rattle.drawing_pixel.specs.Buffer.{withPairOf, repaintedOf}
 use Rattle.drawing_pixel.proofs.Pairs.{below-eight, pair-lt, with-pair-self}
@@ -28,14 +28,6 @@ pair-masked h =
     below-eight (λ r. bitAnd h (3 * 2 ^ (2 * r)) ≡ h / 2 ^ (2 * r) % 4 * 2 ^ (2 * r))
     (and-high h 2 0) (and-high h 2 2) (and-high h 2 4) (and-high h 2 6) (and-high h 2 8) (and-high h 2 10) (and-high h 2 12) (and-high h 2 14)
 
--- two tests of equality that hold together
-eqb-same : (a b c d : ℕ) → (c ≡ d → a ≡ b) → (a ≡ b → c ≡ d) → eqb a b ≡ eqb c d
-eqb-same a b c d to back =
-    elim (ℕ-discrete c d) [
-      | yes e ↦ eq-eqb a b (to e) ∙ sym (eq-eqb c d e)
-      | no n ↦ ne-eqb a b (λ e. n (back e)) ∙ sym (ne-eqb c d n)
-    ]
-
 -- the unit of a place, and its multiples
 pub unit-small : (p : ℕ) → p < 8 → 2 ^ (2 * p) ≤ 16384
 unit-small = below-eight (λ p. 2 ^ (2 * p) ≤ 16384)
@@ -47,7 +39,7 @@ unit-times n h =
     (omega arith) (omega arith) (omega arith) (omega arith) (omega arith) (omega arith) (omega arith) (omega arith)
 
 times-same : (u v n : ℕ) → 0 < u → eqb (v * u) (n * u) ≡ eqb v n
-times-same u v n h = eqb-same (v * u) (n * u) v n (λ e. ap (λ m. m * u) e) (NatL.eq-of-mul-eq-mul-right u h v n)
+times-same u v n h = equal-same (v * u) (n * u) v n (NatL.eq-of-mul-eq-mul-right u h v n) (λ e. ap (λ m. m * u) e)
 
 unit-above : (p : ℕ) → p < 8 → 0 < 2 ^ (2 * p)
 unit-above = below-eight (λ p. 0 < 2 ^ (2 * p))

@@ -10,10 +10,9 @@ use lib.ListN.{getD}
 use lib.IntN.{pos, _-ℤ_}
 use Rattle.bus.specs.Registers.{sptOf}
 use Rattle.drawing_pixel.specs.Object.{objectOf, objectLeftOf, objectRowOf, objectColumnOf, objectCoversOf, objectPixelOf, objectAfterOf, groupCountOf, objectsPixelOf}
-use Rattle.drawing_pixel.specs.Integers.{aboveZero}
-use Rattle.drawing_pixel.proofs.Integers.{Is}
-use Rattle.drawing_pixel.proofs.Integers.{is-pos, is-difference, is-moved, is-tied, is-natural, le-is, is-above}
-use Rattle.drawing_pixel.proofs.Floors.{is-mod}
+use Rattle.word.specs.Integers.{aboveZero}
+use Rattle.word.proofs.Integers.{Is, is-pos, is-difference, is-moved, is-tied, is-natural, le-is, is-above}
+use Rattle.word.proofs.Floors.{is-mod}
 use Rattle.drawing_pixel.proofs.WindowFormulas.{is-edge, span}
 use Rattle.drawing_pixel.specs.ObjectFormulas.{objectLeft, drawnOf, ObjectLeft, ObjectRow, ObjectCovers, ObjectColumn, ObjectDrawn, ObjectsInOrder, GroupZero}
 

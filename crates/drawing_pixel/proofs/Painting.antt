@@ -1,7 +1,7 @@
 -- `background-formula`, `object-formula` and `pixel-formula`: the statements of specs/Painting.
 use Prim.Native.Nat.{ℕ, zero, suc, _+_, _%_}
-use mathlib.Core.Path.{_≡_, refl, ap, subst, _∙_}
-use mathlib.Core.Bool.{Bool, true, false, _&&_}
+use mathlib.Core.Path.{_≡_, refl, ap, _∙_}
+use mathlib.Core.Bool.{true, _&&_}
 use mathlib.Core.List.{List}
 use lib.IntN.{ℤ, pos, _+ℤ_, _-ℤ_}
 use Rattle.word.specs.Choose.{pick}
@@ -10,25 +10,24 @@ use Rattle.drawing_pixel.specs.World.{worldOf, columnInOf, rowInOf, worl
 use Rattle.drawing_pixel.specs.Background.{cellAddressOf, sourceCellAddressOf, sourcePixelOf, backgroundPixelOf}
 use Rattle.drawing_pixel.specs.Object.{objectOf, objectRowOf, objectPixelOf, objectAfterOf, groupCountOf, objectsPixelOf, groupPixelOf}
 use Rattle.drawing_pixel.specs.Painting.{worldPixelOf, worldsPixelOf, paintedPixelOf, WorldCovers, ObjectCovered, BackgroundFormula, ObjectFormula, PixelFormula}
-use Rattle.drawing_pixel.specs.Integers.{aboveZero}
-use Rattle.drawing_pixel.specs.Floors.{modZ}
-use Rattle.drawing_pixel.proofs.WindowFormulas.{column-covered, row-covered, column-offset, row-offset, offset-small, and-second}
+use Rattle.word.specs.Integers.{aboveZero}
+use Rattle.word.proofs.Choices.{and-right, pick-same}
+use Rattle.word.proofs.Integers.{above-natural}
+use Rattle.word.specs.Floors.{modZ}
+use Rattle.drawing_pixel.proofs.WindowFormulas.{column-covered, row-covered, column-offset, row-offset, offset-small}
 use Rattle.drawing_pixel.specs.SourceFormulas.{sourceX, sourceY}
 use Rattle.drawing_pixel.proofs.SourceFormulas.{source-x, source-y}
 use Rattle.drawing_pixel.proofs.CellFormulas.{source-wraps, source-wraps-down, source-in-cell, source-inside, map-cell}
 use Rattle.drawing_pixel.proofs.ObjectFormulas.{object-covers, object-offset, object-row}
 use Rattle.drawing_pixel.specs.Pixel.{cellAddress, objectRow, sourcePixel, backgroundPixel, objectsPixel, worldPixel, worldsPixel, counterOf, pixelOf}
 
-natural : (z : ℤ) (n : ℕ) → pos n ≡ z → pos (aboveZero z) ≡ z
-natural z n e = subst (λ v. pos (aboveZero v) ≡ v) e refl
-
 -- the cell of a source pixel, and its row in that cell
 pub source-cell : (w : List ℕ) (x y : ℤ) (sx sy : ℕ) → pos sx ≡ x +ℤ pos 8388608 → pos sy ≡ y +ℤ pos 8388608
     → sourceCellAddressOf w sx sy ≡ cellAddress w x y
 unfolding sourceCellAddressOf cellAddressOf
 source-cell w x y sx sy e f =
-    let s = natural _ _ (source-wraps w x sx e) in
-    let t = natural _ _ (source-wraps-down w y sy f) in
+    let s = above-natural (source-wraps w x sx e) in
+    let t = above-natural (source-wraps-down w y sy f) in
     rw (source-inside w x y sx sy e f, map-cell w x y sx sy _ _ e f s t)
 
 pub source-line : (y : ℤ) (sy : ℕ) → pos sy ≡ y +ℤ pos 8388608 → sy % 8 ≡ aboveZero (modZ y 8)
@@ -47,12 +46,8 @@ world-covers w eye x y = rw (row-covered w y, column-covered w eye x)
 pub shown-column : (w : List ℕ) (eye x y : ℕ) → worldCoversOf w eye x y ≡ true → columnCoveredOf w eye x ≡ true
 unfolding worldCoversOf
 shown-column w eye x y e =
-    and-second (rowCoveredOf w y) (columnCoveredOf w eye x)
-    (and-second (worldShownOf w eye) (rowCoveredOf w y && columnCoveredOf w eye x) e)
-
-where-held : (b : Bool) (u v before : ℕ) → (b ≡ true → u ≡ v) → pick b u before ≡ pick b v before
-where-held true u v before f = f refl
-where-held false u v before f = refl
+    and-right (rowCoveredOf w y) (columnCoveredOf w eye x)
+    (and-right (worldShownOf w eye) (rowCoveredOf w y && columnCoveredOf w eye x) e)
 
 module _ (vram regs w : List ℕ) (eye x y before : ℕ) where
   at-offsets : backgroundPixelOf vram regs w eye x y before
@@ -64,7 +59,7 @@ module _ (vram regs w : List ℕ) (eye x y before : ℕ) where
       before
   unfolding backgroundPixelOf
   at-offsets =
-      where-held (worldCoversOf w eye x y) _ _ before
+      pick-same (worldCoversOf w eye x y)
       (λ covered.
       let small = offset-small w eye x (shown-column w eye x y covered) in
       source-pixel vram regs w
@@ -72,6 +67,7 @@ module _ (vram regs w : List ℕ) (eye x y before : ℕ) where
       (sourceY vram w eye (columnInOf w eye x) (rowInOf w y)) _ _ before
       (source-x vram w eye (columnInOf w eye x) (rowInOf w y) small)
       (source-y vram w eye (columnInOf w eye x) (rowInOf w y) small))
+      (λ _. refl)
 
   at-window : backgroundPixelOf vram regs w eye x y before ≡ backgroundPixel vram regs w eye x y before
   at-window = at-offsets ∙ rw (world-covers w eye x y, column-offset w eye x, row-offset w y)

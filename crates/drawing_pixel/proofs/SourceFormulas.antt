@@ -1,21 +1,20 @@
 -- The laws of specs/SourceFormulas, proved.
 use Prim.Native.Nat.{ℕ, suc, _+_, _-_, _*_, _<_, _≤_}
 use native.Mathlib.Omega.{arith}
-use mathlib.Core.Path.{_≡_, subst}
+use mathlib.Core.Path.{_≡_}
 use mathlib.Core.Bool.{Bool, true, false}
 use mathlib.Core.List.{List}
 use borrow.Author.Tests.{le-ltb}
 use lib.Dec.{eqb}
 use lib.ListN.{getD}
-use lib.IntN.{ℤ, pos, negsuc, negℤ, _+ℤ_, _-ℤ_, _*ℤ_, *ℤ-comm}
+use lib.IntN.{ℤ, pos, negsuc, negℤ, _+ℤ_, _-ℤ_, _*ℤ_}
 use lib.Signed.{ltZ, shrZ}
 use Rattle.word.specs.Choose.{pick}
 use Rattle.drawing_pixel.specs.Signed.{biasedOf}
 use Rattle.drawing_pixel.specs.World.{bgmOf}
 use Rattle.drawing_pixel.specs.Background.{parameterOf, plainLeftOf, normalXOf, normalYOf, biasIndexOf, biasXOf, affineShiftOf, affineFloorOf, affineParameterOf, affineXOf, affineYOf, sourceXOf, sourceYOf}
-use Rattle.drawing_pixel.proofs.Integers.{Is}
-use Rattle.drawing_pixel.proofs.Integers.{is-pos, is-sum, is-difference, is-moved, is-tied, is-times}
-use Rattle.drawing_pixel.proofs.Floors.{is-floor}
+use Rattle.word.proofs.Integers.{Is, is-pos, is-sum, is-difference, is-moved, is-tied, is-times, is-scaled}
+use Rattle.word.proofs.Floors.{is-floor}
 use Rattle.drawing_pixel.specs.Fields.{fieldOf}
 use Rattle.drawing_pixel.proofs.Fields.{is-field}
 use Rattle.drawing_pixel.specs.SourceFormulas.{normalX, normalY, biasX, affineParameter, affineShift, affineX, affineY, NormalX, NormalY, BiasX, AffineX, AffineY, SourceX, SourceY}
@@ -74,8 +73,7 @@ is-line : {m d n : ℤ} {a b c : ℕ} → c ≤ 131008 → Is m a 32768 → Is d
     → Is (shrZ (pos 64 *ℤ m +ℤ d *ℤ n) 512) (affineFloorOf a b c) 8388608
 unfolding affineFloorOf
 is-line {m} {d} {n} {a} {b} {c} small i k l =
-    let left : Is (pos 64 *ℤ m) (a * 64) (32768 * 64) =
-    subst (λ z. Is z (a * 64) (32768 * 64)) (*ℤ-comm m (pos 64)) (is-times i (is-pos 64)) in
+    let left : Is (pos 64 *ℤ m) (64 * a) (64 * 32768) = is-scaled 64 i in
     let right : Is (d *ℤ n) (b * c) (32768 * c) = is-times k l in
     is-floor 512 8388608 (omega arith) (is-moved (is-sum left right) (omega arith))
 

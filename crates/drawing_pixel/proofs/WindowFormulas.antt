@@ -13,9 +13,9 @@ use lib.Signed.{leZ, ltZ}
 use Rattle.word.specs.Choose.{pick}
 use Rattle.drawing_pixel.specs.Signed.{biasedOf, edgeOf}
 use Rattle.drawing_pixel.specs.World.{bgmOf, gyOf, columnsOf, rowsOf, windowLeftOf, columnCoveredOf, rowCoveredOf, columnInOf, rowInOf}
-use Rattle.drawing_pixel.specs.Integers.{aboveZero}
-use Rattle.drawing_pixel.proofs.Integers.{Is}
-use Rattle.drawing_pixel.proofs.Integers.{is-pos, is-sum, is-difference, is-moved, is-tied, is-natural, is-le-test, is-lt-test, le-is, is-above, bool-same}
+use Rattle.word.specs.Integers.{aboveZero}
+use Rattle.word.proofs.Choices.{bool-same, and-right}
+use Rattle.word.proofs.Integers.{Is, is-pos, is-sum, is-difference, is-moved, is-tied, is-natural, is-le-test, is-lt-test, le-is, is-above}
 use Rattle.drawing_pixel.specs.Fields.{fieldOf, GY, withParallax}
 use Rattle.drawing_pixel.proofs.Fields.{is-field, field-plus-one}
 use Rattle.drawing_pixel.proofs.HeightFormulas.{world-height, world-rows}
@@ -139,16 +139,12 @@ columns-small : (w : List ℕ) → columnsOf w ≤ 4096
 unfolding columnsOf
 columns-small w = some-columns (eqb (bgmOf w) 2) (getD w 7 0)
 
-pub and-second : (b c : Bool) → b && c ≡ true → c ≡ true
-and-second true c e = e
-and-second false c e = let z : _≡_ {A = Bool} false true = e in cc
-
 -- the offset of every covered column is within the range of these theorems
 pub offset-small : (w : List ℕ) (eye x : ℕ) → columnCoveredOf w eye x ≡ true → columnInOf w eye x < 65536
 unfolding columnCoveredOf columnInOf
 offset-small w eye x covered =
     let l : x + 1024 < windowLeftOf w eye + columnsOf w =
     ltb-true (x + 1024) (windowLeftOf w eye + columnsOf w)
-    (and-second (leb (windowLeftOf w eye) (x + 1024)) (ltb (x + 1024) (windowLeftOf w eye + columnsOf w)) covered) in
+    (and-right (leb (windowLeftOf w eye) (x + 1024)) (ltb (x + 1024) (windowLeftOf w eye + columnsOf w)) covered) in
     let s = columns-small w in
     omega arith

@@ -11,7 +11,7 @@ use lib.Signed.{leZ, ltZ}
 use Rattle.word.specs.Choose.{pick}
 use Rattle.drawing_pixel.specs.World.{scxOf, scyOf}
 use Rattle.drawing_pixel.specs.Background.{mapTable, mapsAcrossOf, mapNumberOf, insideOf, mapCellAddressOf}
-use Rattle.drawing_pixel.specs.Floors.{modZ}
+use Rattle.word.specs.Floors.{modZ}
 
 -- 01: "OVER clear: source wraps to that size". The wrapped pixel is the cell column's remainder, and the column in the
 -- cell

@@ -9,8 +9,8 @@ use lib.IntN.{pos, _+ℤ_, _-ℤ_}
 use lib.Signed.{leZ, ltZ}
 use Rattle.word.specs.Choose.{pick}
 use Rattle.drawing_pixel.specs.World.{bgmOf, heightOf, topInImageOf, stripRestOf, rowsOf}
-use Rattle.drawing_pixel.specs.Integers.{aboveZero}
-use Rattle.drawing_pixel.specs.Floors.{modZ}
+use Rattle.word.specs.Integers.{aboveZero}
+use Rattle.word.specs.Floors.{modZ}
 use Rattle.drawing_pixel.specs.Fields.{GY, H}
 
 -- R4: H + 1, none where that is not above 0

@@ -4,8 +4,6 @@ pub mod RowBits
 pub mod World
 pub mod Background
 pub mod Object
-pub mod Integers
-pub mod Floors
 pub mod Fields
 pub mod HeightFormulas
 pub mod WindowFormulas

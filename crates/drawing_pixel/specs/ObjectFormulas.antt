@@ -10,7 +10,7 @@ use lib.Signed.{leZ, ltZ, _≤ℤ_}
 use Rattle.bus.specs.Registers.{sptOf}
 use Rattle.drawing_pixel.specs.Object.{objectOf, objectLeftOf, objectShownOf, objectRowOf, objectColumnOf}
 use Rattle.drawing_pixel.specs.Object.{objectCoversOf, objectPixelOf, objectAfterOf, groupCountOf, objectsPixelOf}
-use Rattle.drawing_pixel.specs.Floors.{modZ}
+use Rattle.word.specs.Floors.{modZ}
 use Rattle.drawing_pixel.specs.Fields.{JX, JP, withParallax}
 
 -- left x is JX - JP, right JX + JP

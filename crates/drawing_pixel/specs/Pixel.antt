@@ -15,8 +15,8 @@ use Rattle.drawing_pixel.specs.Character.{cellPixelOf}
 use Rattle.drawing_pixel.specs.World.{worldOf, endOf, skippedOf, bgmOf, overOf, scxOf, scyOf, worldShownOf}
 use Rattle.drawing_pixel.specs.Background.{mapTable, mapNumberOf}
 use Rattle.drawing_pixel.specs.Object.{objectOf, objectShownOf, objectAfterOf, groupCountOf}
-use Rattle.drawing_pixel.specs.Integers.{aboveZero}
-use Rattle.drawing_pixel.specs.Floors.{modZ}
+use Rattle.word.specs.Integers.{aboveZero}
+use Rattle.word.specs.Floors.{modZ}
 use Rattle.drawing_pixel.specs.Fields.{GY, W}
 use Rattle.drawing_pixel.specs.HeightFormulas.{rows}
 use Rattle.drawing_pixel.specs.WindowFormulas.{windowLeft}

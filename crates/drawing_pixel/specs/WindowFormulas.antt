@@ -9,7 +9,7 @@ use lib.IntN.{ℤ, pos, _+ℤ_, _-ℤ_}
 use lib.Signed.{leZ, ltZ, _≤ℤ_}
 use Rattle.drawing_pixel.specs.World.{gyOf, columnsOf, heightOf, windowLeftOf, columnCoveredOf, rowCoveredOf}
 use Rattle.drawing_pixel.specs.World.{columnInOf, rowInOf}
-use Rattle.drawing_pixel.specs.Integers.{aboveZero}
+use Rattle.word.specs.Integers.{aboveZero}
 use Rattle.drawing_pixel.specs.Fields.{GX, GP, GY, W, H, withParallax}
 use Rattle.drawing_pixel.specs.HeightFormulas.{rows}
 

@@ -12,9 +12,9 @@ ghost use Rattle.drawing_pixel.specs.Painting.{worldPixelOf, worldsPixelOf};
 ghost use Rattle.drawing_pixel.specs.Strip.{stripOf, frameOf};
 ghost use Rattle.drawing_pixel.specs.Buffer.{Strip};
 ghost use Rattle.drawing_strip.specs.Stored.{Stored};
-use drawing_pixel::half;
-use drawing_pixel::wide;
-use drawing_pixel::world;
+use drawing_pixel::field::half;
+use drawing_pixel::field::wide;
+use drawing_pixel::world::world;
 
 // What world n shows an eye of a strip, painted over what is there; answers the object counter after it.
 pub fn paint_world(

@@ -18,8 +18,8 @@ use Rattle.processor_step.specs.Step.{acceptsIn}
 use Rattle.drawing_pixel.specs.Signed.{eyeFlagOf}
 use Rattle.drawing_pixel.specs.Character.{twoBitsOf, characterAddressOf, shadeOf}
 use Rattle.drawing_pixel.specs.World.{worldShownOf}
-use Rattle.drawing_pixel.specs.Floors.{modZ}
-use Rattle.examples.specs.Rows.{Answer, addresses, answer, branch, rows, row, worldWith, shownFrom, flagsIn, pcBefore, memoryWith, stateWith, pcAfter, pcsFrom, RowsHold}
+use Rattle.word.specs.Floors.{modZ}
+use Rattle.examples.specs.Rows.{Answer, addresses, answer, branch, exampleRows, exampleRow, worldWith, shownFrom, flagsIn, pcBefore, memoryWith, stateWith, pcAfter, pcsFrom, RowsHold}
 use Rattle.examples.proofs.Branches.{branches-to-itself, never-branches}
 
 -- the halfword at PC, and no request line
@@ -69,7 +69,7 @@ unfolding answer
 never-row = ap addresses (same-pcs 0x9A00 (pcBefore + 2) never-pc 0 16)
 
 pub rows-hold : RowsHold
-unfolding rows row answer flagsIn extendOf sumOf signedOf flagsOf keepCarryOf divideOf placeOf regionOf vipPlace registerPlace mirrorOf
+unfolding exampleRows exampleRow answer flagsIn extendOf sumOf signedOf flagsOf keepCarryOf divideOf placeOf regionOf vipPlace registerPlace mirrorOf
     characterAddressOf shadeOf twoBitsOf worldWith shownFrom worldShownOf eyeFlagOf modZ
 rows-hold =
     next refl

@@ -6,6 +6,7 @@ use mathlib.Core.List.{List, [], _∷_, map}
 use mathlib.Core.Path.{_≡_}
 use lib.ListN.{replicate}
 use Rattle.word.specs.Choose.{pick}
+use Rattle.bus.specs.Registers.{deviceLength}
 use Rattle.bus.specs.Place.{Place, wramAt, vramAt, romAt, placeOf}
 use Rattle.bus.specs.Memory.{Memory, memoryOf, alignedOf}
 use Rattle.processor_arithmetic.specs.Flag.{flagOf}
@@ -54,12 +55,12 @@ pub data Answer : Type 0 where
   -- the left eye's columns and the right eye's
   columns : List ℕ → List ℕ → Answer
 
-pub record Row : Type 0 where
+pub record ExampleRow : Type 0 where
   pub question : Question
   pub printed : Answer
 
-unfoldable pub row : Question → Answer → Row
-row q a = record { question = q; printed = a }
+unfoldable pub exampleRow : Question → Answer → ExampleRow
+exampleRow q a = record { question = q; printed = a }
 
 -- a normal world of a width, position and parallax, shown to both eyes, all else 0
 unfoldable pub worldWith : ℕ → ℕ → ℕ → List ℕ
@@ -78,7 +79,8 @@ pcBefore = 0x07000000
 
 unfoldable pub memoryWith : ℕ → Memory
 memoryWith f =
-    memoryOf (f % 256 ∷ f / 256 ∷ replicate 1022 0) (replicate 65536 0) (replicate 262144 0) [] (replicate 17 0)
+    memoryOf (f % 256 ∷ f / 256 ∷ replicate 1022 0) (replicate 65536 0) (replicate 262144 0) []
+    (replicate deviceLength 0)
 
 abbrev pub stateWith : ℕ → State
 stateWith psw = stateOf (replicate 32 0) (replicate 8 0) pcBefore psw Running
@@ -109,23 +111,23 @@ answer (branch f) = addresses (pcsFrom f 0 16)
 answer (window w gx gp) = columns (shownFrom (worldWith w gx gp) 0 0 384) (shownFrom (worldWith w gx gp) 1 0 384)
 
 -- the paper's rows
-unfoldable pub rows : List Row
-rows =
-    row (address 1024 0xFFFFFFF0) (place (romAt 0x3F0))
-    ∷ row (address 1024 0x05012345) (place (wramAt 0x2345))
-    ∷ row (address 1024 0x000FA010) (place (vramAt 0xE010))
-    ∷ row (character 513) (place (vramAt 0xE010))
-    ∷ row (halfword 0x05000001) (places (wramAt 0) (wramAt 1))
-    ∷ row (pixel 1 9) (bits 66 2 3)
-    ∷ row (palette 0xE4) (shades 1 2 3)
-    ∷ row (sum 0x7FFFFFFF 1) (flags 1 1 0 0)
-    ∷ row (quotient (2 ^ 32 - 7) 2) (results (2 ^ 32 - 3) (2 ^ 32 - 1))
-    ∷ row (branch 0x8A00) (addresses (replicate 16 pcBefore))
-    ∷ row (branch 0x9A00) (addresses (replicate 16 (pcBefore + 2)))
-    ∷ row (window 0 383 1) (columns (382 ∷ []) [])
+unfoldable pub exampleRows : List ExampleRow
+exampleRows =
+    exampleRow (address 1024 0xFFFFFFF0) (place (romAt 0x3F0))
+    ∷ exampleRow (address 1024 0x05012345) (place (wramAt 0x2345))
+    ∷ exampleRow (address 1024 0x000FA010) (place (vramAt 0xE010))
+    ∷ exampleRow (character 513) (place (vramAt 0xE010))
+    ∷ exampleRow (halfword 0x05000001) (places (wramAt 0) (wramAt 1))
+    ∷ exampleRow (pixel 1 9) (bits 66 2 3)
+    ∷ exampleRow (palette 0xE4) (shades 1 2 3)
+    ∷ exampleRow (sum 0x7FFFFFFF 1) (flags 1 1 0 0)
+    ∷ exampleRow (quotient (2 ^ 32 - 7) 2) (results (2 ^ 32 - 3) (2 ^ 32 - 1))
+    ∷ exampleRow (branch 0x8A00) (addresses (replicate 16 pcBefore))
+    ∷ exampleRow (branch 0x9A00) (addresses (replicate 16 (pcBefore + 2)))
+    ∷ exampleRow (window 0 383 1) (columns (382 ∷ []) [])
     ∷ []
 
 -- every row's printed answer is the definitions' answer
 abbrev pub RowsHold : Type 0
 RowsHold =
-    map (λ (r : Row). answer (r .question)) rows ≡ map (λ (r : Row). r .printed) rows
+    map (λ (r : ExampleRow). answer (r .question)) exampleRows ≡ map (λ (r : ExampleRow). r .printed) exampleRows

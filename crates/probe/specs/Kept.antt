@@ -25,7 +25,8 @@ abbrev pub ProbeIsStore : Type 0
 ProbeIsStore =
     (m : Memory) (width : Width) (a v : ℕ)
     → probeVerdictOf (probeSizeOf width) (m .rom) (m .wram) (m .vram) (m .pak) a ≡ Accepted
-    → storeOf m (probeSizeOf width) a v ≡ withVram m (probedOf (probeSizeOf width) (m .rom) (m .wram) (m .vram) (m .pak) a v)
+    → storeOf m (probeSizeOf width) a v
+    ≡ withVram m (probedOf (probeSizeOf width) (m .rom) (m .wram) (m .vram) (m .pak) a v)
 
 -- a call of the probe: what it is lent beside VRAM, and what it is to write where
 pub record Write : Type 0 where

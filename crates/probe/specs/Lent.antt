@@ -6,8 +6,8 @@ use Rattle.refusal.specs.declared.Verdict.{Verdict}
 use Rattle.bus.specs.Lent.{Lent}
 use Rattle.probe.specs.Probe.{probeVerdictOf, probedOf}
 
-abbrev pub verdictOf : ℕ → Lent → Lent → Lent → Lent → ℕ → Verdict
-verdictOf size rom wram vram pak a =
+abbrev pub lentVerdictOf : ℕ → Lent → Lent → Lent → Lent → ℕ → Verdict
+lentVerdictOf size rom wram vram pak a =
     probeVerdictOf size (now (rom .entry)) (now (wram .entry)) (now (vram .entry)) (now (pak .entry)) a
 
 abbrev pub vramOf : ℕ → Lent → Lent → Lent → Lent → ℕ → ℕ → List ℕ

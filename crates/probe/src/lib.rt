@@ -8,7 +8,7 @@ ghost use mathlib.Core.Path.{_≡_};
 ghost use Prim.Native.Nat.{ℕ};
 ghost use Rattle.bus.specs.Place.{placeOf};
 ghost use Rattle.probe.specs.Probe.{inRangesOf, vramIndexOf, probeVerdictAt};
-ghost use Rattle.probe.specs.Lent.{verdictOf, vramOf};
+ghost use Rattle.probe.specs.Lent.{lentVerdictOf, vramOf};
 
 // Where an address leads in VRAM; 0x40000 where it leads elsewhere.
 fn vram_index(address: u32) -> usize
@@ -75,7 +75,7 @@ pub fn probe_byte(
     address: u32,
     value: u32,
 ) -> Verdict
-    ensures verdict { λ r. ⌜ r ≡ verdictOf 1 rom wram vram pak address ⌝ }
+    ensures verdict { λ r. ⌜ r ≡ lentVerdictOf 1 rom wram vram pak address ⌝ }
     ensures memory { λ _. ⌜ now (vram .exit) ≡ vramOf 1 rom wram vram pak address value ⌝ }
 {
     let at = vram_index(address);
@@ -98,7 +98,7 @@ pub fn probe_half(
     address: u32,
     value: u32,
 ) -> Verdict
-    ensures verdict { λ r. ⌜ r ≡ verdictOf 2 rom wram vram pak address ⌝ }
+    ensures verdict { λ r. ⌜ r ≡ lentVerdictOf 2 rom wram vram pak address ⌝ }
     ensures memory { λ _. ⌜ now (vram .exit) ≡ vramOf 2 rom wram vram pak address value ⌝ }
 {
     let at = vram_index(address - address % 2);
@@ -121,7 +121,7 @@ pub fn probe_word(
     address: u32,
     value: u32,
 ) -> Verdict
-    ensures verdict { λ r. ⌜ r ≡ verdictOf 4 rom wram vram pak address ⌝ }
+    ensures verdict { λ r. ⌜ r ≡ lentVerdictOf 4 rom wram vram pak address ⌝ }
     ensures memory { λ _. ⌜ now (vram .exit) ≡ vramOf 4 rom wram vram pak address value ⌝ }
 {
     let at = vram_index(address - address % 4);

@@ -1,6 +1,7 @@
 -- What the public calls answer, for every input: refusals 1 to 5 first, which change nothing; then the step or the run.
 use Prim.Native.Nat.{ℕ}
 use lib.ListN.{replicate, set}
+use Rattle.bus.specs.Registers.{deviceLength}
 use Rattle.bus.specs.Memory.{Memory}
 use Rattle.refusal.specs.declared.Verdict.{Verdict}
 use Rattle.refusal.specs.declared.Verdict.the-variants as verdict
@@ -65,6 +66,6 @@ resetOf =
     record {
       processor =
           processorOf (stateOf (replicate 32 0) (set (replicate 8 0) 4 0xFFF0) 0xFFFFFFF0 0x8000 Running)
-          (replicate 17 0);
+          (replicate deviceLength 0);
       drawing = record { regs = replicate 13 0 };
     }

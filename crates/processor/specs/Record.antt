@@ -4,7 +4,6 @@
 use Prim.Native.Nat.{ℕ}
 use mathlib.Core.List.{List, [], _∷_}
 use lib.ListN.{getD}
-use Rattle.bus_timer.specs.declared.Hardware.{Hardware}
 use Rattle.bus.specs.Registers.{drawingIn, hardwareIn, deviceOf}
 use Rattle.bus.specs.Memory.{Memory, withRegs}
 use Rattle.processor_machine.specs.State.{State, stateOf}
@@ -43,23 +42,4 @@ processorOf s device =
       sr31 = getD (s .sys) 7 0;
       mode = s .mode;
       hardware = hardwareIn device;
-    }
-
--- the record with other request lines and another timer
-abbrev pub withHardware : Processor → Hardware → Processor
-withHardware p h =
-    record {
-      regs = p .regs;
-      pc = p .pc;
-      eipc = p .eipc;
-      eipsw = p .eipsw;
-      fepc = p .fepc;
-      fepsw = p .fepsw;
-      ecr = p .ecr;
-      psw = p .psw;
-      sr25 = p .sr25;
-      sr29 = p .sr29;
-      sr31 = p .sr31;
-      mode = p .mode;
-      hardware = h;
     }

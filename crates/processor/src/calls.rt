@@ -6,11 +6,11 @@ use crate::Stepped;
 use crate::acceptance::acceptance;
 use crate::record::joined;
 use crate::record::system;
-use crate::stretch;
+use crate::run;
 use bus::Drawing;
 use bus::device::device_of;
 use bus::device::drawing_in;
-use bus_timer::Hardware;
+use bus_timer::record;
 use processor_machine::Answer;
 use processor_machine::Mode;
 use processor_step::step;
@@ -163,7 +163,7 @@ pub fn run(
             drawing,
         },
         Verdict::Accepted => {
-            let f = stretch::run(
+            let f = run::run(
                 rom,
                 wram,
                 vram,
@@ -208,12 +208,7 @@ pub fn reset() -> Machine
             sr29: 0,
             sr31: 0,
             mode: Mode::Running,
-            hardware: Hardware {
-                lines: 0,
-                count: 0,
-                reload: 0,
-                control: 0,
-            },
+            hardware: record::reset(),
         },
         drawing: Drawing { regs: [0u16; 13] },
     }

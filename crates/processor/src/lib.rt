@@ -3,7 +3,7 @@
 pub mod acceptance;
 pub mod calls;
 pub mod record;
-mod stretch;
+mod run;
 
 use bus::Drawing;
 use bus_timer::Hardware;

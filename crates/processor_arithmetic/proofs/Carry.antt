@@ -1,4 +1,4 @@
--- The carry of a sum, as the code tests it, and a choice by a test or by its opposite.
+-- The carry of a sum, as the code tests it, and a bit as a choice.
 use Prim.Native.Nat.{ℕ, _+_, _/_, _%_, _^_, _<_, _≤_}
 use mathlib.Core.Path.{_≡_, refl, ap, sym, _∙_}
 use mathlib.Core.Bool.{Bool, true, false, not}
@@ -29,16 +29,3 @@ bit-not false = refl
 pub bit-is : (b : Bool) → bitOf b ≡ pick b 1 0
 bit-is true = refl
 bit-is false = refl
-
-pub pick-not : {A : Type 0} (b : Bool) (x y : A) → pick (not b) x y ≡ pick b y x
-pick-not true x y = refl
-pick-not false x y = refl
-
-pub pick-leb : {A : Type 0} (m n : ℕ) (x y : A) → pick (leb m n) x y ≡ pick (ltb n m) y x
-pick-leb m n x y =
-    elim (decLt n m) [
-      | yes h ↦ simp (lt-ltb n m h, lt-leb m n h)
-      | no h ↦
-          let k : m ≤ n = omega arith in
-          simp (le-ltb n m k, le-leb m n k)
-    ]

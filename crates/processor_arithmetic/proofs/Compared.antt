@@ -1,12 +1,14 @@
 -- The laws of specs/Compared, proved.
 use mathlib.Core.Path.{_≡_, sym, ap, _∙_}
-use mathlib.Core.Bool.{Bool, not}
+use mathlib.Core.Bool.{Bool, not, Bool·not-not}
 use lib.Dec.{ltb, leb}
 use lib.Signed.{ltZ, leZ}
+use Rattle.word.proofs.Choices.{not-less, less-or-equal}
+use Rattle.word.proofs.Integers.{not-lessℤ}
 use Rattle.processor_arithmetic.specs.Sum.{compareOf}
 use Rattle.processor_arithmetic.specs.Condition.{conditionOf, isSet, _or_, _xor_}
 use Rattle.processor_arithmetic.specs.Integer.{signed}
-use Rattle.processor_arithmetic.proofs.Order.{carry-set, zero-set, less-set, less-or-equal, less-equal-set, not-less, not-lessℤ, not-both-ways}
+use Rattle.processor_arithmetic.proofs.Order.{carry-set, zero-set, less-set, less-equal-set}
 use Rattle.processor_arithmetic.specs.Compared.{Compared}
 
 pub compared : Compared
@@ -30,7 +32,7 @@ compared a b psw ha hb =
       less-equal = le;
       not-lower = ap not c ∙ not-less a b;
       not-equal = ap not z;
-      higher = ap not (nh ∙ sym (not-less b a)) ∙ not-both-ways (ltb b a);
+      higher = ap not (nh ∙ sym (not-less b a)) ∙ Bool·not-not (ltb b a);
       greater-equal = ap not l ∙ not-lessℤ (signed a) (signed b);
-      greater = ap not (le ∙ sym (not-lessℤ (signed b) (signed a))) ∙ not-both-ways (ltZ (signed b) (signed a));
+      greater = ap not (le ∙ sym (not-lessℤ (signed b) (signed a))) ∙ Bool·not-not (ltZ (signed b) (signed a));
     }

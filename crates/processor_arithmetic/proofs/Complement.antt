@@ -1,21 +1,31 @@
--- The two's complement of a signed reading is the word that was read, at both widths; and what the complement is of the
--- product by signs and magnitudes, as MUL makes it.
-use Prim.Native.Nat.{ℕ, suc, _+_, _-_, _*_, _/_, _%_, _^_, _<_, _≤_}
-use mathlib.Core.Path.{_≡_, sym, ap, _∙_}
+-- The two's complement of a whole number: it is below its range, reads signed as the number that it was made of, and is
+-- the number that was read.
+use Prim.Native.Nat.{ℕ, suc, _-_, _*_, _%_, _^_, _<_, _≤_}
+use mathlib.Core.Path.{_≡_}
 use native.Mathlib.Decide.{decLt}
-use native.Mathlib.Nat.{mod-lt}
+use native.Mathlib.Nat.{mod-lt, mod-eq-of-lt}
 use native.Mathlib.Omega.{arith}
 use borrow.Author.Tests.{lt-ltb, le-ltb}
 use lib.IntN.{ℤ, pos, negsuc}
-use lib.Pow.{shr-le}
-use lib.Signed.{shrZ}
+use lib.Signed.{mag}
 use Rattle.word.specs.Extend.{signedOf}
-use Rattle.processor_arithmetic.specs.Integer.{signed, signed64, complementOf}
+use Rattle.processor_arithmetic.specs.Integer.{signed64, complementOf}
+use Rattle.processor_arithmetic.proofs.Reading.{plain-reading, negative-reading}
 
 -- a complement is below its range
-pub complement-below : (z : ℤ) → complementOf (2 ^ 64) z < 2 ^ 64
-complement-below (pos n) = omega arith
-complement-below (negsuc n) = omega arith
+pub complement-below : (range : ℕ) → 0 < range → (z : ℤ) → complementOf range z < range
+complement-below range h (pos n) = mod-lt n h
+complement-below range h (negsuc n) = omega arith
+
+-- a whole number within the signed range comes back from its complement
+pub signed-complement : (half : ℕ) (z : ℤ) → mag z < half → signedOf half (complementOf (2 * half) z) ≡ z
+signed-complement half (pos n) h =
+    let e : n % (2 * half) ≡ n = mod-eq-of-lt (omega arith) in
+    rw e (plain-reading half n h)
+signed-complement half (negsuc n) h =
+    let e : n % (2 * half) ≡ n = mod-eq-of-lt (omega arith) in
+    let k : 2 * half - 1 - n ≡ 2 * half - suc n = omega arith in
+    rw (e, k) (negative-reading half (suc n) (omega arith) h)
 
 -- a number of 64 bits comes back from its signed reading
 pub complement-signed64 : (w : ℕ) → w < 2 ^ 64 → complementOf (2 ^ 64) (signed64 w) ≡ w
@@ -27,15 +37,3 @@ complement-signed64 w h =
           let g : 2 ^ 63 ≤ w = omega arith in
           simp (le-ltb w (2 ^ 63) g, lt-ltb w (2 ^ 64) h) (omega arith)
     ]
-
--- a signed reading rounded down
-pub floor-below : (a n : ℕ) → a < 2 ^ 31 → complementOf (2 ^ 32) (shrZ (signed a) (2 ^ n)) ≡ a / 2 ^ n
-unfolding signedOf
-floor-below a n h = simp (lt-ltb a (2 ^ 31) h) (omega (arith, shr-le a n))
-
-pub floor-above : (a n : ℕ) → a < 2 ^ 32 → 2 ^ 31 ≤ a
-    → complementOf (2 ^ 32) (shrZ (signed a) (2 ^ n)) ≡ 2 ^ 32 - 1 - (2 ^ 32 - 1 - a) / 2 ^ n
-unfolding signedOf
-floor-above a n ha g =
-    let e : 2 ^ 32 - suc a ≡ 2 ^ 32 - 1 - a = omega arith in
-    simp (le-ltb a (2 ^ 31) g, lt-ltb a (2 ^ 32) ha) (rw e (omega (arith, shr-le (2 ^ 32 - 1 - a) n)))

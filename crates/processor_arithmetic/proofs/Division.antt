@@ -5,18 +5,22 @@ use mathlib.Core.Path.{_≡_, refl, sym, ap, _∙_}
 use mathlib.Core.Logic.{_≢_}
 use mathlib.Core.Bool.{Bool, true, false}
 use native.Mathlib.Decide.{decLt, ℕ-discrete}
-use native.Mathlib.Nat.{div-add-mod', mod-lt, div-le-self, div-lt-self, zero-div, zero-mod}
+use native.Mathlib.Nat.{div-add-mod', mod-lt, div-le-self, div-lt-self}
 use native.Mathlib.Omega.{arith}
-use borrow.Author.Tests.{lt-ltb, le-ltb, lt-leb, le-leb, eq-eqb, ne-eqb}
+use borrow.Author.Tests.{lt-ltb, le-ltb, lt-leb, eq-eqb, ne-eqb}
 use lib.Dec.{eqb, ltb}
-use lib.IntN.{ℤ, pos, negsuc, negℤ, natAbs}
+use lib.IntN.{ℤ, pos, negℤ}
 use lib.Signed.{quotZ, remZ}
 use Rattle.word.specs.Choose.{pick}
 use Rattle.word.specs.Extend.{signedOf}
+use Rattle.word.proofs.Choices.{pick-either}
+use Rattle.word.proofs.Signs.{quotient-divisor, quotient-dividend, quotient-both, remainder-divisor, remainder-dividend, remainder-both}
 use Rattle.processor_arithmetic.specs.Flag.{bitOf, signOf}
 use Rattle.processor_arithmetic.specs.Sign.{magnitudeOf, negativeOf}
 use Rattle.processor_arithmetic.specs.Integer.{signed, outside, complementOf}
-use Rattle.processor_arithmetic.proofs.Reading.{magnitude-low, magnitude-high, magnitude-small, signed-low, signed-high, plain-reading, negative-reading, outside-negative}
+use Rattle.processor_arithmetic.proofs.Reading.{magnitude-low, magnitude-high, magnitude-small, signed-low, signed-high, plain-reading, negative-reading, outside-opposite}
+use Rattle.processor_arithmetic.proofs.Magnitude.{magnitude-positive}
+use Rattle.processor_arithmetic.proofs.Complement.{complement-below}
 use Rattle.processor_arithmetic.specs.Truncation.{Truncated}
 use Rattle.processor_arithmetic.proofs.Truncation.{both-positive, divisor-negative, dividend-negative, both-negative}
 
@@ -36,7 +40,8 @@ signsRemainderOf a b =
 unfoldable pub quotientOverflowsOf : ℕ → ℕ → ℕ
 quotientOverflowsOf a b = pick (eqb a (2 ^ 31)) (pick (eqb b (2 ^ 32 - 1)) 1 0) 0
 
-negative-word : (m : ℕ) → m ≤ 2 ^ 31 → signed (negativeOf m) ≡ negℤ (pos m)
+-- the word of -m, read signed
+pub negative-word : (m : ℕ) → m ≤ 2 ^ 31 → signed (negativeOf m) ≡ negℤ (pos m)
 unfolding negativeOf signedOf
 negative-word zero h = refl
 negative-word (suc m) h =
@@ -45,8 +50,7 @@ negative-word (suc m) h =
 
 -- the word of a whole number is below 2 ^ 32
 pub complement-word : (z : ℤ) → complementOf (2 ^ 32) z < 2 ^ 32
-complement-word (pos n) = omega arith
-complement-word (negsuc n) = omega arith
+complement-word z = complement-below (2 ^ 32) (omega arith) z
 
 -- the word of -m
 complement-negative : (m : ℕ) → m ≤ 2 ^ 31 → complementOf (2 ^ 32) (negℤ (pos m)) ≡ negativeOf m
@@ -54,44 +58,12 @@ unfolding negativeOf
 complement-negative zero h = refl
 complement-negative (suc m) h = omega arith
 
--- -m is a signed word, down to -2 ^ 31
+-- which quotients are signed words
 inside-negative : (m : ℕ) → m ≤ 2 ^ 31 → outside (negℤ (pos m)) ≡ false
-inside-negative zero h = refl
-inside-negative (suc m) h =
-    let k : m ≤ 2 ^ 31 - 1 = omega arith in
-    outside-negative m ∙ le-ltb (2 ^ 31 - 1) m k
+inside-negative m h = outside-opposite m ∙ le-ltb (2 ^ 31) m h
 
 inside-positive : (m : ℕ) → m < 2 ^ 31 → outside (pos m) ≡ false
 inside-positive m h = lt-leb (2 ^ 31) m h
-
--- a quotient towards zero, and the remainder, by the signs
-quotient-divisor : (m d : ℕ) → 0 < d → quotZ (pos m) (negℤ (pos d)) ≡ negℤ (pos (m / d))
-quotient-divisor m zero h = absurd (omega arith)
-quotient-divisor m (suc d) h = refl
-
-quotient-dividend : (m d : ℕ) → quotZ (negℤ (pos m)) (pos d) ≡ negℤ (pos (m / d))
-quotient-dividend zero d = rw (zero-div d)
-quotient-dividend (suc m) d = refl
-
-quotient-both : (m d : ℕ) → 0 < d → quotZ (negℤ (pos m)) (negℤ (pos d)) ≡ pos (m / d)
-quotient-both m zero h = absurd (omega arith)
-quotient-both zero (suc d) h = rw (zero-div (suc d))
-quotient-both (suc m) (suc d) h = refl
-
-absolute-negative : (m : ℕ) → natAbs (negℤ (pos m)) ≡ m
-absolute-negative zero = refl
-absolute-negative (suc m) = refl
-
-remainder-divisor : (m d : ℕ) → remZ (pos m) (negℤ (pos d)) ≡ pos (m % d)
-remainder-divisor m d = ap (λ (n : ℕ). pos (m % n)) (absolute-negative d)
-
-remainder-dividend : (m d : ℕ) → remZ (negℤ (pos m)) (pos d) ≡ negℤ (pos (m % d))
-remainder-dividend zero d = rw (zero-mod d)
-remainder-dividend (suc m) d = refl
-
-remainder-both : (m d : ℕ) → remZ (negℤ (pos m)) (negℤ (pos d)) ≡ negℤ (pos (m % d))
-remainder-both zero d = rw (absolute-negative d, zero-mod d)
-remainder-both (suc m) d = ap (λ (n : ℕ). negℤ (pos (suc m % n))) (absolute-negative d)
 
 same-signs : (a b : ℕ) → signOf a ≡ signOf b → signsQuotientOf a b ≡ magnitudeOf a / magnitudeOf b
 unfolding signsQuotientOf
@@ -127,11 +99,7 @@ not-first a b e = simp (ne-eqb a (2 ^ 31) e)
 
 not-second : (a b : ℕ) → b ≢ 2 ^ 32 - 1 → quotientOverflowsOf a b ≡ 0
 unfolding quotientOverflowsOf
-not-second a b e = simp (ne-eqb b (2 ^ 32 - 1) e) (either (eqb a (2 ^ 31)))
-  where
-    either : (s : Bool) → _≡_ {A = ℕ} (pick s 0 0) 0
-    either true = refl
-    either false = refl
+not-second a b e = simp (ne-eqb b (2 ^ 32 - 1) e) (pick-either (eqb a (2 ^ 31)) 0)
 
 not-both : (a b : ℕ) → quotientOverflowsOf a b ≡ 0 → a ≡ 2 ^ 31 → b ≢ 2 ^ 32 - 1
 not-both a b e p q =
@@ -139,15 +107,6 @@ not-both a b e p q =
     overflows-bit a b ∙ simp (eq-eqb a 0x80000000 p, eq-eqb b 0xFFFFFFFF q)
     in
     omega arith
-
-magnitude-positive : (b : ℕ) → b < 2 ^ 32 → b ≢ 0 → 0 < magnitudeOf b
-magnitude-positive b hb n =
-    elim (decLt b (2 ^ 31)) [
-      | yes l ↦ omega (arith, magnitude-low b l)
-      | no l ↦
-          let g : 2 ^ 31 ≤ b = omega arith in
-          omega (arith, magnitude-high b g)
-    ]
 
 -- of a dividend n and a divisor d: the words q and r of the quotient and the remainder, OV, and that where OV is 0 these
 -- words read signed are the division towards zero
@@ -194,7 +153,7 @@ by-signs a b ha hb n =
     let e : magnitudeOf a ≡ magnitudeOf a / magnitudeOf b * magnitudeOf b + magnitudeOf a % magnitudeOf b =
     sym (div-add-mod' ma mb)
     in
-    let hp : 0 < magnitudeOf b = magnitude-positive b hb n in
+    let hp : 0 < magnitudeOf b = magnitude-positive b (omega arith) hb in
     let h : magnitudeOf a % magnitudeOf b < magnitudeOf b = mod-lt ma hp in
     let sb : magnitudeOf b ≤ 2 ^ 31 = magnitude-small b in
     let hq : magnitudeOf a / magnitudeOf b ≤ 2 ^ 31 = quotient-small a b in

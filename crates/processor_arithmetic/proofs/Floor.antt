@@ -2,18 +2,21 @@
 use Prim.Native.Nat.{ℕ, suc, _+_, _-_, _*_, _/_, _%_, _^_, _<_, _≤_}
 use mathlib.Core.Path.{_≡_, sym, ap, _∙_}
 use native.Mathlib.Decide.{decLt, ℕ-discrete}
-use native.Mathlib.Nat.{mod-lt, mul-div-mul-left, mul-div-mul-right, suc-mul}
+use native.Mathlib.Nat.{lt-of-le-of-lt, mul-div-mul-left, mul-div-mul-right}
 use native.Mathlib.Omega.{arith}
-use borrow.Author.Tests.{le-ltb, eq-eqb, ne-eqb}
-use lib.IntN.{ℤ, pos, negsuc, subℕ, _+ℤ_, _*ℤ_}
-use lib.Pow.{pow-pos, pow-add, split, low, shr-le}
+use borrow.Author.Tests.{lt-ltb, le-ltb, eq-eqb, ne-eqb}
+use lib.IntN.{pos, negsuc}
+use lib.Signed.{mag, mag-shr, shrZ}
+use lib.Pow.{pow-pos, pow-add, shr-le}
 use Rattle.word.specs.Extend.{signedOf}
+use Rattle.word.specs.Floors.{modZ}
+use Rattle.word.proofs.Integers.{is-equal, is-moved, is-negsuc}
+use Rattle.word.proofs.Floors.{is-mod}
+use Rattle.word.proofs.Readings.{reading-low, reading-high}
 use Rattle.processor_arithmetic.specs.Shift.{leftOutOf, rightOutOf, arithmeticRightOf}
 use Rattle.processor_arithmetic.specs.Integer.{signed}
-use Rattle.processor_arithmetic.proofs.Difference.{difference-plain, difference-equal, difference-sum, difference-below, difference-above, negative-plain}
 use Rattle.processor_arithmetic.proofs.Reading.{plain-reading}
-use Rattle.processor_arithmetic.proofs.Complement.{floor-below, floor-above}
-use Rattle.processor_arithmetic.proofs.Digit.{complement}
+use Rattle.processor_arithmetic.proofs.Complement.{signed-complement}
 use Rattle.processor_arithmetic.specs.Bit.{bitAt}
 
 -- a times 2 ^ n, from bit 32 on, is a from bit 32 - n on
@@ -74,12 +77,14 @@ pub right-bit : (a n : ℕ) → rightOutOf a n < 2
 right-bit a n = rw (right-out a n) (omega arith)
 
 pub sar-low : (a n : ℕ) → a < 2 ^ 31 → arithmeticRightOf a n ≡ a / 2 ^ n
-unfolding arithmeticRightOf
-sar-low a n h = floor-below a n h
+unfolding arithmeticRightOf signedOf
+sar-low a n h = simp (lt-ltb a (2 ^ 31) h) (omega (arith, shr-le a n))
 
 pub sar-high : (a n : ℕ) → a < 2 ^ 32 → 2 ^ 31 ≤ a → arithmeticRightOf a n ≡ 2 ^ 32 - 1 - (2 ^ 32 - 1 - a) / 2 ^ n
-unfolding arithmeticRightOf
-sar-high a n ha h = floor-above a n ha h
+unfolding arithmeticRightOf signedOf
+sar-high a n ha g =
+    let e : 2 ^ 32 - suc a ≡ 2 ^ 32 - 1 - a = omega arith in
+    simp (le-ltb a (2 ^ 31) g, lt-ltb a (2 ^ 32) ha) (rw e (omega (arith, shr-le (2 ^ 32 - 1 - a) n)))
 
 pub sar-word : (a n : ℕ) → a < 2 ^ 32 → arithmeticRightOf a n < 2 ^ 32
 sar-word a n ha =
@@ -90,48 +95,29 @@ sar-word a n ha =
           rw (sar-high a n ha g) (omega arith)
     ]
 
--- the low bits of a complement
-complement-low : (a j n w : ℕ) → j + n ≡ w → a < 2 ^ w → (2 ^ w - 1 - a) % 2 ^ n ≡ 2 ^ n - 1 - a % 2 ^ n
-complement-low a j n w s h =
-    let g : a < 2 ^ (j + n) = rw s h in
-    let hr : 2 ^ n - 1 - a % 2 ^ n < 2 ^ n = omega (arith, mod-lt a (pow-pos n)) in
-    rw (← s) (ap (λ (x : ℕ). x % 2 ^ n) (complement a j n g) ∙ low (2 ^ j - 1 - a / 2 ^ n) n hr)
+-- the shift is the floor, which is a signed word as its dividend is
+magnitude-within : (a : ℕ) → a < 2 ^ 32 → mag (signed a) < 2 ^ 31
+magnitude-within a h =
+    elim (decLt a (2 ^ 31)) [
+      | yes l ↦ rw (plain-reading (2 ^ 31) a l) l
+      | no l ↦
+          let e : signed a ≡ negsuc (2 ^ 32 - suc a) =
+          is-equal (reading-high (2 ^ 31) a (omega arith)) (is-negsuc (2 ^ 32 - suc a)) (omega arith) in
+          rw e (omega arith)
+    ]
 
-signed-top : (a : ℕ) → 2 ^ 31 ≤ a → signed a ≡ subℕ a (2 ^ 32)
-unfolding signedOf
-signed-top a h = simp (le-ltb a (2 ^ 31) h) (difference-plain a (2 ^ 32))
+pub sar-floor : (a n : ℕ) → a < 2 ^ 32 → signed (arithmeticRightOf a n) ≡ shrZ (signed a) (2 ^ n)
+unfolding arithmeticRightOf
+sar-floor a n h =
+    signed-complement (2 ^ 31) (shrZ (signed a) (2 ^ n)) (lt-of-le-of-lt (mag-shr (signed a) (2 ^ n)) (magnitude-within a h))
 
-plain-zero : (r : ℕ) → pos r ≡ subℕ r 0
-plain-zero r =
-    let e : r ≡ r - 0 = omega arith in
-    ap pos e ∙ sym (difference-above r 0 (omega arith))
-
-pub floor-high : (a n : ℕ) → a < 2 ^ 32 → n ≤ 32 → 2 ^ 31 ≤ a
-    → signed a ≡ signed (2 ^ 32 - 1 - (2 ^ 32 - 1 - a) / 2 ^ n) *ℤ pos (2 ^ n) +ℤ pos (a % 2 ^ n)
-floor-high a n ha hn g =
-    let m = 2 ^ 32 - 1 - a in
-    let q = (2 ^ 32 - 1 - a) / 2 ^ n in
-    let v = 2 ^ 32 - 1 - q in
-    let r = a % 2 ^ n in
-    let hq : (2 ^ 32 - 1 - a) / 2 ^ n ≤ 2 ^ 32 - 1 - a = shr-le m n in
-    let hv : 2 ^ 31 ≤ 2 ^ 32 - 1 - (2 ^ 32 - 1 - a) / 2 ^ n = omega arith in
-    let e : 2 ^ 32 - suc (2 ^ 32 - 1 - (2 ^ 32 - 1 - a) / 2 ^ n) ≡ (2 ^ 32 - 1 - a) / 2 ^ n = omega arith in
-    let sv : signed (2 ^ 32 - 1 - (2 ^ 32 - 1 - a) / 2 ^ n) ≡ negsuc ((2 ^ 32 - 1 - a) / 2 ^ n) =
-    signed-top v hv ∙ difference-below v (2 ^ 32) (omega arith) ∙ ap negsuc e
-    in
-    let hr : a % 2 ^ n < 2 ^ n = mod-lt a (pow-pos n) in
-    let sum : 0 + a % 2 ^ n + 2 ^ 32 ≡ a + (suc ((2 ^ 32 - 1 - a) / 2 ^ n) * 2 ^ n + 0) =
-    omega (arith, split m n, complement-low a (32 - n) n 32 (omega arith) ha, suc-mul q (2 ^ n))
-    in
-    signed-top a g
-    ∙ sym (difference-equal (0 + r) (suc q * 2 ^ n + 0) a (2 ^ 32) sum)
-    ∙ sym (difference-sum 0 (suc q * 2 ^ n) r 0)
-    ∙ ap (λ (z : ℤ). z +ℤ subℕ r 0) (sym (negative-plain (suc q * 2 ^ n)))
-    ∙ ap (λ (z : ℤ). negsuc q *ℤ pos (2 ^ n) +ℤ z) (sym (plain-zero r))
-    ∙ ap (λ (z : ℤ). z *ℤ pos (2 ^ n) +ℤ pos r) (sym sv)
-
-pub floor-low : (a n : ℕ) → a < 2 ^ 31 → signed a ≡ signed (a / 2 ^ n) *ℤ pos (2 ^ n) +ℤ pos (a % 2 ^ n)
-floor-low a n h =
-    plain-reading (2 ^ 31) a h
-    ∙ ap pos (sym (split a n))
-    ∙ ap (λ (z : ℤ). z *ℤ pos (2 ^ n) +ℤ pos (a % 2 ^ n)) (sym (plain-reading (2 ^ 31) (a / 2 ^ n) (omega (arith, shr-le a n))))
+-- the bits that it takes out are the remainder
+pub low-rest : (a n : ℕ) → n ≤ 32 → pos (a % 2 ^ n) ≡ modZ (signed a) (2 ^ n)
+low-rest a n h =
+    elim (decLt a (2 ^ 31)) [
+      | yes l ↦ is-mod (2 ^ n) 0 (pow-pos n) (is-moved (reading-low (2 ^ 31) a l) (omega arith))
+      | no l ↦
+          let s : 32 - n + n ≡ 32 = omega arith in
+          let p : 2 ^ 32 ≡ 2 ^ (32 - n) * 2 ^ n = ap (λ (k : ℕ). 2 ^ k) (sym s) ∙ pow-add 2 (32 - n) n in
+          is-mod (2 ^ n) (2 ^ (32 - n)) (pow-pos n) (is-moved (reading-high (2 ^ 31) a (omega arith)) (omega arith))
+    ]

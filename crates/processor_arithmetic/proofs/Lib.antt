@@ -7,7 +7,6 @@ mod Table
 pub mod Bits
 pub mod Places
 pub mod Digit
-pub mod Difference
 pub mod Reading
 pub mod Biased
 pub mod Signed

@@ -1,16 +1,16 @@
 -- When a signed sum of words is no signed word: where the sign of the wrapped sum is neither part's. A difference a - b is
 -- what b is added to for a, and overflows where that sum does.
 use Prim.Native.Nat.{ℕ, zero, suc, _+_, _-_, _*_, _/_, _%_, _^_, _<_, _≤_}
-use mathlib.Core.Path.{_≡_, ap, ap₂, sym, _∙_}
+use mathlib.Core.Path.{_≡_, ap₂, sym, _∙_}
 use native.Mathlib.Decide.{ℕ-discrete}
 use native.Mathlib.Omega.{arith}
 use borrow.Author.Tests.{eq-eqb, ne-eqb}
 use lib.Bits.{bitAnd, bitXor, and-shr, xor-shr}
-use lib.IntN.{ℤ, _+ℤ_, _-ℤ_}
+use lib.IntN.{_+ℤ_, _-ℤ_}
 use Rattle.processor_arithmetic.specs.Flag.{bitOf}
 use Rattle.processor_arithmetic.specs.Integer.{signed, outside}
 use Rattle.processor_arithmetic.proofs.Bias.{biasedOf, outsideOf}
-use Rattle.processor_arithmetic.proofs.Biased.{bias-small, bias-mod, difference-mod, sum-difference, difference-difference}
+use Rattle.processor_arithmetic.proofs.Biased.{bias-small, bias-mod, difference-mod, sum-biased, difference-biased}
 use Rattle.processor_arithmetic.proofs.Reading.{outside-bit}
 
 -- two binary digits p and q, which with or without a carry in make the digit s and the carry c
@@ -90,14 +90,11 @@ difference-overflow-sum a b ha hb =
 -- the same over the whole numbers
 pub sum-outside : (a b : ℕ) → a < 2 ^ 32 → b < 2 ^ 32
     → outsideOf (biasedOf a + biasedOf b) ≡ bitOf (outside (signed a +ℤ signed b))
-sum-outside a b ha hb =
-    outside-bit (biasedOf a + biasedOf b) ∙ ap (λ (z : ℤ). bitOf (outside z)) (sym (sum-difference a b ha hb))
+sum-outside a b ha hb = outside-bit (biasedOf a + biasedOf b) (sum-biased a b ha hb)
 
 pub difference-outside : (a b : ℕ) → a < 2 ^ 32 → b < 2 ^ 32
     → outsideOf (biasedOf a + (2 ^ 32 - biasedOf b)) ≡ bitOf (outside (signed a -ℤ signed b))
-difference-outside a b ha hb =
-    outside-bit (biasedOf a + (2 ^ 32 - biasedOf b))
-    ∙ ap (λ (z : ℤ). bitOf (outside z)) (sym (difference-difference a b ha hb))
+difference-outside a b ha hb = outside-bit (biasedOf a + (2 ^ 32 - biasedOf b)) (difference-biased a b ha hb)
 
 -- OV of a sum, as the code tests it
 pub sum-overflow-signs : (a b s : ℕ) → a < 2 ^ 32 → b < 2 ^ 32 → s ≡ (a + b) % 2 ^ 32

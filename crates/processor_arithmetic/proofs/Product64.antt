@@ -16,7 +16,7 @@ use Rattle.processor_arithmetic.specs.Sign.{magnitudeOf}
 use Rattle.processor_arithmetic.specs.Product.{extend64Of, overflowsOf, productOf}
 use Rattle.processor_arithmetic.specs.Integer.{signed, signed64, outside, complementOf}
 use Rattle.processor_arithmetic.proofs.Complement.{complement-below, complement-signed64}
-use Rattle.processor_arithmetic.proofs.Difference.{times-negative, negative-times, negative-negative}
+use Rattle.word.proofs.Signs.{times-negative, negative-times, negative-negative}
 use Rattle.processor_arithmetic.proofs.Reading.{magnitude-small, signed-low, signed-high, plain-reading, negative-reading}
 use Rattle.processor_arithmetic.proofs.Bits.{bit-small}
 
@@ -98,7 +98,7 @@ product-signed a b ha hb = ap signed64 (product-signs a b ha hb) ∙ signs-signe
 
 pub product-word : (a b : ℕ) → productOf a b < 2 ^ 64
 unfolding productOf
-product-word a b = complement-below (signed a *ℤ signed b)
+product-word a b = complement-below (2 ^ 64) (omega arith) (signed a *ℤ signed b)
 
 pub extend-low : (x : ℕ) → x < 2 ^ 31 → extend64Of x ≡ x
 unfolding extend64Of

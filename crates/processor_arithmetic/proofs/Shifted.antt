@@ -1,15 +1,15 @@
 -- The laws of specs/Shifted, proved.
-use Prim.Native.Nat.{ℕ, _-_, _*_, _/_, _%_, _^_, _<_, _≤_}
-use mathlib.Core.Path.{_≡_, _∙_}
-use native.Mathlib.Decide.{decLt}
+use Prim.Native.Nat.{_*_, _/_, _%_, _^_}
+use mathlib.Core.Path.{ap₂, sym, _∙_}
 use native.Mathlib.Nat.{mod-lt}
 use native.Mathlib.Omega.{arith}
-use lib.IntN.{pos, _+ℤ_, _*ℤ_}
+use lib.IntN.{ℤ, pos, _+ℤ_, _*ℤ_}
 use lib.Pow.{pow-pos, shr-le}
+use Rattle.word.proofs.Floors.{floor-split}
 use Rattle.processor_arithmetic.specs.Shift.{leftOutOf, rightOutOf, arithmeticRightOf, shiftLeftOf, shiftRightOf, shiftArithmeticOf}
 use Rattle.processor_arithmetic.specs.Integer.{signed}
 use Rattle.processor_arithmetic.proofs.Places.{flags-placed}
-use Rattle.processor_arithmetic.proofs.Floor.{sar-low, sar-high, sar-word, floor-high, floor-low, left-some, left-zero, left-bit, right-some, right-zero, right-bit}
+use Rattle.processor_arithmetic.proofs.Floor.{sar-word, sar-floor, low-rest, left-some, left-zero, left-bit, right-some, right-zero, right-bit}
 use Rattle.processor_arithmetic.specs.Shifted.{ShiftLeftPlaced, ShiftLeftOut, ShiftLeftNone, ShiftRightPlaced, ShiftRightOut, ShiftRightNone, ShiftArithmeticPlaced, ShiftArithmeticOut, ShiftArithmeticNone, ShiftArithmeticFloor}
 
 pub shift-left-placed : ShiftLeftPlaced
@@ -46,13 +46,9 @@ shift-arithmetic-none a b psw ha e = shift-arithmetic-placed a b psw ha .at-cy �
 
 pub shift-arithmetic-floor : ShiftArithmeticFloor
 unfolding shiftArithmeticOf
-shift-arithmetic-floor a b psw ha = (divided a (b % 32) ha (omega arith), mod-lt a (pow-pos (b % 32)))
-  where
-    divided : (a n : ℕ) → a < 2 ^ 32 → n ≤ 32 → signed a ≡ signed (arithmeticRightOf a n) *ℤ pos (2 ^ n) +ℤ pos (a % 2 ^ n)
-    divided a n ha hn =
-        elim (decLt a (2 ^ 31)) [
-          | yes l ↦ rw (sar-low a n l) (floor-low a n l)
-          | no l ↦
-              let g : 2 ^ 31 ≤ a = omega arith in
-              rw (sar-high a n ha g) (floor-high a n ha hn g)
-        ]
+shift-arithmetic-floor a b psw ha =
+    let n = b % 32 in (
+      floor-split (signed a) (2 ^ n)
+          ∙ ap₂ (λ (q r : ℤ). q *ℤ pos (2 ^ n) +ℤ r) (sym (sar-floor a n ha)) (sym (low-rest a n (omega arith))),
+      mod-lt a (pow-pos n),
+    )

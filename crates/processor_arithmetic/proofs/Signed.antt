@@ -4,15 +4,15 @@ use mathlib.Core.Path.{_≡_, sym, _∙_}
 use native.Mathlib.Omega.{arith}
 use lib.Dec.{ltb, leb}
 use lib.IntN.{_+ℤ_, _-ℤ_}
+use Rattle.word.proofs.Integers.{is-equal}
 use Rattle.processor_arithmetic.specs.Sum.{sumOf, differenceOf}
 use Rattle.processor_arithmetic.proofs.Bias.{biasedOf, outsideOf}
 use Rattle.processor_arithmetic.specs.Integer.{signed, outside}
-use Rattle.processor_arithmetic.proofs.Difference.{difference-equal}
-use Rattle.processor_arithmetic.proofs.Reading.{signed-difference}
+use Rattle.processor_arithmetic.proofs.Reading.{signed-biased}
 use Rattle.processor_arithmetic.proofs.Places.{flags-placed}
 use Rattle.processor_arithmetic.proofs.Bits.{bit-small}
 use Rattle.processor_arithmetic.proofs.Overflow.{sum-outside, difference-outside}
-use Rattle.processor_arithmetic.proofs.Biased.{inside, sum-difference, sum-bias, difference-difference, difference-bias}
+use Rattle.processor_arithmetic.proofs.Biased.{inside, sum-biased, sum-bias, difference-biased, difference-bias}
 use Rattle.processor_arithmetic.specs.Signed.{SumPlaced, SumOverflow, SumCarry, SumSigned, DifferencePlaced, DifferenceOverflow, DifferenceCarry, DifferenceSigned}
 
 pub sum-placed : SumPlaced
@@ -31,9 +31,7 @@ sum-signed a b psw ha hb e =
     let t = biasedOf a + biasedOf b in
     let ov : outsideOf (biasedOf a + biasedOf b) ≡ 0 = sum-outside a b ha hb ∙ sym (sum-placed a b psw ha hb .at-ov) ∙ e in
     let hv : (a + b) % 2 ^ 32 < 2 ^ 32 = omega arith in
-    signed-difference ((a + b) % 2 ^ 32) hv
-    ∙ difference-equal (biasedOf ((a + b) % 2 ^ 32)) (2 ^ 31) t (2 ^ 32) (sum-bias a b ha hb (inside t ov))
-    ∙ sym (sum-difference a b ha hb)
+    is-equal (signed-biased ((a + b) % 2 ^ 32) hv) (sum-biased a b ha hb) (sum-bias a b ha hb (inside t ov))
 
 pub difference-placed : DifferencePlaced
 unfolding differenceOf
@@ -52,6 +50,4 @@ difference-signed a b psw ha hb e =
     let t = biasedOf a + (2 ^ 32 - biasedOf b) in
     let ov : outsideOf (biasedOf a + (2 ^ 32 - biasedOf b)) ≡ 0 = difference-outside a b ha hb ∙ sym (difference-placed a b psw ha hb .at-ov) ∙ e in
     let hv : (a + (2 ^ 32 - b)) % 2 ^ 32 < 2 ^ 32 = omega arith in
-    signed-difference ((a + (2 ^ 32 - b)) % 2 ^ 32) hv
-    ∙ difference-equal (biasedOf ((a + (2 ^ 32 - b)) % 2 ^ 32)) (2 ^ 31) t (2 ^ 32) (difference-bias a b ha hb (inside t ov))
-    ∙ sym (difference-difference a b ha hb)
+    is-equal (signed-biased ((a + (2 ^ 32 - b)) % 2 ^ 32) hv) (difference-biased a b ha hb) (difference-bias a b ha hb (inside t ov))

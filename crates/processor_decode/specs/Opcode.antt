@@ -4,7 +4,8 @@
 use Prim.Native.Nat.{ℕ, _/_}
 use mathlib.Core.List.{List, [], _∷_, _++_}
 use lib.ListN.{getD, replicate}
-use Rattle.processor_decode.specs.Format.{lowOf, reg2Of, register, signedImmediate, unsigned, setf, ldsr, stsr, branch, jr}
+use Rattle.processor_decode.specs.Format.{lowOf, reg2Of, register, signedImmediate, unsigned, setf, ldsr, stsr}
+use Rattle.processor_decode.specs.Format.{branch, jr}
 use Rattle.processor_decode.specs.Format.{jal, longSigned, longUnsigned, load, input, store, output}
 use Rattle.processor_decode.specs.SubOpcode.{extendedOf}
 use Rattle.processor_decode.specs.declared.RegisterOperation.{RegisterOperation}

@@ -7,7 +7,8 @@ use crate::RegisterOperation;
 use crate::Width;
 ghost use mathlib.Core.Path.{_≡_};
 ghost use Prim.Native.Nat.{_<_};
-ghost use Rattle.processor_decode.specs.Format.{register, signedImmediate, unsigned, long, longSigned, longUnsigned, load};
+ghost use Rattle.processor_decode.specs.Format.{register, signedImmediate, unsigned, long};
+ghost use Rattle.processor_decode.specs.Format.{longSigned, longUnsigned, load};
 ghost use Rattle.processor_decode.specs.Format.{input, store, output, ldsr, stsr, setf, branch, jr, jal, dispOf};
 
 // Format I: reg1 and reg2.

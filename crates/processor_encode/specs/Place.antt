@@ -16,12 +16,12 @@ abbrev pub placed : ℕ → ℕ → ℕ → ℕ
 placed opcode reg2 low = opcode % 64 * 1024 + reg2 % 32 * 32 + low % 32
 
 -- Format III: 100 in bits 15-13, the condition in bits 12-9, the offset in bits 8-0
-abbrev pub branch : ℕ → ℕ → ℕ
-branch condition offset = 32768 + condition % 16 * 512 + offset % 512
+abbrev pub branchPlaced : ℕ → ℕ → ℕ
+branchPlaced condition offset = 32768 + condition % 16 * 512 + offset % 512
 
 -- Format IV: the opcode in bits 15-10, bits 25-16 of the offset in bits 9-0; the others are the second halfword
-abbrev pub jump : ℕ → ℕ → ℕ
-jump opcode offset = opcode % 64 * 1024 + offset / 65536 % 1024
+abbrev pub jumpPlaced : ℕ → ℕ → ℕ
+jumpPlaced opcode offset = opcode % 64 * 1024 + offset / 65536 % 1024
 
 abbrev pub lowHalf : ℕ → ℕ
 lowHalf x = x % 65536
@@ -39,8 +39,8 @@ halfwordsOf Condition x = One (placed (x .operation) (x .reg2) (x .condition))
 halfwordsOf Vector x = One (placed (x .operation) 0 (x .immediate))
 halfwordsOf Bare x = One (placed (x .operation) 0 0)
 halfwordsOf SystemRegister x = One (placed (x .operation) (x .reg2) (x .immediate))
-halfwordsOf Branch x = One (branch (x .condition) (x .immediate))
-halfwordsOf Jump x = Two (jump (x .operation) (x .immediate)) (lowHalf (x .immediate))
+halfwordsOf Branch x = One (branchPlaced (x .condition) (x .immediate))
+halfwordsOf Jump x = Two (jumpPlaced (x .operation) (x .immediate)) (lowHalf (x .immediate))
 halfwordsOf SignedLong x = Two (placed (x .operation) (x .reg2) (x .reg1)) (lowHalf (x .immediate))
 halfwordsOf UnsignedLong x = Two (placed (x .operation) (x .reg2) (x .reg1)) (lowHalf (x .immediate))
 halfwordsOf Extended x = Two (placed 62 (x .reg2) (x .reg1)) (subOpcode (x .operation))

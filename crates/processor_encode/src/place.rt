@@ -5,7 +5,7 @@ use crate::Fields;
 use crate::format::Format;
 use refusal::Refusal;
 ghost use mathlib.Core.Path.{_≡_};
-ghost use Rattle.processor_encode.specs.Place.{placed, branch, jump, lowHalf, subOpcode, halfwordsOf};
+ghost use Rattle.processor_encode.specs.Place.{placed, branchPlaced, jumpPlaced, lowHalf, subOpcode, halfwordsOf};
 
 // The opcode in bits 15-10, reg2 in bits 9-5, reg1 or another field in bits 4-0.
 fn placed(opcode: u32, reg2: u32, low: u32) -> u16
@@ -15,15 +15,15 @@ fn placed(opcode: u32, reg2: u32, low: u32) -> u16
 }
 
 // Bcond: the condition in bits 12-9, the offset in bits 8-0.
-fn branch(condition: u32, offset: u32) -> u16
-    ensures { λ r. ⌜ r ≡ branch condition offset ⌝ }
+fn branch_placed(condition: u32, offset: u32) -> u16
+    ensures { λ r. ⌜ r ≡ branchPlaced condition offset ⌝ }
 {
     (32768 + condition % 16 * 512 + offset % 512) as u16
 }
 
 // JR and JAL: bits 25-16 of the offset in bits 9-0 of the first halfword.
-fn jump(opcode: u32, offset: u32) -> u16
-    ensures { λ r. ⌜ r ≡ jump opcode offset ⌝ }
+fn jump_placed(opcode: u32, offset: u32) -> u16
+    ensures { λ r. ⌜ r ≡ jumpPlaced opcode offset ⌝ }
 {
     (opcode % 64 * 1024 + offset / 65536 % 1024) as u16
 }
@@ -55,8 +55,8 @@ pub fn halfwords(format: Format, x: Fields) -> Encoded
         Format::Vector => Encoded::One(placed(x.operation, 0, x.immediate)),
         Format::Bare => Encoded::One(placed(x.operation, 0, 0)),
         Format::SystemRegister => Encoded::One(placed(x.operation, x.reg2, x.immediate)),
-        Format::Branch => Encoded::One(branch(x.condition, x.immediate)),
-        Format::Jump => Encoded::Two(jump(x.operation, x.immediate), low_half(x.immediate)),
+        Format::Branch => Encoded::One(branch_placed(x.condition, x.immediate)),
+        Format::Jump => Encoded::Two(jump_placed(x.operation, x.immediate), low_half(x.immediate)),
         Format::SignedLong => Encoded::Two(
             placed(x.operation, x.reg2, x.reg1),
             low_half(x.immediate),

@@ -6,6 +6,7 @@ use native.Mathlib.Decide.{decLt}
 use native.Mathlib.Omega.{arith}
 use borrow.Author.Tests.{lt-ltb, le-ltb, ltb-true}
 use Rattle.word.specs.Extend.{extendOf}
+use Rattle.word.proofs.Extended.{extend-low, extend-high}
 use Rattle.processor_encode.specs.Range.{signedIn}
 
 -- what a width's numbers do: low words are their own low bits, and the last words end in the high half
@@ -26,14 +27,6 @@ sixteen = record { low = λ x h. omega arith; high = λ x h k. (omega arith, ome
 
 pub twenty-six : Width 33554432
 twenty-six = record { low = λ x h. omega arith; high = λ x h k. (omega arith, omega arith); back = λ y h k. omega arith; small = omega arith }
-
-extend-low : (half x : ℕ) → x < half → extendOf half x ≡ x
-unfolding extendOf
-extend-low half x h = simp (lt-ltb x half h)
-
-extend-high : (half x : ℕ) → half ≤ x → extendOf half x ≡ x + (2 ^ 32 - 2 * half)
-unfolding extendOf
-extend-high half x h = simp (le-ltb x half h)
 
 module _ (half : ℕ) (w : Width half) where
   -- a word in the range is its low bits, extended

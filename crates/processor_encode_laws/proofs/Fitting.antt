@@ -2,11 +2,11 @@
 use Prim.Native.Nat.{ℕ, _%_, _<_}
 use mathlib.Core.Bool.{Bool, true, false, false≢true}
 use mathlib.Core.Path.{_≡_, refl}
-use native.Mathlib.Decide.{decLt, ℕ-discrete}
-use native.Mathlib.Omega.{arith}
-use borrow.Author.Tests.{lt-ltb, le-ltb, ltb-true, eq-eqb, ne-eqb}
+use native.Mathlib.Decide.{ℕ-discrete}
+use borrow.Author.Tests.{lt-ltb, ltb-true, eqb-true, eq-eqb, ne-eqb}
 use lib.Dec.{ltb, eqb}
 use Rattle.word.specs.Choose.{pick}
+use Rattle.word.proofs.Choices.{pick-both}
 use Rattle.processor_encode.specs.Range.{within, signedIn, evenIn, systemFits}
 use Rattle.processor_encode.specs.declared.Fields.{Fields}
 
@@ -24,10 +24,8 @@ pub record Within (x : Fields) (reg1 reg2 condition : ℕ) (immediate : Bool) : 
 
 both-true : (n limit : ℕ) (later : Bool) → pick (ltb n limit) later false ≡ true → (n < limit) × (later ≡ true)
 both-true n limit later h =
-    elim (decLt n limit) [
-      | yes p ↦ (p, simp (lt-ltb n limit p) at h)
-      | no q ↦ absurd (false≢true (simp (le-ltb n limit (omega arith)) at h))
-    ]
+    let b = pick-both (ltb n limit) later h in
+    (ltb-true n limit (b .0), b .1)
 
 pub within-facts : (x : Fields) (reg1 reg2 condition : ℕ) (immediate : Bool) → within x reg1 reg2 condition immediate ≡ true → Within x reg1 reg2 condition immediate
 unfolding within
@@ -45,10 +43,8 @@ within-true x reg1 reg2 condition immediate w =
 pub even-facts : (half x : ℕ) → evenIn half x ≡ true → (x % 2 ≡ 0) × (signedIn half x ≡ true)
 unfolding evenIn
 even-facts half x h =
-    elim (ℕ-discrete (x % 2) 0) [
-      | yes e ↦ (e, simp (eq-eqb (x % 2) 0 e) at h)
-      | no ne ↦ absurd (false≢true (simp (ne-eqb (x % 2) 0 ne) at h))
-    ]
+    let b = pick-both (eqb (x % 2) 0) (signedIn half x) h in
+    (eqb-true (x % 2) 0 (b .0), b .1)
 
 pub even-true : (half x : ℕ) → x % 2 ≡ 0 → signedIn half x ≡ true → evenIn half x ≡ true
 unfolding evenIn

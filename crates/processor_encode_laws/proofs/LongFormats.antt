@@ -15,7 +15,7 @@ use Rattle.processor_decode.specs.declared.Decoded.the-variants.{Modelled}
 use Rattle.processor_encode.specs.Format.{formatOf}
 use Rattle.processor_encode.specs.Fields.{fieldsOf, numbers}
 use Rattle.processor_encode.specs.Range.{within, signedIn, evenIn}
-use Rattle.processor_encode.specs.Place.{placed, jump, lowHalf, subOpcode}
+use Rattle.processor_encode.specs.Place.{placed, jumpPlaced, lowHalf, subOpcode}
 use Rattle.processor_encode.specs.Encode.{encodeOf, encodedOf}
 use Rattle.processor_encode.specs.Unused.{without, clearedOf}
 use Rattle.processor_encode.specs.declared.Encoded.the-variants.{One, Two, Refused}
@@ -50,16 +50,16 @@ module _ (n : ℕ) (I : ℕ → Instruction) (o : OfJump n I) where
   unfolding encodedOf
   jump-decode d =
       rw (o .fields d, o .known)
-      (pick-known (DecodesTo (I d)) (within (numbers n 0 0 0 d) 1 1 1 (evenIn 33554432 d)) (Two (jump n d) (lowHalf d)) (Refused Encoding)
+      (pick-known (DecodesTo (I d)) (within (numbers n 0 0 0 d) 1 1 1 (evenIn 33554432 d)) (Two (jumpPlaced n d) (lowHalf d)) (Refused Encoding)
       (λ h.
       let w = within-facts (numbers n 0 0 0 d) 1 1 1 (evenIn 33554432 d) h in
       let in-range = even-facts 33554432 d (w .last) in
       let to = o .opcode .to in
-      let at : jump n d / 1024 ≡ n = jump-opcode n d to in (
+      let at : jumpPlaced n d / 1024 ≡ n = jump-opcode n d to in (
         omega arith,
         omega arith,
-        two-of n (jump n d) (o .opcode) at,
-        o .row (jump n d) (lowHalf d) at ∙ rw (jump-offset n d to (in-range .0), extend-word 33554432 twenty-six d (in-range .1)),
+        two-of n (jumpPlaced n d) (o .opcode) at,
+        o .row (jumpPlaced n d) (lowHalf d) at ∙ rw (jump-offset n d to (in-range .0), extend-word 33554432 twenty-six d (in-range .1)),
       ))
       tt)
 
@@ -74,7 +74,7 @@ module _ (n : ℕ) (I : ℕ → Instruction) (o : OfJump n I) where
       let even : d % 2 ≡ 0 = omega arith in
       let signed = extended-in 33554432 twenty-six (f % 1024 * 65536 + s / 2 * 2) small in
       let fits : within x 1 1 1 (evenIn 33554432 d) ≡ true = within-true x 1 1 1 (evenIn 33554432 d) (record { first = omega arith; second = omega arith; third = omega arith; last = even-true 33554432 d even signed }) in
-      let first : jump n d ≡ f = jump-first n d f s to hs e back in
+      let first : jumpPlaced n d ≡ f = jump-first n d f s to hs e back in
       let second : lowHalf d ≡ without 0 1 s = jump-second d f s hs back in
       rw (o .fields d, cleared-long Jump n f s (o .known) e (o .opcode .from) (o .opcode .not-50) (o .opcode .not-54) (o .opcode .not-62))
       (encoded-in x (rw (o .known) fits) ∙ rw (o .known) (rw (first, second)))

@@ -2,7 +2,7 @@
 use Prim.Native.Nat.{ℕ, _+_, _-_, _*_, _/_, _%_, _≤_, _<_}
 use mathlib.Core.Path.{_≡_, refl, _∙_, ap}
 use native.Mathlib.Omega.{arith}
-use Rattle.processor_encode.specs.Place.{placed, branch, jump, lowHalf, subOpcode}
+use Rattle.processor_encode.specs.Place.{placed, branchPlaced, jumpPlaced, lowHalf, subOpcode}
 use Rattle.processor_encode.specs.Unused.{without}
 
 module _ (n b a : ℕ) (hn : n < 64) (hb : b < 32) where
@@ -47,7 +47,7 @@ condition-again n f h e =
 bit-cleared : (f : ℕ) → f - f % 2 ≡ without 0 1 f
 bit-cleared f = omega arith
 
-pub branch-again : (f d : ℕ) → 32 ≤ f / 1024 → f / 1024 < 40 → d % 512 ≡ f % 512 / 2 * 2 → branch (f / 512 % 16) d ≡ without 0 1 f
+pub branch-again : (f d : ℕ) → 32 ≤ f / 1024 → f / 1024 < 40 → d % 512 ≡ f % 512 / 2 * 2 → branchPlaced (f / 512 % 16) d ≡ without 0 1 f
 branch-again f d h k e =
     let high : f / 512 ≡ 64 + f / 512 % 16 = omega arith in
     let whole : 32768 + f / 512 % 16 % 16 * 512 + f % 512 ≡ f = omega arith in
@@ -57,17 +57,17 @@ branch-again f d h k e =
 
 -- the two halfwords of a jump
 module _ (n d : ℕ) (h : n < 64) where
-  pub jump-opcode : jump n d / 1024 ≡ n
+  pub jump-opcode : jumpPlaced n d / 1024 ≡ n
   jump-opcode = omega arith
 
-  pub jump-offset : d % 2 ≡ 0 → jump n d % 1024 * 65536 + lowHalf d / 2 * 2 ≡ d % 67108864
+  pub jump-offset : d % 2 ≡ 0 → jumpPlaced n d % 1024 * 65536 + lowHalf d / 2 * 2 ≡ d % 67108864
   jump-offset e =
-      let high : jump n d % 1024 ≡ d / 65536 % 1024 = omega arith in
+      let high : jumpPlaced n d % 1024 ≡ d / 65536 % 1024 = omega arith in
       let low : lowHalf d / 2 * 2 ≡ lowHalf d = omega arith in
       omega arith
 
 module _ (n d f s : ℕ) (h : n < 64) (hs : s < 65536) (e : f / 1024 ≡ n) (back : d % 67108864 ≡ f % 1024 * 65536 + s / 2 * 2) where
-  pub jump-first : jump n d ≡ f
+  pub jump-first : jumpPlaced n d ≡ f
   jump-first =
       let high : d / 65536 % 1024 ≡ f % 1024 = omega arith in
       omega arith

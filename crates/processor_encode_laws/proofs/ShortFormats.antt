@@ -11,7 +11,7 @@ use lib.Dec.{ltb, eqb}
 use Rattle.word.specs.Choose.{pick}
 use Rattle.word.specs.Extend.{extendOf}
 use Rattle.refusal.specs.declared.Refusal.the-variants.{Encoding}
-use Rattle.processor_decode.specs.Format.{branch as branchRow, twoOf}
+use Rattle.processor_decode.specs.Format.{branch, twoOf}
 use Rattle.processor_decode.specs.Opcode.{decodeOf}
 use Rattle.processor_decode.proofs.Rows.{branch-row}
 use Rattle.processor_decode.specs.declared.Instruction.{Instruction}
@@ -21,7 +21,7 @@ use Rattle.processor_decode.specs.declared.Decoded.the-variants.{Modelled, NotM
 use Rattle.processor_encode.specs.Format.{formatOf, shortFormats, longFormats}
 use Rattle.processor_encode.specs.Fields.{fieldsOf, numbers}
 use Rattle.processor_encode.specs.Range.{within, signedIn, evenIn, systemFits}
-use Rattle.processor_encode.specs.Place.{placed, branch}
+use Rattle.processor_encode.specs.Place.{placed, branchPlaced}
 use Rattle.processor_encode.specs.Encode.{encodeOf, encodedOf}
 use Rattle.processor_encode.specs.Unused.{without, clearedOf}
 use Rattle.processor_encode.specs.declared.Encoded.the-variants.{One, Two, Refused}
@@ -353,17 +353,17 @@ module _ (n : ℕ) (I : ℕ → ℕ → Instruction) (o : OfSystemRegister n I) 
 
 -- III: a condition and an even offset
 module _ (a d : ℕ) (ha : a < 16) where
-  branch-opcode : (32 ≤ branch a d / 1024) × (branch a d / 1024 < 40)
+  branch-opcode : (32 ≤ branchPlaced a d / 1024) × (branchPlaced a d / 1024 < 40)
   branch-opcode = (omega arith, omega arith)
 
-  branch-condition : branch a d / 512 % 16 ≡ a
+  branch-condition : branchPlaced a d / 512 % 16 ≡ a
   branch-condition =
-      let q : branch a d / 512 ≡ 64 + a = omega arith in
+      let q : branchPlaced a d / 512 ≡ 64 + a = omega arith in
       omega arith
 
-  branch-offset : d % 2 ≡ 0 → branch a d % 512 / 2 * 2 ≡ d % 512
+  branch-offset : d % 2 ≡ 0 → branchPlaced a d % 512 / 2 * 2 ≡ d % 512
   branch-offset e =
-      let q : branch a d % 512 ≡ d % 512 = omega arith in
+      let q : branchPlaced a d % 512 ≡ d % 512 = omega arith in
       omega arith
 
 branch-known : formatOf 32 ≡ Branch
@@ -374,16 +374,16 @@ pub branch-decode : (a d : ℕ) → DecodesTo (Bcond a d) (encodeOf (Bcond a d))
 unfolding encodedOf
 branch-decode a d =
     rw branch-known
-    (pick-known (DecodesTo (Bcond a d)) (within (numbers 32 0 0 a d) 1 1 16 (evenIn 256 d)) (One (branch a d)) (Refused Encoding)
+    (pick-known (DecodesTo (Bcond a d)) (within (numbers 32 0 0 a d) 1 1 16 (evenIn 256 d)) (One (branchPlaced a d)) (Refused Encoding)
     (λ h.
     let w = within-facts (numbers 32 0 0 a d) 1 1 16 (evenIn 256 d) h in
     let third : a < 16 = w .third in
     let in-range = even-facts 256 d (w .last) in
     let at = branch-opcode a d third in (
       omega arith,
-      two-short (branch a d) (at .1),
+      two-short (branchPlaced a d) (at .1),
       λ s.
-          branch-row (branch a d) s (at .0) (at .1) ∙ rw (branch-condition a d third, branch-offset a d third (in-range .0), extend-word 256 nine d (in-range .1)),
+          branch-row (branchPlaced a d) s (at .0) (at .1) ∙ rw (branch-condition a d third, branch-offset a d third (in-range .0), extend-word 256 nine d (in-range .1)),
     ))
     tt)
 
@@ -397,9 +397,9 @@ branch-encode f s h k =
     let even : d % 2 ≡ 0 = omega arith in
     let signed = extended-in 256 nine (f % 512 / 2 * 2) (omega arith) in
     let fits : within x 1 1 16 (evenIn 256 d) ≡ true = within-true x 1 1 16 (evenIn 256 d) (record { first = omega arith; second = omega arith; third = omega arith; last = even-true 256 d even signed }) in
-    let same : branch a d ≡ without 0 1 f = branch-again f d h k back in
+    let same : branchPlaced a d ≡ without 0 1 f = branch-again f d h k back in
     rw (cleared-branch f s h k) (encoded-in x (rw branch-known fits) ∙ rw branch-known (ap One same))
 
-pub branch-facts : (f s : ℕ) → 32 ≤ f / 1024 → f / 1024 < 40 → Facts f s (branchRow f)
+pub branch-facts : (f s : ℕ) → 32 ≤ f / 1024 → f / 1024 < 40 → Facts f s (branch f)
 branch-facts f s h k =
     legal-row f s (Bcond (f / 512 % 16) (extendOf 256 (f % 512 / 2 * 2))) (branch-decode (f / 512 % 16) (extendOf 256 (f % 512 / 2 * 2))) (branch-encode f s h k)

@@ -1,28 +1,15 @@
 -- `signed-range`: the range of signed words is that of their signed readings. Assumes nothing.
 use Prim.Native.Nat.{ℕ, suc, _-_, _*_, _≤_, _<_, _^_}
-use mathlib.Core.Bool.{Bool, true, false}
-use Rattle.word.specs.Choose.{pick}
-use mathlib.Core.Path.{_≡_, refl, sym, _∙_, ap}
+use mathlib.Core.Path.{_≡_, sym, _∙_}
 use native.Mathlib.Decide.{decLt}
 use native.Mathlib.Omega.{arith}
 use borrow.Author.Tests.{lt-ltb, le-ltb, le-leb, lt-leb}
 use lib.Dec.{ltb, leb}
-use lib.IntN.{ℤ, pos, negsuc, _-ℤ_}
-use Rattle.word.specs.Extend.{signedOf}
+use Rattle.word.proofs.Choices.{pick-self}
+use Rattle.word.proofs.Integers.{is-pos, is-negsuc, is-equal}
+use Rattle.word.proofs.Readings.{reading-low, reading-high}
 use Rattle.processor_encode.specs.Range.{signedIn}
-use Rattle.processor_encode_laws.specs.Signed.{between, SignedRange}
-
--- a difference below zero
-below-zero : (a b : ℕ) → a < b → pos a -ℤ pos b ≡ negsuc (b - suc a)
-below-zero a (suc b) h = simp (lt-ltb a (suc b) h)
-
-reading-low : (x : ℕ) → x < 2 ^ 31 → signedOf (2 ^ 31) x ≡ pos x
-unfolding signedOf
-reading-low x h = simp (lt-ltb x (2 ^ 31) h)
-
-reading-high : (x : ℕ) → 2 ^ 31 ≤ x → x < 2 ^ 32 → signedOf (2 ^ 31) x ≡ negsuc (2 ^ 32 - suc x)
-unfolding signedOf
-reading-high x h wide = simp (le-ltb x (2 ^ 31) h) (below-zero x (2 ^ 32) wide)
+use Rattle.processor_encode_laws.specs.Signed.{SignedRange}
 
 low : (h x : ℕ) → suc h ≤ 2 ^ 31 → x < 2 ^ 31 → signedIn (suc h) x ≡ ltb x (suc h)
 unfolding signedIn
@@ -49,15 +36,12 @@ high h x small above wide =
           simp (le-ltb x (suc h) from, le-ltb x (2 ^ 32 - suc h) last, lt-ltb x (2 ^ 32) wide, le-leb (2 ^ 32 - suc x) h near)
     ]
 
-from-true : (t : Bool) → pick t true false ≡ t
-from-true true = refl
-from-true false = refl
-
 pub signed-range : SignedRange
 signed-range h x small wide =
     elim (decLt x (2 ^ 31)) [
-      | yes p ↦ rw (reading-low x p) (low h x small p)
+      | yes p ↦ rw (is-equal (reading-low (2 ^ 31) x p) (is-pos x) (omega arith)) (low h x small p)
       | no n ↦
           let above : 2 ^ 31 ≤ x = omega arith in
-          rw (reading-high x above wide) (high h x small above wide ∙ sym (from-true (leb (2 ^ 32 - suc x) h)))
+          rw (is-equal (reading-high (2 ^ 31) x above) (is-negsuc (2 ^ 32 - suc x)) (omega arith))
+          (high h x small above wide ∙ sym (pick-self (leb (2 ^ 32 - suc x) h)))
     ]

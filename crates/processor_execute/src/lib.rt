@@ -1,8 +1,10 @@
 // What each instruction does to the processor and the lent memories. The functions here are for the crates above; the
 // calls that test their arguments and refuse are those of the crate processor.
-pub mod compute;
-pub mod floating;
-pub mod jump;
-pub mod memory;
+mod compute;
+mod control;
+pub mod execute;
+mod floating;
+mod jump;
+mod memory;
 mod operation;
 mod transfer;

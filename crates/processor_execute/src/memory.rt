@@ -18,6 +18,14 @@ ghost use Rattle.bus.specs.Lent.{entering, leaving};
 ghost use Rattle.processor_machine.specs.State.{stateOf, leaves};
 ghost use Rattle.processor_execute.specs.Execute.{executeOf};
 
+// The fields of such an instruction: reg1 and the displacement give the address, reg2 is loaded or stored.
+pub struct Access {
+    pub width: Width,
+    pub disp: u32,
+    pub reg1: u32,
+    pub reg2: u32,
+}
+
 pub fn load(
     rom: &[u8],
     wram: &[u8],
@@ -25,10 +33,7 @@ pub fn load(
     pak: &[u8],
     device: &Device,
     regs: &mut [u32; 32],
-    width: Width,
-    disp: u32,
-    reg1: u32,
-    reg2: u32,
+    access: Access,
     next: u32,
     psw: u32,
 ) -> Control
@@ -36,14 +41,15 @@ pub fn load(
     ensures { λ r. ⌜
         ((pc : ℕ) (sys : List ℕ)
         → leaves (now (regs .exit)) sys r (entering rom wram vram pak device)
-        ≡ executeOf (Instruction.Load width disp reg1 reg2) next (stateOf (now (regs .entry)) sys pc psw Mode.Running)
-        (entering rom wram vram pak device))
+        ≡ executeOf (Instruction.Load (access .width) (access .disp) (access .reg1) (access .reg2)) next
+        (stateOf (now (regs .entry)) sys pc psw Mode.Running) (entering rom wram vram pak device))
         ⌝ }
 {
-    let base = get(regs, reg1);
-    let address = std::num::wrapping_add_u32(base, disp);
+    let width = access.width;
+    let base = get(regs, access.reg1);
+    let address = std::num::wrapping_add_u32(base, access.disp);
     let v = transfer::load(rom, wram, vram, pak, device, width, address);
-    put(regs, reg2, v);
+    put(regs, access.reg2, v);
     ended(next, psw)
 }
 
@@ -54,10 +60,7 @@ pub fn input(
     pak: &[u8],
     device: &Device,
     regs: &mut [u32; 32],
-    width: Width,
-    disp: u32,
-    reg1: u32,
-    reg2: u32,
+    access: Access,
     next: u32,
     psw: u32,
 ) -> Control
@@ -65,14 +68,15 @@ pub fn input(
     ensures { λ r. ⌜
         ((pc : ℕ) (sys : List ℕ)
         → leaves (now (regs .exit)) sys r (entering rom wram vram pak device)
-        ≡ executeOf (Instruction.In width disp reg1 reg2) next (stateOf (now (regs .entry)) sys pc psw Mode.Running)
-        (entering rom wram vram pak device))
+        ≡ executeOf (Instruction.In (access .width) (access .disp) (access .reg1) (access .reg2)) next
+        (stateOf (now (regs .entry)) sys pc psw Mode.Running) (entering rom wram vram pak device))
         ⌝ }
 {
-    let base = get(regs, reg1);
-    let address = std::num::wrapping_add_u32(base, disp);
+    let width = access.width;
+    let base = get(regs, access.reg1);
+    let address = std::num::wrapping_add_u32(base, access.disp);
     let v = transfer::input(rom, wram, vram, pak, device, width, address);
-    put(regs, reg2, v);
+    put(regs, access.reg2, v);
     ended(next, psw)
 }
 
@@ -83,10 +87,7 @@ pub fn store(
     pak: &mut [u8],
     device: &mut Device,
     regs: &[u32; 32],
-    width: Width,
-    disp: u32,
-    reg1: u32,
-    reg2: u32,
+    access: Access,
     next: u32,
     psw: u32,
 ) -> Control
@@ -94,13 +95,14 @@ pub fn store(
     ensures { λ r. ⌜
         ((pc : ℕ) (sys : List ℕ)
         → leaves (now (regs .entry)) sys r (leaving rom wram vram pak device)
-        ≡ executeOf (Instruction.Store width disp reg1 reg2) next (stateOf (now (regs .entry)) sys pc psw Mode.Running)
-        (entering rom wram vram pak device))
+        ≡ executeOf (Instruction.Store (access .width) (access .disp) (access .reg1) (access .reg2)) next
+        (stateOf (now (regs .entry)) sys pc psw Mode.Running) (entering rom wram vram pak device))
         ⌝ }
 {
-    let base = get(regs, reg1);
-    let address = std::num::wrapping_add_u32(base, disp);
-    let v = get(regs, reg2);
+    let width = access.width;
+    let base = get(regs, access.reg1);
+    let address = std::num::wrapping_add_u32(base, access.disp);
+    let v = get(regs, access.reg2);
     transfer::store(rom, wram, vram, pak, device, width, address, v);
     ended(next, psw)
 }
@@ -112,10 +114,7 @@ pub fn output(
     pak: &mut [u8],
     device: &mut Device,
     regs: &[u32; 32],
-    width: Width,
-    disp: u32,
-    reg1: u32,
-    reg2: u32,
+    access: Access,
     next: u32,
     psw: u32,
 ) -> Control
@@ -123,13 +122,14 @@ pub fn output(
     ensures { λ r. ⌜
         ((pc : ℕ) (sys : List ℕ)
         → leaves (now (regs .entry)) sys r (leaving rom wram vram pak device)
-        ≡ executeOf (Instruction.Out width disp reg1 reg2) next (stateOf (now (regs .entry)) sys pc psw Mode.Running)
-        (entering rom wram vram pak device))
+        ≡ executeOf (Instruction.Out (access .width) (access .disp) (access .reg1) (access .reg2)) next
+        (stateOf (now (regs .entry)) sys pc psw Mode.Running) (entering rom wram vram pak device))
         ⌝ }
 {
-    let base = get(regs, reg1);
-    let address = std::num::wrapping_add_u32(base, disp);
-    let v = get(regs, reg2);
+    let width = access.width;
+    let base = get(regs, access.reg1);
+    let address = std::num::wrapping_add_u32(base, access.disp);
+    let v = get(regs, access.reg2);
     transfer::store(rom, wram, vram, pak, device, width, address, v);
     ended(next, psw)
 }

@@ -5,18 +5,18 @@ use mathlib.Core.Bool.{Bool, true, false, _||_}
 use borrow.Author.Tests.{ltb-false}
 use lib.Dec.{ltb, eqb}
 use Rattle.word.specs.Choose.{pick}
+use Rattle.word.proofs.Choices.{or-neither, pick-true, pick-false}
 use Rattle.processor_arithmetic.specs.Integer.{outside}
 use Rattle.processor_float.specs.Operand.{reservedOf, signedBy}
 use Rattle.processor_float.specs.Conversion.{nearestSizeOf, truncatedSizeOf, outsideOf, signedWordOf, convertedOf}
 use Rattle.processor_float.specs.declared.FloatOutcome.{FloatOutcome}
 use Rattle.processor_float.specs.declared.FloatOutcome.the-variants.{Word, Reserved, Invalid}
-use Rattle.processor_float.proofs.Tested.{or-false, pick-true, pick-false}
 use Rattle.processor_float.proofs.Sizing.{Reaches, outside-same}
 
 -- within the signed word, a size is 2 ^ 31 at most
 pub within : (w : ℕ) (o : Bool) → o ≡ outsideOf w → o ≡ false → w % 2 ^ 31 ≤ 0x4F000000
 unfolding outsideOf
-within w o p e = ltb-false 0x4F000000 (w % 2 ^ 31) (or-false (ltb 0x4F000000 (w % 2 ^ 31)) (eqb w 0x4F000000) (sym p ∙ e) .0)
+within w o p e = ltb-false 0x4F000000 (w % 2 ^ 31) (or-neither (ltb 0x4F000000 (w % 2 ^ 31)) (eqb w 0x4F000000) (sym p ∙ e) .0)
 
 module _ (w n : ℕ) (h : Reaches w n) (r : Bool) (p : r ≡ reservedOf w) where
   abbrev numberOf : FloatOutcome

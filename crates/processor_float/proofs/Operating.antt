@@ -6,6 +6,7 @@ use lib.Dec.{T}
 use lib.Ieee.{Float, nan, inf, fin, isNan, nanBits, ne, lt, eq, toBits, binary32}
 use lib.Ieee.Compare.{differs-from-itself, nan-differs}
 use Rattle.word.specs.Choose.{pick}
+use Rattle.word.proofs.Choices.{or-neither, pick-true, pick-false}
 use Rattle.processor_float.specs.Operand.{reservedOf, isZero, floatOf}
 use Rattle.processor_float.specs.Arithmetic.{isDivide, floatResultOf, outcomeOf}
 use Rattle.processor_float.specs.Comparison.{comparisonOf}
@@ -14,7 +15,7 @@ use Rattle.processor_float.specs.declared.FloatOutcome.the-variants.{Res
 use Rattle.processor_float.specs.declared.FloatOutcome.{FloatOutcome}
 use Rattle.processor_float.specs.declared.Compared.{Compared}
 use Rattle.processor_float.specs.declared.Compared.the-variants as compared
-use Rattle.processor_float.proofs.Tested.{no-nan, or-false, pick-true, pick-false}
+use Rattle.processor_float.proofs.Tested.{no-nan}
 
 -- what the operands give where neither is reserved
 abbrev comparedOf : ℕ → ℕ → Compared
@@ -28,10 +29,10 @@ module _ (x y : ℕ) (a b : Bool) (p : a ≡ reservedOf x) (q : b ≡ reservedOf
   either t e = ap (λ (c : Bool). c || reservedOf y) (sym p) ∙ ap (λ (c : Bool). a || c) (sym q) ∙ e
 
   pub first-no-nan : (a || b) ≡ false → T (not (nanBits binary32 x))
-  first-no-nan e = no-nan x (or-false (reservedOf x) (reservedOf y) (either false e) .0)
+  first-no-nan e = no-nan x (or-neither (reservedOf x) (reservedOf y) (either false e) .0)
 
   pub second-no-nan : (a || b) ≡ false → T (not (nanBits binary32 y))
-  second-no-nan e = no-nan y (or-false (reservedOf x) (reservedOf y) (either false e) .1)
+  second-no-nan e = no-nan y (or-neither (reservedOf x) (reservedOf y) (either false e) .1)
 
   pub reserved-compared : (a || b) ≡ true → compared.Reserved ≡ comparisonOf x y
   unfolding comparisonOf

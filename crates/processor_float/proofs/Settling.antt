@@ -1,8 +1,7 @@
 -- What the comparisons of `settle` say of a result. Assumes nothing.
-use Prim.Native.Nat.{ℕ, zero, suc, _+_, _*_, _^_, _<_, _≤_}
+use Prim.Native.Nat.{ℕ, zero, suc, _+_, _*_, _^_, _<_}
 use mathlib.Core.Path.{_≡_, refl, sym, subst, _∙_, ap}
 use mathlib.Core.Bool.{Bool, true, false, not, _&&_, _||_, Bool·beq}
-use native.Mathlib.Decide.{decLt}
 use native.Mathlib.Nat.{mul-pos, pow-succ'}
 use native.Mathlib.Omega.{arith}
 use borrow.Author.Tests.{lt-ltb, le-ltb, eq-eqb, ne-eqb}
@@ -13,10 +12,10 @@ use lib.Pow.{pow-pos}
 use lib.Ieee.{Float, nan, inf, fin, binary32, up, down, div, neg, eq, lt, ofBits, ofFields, odd, fits}
 use lib.Ieee.Fits.{up-pos, down-pos}
 use lib.Ieee.Positive.{first-pos}
+use Rattle.word.proofs.Choices.{less-same, and-right, pick-true, pick-false}
 use Rattle.processor_float.specs.Arithmetic.{isTiny, settledOf}
 use Rattle.processor_float.specs.declared.FloatOutcome.{FloatOutcome}
 use Rattle.processor_float.specs.declared.FloatOutcome.the-variants.{Number, Overflow}
-use Rattle.processor_float.proofs.Tested.{pick-true, pick-false}
 
 pub infinity : div binary32 (ofBits binary32 1065353216) (ofBits binary32 0) ≡ inf false
 unfolding div ofBits ofFields odd trailingZeros
@@ -37,18 +36,6 @@ overflows exact nan e = absurd (subst T (sym e) tt)
 overflows exact (inf s) e = refl
 overflows exact (fin s m d) e = absurd (subst T (sym e) tt)
 
-ltb-same : (a b c d : ℕ) → (a < b → c < d) → (c < d → a < b) → ltb a b ≡ ltb c d
-ltb-same a b c d f g =
-    elim (decLt a b) [
-      | yes h ↦ lt-ltb a b h ∙ sym (lt-ltb c d (f h))
-      | no h ↦
-          let k : b ≤ a = omega arith in
-          elim (decLt c d) [
-            | yes l ↦ absurd (h (g l))
-            | no l ↦ le-ltb a b k ∙ sym (le-ltb c d (omega arith))
-          ]
-    ]
-
 and-same : {a b c d : Bool} → a ≡ c → b ≡ d → (a && b) ≡ (c && d)
 and-same p q = cc
 
@@ -61,8 +48,8 @@ positive-tests : (m : ℕ) (e : ℤ)
 unfolding lt
 positive-tests m e =
     and-same
-    (ltb-same (0 * 1 * down e) (m * up e * 1) 0 m (λ h. first-pos m (up e) (omega arith)) (λ h. omega (arith, not-zero m e h)))
-    (ltb-same (m * up e * 2 ^ 126) (1 * 1 * down e) (m * up e * 2 ^ 126) (down e) (λ h. omega arith) (λ h. omega arith))
+    (less-same (0 * 1 * down e) (m * up e * 1) 0 m (λ h. first-pos m (up e) (omega arith)) (λ h. omega (arith, not-zero m e h)))
+    (less-same (m * up e * 2 ^ 126) (1 * 1 * down e) (m * up e * 2 ^ 126) (down e) (λ h. omega arith) (λ h. omega arith))
 
 -- below 0 and above -2 ^ -126
 negative-tests : (m : ℕ) (e : ℤ)
@@ -70,8 +57,8 @@ negative-tests : (m : ℕ) (e : ℤ)
 unfolding lt neg
 negative-tests m e =
     and-same
-    (ltb-same 0 (m * up e * 1 + 0 * 1 * down e) 0 m (λ h. first-pos m (up e) (omega arith)) (λ h. omega (arith, not-zero m e h)))
-    (ltb-same (m * up e * 2 ^ 126) (1 * 1 * down e) (m * up e * 2 ^ 126) (down e) (λ h. omega arith) (λ h. omega arith))
+    (less-same 0 (m * up e * 1 + 0 * 1 * down e) 0 m (λ h. first-pos m (up e) (omega arith)) (λ h. omega (arith, not-zero m e h)))
+    (less-same (m * up e * 2 ^ 126) (1 * 1 * down e) (m * up e * 2 ^ 126) (down e) (λ h. omega arith) (λ h. omega arith))
 
 -- nothing is above 0 and has a sign
 unsigned : (m : ℕ) (e : ℤ) (b : Bool) → (lt (fin false m e) (fin false 0 (pos 0)) && b) ≡ false
@@ -80,10 +67,6 @@ unsigned m e b = rw (le-ltb (m * up e * 1) (0 * 1 * down e) (omega arith))
 
 never : {A : Type 0} → false ≡ true → A
 never e = absurd (subst T (sym e) tt)
-
-and-right : (a b : Bool) → (a && b) ≡ true → b ≡ true
-and-right true b h = h
-and-right false b h = never h
 
 -- a product is zero where its first factor is
 no-size : (m : ℕ) (e : ℤ) → m * up e ≡ 0 → m ≡ 0

@@ -1,20 +1,20 @@
 -- The size of a word to a whole number, by its exponent's field e: from 150 on it is whole; below 126 it is less than a
 -- half. So the word alone tells which sizes reach 2 ^ 31. Assumes nothing.
 use Prim.Native.Nat.{ℕ, zero, suc, _+_, _-_, _*_, _/_, _%_, _^_, _<_, _≤_, compare}
-use mathlib.Core.Path.{_≡_, refl, sym, subst, _∙_, ap}
+use mathlib.Core.Path.{_≡_, sym, subst, _∙_, ap}
 use mathlib.Core.Bool.{Bool, true, false, _||_}
 use native.Mathlib.Decide.{decLt}
 use native.Mathlib.Nat.{mul-assoc, mul-comm, mul-one, mul-div-cancel, mul-le-mul, mul-le-mul-left, div-eq-of-lt, div-one, le-suc, pow-suc}
 use native.Mathlib.Omega.{arith}
 use borrow.Author.Tests.{lt-ltb, le-ltb, lt-leb, le-leb, ne-eqb, eq-eqb}
 use lib.Dec.{ltb, leb, eqb}
-use lib.IntN.{ℤ, pos, negsuc, negℤ}
+use lib.IntN.{ℤ, negsuc}
 use lib.Pow.{pow-pos, pow-mono, pow-add, shl-lt, shr-lt, mod-pow-add}
 use lib.Ieee.Fits.{nearest-le}
 use lib.Ieee.Nearest.{closest, closest-same, div-same}
 use Rattle.word.specs.Choose.{pick}
 use Rattle.processor_arithmetic.specs.Integer.{outside}
-use Rattle.processor_arithmetic.proofs.Reading.{outside-negative}
+use Rattle.processor_arithmetic.proofs.Reading.{outside-opposite}
 use Rattle.processor_float.specs.Operand.{exponentOf, digitsOf, unitsIn, unitsOf, signedBy}
 use Rattle.processor_float.specs.Conversion.{nearestSizeOf, truncatedSizeOf, outsideOf}
 use Rattle.processor_float.proofs.Closest.{closest-less, closest-none}
@@ -154,15 +154,6 @@ pub truncated-reaches : (w : ℕ) → Reaches w (truncatedSizeOf w)
 truncated-reaches w = reaches w (truncatedSizeOf w) (truncated-whole w) (truncated-least w)
 
 -- ---- the test on the word is the test on the whole number
-
-outside-opposite : (n : ℕ) → outside (negℤ (pos n)) ≡ ltb (2 ^ 31) n
-outside-opposite zero = refl
-outside-opposite (suc k) =
-    outside-negative k
-    ∙ elim (decLt (2 ^ 31 - 1) k) [
-      | yes h ↦ lt-ltb (2 ^ 31 - 1) k h ∙ sym (lt-ltb (2 ^ 31) (suc k) (omega arith))
-      | no h ↦ le-ltb (2 ^ 31 - 1) k (omega arith) ∙ sym (le-ltb (2 ^ 31) (suc k) (omega arith))
-    ]
 
 module _ (w n : ℕ) (r : Reaches w n) where
   positive : w < 2 ^ 31 → leb (2 ^ 31) n ≡ outsideOf w

@@ -1,18 +1,18 @@
 -- The answers of the four operations, by the exact result and its rounding. Assumes nothing.
-use Prim.Native.Nat.{ℕ, zero, suc, _+_, _*_, _%_, _^_, _<_, _≤_}
+use Prim.Native.Nat.{ℕ, _+_, _*_, _%_, _^_, _<_, _≤_}
 use mathlib.Core.Path.{_≡_, refl, sym, subst, _∙_, ap}
 use mathlib.Core.Bool.{Bool, true, false, not, _&&_, _||_}
 use native.Mathlib.Omega.{arith}
 use borrow.Author.Tests.{lt-ltb, le-ltb, leb-false, eqb-false}
-use lib.Dec.{T, ltb, leb, eqb}
+use lib.Dec.{ltb, leb, eqb}
 use lib.IntN.{ℤ, pos, natAbs}
 use lib.Pow.{pow-pos}
 use lib.Ieee.{Float, fin, binary32, toBits, round}
 use lib.Ieee.Fits.{round-fits}
 use Rattle.word.specs.Choose.{pick}
+use Rattle.word.proofs.Choices.{or-neither, pick-true, pick-false}
 use Rattle.processor_float.specs.Operand.{reservedOf, isZero, floatOf, unitsOf, sizeBitsOf}
 use Rattle.processor_float.specs.Arithmetic.{computedOf, vanishesOf, isDivide, settledOf, floatResultOf, outcomeOf}
-use Rattle.processor_float.proofs.Tested.{or-false, pick-true, pick-false}
 use Rattle.processor_float.specs.declared.Operation.{Operation}
 use Rattle.processor_float.specs.declared.Operation.the-variants.{Add, Subtract, Multiply, Divide}
 use Rattle.processor_float.specs.declared.FloatOutcome.{FloatOutcome}
@@ -20,8 +20,8 @@ use Rattle.processor_float.specs.declared.FloatOutcome.the-variants.{Number, Re
 use Rattle.processor_float_laws.specs.Exact.{signedSize, numeratorOf, denominatorOf, zeroSignOf}
 use Rattle.processor_float_laws.specs.Nearest.{Finite, NearestEven}
 use Rattle.processor_float_laws.specs.Rounded.{roundedOf}
-use Rattle.processor_float_laws.specs.Answer.{Computes, magnitudeSizeOf, Answered, EachAnswered, Traps}
-use Rattle.processor_float_laws.proofs.Rounds.{Rounds, operation-rounds}
+use Rattle.processor_float_laws.specs.Answer.{HasResult, magnitudeSizeOf, Answered, EachAnswered, Traps}
+use Rattle.processor_float_laws.proofs.Rounds.{Rounds, positive, operation-rounds}
 use Rattle.processor_float_laws.proofs.Settled.{settled-round, round-number}
 use Rattle.processor_float_laws.proofs.Vanishing.{zero-units, vanishes-is}
 use Rattle.processor_float_laws.proofs.Words.{WordOf, word-of}
@@ -29,11 +29,7 @@ use Rattle.processor_float_laws.proofs.Distance.{rounded-nearest}
 
 -- a word that is not reserved is finite
 pub not-reserved : (w : ℕ) → reservedOf w ≡ false → Finite w
-not-reserved w e = leb-false 0x7F800000 (w % 2 ^ 31) (or-false (leb 0x7F800000 (w % 2 ^ 31)) _ e .0)
-
-positive : (n : ℕ) → eqb n 0 ≡ false → 0 < n
-positive zero h = absurd (subst T h tt)
-positive (suc n) h = omega arith
+not-reserved w e = leb-false 0x7F800000 (w % 2 ^ 31) (or-neither (leb 0x7F800000 (w % 2 ^ 31)) _ e .0)
 
 -- no denominator is zero
 denominator-pos : (op : Operation) (x y : ℕ) → (isDivide op && isZero y) ≡ false → 0 < denominatorOf op x y
@@ -42,9 +38,9 @@ denominator-pos Subtract x y h = pow-pos 149
 denominator-pos Multiply x y h = pow-pos 298
 denominator-pos Divide x y h = positive (unitsOf y) (sym (zero-units y) ∙ h)
 
-module _ (op : Operation) (x y : ℕ) (c : Computes op x y) where
+module _ (op : Operation) (x y : ℕ) (c : HasResult op x y) where
   both : (reservedOf x ≡ false) × (reservedOf y ≡ false)
-  both = or-false (reservedOf x) (reservedOf y) (c .0)
+  both = or-neither (reservedOf x) (reservedOf y) (c .0)
 
   abbrev num : ℤ
   num = numeratorOf op x y

@@ -1,5 +1,5 @@
 -- The three conversions over whole numbers. Assumes nothing.
-use Prim.Native.Nat.{ℕ, zero, suc, _+_, _-_, _*_, _/_, _%_, _^_, _<_, _≤_, compare}
+use Prim.Native.Nat.{ℕ, suc, _+_, _-_, _*_, _/_, _%_, _^_, _<_, _≤_, compare}
 use mathlib.Core.Path.{_≡_, refl, sym, subst, _∙_, ap}
 use mathlib.Core.Bool.{Bool, true, false, not}
 use native.Mathlib.Decide.{decLt, ℕ-discrete}
@@ -16,19 +16,18 @@ use lib.Ieee.Exact.{HasValue}
 use lib.Ieee.Fits.{ofInt-fits}
 use lib.Ieee.Nearest.{closest, nearest-ge}
 use Rattle.word.specs.Choose.{pick}
-use Rattle.word.specs.Extend.{signedOf}
-use Rattle.processor_arithmetic.specs.Sign.{negativeOf}
+use Rattle.word.proofs.Choices.{pick-true, pick-false}
 use Rattle.processor_arithmetic.specs.Integer.{signed, outside}
-use Rattle.processor_arithmetic.proofs.Reading.{plain-reading, negative-reading, outside-negative, magnitude-absolute, magnitude-small}
+use Rattle.processor_arithmetic.proofs.Reading.{plain-reading, outside-opposite, magnitude-absolute, magnitude-small}
+use Rattle.processor_arithmetic.proofs.Division.{negative-word}
 use Rattle.processor_float.specs.Operand.{reservedOf, unitsOf, signedBy, valueOf}
 use Rattle.processor_float.specs.Conversion.{nearestSizeOf, truncatedSizeOf, signedWordOf, convertedOf, nearestOf, truncatedOf}
-use Rattle.processor_float.proofs.Tested.{pick-true, pick-false}
 use Rattle.processor_float.specs.declared.FloatOutcome.{FloatOutcome}
 use Rattle.processor_float.specs.declared.FloatOutcome.the-variants.{Word, Reserved, Invalid}
 use Rattle.processor_float_laws.specs.Exact.{signedSize}
 use Rattle.processor_float_laws.specs.Nearest.{NearestEven}
 use Rattle.processor_float_laws.specs.Rounded.{droppedOf, significandOf, roundedOf}
-use Rattle.processor_float_laws.specs.Converted.{Nearest, Truncated, Whole, Rounds, Truncates, Floats}
+use Rattle.processor_float_laws.specs.Converted.{Nearest, WithoutFraction, Whole, Rounds, Truncates, Floats}
 use Rattle.processor_float_laws.proofs.Grid.{closest-is, reached}
 use Rattle.processor_float_laws.proofs.Signs.{size-of}
 use Rattle.processor_float_laws.proofs.Settled.{round-number}
@@ -43,7 +42,7 @@ nearest-size w =
     let c = closest-is (unitsOf w) (2 ^ 149) (pow-pos 149) in
     record { above = c .above; under = c .under; tie-above = c .tie-above; tie-under = c .tie-under }
 
-truncated-size : (w : ℕ) → Truncated (unitsOf w) (truncatedSizeOf w)
+truncated-size : (w : ℕ) → WithoutFraction (unitsOf w) (truncatedSizeOf w)
 unfolding truncatedSizeOf
 truncated-size w =
     record {
@@ -52,17 +51,6 @@ truncated-size w =
     }
 
 -- a word of a size within the signed word reads as that whole number
-outside-opposite : (n : ℕ) → outside (negℤ (pos n)) ≡ false → n ≤ 2 ^ 31
-outside-opposite zero e = omega arith
-outside-opposite (suc k) e = omega (arith, ltb-false (2 ^ 31 - 1) k (sym (outside-negative k) ∙ e))
-
-negative-signed : (n : ℕ) → n ≤ 2 ^ 31 → signed (negativeOf n) ≡ negℤ (pos n)
-unfolding negativeOf signedOf
-negative-signed zero h = refl
-negative-signed (suc k) h =
-    let e : (2 ^ 32 - suc k) % 2 ^ 32 ≡ 2 * 2 ^ 31 - suc k = omega arith in
-    ap signed e ∙ negative-reading (2 ^ 31) (suc k) (omega arith) h
-
 signed-word : (w n : ℕ) → outside (signedBy w n) ≡ false → signed (signedWordOf w n) ≡ signedBy w n
 unfolding signedWordOf
 signed-word w n =
@@ -70,7 +58,7 @@ signed-word w n =
       | yes h ↦ rw (lt-ltb w (2 ^ 31) h) (λ (e : outside (pos n) ≡ false). plain-reading (2 ^ 31) n (leb-false (2 ^ 31) n e))
       | no h ↦
           let g : 2 ^ 31 ≤ w = omega arith in
-          rw (le-ltb w (2 ^ 31) g) (λ (e : outside (negℤ (pos n)) ≡ false). negative-signed n (outside-opposite n e))
+          rw (le-ltb w (2 ^ 31) g) (λ (e : outside (negℤ (pos n)) ≡ false). negative-word n (ltb-false (2 ^ 31) n (sym (outside-opposite n) ∙ e)))
     ]
 
 whole : (w n : ℕ) → Whole w n (convertedOf w n)

@@ -3,10 +3,9 @@
 use Prim.Native.Nat.{ℕ, zero, suc, _+_, _-_, _*_, _/_, _%_, _^_, _<_, _≤_}
 use mathlib.Core.Path.{_≡_, refl, sym, subst, _∙_, ap}
 use mathlib.Core.Bool.{Bool, true, false, not, _&&_, _||_, Bool·beq, cond}
-use native.Mathlib.Decide.{decLt, ℕ-discrete}
 use native.Mathlib.Nat.{mul-one, mul-assoc, mul-comm, mul-right-comm, mul-pos, mul-lt-mul-of-pos-right, lt-of-mul-lt-mul-right, eq-of-mul-eq-mul-right, add-mul}
 use native.Mathlib.Omega.{arith}
-use borrow.Author.Tests.{lt-ltb, le-ltb, eq-eqb, ne-eqb}
+use borrow.Author.Tests.{ne-eqb}
 use lib.Dec.{T, ltb, leb, eqb}
 use lib.Pow.{field, mod-pow-add, pow-pos}
 use lib.IntN.{ℤ, pos, negsuc, negℤ}
@@ -14,6 +13,7 @@ use lib.Ieee.{Float, nan, inf, fin, binary32, up, down, odd, ofFields, ofBits, l
 use lib.Ieee.Exact.{HasValue, odd-sign}
 use lib.Ieee.Fits.{down-pos}
 use lib.Ieee.Positive.{first-pos}
+use Rattle.word.proofs.Choices.{less-same, equal-same}
 use Rattle.processor_float.specs.Operand.{exponentOf, digitsOf, unitsIn, unitsOf, floatOf}
 use Rattle.processor_float_laws.specs.Nearest.{Finite}
 
@@ -46,35 +46,19 @@ module _ (x y de dd a b c : ℕ) (C : 0 < c) (E : 0 < de) (D : 0 < dd) (p : x * 
 
   pub cross-lt : ltb (x * dd) (y * de) ≡ ltb a b
   cross-lt =
-      elim (decLt a b) [
-        | yes h ↦
-            lt-ltb (x * dd) (y * de)
-            (lt-of-mul-lt-mul-right c (subst (λ (n : ℕ). n < y * de * c) (sym first) (subst (λ (n : ℕ). a * (de * dd) < n) (sym second) (mul-lt-mul-of-pos-right h both-pos))))
-            ∙ sym (lt-ltb a b h)
-        | no h ↦
-            elim (decLt (x * dd) (y * de)) [
-              | yes g ↦ absurd (h (lt-of-mul-lt-mul-right (de * dd) (subst (λ (n : ℕ). n < b * (de * dd)) first (subst (λ (n : ℕ). x * dd * c < n) second (mul-lt-mul-of-pos-right g C)))))
-              | no g ↦ le-ltb (x * dd) (y * de) (omega arith) ∙ sym (le-ltb a b (omega arith))
-            ]
-      ]
+      less-same (x * dd) (y * de) a b
+      (λ g. lt-of-mul-lt-mul-right (de * dd) (subst (λ (n : ℕ). n < b * (de * dd)) first (subst (λ (n : ℕ). x * dd * c < n) second (mul-lt-mul-of-pos-right g C))))
+      (λ h. lt-of-mul-lt-mul-right c (subst (λ (n : ℕ). n < y * de * c) (sym first) (subst (λ (n : ℕ). a * (de * dd) < n) (sym second) (mul-lt-mul-of-pos-right h both-pos))))
 
   pub cross-eq : eqb (x * dd) (y * de) ≡ eqb a b
   cross-eq =
-      elim (ℕ-discrete a b) [
-        | yes h ↦ eq-eqb (x * dd) (y * de) (eq-of-mul-eq-mul-right c C (x * dd) (y * de) (first ∙ ap (λ (n : ℕ). n * (de * dd)) h ∙ sym second)) ∙ sym (eq-eqb a b h)
-        | no h ↦
-            ne-eqb (x * dd) (y * de) (λ g. h (eq-of-mul-eq-mul-right (de * dd) both-pos a b (sym first ∙ ap (λ (n : ℕ). n * c) g ∙ second)))
-            ∙ sym (ne-eqb a b h)
-      ]
+      equal-same (x * dd) (y * de) a b
+      (λ g. eq-of-mul-eq-mul-right (de * dd) both-pos a b (sym first ∙ ap (λ (n : ℕ). n * c) g ∙ second))
+      (λ h. eq-of-mul-eq-mul-right c C (x * dd) (y * de) (first ∙ ap (λ (n : ℕ). n * (de * dd)) h ∙ sym second))
 
   pub cross-sum : ltb 0 (x * dd + y * de) ≡ ltb 0 (a + b)
   cross-sum =
       let e : (x * dd + y * de) * c ≡ (a + b) * (de * dd) = add-mul (x * dd) (y * de) c ∙ ap (λ (n : ℕ). n + y * de * c) first ∙ ap (λ (n : ℕ). a * (de * dd) + n) second ∙ sym (add-mul a b (de * dd)) in
-      elim (decLt 0 (a + b)) [
-        | yes h ↦ lt-ltb 0 (x * dd + y * de) (first-pos (x * dd + y * de) c (subst (λ (n : ℕ). 0 < n) (sym e) (mul-pos h both-pos))) ∙ sym (lt-ltb 0 (a + b) h)
-        | no h ↦
-            elim (decLt 0 (x * dd + y * de)) [
-              | yes g ↦ absurd (h (first-pos (a + b) (de * dd) (subst (λ (n : ℕ). 0 < n) e (mul-pos g C))))
-              | no g ↦ le-ltb 0 (x * dd + y * de) (omega arith) ∙ sym (le-ltb 0 (a + b) (omega arith))
-            ]
-      ]
+      less-same 0 (x * dd + y * de) 0 (a + b)
+      (λ g. first-pos (a + b) (de * dd) (subst (λ (n : ℕ). 0 < n) e (mul-pos g C)))
+      (λ h. first-pos (x * dd + y * de) c (subst (λ (n : ℕ). 0 < n) (sym e) (mul-pos h both-pos)))

@@ -2,18 +2,20 @@
 use Prim.Native.Nat.{ℕ, zero, suc, _+_, _-_, _*_, _/_, _%_, _^_, _<_, _≤_}
 use mathlib.Core.Path.{_≡_, refl, sym, subst, _∙_, ap}
 use native.Mathlib.Decide.{decLt}
-use native.Mathlib.Nat.{mul-comm, mul-sub, mul-le-mul-left, div-add-mod', div-one, mod-eq-of-lt}
-use native.Mathlib.Numerals.{one-add}
+use native.Mathlib.Nat.{div-one, mod-eq-of-lt}
 use native.Mathlib.Omega.{arith}
-use borrow.Author.Tests.{lt-ltb, le-ltb}
-use lib.Dec.{ltb}
-use lib.IntN.{ℤ, pos, negsuc, negℤ, subℕ, _+ℤ_, _-ℤ_, _*ℤ_, +ℤ-comm}
+use lib.IntN.{ℤ, pos, negℤ, _+ℤ_, _*ℤ_}
 use lib.Pow.{high, low, shr-shr, mod-mod-pow, field}
-use Rattle.word.specs.Choose.{pick}
+use lib.Signed.{shrZ}
 use Rattle.word.specs.Extend.{extendOf, signedOf}
+use Rattle.word.specs.Floors.{modZ}
+use Rattle.word.proofs.Integers.{is-moved, is-scaled}
+use Rattle.word.proofs.Signs.{opposite-times}
+use Rattle.word.proofs.Floors.{is-mod}
+use Rattle.word.proofs.Readings.{reading-low, reading-high}
+use Rattle.word.proofs.Extended.{extend-low, extend-high}
 use Rattle.processor_arithmetic.specs.Bit.{bitAt}
 use Rattle.processor_arithmetic.proofs.Bits.{same-below}
-use Rattle.processor_arithmetic.proofs.Difference.{difference-above, difference-plain, difference-equal, negative-plain, times-negative, negative-times}
 use Rattle.processor_float.specs.Nintendo.{xbOf, xhOf, reversedOf, revOf, mpyhwOf}
 use Rattle.processor_float.proofs.Reversal.{reversed-small}
 use Rattle.processor_float_laws.specs.Rearranged.{byteAt, BytesExchanged, HalvesExchanged, Reversed, Multiplied}
@@ -99,49 +101,22 @@ reversed w i h = reversed-bit 32 w i h
 
 -- ---- MPYHW
 
-module _ (a x : ℕ) where
-  abbrev M : ℕ
-  M = 2 ^ 32
-
-  plain : (k : ℤ) × (pos (a * x % 2 ^ 32) ≡ pos a *ℤ pos x +ℤ k *ℤ pos (2 ^ 32))
-  plain =
-      let q = a * x / 2 ^ 32 in
-      let e : a * x % 2 ^ 32 ≡ a * x - a * x / 2 ^ 32 * 2 ^ 32 = omega (arith, div-add-mod' (a * x) (2 ^ 32)) in
-      let l : a * x / 2 ^ 32 * 2 ^ 32 ≤ a * x = omega (arith, div-add-mod' (a * x) (2 ^ 32)) in (
-        negℤ (pos q),
-        ap pos e
-            ∙ sym (ap (λ (z : ℤ). pos (a * x) +ℤ z) (negative-times q (2 ^ 32)) ∙ difference-plain (a * x) (q * 2 ^ 32) ∙ difference-above (a * x) (q * 2 ^ 32) l),
-      )
-
-  opposite : (c : ℕ) → 0 < c → c ≤ 2 ^ 32 → x ≡ 2 ^ 32 - c → (k : ℤ) × (pos (a * x % 2 ^ 32) ≡ pos a *ℤ negℤ (pos c) +ℤ k *ℤ pos (2 ^ 32))
-  opposite c C h e =
-      let q = a * x / 2 ^ 32 in
-      let p : a * x ≡ a * 2 ^ 32 - a * c = ap (λ (z : ℕ). a * z) e ∙ mul-sub a (2 ^ 32) c in
-      let f : a * c ≤ a * 2 ^ 32 = mul-le-mul-left a h in
-      let d : a * x / 2 ^ 32 * 2 ^ 32 + a * x % 2 ^ 32 ≡ a * x = div-add-mod' (a * x) (2 ^ 32) in
-      let r : q ≤ a = omega arith in
-      let v : a * x % 2 ^ 32 ≡ (a - q) * 2 ^ 32 - a * c = omega arith in
-      let l : a * c ≤ (a - q) * 2 ^ 32 = omega arith in (
-        pos (a - q),
-        ap pos v
-            ∙ sym
-            (ap (λ (z : ℤ). z +ℤ pos ((a - q) * 2 ^ 32)) (times-negative a c)
-            ∙ +ℤ-comm (negℤ (pos (a * c))) (pos ((a - q) * 2 ^ 32))
-            ∙ difference-plain ((a - q) * 2 ^ 32) (a * c)
-            ∙ difference-above ((a - q) * 2 ^ 32) (a * c) l),
-      )
+-- the product mod 2 ^ 32 is the remainder of the product over the whole numbers
+product-rest : (a x : ℕ) → x < 2 ^ 17 → pos (a * extendOf 65536 x % 2 ^ 32) ≡ modZ (pos a *ℤ signedOf 65536 x) (2 ^ 32)
+product-rest a x h =
+    elim (decLt x 65536) [
+      | yes l ↦
+          rw (extend-low 65536 x l)
+          (is-mod (2 ^ 32) 0 (omega arith) (is-moved (is-scaled a (reading-low 65536 x l)) (omega arith)))
+      | no l ↦
+          let g : 65536 ≤ x = omega arith in
+          rw (extend-high 65536 x g)
+          (is-mod (2 ^ 32) a (omega arith) (is-scaled a (is-moved (reading-high 65536 x g) (omega arith))))
+    ]
 
 pub multiplied : Multiplied
-unfolding mpyhwOf extendOf signedOf
+unfolding mpyhwOf modZ
 multiplied a b =
-    let x = b % 2 ^ 17 in
-    elim (decLt (b % 2 ^ 17) 65536) [
-      | yes h ↦ rw (lt-ltb (b % 2 ^ 17) 65536 h) (plain a (b % 2 ^ 17))
-      | no h ↦
-          let g : 65536 ≤ b % 2 ^ 17 = omega arith in
-          let c = 2 ^ 17 - b % 2 ^ 17 in
-          let z : negℤ (pos (2 ^ 17 - b % 2 ^ 17)) ≡ pos (b % 2 ^ 17) -ℤ pos (2 * 65536) =
-          negative-plain c ∙ difference-equal 0 c (b % 2 ^ 17) (2 * 65536) (omega arith) ∙ sym (difference-plain (b % 2 ^ 17) (2 * 65536)) in
-          let o = opposite a (b % 2 ^ 17 + (2 ^ 32 - 2 * 65536)) c (omega arith) (omega arith) (omega arith) in
-          rw (le-ltb (b % 2 ^ 17) 65536 g) (o .0, o .1 ∙ ap (λ (y : ℤ). pos a *ℤ y +ℤ o .0 *ℤ pos (2 ^ 32)) z)
-    ]
+    let w = pos a *ℤ signedOf 65536 (b % 2 ^ 17) in
+    let q = shrZ w (2 ^ 32) in
+    (negℤ q, product-rest a (b % 2 ^ 17) (omega arith) ∙ ap (λ (z : ℤ). w +ℤ z) (sym (opposite-times q (2 ^ 32))))

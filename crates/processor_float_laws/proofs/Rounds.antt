@@ -3,16 +3,17 @@ use Prim.Native.Nat.{ℕ, zero, suc, _+_, _-_, _*_, _/_, _%_, _^_, _<_, _≤_}
 use mathlib.Core.Path.{_≡_, refl, sym, subst, _∙_, ap}
 use mathlib.Core.Bool.{Bool, true, false, not, _&&_, _||_, Bool·beq, cond}
 use native.Mathlib.Decide.{decLt, ℕ-discrete}
-use native.Mathlib.Nat.{mul-assoc, mul-comm, mul-left-comm, mul-right-comm, mul-pos, add-mul, mul-one, one-mul, zero-mul, eq-of-mul-eq-mul-right, lt-irrefl, mul-sub, mul-le-mul-right, mul-lt-mul-of-pos-right}
+use native.Mathlib.Nat.{mul-assoc, mul-comm, mul-left-comm, mul-right-comm, mul-pos, add-mul, mul-one, one-mul, zero-mul, eq-of-mul-eq-mul-right, lt-irrefl, mul-sub, mul-lt-mul-of-pos-right, lt-of-mul-lt-mul-right}
 use native.Mathlib.Omega.{arith}
 use borrow.Author.Tests.{lt-ltb, le-ltb, eq-eqb, ne-eqb, leb-true, leb-false}
-use lib.Dec.{ltb, leb, eqb}
+use lib.Dec.{T, ltb, leb, eqb}
 use lib.Pow.{pow-pos}
 use lib.IntN.{ℤ, pos, negsuc, negℤ, natAbs, _+ℤ_, _-ℤ_, _*ℤ_}
 use lib.Ieee.{Float, nan, inf, fin, binary32, unlike, up, down, round, neg, sum, add, sub, mul, div}
 use lib.Ieee.Exact.{HasValue}
 use lib.Ieee.Fits.{down-pos, up-pos}
 use lib.Ieee.Scale.{round-same}
+use Rattle.word.proofs.Choices.{less-same}
 use Rattle.processor_float.specs.Operand.{unitsOf, valueOf, signedBy, floatOf}
 use Rattle.processor_float.specs.Arithmetic.{computedOf}
 use Rattle.processor_float.specs.declared.Operation.{Operation}
@@ -64,6 +65,10 @@ mul-values (fin u m e) (inf v) s t a b h k = absurd k
 mul-values (fin u m e) (fin v n d) s t a b h k =
     mul-numbers u v m n a b e d (h .1) (k .1) ∙ ap (λ (w : Bool). round binary32 (unlike w v) (a * b) (2 ^ 298)) (h .0) ∙ ap (λ (w : Bool). round binary32 (unlike s w) (a * b) (2 ^ 298)) (k .0)
 
+pub positive : (n : ℕ) → eqb n 0 ≡ false → 0 < n
+positive zero h = absurd (subst T h tt)
+positive (suc n) h = omega arith
+
 not-none : (n k b d : ℕ) → n * k ≡ b * d → 0 < b → 0 < d → n ≡ 0 → ⊥
 not-none n k b d e B D z = lt-irrefl 0 (subst (λ (x : ℕ). 0 < x) (sym e ∙ ap (λ (x : ℕ). x * k) z ∙ zero-mul k) (mul-pos B D))
 
@@ -73,13 +78,9 @@ unfolding div
 div-numbers s t m n a b e d B p q =
     let no : eqb n 0 ≡ false = ne-eqb n 0 (λ z. not-none n (up d * L) b (down d) (sym (mul-assoc n (up d) L) ∙ q) B (down-pos d) z) in
     ap (λ (c : Bool). cond c (cond (eqb m 0) nan (inf (unlike s t))) (round binary32 (unlike s t) (m * up e * down d) (n * up d * down e))) no
-    ∙ round-same binary32 (unlike s t) (m * up e * down d) (n * up d * down e) a b (mul-pos (mul-pos (n-pos n no) (up-pos d)) (down-pos e)) B
+    ∙ round-same binary32 (unlike s t) (m * up e * down d) (n * up d * down e) a b (mul-pos (mul-pos (positive n no) (up-pos d)) (down-pos e)) B
     (cross (m * up e) (n * up d) (down e) (down d) L (pow-pos 149) p q)
   where
-    n-pos : (n : ℕ) → eqb n 0 ≡ false → 0 < n
-    n-pos zero h = absurd (subst lib.Dec.T h tt)
-    n-pos (suc n) h = omega arith
-
     cross : (x y f g l : ℕ) → 0 < l → x * l ≡ a * f → y * l ≡ b * g → x * g * b ≡ a * (y * f)
     cross x y f g l h p q =
         eq-of-mul-eq-mul-right l h (x * g * b) (a * (y * f))
@@ -98,13 +99,7 @@ div-values (fin u m e) (fin v n d) s t a b B h k =
 -- ---- sums
 
 pub ltb-scaled : (i j c : ℕ) → 0 < c → ltb (i * c) (j * c) ≡ ltb i j
-ltb-scaled i j c C =
-    elim (decLt i j) [
-      | yes h ↦ lt-ltb (i * c) (j * c) (mul-lt-mul-of-pos-right h C) ∙ sym (lt-ltb i j h)
-      | no h ↦
-          let g : j ≤ i = omega arith in
-          le-ltb (i * c) (j * c) (mul-le-mul-right c g) ∙ sym (le-ltb i j g)
-    ]
+ltb-scaled i j c C = less-same (i * c) (j * c) i j (lt-of-mul-lt-mul-right c) (λ h. mul-lt-mul-of-pos-right h C)
 
 difference-times : (i j k : ℕ) → (i - j) * k ≡ i * k - j * k
 difference-times i j k = mul-comm (i - j) k ∙ mul-sub k i j ∙ ap (λ (z : ℕ). z - k * j) (mul-comm k i) ∙ ap (λ (z : ℕ). i * k - z) (mul-comm k j)

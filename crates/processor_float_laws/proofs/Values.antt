@@ -1,7 +1,7 @@
 -- Two finite floats compare as their values do, and a sum or product is zero as the values say. Assumes nothing.
 use Prim.Native.Nat.{ℕ, zero, suc, _+_, _-_, _*_, _/_, _%_, _^_, _<_, _≤_}
 use mathlib.Core.Path.{_≡_, refl, sym, subst, _∙_, ap}
-use mathlib.Core.Bool.{Bool, true, false, not, _&&_, _||_, Bool·beq, cond}
+use mathlib.Core.Bool.{Bool, true, false, not, _&&_, _||_, Bool·beq, cond, and-false}
 use native.Mathlib.Decide.{decLt, ℕ-discrete}
 use native.Mathlib.Nat.{zero-mul, add-mul, mul-pos}
 use native.Mathlib.Omega.{arith}
@@ -13,6 +13,7 @@ use lib.Signed.{ltZ}
 use lib.Ieee.{Float, nan, inf, fin, up, down, below, level, lt, eq, unlike}
 use lib.Ieee.Exact.{HasValue}
 use lib.Ieee.Fits.{down-pos}
+use Rattle.word.proofs.Choices.{less-same}
 use Rattle.processor_float_laws.specs.Exact.{signedSize}
 use Rattle.processor_float_laws.proofs.Reading.{cross-lt, cross-eq, cross-sum}
 use Rattle.processor_float_laws.proofs.Signs.{size-of, sum-alike, sum-less, sum-more, times}
@@ -79,14 +80,7 @@ below-is true false (suc a) b = sym (lt-ltb 0 (suc a + b) (omega arith))
 below-is true true zero zero = refl
 below-is true true zero (suc b) = sym (le-ltb (suc b) 0 (omega arith))
 below-is true true (suc a) zero = sym (lt-ltb 0 (suc a) (omega arith))
-below-is true true (suc a) (suc b) = ltb-suc b a
-  where
-    ltb-suc : (i j : ℕ) → ltb i j ≡ ltb (suc i) (suc j)
-    ltb-suc i j =
-        elim (decLt i j) [
-          | yes h ↦ lt-ltb i j h ∙ sym (lt-ltb (suc i) (suc j) (omega arith))
-          | no h ↦ le-ltb i j (omega arith) ∙ sym (le-ltb (suc i) (suc j) (omega arith))
-        ]
+below-is true true (suc a) (suc b) = less-same b a (suc b) (suc a) (λ h. omega arith) (λ h. omega arith)
 
 -- a sum of signed sizes is zero where they are opposite
 differs : (s : Bool) → Bool·beq s (not s) ≡ false
@@ -107,12 +101,8 @@ zero-alike s a b =
             | yes y ↦ eq-eqb (a + b) 0 (omega arith) ∙ sym (rw (differs s) (simp (eq-eqb a b (omega arith), eq-eqb a 0 z)))
             | no y ↦ ne-eqb (a + b) 0 (λ k. y (omega arith)) ∙ sym (rw (differs s) (simp (ne-eqb a b (λ k. y (omega arith)))))
           ]
-      | no z ↦ ne-eqb (a + b) 0 (λ k. z (omega arith)) ∙ sym (rw (differs s, ne-eqb a 0 z) (off (eqb a b)))
+      | no z ↦ ne-eqb (a + b) 0 (λ k. z (omega arith)) ∙ sym (rw (differs s, ne-eqb a 0 z) (and-false (eqb a b)))
     ]
-  where
-    off : (b : Bool) → (b && false) ≡ false
-    off true = refl
-    off false = refl
 
 zero-unlike : (s : Bool) (a b : ℕ) → eqb (natAbs (signedSize s a +ℤ signedSize (not s) b)) 0 ≡ level s a s b
 zero-unlike s a b =

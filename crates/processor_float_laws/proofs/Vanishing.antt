@@ -1,7 +1,7 @@
 -- The exact result is zero just where the code's test says so. Assumes nothing.
 use Prim.Native.Nat.{ℕ, zero, suc, _+_, _-_, _*_, _/_, _%_, _^_, _<_, _≤_}
-use mathlib.Core.Path.{_≡_, refl, sym, subst, _∙_, ap}
-use mathlib.Core.Bool.{Bool, true, false, not, _&&_, _||_}
+use mathlib.Core.Path.{_≡_, sym, subst, _∙_, ap}
+use mathlib.Core.Bool.{Bool, true, false, not, _&&_, _||_, Bool·not-not}
 use native.Mathlib.Decide.{decLt, ℕ-discrete}
 use native.Mathlib.Nat.{mul-pos, zero-mul, mul-zero}
 use native.Mathlib.Omega.{arith}
@@ -42,10 +42,6 @@ zero-product (suc a) (suc b) =
     let p : 0 < suc a * suc b = mul-pos (omega arith) (omega arith) in
     simp (ne-eqb (suc a) 0 (λ z. omega arith), ne-eqb (suc b) 0 (λ z. omega arith)) (sym (ne-eqb (suc a * suc b) 0 (λ z. omega arith)))
 
-not-not : (b : Bool) → not (not b) ≡ b
-not-not true = refl
-not-not false = refl
-
 module _ (x y : ℕ) (hx : Finite x) (hy : Finite y) where
   abbrev s : Bool
   s = leb (2 ^ 31) x
@@ -59,7 +55,7 @@ module _ (x y : ℕ) (hx : Finite x) (hy : Finite y) where
       ∙ sym (rw (signed-value x (unitsOf x), signed-value y (unitsOf y)) (zero-sum s t (unitsOf x) (unitsOf y)))
   vanishes-is Subtract =
       eq-values (floatOf x) (floatOf y) s t (unitsOf x) (unitsOf y) (reading x hx) (reading y hy)
-      ∙ ap (λ (b : Bool). level s (unitsOf x) b (unitsOf y)) (sym (not-not t))
+      ∙ ap (λ (b : Bool). level s (unitsOf x) b (unitsOf y)) (sym (Bool·not-not t))
       ∙ sym (rw (signed-value x (unitsOf x), signed-value y (unitsOf y), opposite t (unitsOf y)) (zero-sum s (not t) (unitsOf x) (unitsOf y)))
   vanishes-is Multiply =
       ap (λ (b : Bool). b || isZero y) (zero-units x)

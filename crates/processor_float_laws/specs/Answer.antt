@@ -17,8 +17,8 @@ use Rattle.processor_float_laws.specs.Nearest.{NearestEven}
 use Rattle.processor_float_laws.specs.Rounded.{roundedOf}
 
 -- a pair that does not trap before the result is known: no reserved operand, and no division by zero
-abbrev pub Computes : Operation → ℕ → ℕ → Type 0
-Computes op x y = ((reservedOf x || reservedOf y) ≡ false) × ((isDivide op && isZero y) ≡ false)
+abbrev pub HasResult : Operation → ℕ → ℕ → Type 0
+HasResult op x y = ((reservedOf x || reservedOf y) ≡ false) × ((isDivide op && isZero y) ≡ false)
 
 -- the rounded size of the exact result, in units of 2 ^ -149
 abbrev pub magnitudeSizeOf : Operation → ℕ → ℕ → ℕ
@@ -34,12 +34,13 @@ pub record Answered (op : Operation) (x y : ℕ) : Type 0 where
   pub underflow : magnitudeSizeOf op x y < 2 ^ 23
       → outcomeOf op x y ≡ Number (fin sign 0 (pos 0)) (not (eqb (natAbs (numeratorOf op x y)) 0))
   pub value : Float
-  pub number : 2 ^ 23 ≤ magnitudeSizeOf op x y → magnitudeSizeOf op x y < 2 ^ 277 → outcomeOf op x y ≡ Number value false
+  pub number :
+      2 ^ 23 ≤ magnitudeSizeOf op x y → magnitudeSizeOf op x y < 2 ^ 277 → outcomeOf op x y ≡ Number value false
   pub nearest : 2 ^ 23 ≤ magnitudeSizeOf op x y → magnitudeSizeOf op x y < 2 ^ 277
       → NearestEven (numeratorOf op x y) (denominatorOf op x y) (toBits binary32 value)
 
 abbrev pub EachAnswered : Type 0
-EachAnswered = (op : Operation) (x y : ℕ) → Computes op x y → Answered op x y
+EachAnswered = (op : Operation) (x y : ℕ) → HasResult op x y → Answered op x y
 
 -- the traps before that, in their order: each exactly where its condition holds and none before it does
 pub record Traps (op : Operation) (x y : ℕ) : Type 0 where

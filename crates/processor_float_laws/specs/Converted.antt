@@ -22,7 +22,7 @@ pub record Nearest (units n : ℕ) : Type 0 where
   pub tie-under : 2 * units ≡ 2 * (n * 2 ^ 149) + 2 ^ 149 → n % 2 ≡ 0
 
 -- n is units / 2 ^ 149 without the fraction
-pub record Truncated (units n : ℕ) : Type 0 where
+pub record WithoutFraction (units n : ℕ) : Type 0 where
   pub least : n * 2 ^ 149 ≤ units
   pub most : units < suc n * 2 ^ 149
 
@@ -39,7 +39,7 @@ pub record Rounds (w : ℕ) : Type 0 where
 
 -- TRNC.SW
 pub record Truncates (w : ℕ) : Type 0 where
-  pub size : Truncated (unitsOf w) (truncatedSizeOf w)
+  pub size : WithoutFraction (unitsOf w) (truncatedSizeOf w)
   pub whole : Whole w (truncatedSizeOf w) (truncatedOf w)
 
 -- CVT.WS

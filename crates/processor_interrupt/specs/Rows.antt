@@ -11,25 +11,26 @@ use Rattle.processor_machine.specs.declared.Mode.the-variants.{Running, Halted,
 use Rattle.processor_interrupt.specs.Interrupt.{levelOf, allowsOf, acceptsOf, withLevelOf, interruptedOf}
 
 -- a machine with these lines, PSW and mode, at 0x07000100
-pub record Row : Type 0 where
+pub record InterruptRow : Type 0 where
   pub lines : ℕ
   pub psw : ℕ
   pub mode : Mode
 
-abbrev row : ℕ → ℕ → Mode → Row
-row lines psw mode = record { lines = lines; psw = psw; mode = mode }
+abbrev interruptRow : ℕ → ℕ → Mode → InterruptRow
+interruptRow lines psw mode = record { lines = lines; psw = psw; mode = mode }
 
 -- PC, PSW, EIPC, EIPSW and ECR after the entry
-abbrev enteredOf : Row → List ℕ
+abbrev enteredOf : InterruptRow → List ℕ
 enteredOf r =
     let s = interruptedOf (levelOf (r .lines))
     (stateOf (replicate 32 0) (replicate 8 0) 0x07000100 (r .psw) (r .mode)) in
     s .pc ∷ s .psw ∷ getD (s .sys) 0 0 ∷ getD (s .sys) 1 0 ∷ getD (s .sys) 4 0 ∷ []
 
-abbrev pub acceptedRows : List Row
-acceptedRows = row 0x12 0 Running ∷ row 0x06 0x20000 Running ∷ row 0x01 0x2000 Halted ∷ []
+abbrev pub acceptedRows : List InterruptRow
+acceptedRows = interruptRow 0x12 0 Running ∷ interruptRow 0x06 0x20000 Running ∷ interruptRow 0x01 0x2000 Halted ∷ []
 
-pub accepted-rows : map (λ (r : Row). acceptsOf (r .lines) (r .psw) (r .mode)) acceptedRows ≡ true ∷ true ∷ true ∷ []
+pub accepted-rows :
+    map (λ (r : InterruptRow). acceptsOf (r .lines) (r .psw) (r .mode)) acceptedRows ≡ true ∷ true ∷ true ∷ []
 unfolding acceptsOf levelOf allowsOf
 accepted-rows = refl
 
@@ -41,18 +42,18 @@ pub entered-rows : map enteredOf acceptedRows
 unfolding interruptedOf levelOf withLevelOf regularOf setEpOf setIdOf clearAeOf
 entered-rows = refl
 
-abbrev pub maskedRows : List Row
+abbrev pub maskedRows : List InterruptRow
 maskedRows =
-    row 0x02 0x20000 Running
-    ∷ row 0x1F 0x1000 Running
-    ∷ row 0x1F 0x4000 Running
-    ∷ row 0x1F 0x8000 Running
-    ∷ row 0x1F 0x50000 Running
-    ∷ row 0x1F 0 Fatal
-    ∷ row 0 0 Running
+    interruptRow 0x02 0x20000 Running
+    ∷ interruptRow 0x1F 0x1000 Running
+    ∷ interruptRow 0x1F 0x4000 Running
+    ∷ interruptRow 0x1F 0x8000 Running
+    ∷ interruptRow 0x1F 0x50000 Running
+    ∷ interruptRow 0x1F 0 Fatal
+    ∷ interruptRow 0 0 Running
     ∷ []
 
-pub masked-rows : map (λ (r : Row). acceptsOf (r .lines) (r .psw) (r .mode)) maskedRows
+pub masked-rows : map (λ (r : InterruptRow). acceptsOf (r .lines) (r .psw) (r .mode)) maskedRows
     ≡ false ∷ false ∷ false ∷ false ∷ false ∷ false ∷ false ∷ []
 unfolding acceptsOf levelOf allowsOf
 masked-rows = refl

@@ -1,5 +1,5 @@
 -- What a step or a run does to the request lines (paper 02, W6: a line is "changed only by the bench and, line 1, by
--- the Timer section's rules"): the statements, over the bus's 17 device registers. Their proofs are `step-lines` and
+-- the Timer section's rules"): the statements, over the bus's device registers. Their proofs are `step-lines` and
 -- `run-lines` in proofs/Lining. That no store does more is bus_timer_laws' Writing.
 use Prim.Native.Nat.{ℕ, _≤_}
 use mathlib.Core.Path.{_≡_}

@@ -1,4 +1,4 @@
--- `step-accepted`, `run-accepted`, `run-count`, `accepted-means` and `means-accepted`: the statements of specs/Accepted.
+-- `step-accepted`, `run-accepted`, `run-count`, `machine-accepted-means` and `machine-means-accepted`: the statements of specs/Accepted.
 use Prim.Native.Nat.{ℕ, zero, suc, _+_, _%_, _^_, _≤_, _<_}
 use mathlib.Core.Bool.{Bool}
 use mathlib.Core.Path.{sym, _∙_}
@@ -24,7 +24,7 @@ use Rattle.processor_machine.specs.declared.Mode.the-variants.{Running, Halted,
 use Rattle.processor.specs.Run.{Run, afterOf, afterStep, runOf}
 use Rattle.processor.specs.declared.After.{After}
 use Rattle.processor.specs.declared.After.the-variants.{Counted, Stopped}
-use Rattle.processor_laws.specs.Accepted.{Machine, StepAccepted, RunAccepted, RunCount, AcceptedMeans, MeansAccepted}
+use Rattle.processor_laws.specs.Accepted.{Machine, StepAccepted, RunAccepted, RunCount, MachineAcceptedMeans, MachineMeansAccepted}
 use Rattle.processor_laws.proofs.Lists.{pick-each}
 use Rattle.processor_laws.proofs.Invariant.{Address, Good, told, tells, machine-good, good-machine}
 use Rattle.processor_laws.proofs.Stores.{load-half}
@@ -107,9 +107,8 @@ run-count (suc budget) s m =
     after-count (afterOf (t .answer)) t (runOf budget (t .state) (t .memory)) budget (run-count budget (t .state) (t .memory))
 
 -- what 5 says of an accepted machine
-pub accepted-means : AcceptedMeans
-unfolding hardwareIn
-accepted-means s m k =
+pub machine-accepted-means : MachineAcceptedMeans
+machine-accepted-means s m k =
     let t = told s m (k .accepted) in
     let p = t .1 in
     let w = accepted-registers (length (m .rom)) (length (m .wram)) (length (m .vram)) (length (m .pak)) (m .regs) (t .0) in
@@ -125,15 +124,13 @@ accepted-means s m k =
       fepsw-bits = sym (psw-bits-mask _) ∙ p .fepsw-format;
       sr31-most = p .sr31-most;
       drawing-widths = register-within (m .regs) w;
-      five-lines = h .five-lines;
-      control-bits = h .control-bits;
+      lines-and-timer = h;
     }
 
 -- and the other way
-pub means-accepted : MeansAccepted
-unfolding hardwareIn
-means-accepted s m l p =
-    let h = hardware.means-accepted (hardwareIn (m .regs)) record { five-lines = p .five-lines; control-bits = p .control-bits } in
+pub machine-means-accepted : MachineMeansAccepted
+machine-means-accepted s m l p =
+    let h = hardware.means-accepted (hardwareIn (m .regs)) (p .lines-and-timer) in
     tells s m (lengths-accepted _ _ _ _ (m .regs) l (both-registers (m .regs) (within-drawing (m .regs) (p .drawing-widths)) h))
     record {
       zero-register = p .zero-register;

@@ -6,9 +6,8 @@ use mathlib.Core.Path.{_≡_, refl, _∙_}
 use native.Mathlib.Omega.{arith}
 use lib.ListN.{length, getD, replicate}
 use Rattle.word.specs.Choose.{pick}
-use Rattle.bus_timer.specs.Timer.{hardwareOf}
+use Rattle.bus_timer.specs.Record.{resetHardware}
 use Rattle.bus_timer.specs.Ports.{controlBitsOf, hardwareOk}
-use Rattle.bus_timer.specs.declared.Hardware.{Hardware}
 use Rattle.bus.specs.Registers.{drawingOk, hardwareIn, deviceOf, registersOk}
 use Rattle.bus.proofs.Devices.{device-whole, device-length, device-ok}
 use Rattle.bus.specs.Memory.{Memory}
@@ -74,10 +73,6 @@ unfolding checkedRunOf
 run-call-accepted budget p m h =
     let r = runOf budget (stateIn p) (busOf p m) in
     rw (h .accepted) (record-machine (r .state) (r .memory) (run-accepted budget (stateIn p) (busOf p m) h))
-
--- lines and timer at reset
-abbrev resetHardware : Hardware
-resetHardware = hardwareOf 0 0 0 0
 
 zeros : (n k i : ℕ) → 0 < k → getD (replicate n 0) i 0 < k
 zeros zero k i h = h

@@ -1,12 +1,13 @@
 -- An accepted machine stays accepted (paper 01, "Refusal numbers" 1 to 5), so that a run tests 1 to 5 once: the
--- statements. Their proofs are `step-accepted`, `run-accepted`, `run-count`, `accepted-means` and `means-accepted` in
--- proofs/Accepting.
+-- statements. Their proofs are `step-accepted`, `run-accepted`, `run-count`, `machine-accepted-means` and
+-- `machine-means-accepted` in proofs/Accepting.
 use Prim.Native.Nat.{ℕ, _%_, _^_, _≤_, _<_}
 use mathlib.Core.List.{List}
 use mathlib.Core.Path.{_≡_}
 use lib.Bits.{bitAnd}
 use lib.ListN.{length, getD}
-use Rattle.bus.specs.Registers.{deviceLength, widthOf, linesPlace, controlPlace}
+use Rattle.bus_timer.specs.Accepted as hardware
+use Rattle.bus.specs.Registers.{deviceLength, widthOf, hardwareIn}
 use Rattle.bus.specs.Memory.{Memory, Lengths}
 use Rattle.refusal.specs.declared.Verdict.the-variants.{Accepted}
 use Rattle.processor_machine.specs.State.{State}
@@ -19,7 +20,7 @@ abbrev pub Below : ℕ → List ℕ → Type 0
 Below n xs = (i : ℕ) → getD xs i 0 < n
 
 -- the sizes that the Rattle types give for any call: 32 general and 8 stored system registers, PC and PSW of 32 bits,
--- memories of bytes, 17 device registers
+-- memories of bytes, all device registers
 pub record Sized (s : State) (m : Memory) : Type 0 where
   pub general : length (s .regs) ≡ 32
   pub general-words : Below (2 ^ 32) (s .regs)
@@ -52,8 +53,8 @@ abbrev pub RunCount : Type 0
 RunCount = (budget : ℕ) (s : State) (m : Memory) → runOf budget s m .count ≤ budget
 
 -- what 5 then says: EIPC, EIPSW, FEPC, FEPSW, 25 and 31 are 0, 1, 2, 3, 5 and 7 of the stored system registers; of the
--- device registers it tests the drawing registers, the request lines and the timer's control bits
-pub record Means (s : State) (m : Memory) : Type 0 where
+-- device registers it tests the drawing registers, and what bus_timer says of the request lines and the timer
+pub record MachineMeans (s : State) (m : Memory) : Type 0 where
   pub zero-register : getD (s .regs) 0 0 ≡ 0
   pub pc-even : s .pc % 2 ≡ 0
   pub eipc-even : getD (s .sys) 0 0 % 2 ≡ 0
@@ -64,15 +65,14 @@ pub record Means (s : State) (m : Memory) : Type 0 where
   pub fepsw-bits : bitAnd (getD (s .sys) 3 0) 0x000FF3FF ≡ getD (s .sys) 3 0
   pub sr31-most : getD (s .sys) 7 0 ≤ 0x80000000
   pub drawing-widths : (k : ℕ) → k < 13 → getD (m .regs) k 0 < 2 ^ widthOf k
-  pub five-lines : getD (m .regs) linesPlace 0 < 2 ^ 5
-  pub control-bits : bitAnd (getD (m .regs) controlPlace 0) 0x1B ≡ getD (m .regs) controlPlace 0
+  pub lines-and-timer : hardware.Means (hardwareIn (m .regs))
 
-abbrev pub AcceptedMeans : Type 0
-AcceptedMeans = (s : State) (m : Memory) → Machine s m → Means s m
+abbrev pub MachineAcceptedMeans : Type 0
+MachineAcceptedMeans = (s : State) (m : Memory) → Machine s m → MachineMeans s m
 
 -- and 5 is given only then: a call whose memories have the right lengths is accepted where all of these hold
-abbrev pub MeansAccepted : Type 0
-MeansAccepted =
+abbrev pub MachineMeansAccepted : Type 0
+MachineMeansAccepted =
     (s : State) (m : Memory) → Lengths (length (m .rom)) (length (m .wram)) (length (m .vram)) (length (m .pak))
-    → Means s m
+    → MachineMeans s m
     → acceptanceOf s m ≡ Accepted

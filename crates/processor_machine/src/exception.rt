@@ -10,6 +10,14 @@ ghost use Rattle.bus.specs.Memory.{Memory};
 ghost use Rattle.processor_machine.specs.State.{stateOf, leaves};
 ghost use Rattle.processor_machine.specs.Exception.{codeOf, handlerOf, restoreOf, savedOf, enterOf, raiseOf};
 
+// What an exception stores, and where it goes on: `saved` is the PSW to save.
+pub struct Entry {
+    pub code: u32,
+    pub handler: u32,
+    pub restore: u32,
+    pub saved: u32,
+}
+
 // The code of a cause.
 pub fn code(cause: Cause) -> u32
     ensures { λ r. ⌜ (r ≡ codeOf cause) × (r < 65536) ⌝ }
@@ -87,11 +95,13 @@ pub fn raise(sys: &mut [u32; 8], cause: Cause, pc: u32, next: u32, psw: u32) -> 
         ≡ raiseOf cause next (stateOf regs (now (sys .entry)) pc psw Mode.Running) m)
         ⌝ }
 {
-    let code = code(cause);
-    let handler = handler(cause);
-    let restore = restore(cause, pc, next);
-    let saved = saved(cause, psw);
-    enter(sys, cause, code, handler, restore, saved, pc, psw)
+    let into = Entry {
+        code: code(cause),
+        handler: handler(cause),
+        restore: restore(cause, pc, next),
+        saved: saved(cause, psw),
+    };
+    enter(sys, cause, into, pc, psw)
 }
 
 // ECR with a code in its high half, FECC.
@@ -110,22 +120,14 @@ fn exception_cause(ecr: u32, code: u32) -> u32
     ecr / 65536 * 65536 + code
 }
 
-// The entry that every exception takes: `saved` is the PSW to save.
-fn enter(
-    sys: &mut [u32; 8],
-    cause: Cause,
-    code: u32,
-    handler: u32,
-    restore: u32,
-    saved: u32,
-    pc: u32,
-    psw: u32,
-) -> Control
-    requires { ⌜ code < 65536 ⌝ }
+// The entry that every exception takes.
+fn enter(sys: &mut [u32; 8], cause: Cause, into: Entry, pc: u32, psw: u32) -> Control
+    requires { ⌜ into .code < 65536 ⌝ }
     ensures { λ r. ⌜
         ((regs : List ℕ) (m : Memory)
         → leaves regs (now (sys .exit)) r m
-        ≡ enterOf cause code handler restore saved (stateOf regs (now (sys .entry)) pc psw Mode.Running) m)
+        ≡ enterOf cause (into .code) (into .handler) (into .restore) (into .saved)
+        (stateOf regs (now (sys .entry)) pc psw Mode.Running) m)
         ⌝ }
 {
     if psw / 32768 % 2 == 1 {
@@ -137,24 +139,24 @@ fn enter(
         };
     }
     if psw / 16384 % 2 == 1 {
-        sys[2] = restore;
-        sys[3] = saved;
+        sys[2] = into.restore;
+        sys[3] = into.saved;
         let ecr = sys[4];
-        sys[4] = fatal_cause(ecr, code);
+        sys[4] = fatal_cause(ecr, into.code);
         return Control {
             pc: 0xFFFFFFD0,
-            psw: processor_arithmetic::flag::duplexed(saved),
+            psw: processor_arithmetic::flag::duplexed(into.saved),
             mode: Mode::Running,
             answer: Answer::Trapped(cause),
         };
     }
-    sys[0] = restore;
-    sys[1] = saved;
+    sys[0] = into.restore;
+    sys[1] = into.saved;
     let ecr = sys[4];
-    sys[4] = exception_cause(ecr, code);
+    sys[4] = exception_cause(ecr, into.code);
     Control {
-        pc: handler,
-        psw: processor_arithmetic::flag::regular(saved),
+        pc: into.handler,
+        psw: processor_arithmetic::flag::regular(into.saved),
         mode: Mode::Running,
         answer: Answer::Trapped(cause),
     }

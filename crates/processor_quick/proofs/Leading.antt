@@ -7,6 +7,7 @@ use native.Mathlib.Omega.{arith}
 use lib.ListN.{getD}
 use Rattle.word.specs.Choose.{pick}
 use Rattle.bus.specs.Memory.{Memory, memoryOf, loadOf}
+use Rattle.bus.specs.Registers.{linesPlace}
 use Rattle.processor_decode.specs.Format.{twoOf}
 use Rattle.processor_decode.specs.Opcode.{decodeOf}
 use Rattle.processor_flags.specs.Packed.{packedOf}
@@ -24,7 +25,7 @@ use Rattle.processor_quick.proofs.Acceptance.{accepts-packed}
 pub stays-here : (regs₀ regs sys rom wram₀ wram vram₀ vram pak device : List ℕ) (pc psw base x : ℕ) (g : Flags)
     → Stays (stateOf regs₀ sys pc psw Running) (memoryOf rom wram₀ vram₀ pak device) (machineOf regs sys base x psw g) (memoryOf rom wram vram pak device)
 stays-here regs₀ regs sys rom wram₀ wram vram₀ vram pak device pc psw base x g =
-    record { mode = refl; unaccepted = λ u. accepts-packed (getD device 13 0) psw g Running ∙ u }
+    record { mode = refl; unaccepted = λ u. accepts-packed (getD device linesPlace 0) psw g Running ∙ u }
 
 -- the step at an index, from the halfwords there
 step-at : (regs sys : List ℕ) (base x psw f s : ℕ) (g : Flags) (m : Memory) → loadOf m 2 (addressOf base x) ≡ f → loadOf m 2 ((addressOf base x + 2) % 2 ^ 32) ≡ s
@@ -78,3 +79,10 @@ ends budget left regs₀ regs sys rom wram₀ wram vram₀ vram pak device pc ps
 -- none at all
 pub stretched-none : (budget : ℕ) (regs sys : List ℕ) (pc psw : ℕ) (m : Memory) → Stretched budget (stateOf regs sys pc psw Running) m 0 (stateOf regs sys pc psw Running) m
 stretched-none budget regs sys pc psw m = record { within = omega arith; leads = none; stays = record { mode = refl; unaccepted = λ u. u } }
+
+-- none at all, and the whole budget left
+pub stretched-full : (budget : ℕ) (regs sys : List ℕ) (pc psw : ℕ) (m : Memory)
+    → Stretched budget (stateOf regs sys pc psw Running) m (budget - budget) (stateOf regs sys pc psw Running) m
+stretched-full budget regs sys pc psw m =
+    let e : budget - budget ≡ 0 = omega arith in
+    rw e (stretched-none budget regs sys pc psw m)

@@ -1,5 +1,5 @@
 -- Stretches one after another, and one instruction on the system registers more.
-use Prim.Native.Nat.{ℕ, zero, suc, _+_, _%_, _^_, _<_, _≤_}
+use Prim.Native.Nat.{ℕ, zero, suc, _+_, _-_, _%_, _^_, _<_, _≤_}
 use mathlib.Core.List.{List}
 use mathlib.Core.Path.{_≡_, refl, sym, _∙_}
 use native.Mathlib.Numerals.{add-one}
@@ -38,6 +38,14 @@ stretched-on budget n s₀ m₀ s m before left k t w e after =
       leads = leads-on s₀ m₀ s m (before .stays) n k t w (before .leads) (after .leads);
       stays = stays-on s₀ m₀ s m (before .stays) t w (after .stays);
     }
+
+-- the same, where what is left of the rest is told
+pub stretched-rest : (budget n : ℕ) (s₀ : State) (m₀ : Memory) (s : State) (m : Memory) → Stretched budget s₀ m₀ n s m
+    → (left : ℕ) (t : State) (w : Memory) → left ≤ budget - n → Stretched (budget - n) s m (budget - n - left) t w → Stretched budget s₀ m₀ (budget - left) t w
+stretched-rest budget n s₀ m₀ s m before left t w h after =
+    let e : budget - n + n ≡ budget = omega (arith, before .within) in
+    let k : budget - left ≡ n + (budget - n - left) = omega (arith, before .within) in
+    rw k (stretched-on budget n s₀ m₀ s m before (budget - n) (budget - n - left) t w e after)
 
 -- the step at pc, from the halfword there
 step-here : (regs sys : List ℕ) (pc psw f : ℕ) (m : Memory) → f ≡ loadOf m 2 pc

@@ -1,6 +1,6 @@
 -- A stretch of instructions (paper 01, "Instructions"): steps of running mode, each of which ended. The mode stays, and
 -- where no interrupt is accepted at its start none is accepted on the way.
-use Prim.Native.Nat.{ℕ, suc, _≤_}
+use Prim.Native.Nat.{ℕ, suc, _-_, _≤_}
 use mathlib.Core.Bool.{false}
 use mathlib.Core.List.{List}
 use mathlib.Core.Path.{_≡_}
@@ -9,7 +9,7 @@ use Rattle.processor_machine.specs.State.{State, stateOf, steppedOf}
 use Rattle.processor_machine.specs.declared.Answer.the-variants.{Ended}
 use Rattle.processor_machine.specs.declared.Mode.the-variants.{Running}
 use Rattle.processor_step.specs.Step.{acceptsIn, runningStepOf}
-use Rattle.processor_quick.specs.declared.Progress.{Progress}
+use Rattle.processor_quick.specs.declared.Rest.{Rest}
 
 -- what stays
 pub record Stays (s₀ : State) (m₀ : Memory) (s : State) (m : Memory) : Type 0 where
@@ -29,8 +29,12 @@ pub record Stretched (budget : ℕ) (s₀ : State) (m₀ : Memory) (n : ℕ) (s 
   pub leads : Leads s₀ m₀ n s m
   pub stays : Stays s₀ m₀ s m
 
--- the same put together from the lent registers and memories and what the code returns, for all system registers
-abbrev pub stretchedBy : ℕ → List ℕ → ℕ → ℕ → Memory → List ℕ → Progress → Memory → Type 0
-stretchedBy budget regs₀ pc psw m₀ regs r m =
-    (sys : List ℕ)
-    → Stretched budget (stateOf regs₀ sys pc psw Running) m₀ (r .count) (stateOf regs sys (r .pc) (r .psw) Running) m
+-- the same put together from the lent registers and memories and what the code returns, which is what is left of the
+-- budget, for all system registers
+pub record StretchedBy (budget : ℕ) (regs₀ : List ℕ) (pc psw : ℕ) (m₀ : Memory) (regs : List ℕ) (r : Rest) (m : Memory)
+    : Type 0 where
+  pub within : r .left ≤ budget
+  pub stretched :
+      (sys : List ℕ)
+      → Stretched budget (stateOf regs₀ sys pc psw Running) m₀ (budget - r .left)
+      (stateOf regs sys (r .pc) (r .psw) Running) m

@@ -8,12 +8,13 @@ use processor_quick_move::branch;
 use processor_quick_move::transfer;
 ghost use lib.ListN.{length};
 ghost use mathlib.Core.Path.{_≡_};
-ghost use Prim.Native.Nat.{_<_};
+ghost use Prim.Native.Nat.{_/_, _<_};
 ghost use Rattle.bus.specs.Memory.{Lengths};
 ghost use Rattle.bus.specs.Lent.{entering, leavingRam};
 ghost use Rattle.processor_quick_compute.specs.Quick.{Dispatches};
 
-// f and s are the two halfwords of code at index x; the second counts only where the first asks for it.
+// f is the halfword of code at index x, and w is a word of it and of the halfword after it, which counts only where the
+// first asks for it. That is taken out of w where it is used: the loop's head stays short (docs/SPEED.md).
 pub fn dispatch(
     rom: &[u8],
     wram: &mut [u8],
@@ -23,17 +24,16 @@ pub fn dispatch(
     regs: &mut [u32; 32],
     base: u32,
     f: u32,
-    s: u32,
+    w: u32,
     x: u32,
     flags: Flags,
 ) -> Quick
     requires { ⌜
         Lengths (length (now rom)) (length (now wram)) (length (now vram)) (length (now pak)) × (f < 65536)
-        × (s < 65536)
         ⌝ }
     ensures { λ r. ⌜
-        Dispatches base f s r x flags (now (regs .entry)) (entering rom wram vram pak device) (now (regs .exit))
-        (leavingRam rom wram vram pak device)
+        Dispatches base f (w / 65536) r x flags (now (regs .entry)) (entering rom wram vram pak device)
+        (now (regs .exit)) (leavingRam rom wram vram pak device)
         ⌝ }
 {
     match f / 1024 {
@@ -77,30 +77,30 @@ pub fn dispatch(
         37 => branch::not_zero_higher(f, x, flags),
         38 => branch::positive_never(f, x, flags),
         39 => branch::greater(f, x, flags),
-        40 => arithmetic::movea(regs, f, s, x, flags),
-        41 => arithmetic::addi(regs, f, s, x, flags),
-        42 => branch::jr(f, s, x, flags),
-        43 => branch::jal(regs, base, f, s, x, flags),
-        44 => arithmetic::ori(regs, f, s, x, flags),
-        45 => arithmetic::andi(regs, f, s, x, flags),
-        46 => arithmetic::xori(regs, f, s, x, flags),
-        47 => arithmetic::movhi(regs, f, s, x, flags),
-        48 => transfer::load_byte(rom, wram, vram, pak, device, regs, f, s, x, flags),
-        49 => transfer::load_half(rom, wram, vram, pak, device, regs, f, s, x, flags),
+        40 => arithmetic::movea(regs, f, w / 65536, x, flags),
+        41 => arithmetic::addi(regs, f, w / 65536, x, flags),
+        42 => branch::jr(f, w / 65536, x, flags),
+        43 => branch::jal(regs, base, f, w / 65536, x, flags),
+        44 => arithmetic::ori(regs, f, w / 65536, x, flags),
+        45 => arithmetic::andi(regs, f, w / 65536, x, flags),
+        46 => arithmetic::xori(regs, f, w / 65536, x, flags),
+        47 => arithmetic::movhi(regs, f, w / 65536, x, flags),
+        48 => transfer::load_byte(rom, wram, vram, pak, device, regs, f, w / 65536, x, flags),
+        49 => transfer::load_half(rom, wram, vram, pak, device, regs, f, w / 65536, x, flags),
         50 => Quick::Other,
-        51 => transfer::load_word(rom, wram, vram, pak, device, regs, f, s, x, flags),
-        52 => transfer::store_byte(wram, vram, regs, f, s, x, flags),
-        53 => transfer::store_half(wram, vram, regs, f, s, x, flags),
+        51 => transfer::load_word(rom, wram, vram, pak, device, regs, f, w / 65536, x, flags),
+        52 => transfer::store_byte(wram, vram, regs, f, w / 65536, x, flags),
+        53 => transfer::store_half(wram, vram, regs, f, w / 65536, x, flags),
         54 => Quick::Other,
-        55 => transfer::store_word(wram, vram, regs, f, s, x, flags),
-        56 => transfer::input_byte(rom, wram, vram, pak, device, regs, f, s, x, flags),
-        57 => transfer::input_half(rom, wram, vram, pak, device, regs, f, s, x, flags),
+        55 => transfer::store_word(wram, vram, regs, f, w / 65536, x, flags),
+        56 => transfer::input_byte(rom, wram, vram, pak, device, regs, f, w / 65536, x, flags),
+        57 => transfer::input_half(rom, wram, vram, pak, device, regs, f, w / 65536, x, flags),
         58 => Quick::Other,
-        59 => transfer::load_word(rom, wram, vram, pak, device, regs, f, s, x, flags),
-        60 => transfer::store_byte(wram, vram, regs, f, s, x, flags),
-        61 => transfer::store_half(wram, vram, regs, f, s, x, flags),
-        62 => floating::extended(regs, f, s, x, flags),
-        63 => transfer::store_word(wram, vram, regs, f, s, x, flags),
+        59 => transfer::load_word(rom, wram, vram, pak, device, regs, f, w / 65536, x, flags),
+        60 => transfer::store_byte(wram, vram, regs, f, w / 65536, x, flags),
+        61 => transfer::store_half(wram, vram, regs, f, w / 65536, x, flags),
+        62 => floating::extended(regs, f, w / 65536, x, flags),
+        63 => transfer::store_word(wram, vram, regs, f, w / 65536, x, flags),
         _ => Quick::Other,
     }
 }

@@ -18,3 +18,10 @@ pub struct Progress {
     pub pc: u32,
     pub psw: u32,
 }
+
+// What the common instructions leave of a budget beside the lent registers and memories, with PC and PSW.
+pub struct Rest {
+    pub left: u64,
+    pub pc: u32,
+    pub psw: u32,
+}

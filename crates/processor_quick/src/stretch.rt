@@ -1,5 +1,6 @@
 // At most `budget` of the common instructions.
 use crate::Progress;
+use crate::Rest;
 use crate::dispatch::dispatch;
 use crate::position::fetch;
 use crate::system::controls;
@@ -15,7 +16,7 @@ ghost use Rattle.bus.specs.Lent.{entering, leavingRam};
 ghost use Rattle.processor_machine.specs.State.{stateOf};
 ghost use Rattle.processor_machine.specs.declared.Mode.{Mode};
 ghost use Rattle.processor_quick.specs.Stands.{Stands};
-ghost use Rattle.processor_quick.specs.Leads.{stretchedBy, Stretched};
+ghost use Rattle.processor_quick.specs.Leads.{StretchedBy, Stretched};
 
 // Code from `base` on: as long as it stays below index `last`.
 fn inside(
@@ -31,13 +32,13 @@ fn inside(
     in_rom: bool,
     base: u32,
     last: u32,
-) -> Progress
+) -> Rest
     requires { ⌜
         Lengths (length (now rom)) (length (now wram)) (length (now vram)) (length (now pak))
         × Stands (length (now rom)) in_rom base last × (pc % 2 ≡ 0) × (psw % 4 ≡ 3 → ⊥)
         ⌝ }
     ensures { λ r. ⌜
-        stretchedBy budget (now (regs .entry)) pc psw (entering rom wram vram pak device) (now (regs .exit)) r
+        StretchedBy budget (now (regs .entry)) pc psw (entering rom wram vram pak device) (now (regs .exit)) r
         (leavingRam rom wram vram pak device)
         ⌝ }
 {
@@ -46,8 +47,8 @@ fn inside(
     let mut left = budget;
     while 0 < left {
         if last <= x {
-            return Progress {
-                count: budget - left,
+            return Rest {
+                left,
                 pc: std::num::wrapping_add_u32(base, x),
                 psw: status::packed(psw, flags),
             };
@@ -62,7 +63,7 @@ fn inside(
             regs,
             base,
             w % 65536,
-            w / 65536,
+            w,
             x,
             flags,
         ) {
@@ -72,16 +73,16 @@ fn inside(
                 left -= 1;
             }
             Quick::Other => {
-                return Progress {
-                    count: budget - left,
+                return Rest {
+                    left,
                     pc: std::num::wrapping_add_u32(base, x),
                     psw: status::packed(psw, flags),
                 };
             }
         }
     }
-    Progress {
-        count: budget - left,
+    Rest {
+        left,
         pc: std::num::wrapping_add_u32(base, x),
         psw: status::packed(psw, flags),
     }
@@ -98,18 +99,26 @@ fn common(
     pc: u32,
     psw: u32,
     budget: u64,
-) -> Progress
+) -> Rest
     requires { ⌜ Lengths (length (now rom)) (length (now wram)) (length (now vram)) (length (now pak)) ⌝ }
     ensures { λ r. ⌜
-        stretchedBy budget (now (regs .entry)) pc psw (entering rom wram vram pak device) (now (regs .exit)) r
+        StretchedBy budget (now (regs .entry)) pc psw (entering rom wram vram pak device) (now (regs .exit)) r
         (leavingRam rom wram vram pak device)
         ⌝ }
 {
     if pc % 2 != 0 {
-        return Progress { count: 0, pc, psw };
+        return Rest {
+            left: budget,
+            pc,
+            psw,
+        };
     }
     if psw % 4 == 3 {
-        return Progress { count: 0, pc, psw };
+        return Rest {
+            left: budget,
+            pc,
+            psw,
+        };
     }
     let region = pc / 16777216 % 8;
     if region == 7 {
@@ -147,7 +156,11 @@ fn common(
             65533,
         );
     }
-    Progress { count: 0, pc, psw }
+    Rest {
+        left: budget,
+        pc,
+        psw,
+    }
 }
 
 // The common instructions and those on the system registers, in turn.
@@ -178,7 +191,7 @@ pub fn stretch(
         let q = common(rom, wram, vram, pak, device, regs, at, status, budget - n);
         at = q.pc;
         status = q.psw;
-        n += q.count;
+        n = budget - q.left;
         let c = controls(
             rom,
             wram,

@@ -3,6 +3,7 @@
 use crate::Controlled;
 use crate::Progress;
 use bus::Device;
+use bus::LINES_PLACE;
 use processor_arithmetic::flag;
 use processor_interrupt::acceptance::accepts;
 use processor_machine::Mode;
@@ -14,6 +15,7 @@ ghost use Prim.Native.Nat.{ℕ};
 ghost use lib.ListN.{length, getD};
 ghost use Rattle.bus.specs.Memory.{Lengths};
 ghost use Rattle.bus.specs.Lent.{entering};
+ghost use Rattle.bus.specs.Registers.{linesPlace};
 ghost use Rattle.processor_decode.specs.Format as format;
 ghost use Rattle.processor_decode.specs.declared.Decoded as decoded;
 ghost use Rattle.processor_decode.specs.declared.Instruction as instruction;
@@ -89,12 +91,12 @@ fn control(
     psw: u32,
 ) -> Controlled
     ensures { λ r. ⌜
-        ControlsCode (getD (now (device .entry)) 13 0) f r psw (now (regs .entry)) (now (sys .entry))
+        ControlsCode (getD (now (device .entry)) linesPlace 0) f r psw (now (regs .entry)) (now (sys .entry))
         (now (regs .exit)) (now (sys .exit))
         ⌝ }
 {
     match f / 1024 {
-        22 => cli(device[13], psw),
+        22 => cli(device[LINES_PLACE], psw),
         28 => ldsr(regs, sys, f, psw),
         29 => stsr(regs, sys, f, psw),
         30 => sei(psw),

@@ -33,7 +33,8 @@ ghost use Rattle.processor_quick_compute.specs.Quick.{Computes};
 // A result for register n with its flags.
 fn result(regs: &mut [u32; 32], n: u32, flags: Flags, x: u32) -> Quick
     ensures { λ r. ⌜
-        (now (regs .exit) ≡ putOf (now (regs .entry)) n (packedValueOf flags)) × (r ≡ Quick.Done x (flags .wide) (flags .ov))
+        (now (regs .exit) ≡ putOf (now (regs .entry)) n (packedValueOf flags))
+        × (r ≡ Quick.Done x (flags .wide) (flags .ov))
         ⌝ }
 {
     put(regs, n, low(flags.wide));
@@ -253,7 +254,8 @@ pub fn divu(regs: &mut [u32; 32], f: u32, x: u32, flags: Flags) -> Quick
 
 pub fn mov_immediate(regs: &mut [u32; 32], f: u32, x: u32, flags: Flags) -> Quick
     ensures { λ r. ⌜
-        Computes false (format.signedImmediate ImmediateOperation.Mov f) r x flags (now (regs .entry)) (now (regs .exit))
+        Computes false (format.signedImmediate ImmediateOperation.Mov f) r x flags
+        (now (regs .entry)) (now (regs .exit))
         ⌝ }
 {
     let b = extend5(f % 32);
@@ -262,7 +264,8 @@ pub fn mov_immediate(regs: &mut [u32; 32], f: u32, x: u32, flags: Flags) -> Quic
 
 pub fn add_immediate(regs: &mut [u32; 32], f: u32, x: u32, flags: Flags) -> Quick
     ensures { λ r. ⌜
-        Computes false (format.signedImmediate ImmediateOperation.Add f) r x flags (now (regs .entry)) (now (regs .exit))
+        Computes false (format.signedImmediate ImmediateOperation.Add f) r x flags
+        (now (regs .entry)) (now (regs .exit))
         ⌝ }
 {
     let a = reg2(regs, f);
@@ -273,7 +276,8 @@ pub fn add_immediate(regs: &mut [u32; 32], f: u32, x: u32, flags: Flags) -> Quic
 
 pub fn cmp_immediate(regs: &[u32; 32], f: u32, x: u32, flags: Flags) -> Quick
     ensures { λ r. ⌜
-        Computes false (format.signedImmediate ImmediateOperation.Cmp f) r x flags (now (regs .entry)) (now (regs .entry))
+        Computes false (format.signedImmediate ImmediateOperation.Cmp f) r x flags
+        (now (regs .entry)) (now (regs .entry))
         ⌝ }
 {
     let a = reg2(regs, f);

@@ -1,6 +1,6 @@
 -- Relative jumps and branches: the index of the target is that of the target's address, and the conditions in pairs.
 use Prim.Native.Nat.{ℕ, _+_, _-_, _*_, _/_, _%_, _^_, _<_, _≤_}
-use mathlib.Core.Bool.{Bool, true, false, not}
+use mathlib.Core.Bool.{Bool, true, false, not, Bool·not-not}
 use mathlib.Core.List.{List}
 use mathlib.Core.Path.{_≡_, refl, sym, ap, _∙_}
 use native.Mathlib.Decide.{decLt}
@@ -66,19 +66,15 @@ pair-first f k e h l = omega arith
 pub pair-second : (f k : ℕ) → f / 1024 ≡ 32 + k → (f / 512 % 2 ≡ 0 → ⊥) → k < 8 → f / 512 % 16 ≡ 2 * k + 1
 pair-second f k e h l = omega arith
 
-not-not : (b : Bool) → not (not b) ≡ b
-not-not true = refl
-not-not false = refl
-
 -- a condition and its opposite
 module _ (p : ℕ) where
   pub not-higher : not (conditionOf 11 p) ≡ conditionOf 3 p
   unfolding conditionOf
-  not-higher = not-not _
+  not-higher = Bool·not-not _
 
   pub not-greater : not (conditionOf 15 p) ≡ conditionOf 7 p
   unfolding conditionOf
-  not-greater = not-not _
+  not-greater = Bool·not-not _
 
   pub not-overflow : not (conditionOf 0 p) ≡ conditionOf 8 p
   unfolding conditionOf

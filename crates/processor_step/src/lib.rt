@@ -1,4 +1,3 @@
 // A step: an instruction is fetched, decoded and executed. The functions here are for the crate processor, whose calls
 // test their arguments and refuse.
-mod execute;
 pub mod step;

@@ -1,7 +1,8 @@
 // A step: an interrupt is accepted, or the instruction at PC is fetched once, decoded and executed.
-use crate::execute::execute;
 use bus::Device;
+use bus::LINES_PLACE;
 use processor_decode::Decoded;
+use processor_execute::execute::execute;
 use processor_interrupt::acceptance::accepts;
 use processor_interrupt::acceptance::level;
 use processor_interrupt::entry::enter;
@@ -34,7 +35,7 @@ pub struct Performed {
     pub fetched: Fetched,
 }
 
-// The halfword at an address. The memories are lent as a step has them, so that no slice is copied on the short ways.
+// The halfword at an address. The memories are lent as a step has them, so that no slice is copied on the fast path.
 fn half(
     rom: &[u8],
     wram: &mut [u8],
@@ -238,7 +239,7 @@ pub fn step(
         (entering rom wram vram pak device)
         ⌝ }
 {
-    let lines = device[13];
+    let lines = device[LINES_PLACE];
     if accepts(lines, psw, mode) {
         return interrupt(sys, lines, pc, psw);
     }

@@ -9,7 +9,7 @@ use borrow.Author.Tests.{lt-ltb, le-ltb}
 use Rattle.bus.specs.Memory.{Memory}
 use Rattle.processor_machine.specs.State.{State, Stepped}
 use Rattle.processor_step.specs.Step.{stepOf}
-use Rattle.replay.specs.Replay.{recordWith, recordAt, recordOf, registerSumOf, firstDifferenceOf, tellingOf, Replay, replayWith, oneMore, afterStep, replayOf}
+use Rattle.replay.specs.Replay.{recordWith, recordAt, recordOf, registerSumOf, firstDifferenceOf, tellingOf, Replay, replayWith, oneRecordMore, afterRecord, replayOf}
 use Rattle.replay.specs.declared.End.{End}
 use Rattle.replay.specs.declared.End.the-variants.{Agreed, Differed}
 use Rattle.replay.specs.declared.Told.the-variants.{Completed, Ends}
@@ -30,7 +30,7 @@ along-start n trace s m =
 module _ (n : ℕ) (trace : List ℕ) (s₀ : State) (m₀ : Memory) (k : ℕ) (s : State) (m : Memory) (before : Along n trace s₀ m₀ k s m) where
   -- the definition's next step
   turn : k < n → (t : Stepped) → t ≡ stepOf s m
-      → replayOf n 0 trace s₀ m₀ ≡ later k (afterStep (tellingOf (t .answer)) (firstDifferenceOf (recordAt trace k) (recordOf s t)) t (replayOf (n - (k + 1)) (k + 1) trace (t .state) (t .memory)))
+      → replayOf n 0 trace s₀ m₀ ≡ later k (afterRecord (tellingOf (t .answer)) (firstDifferenceOf (recordAt trace k) (recordOf s t)) t (replayOf (n - (k + 1)) (k + 1) trace (t .state) (t .memory)))
   unfolding replayOf
   turn h t e =
       let f : n - k ≡ suc (n - (k + 1)) = omega arith in

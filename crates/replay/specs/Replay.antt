@@ -17,7 +17,7 @@ use Rattle.replay.specs.declared.End.{End}
 use Rattle.replay.specs.declared.End.the-variants as end
 use Rattle.replay.specs.declared.Told.{Told}
 use Rattle.replay.specs.declared.Told.the-variants.{Completed, Ends}
-use Rattle.replay.specs.declared.Finished.{Finished}
+use Rattle.replay.specs.declared.FinishedReplay.{FinishedReplay}
 
 -- a record of a trace
 pub record Record : Type 0 where
@@ -78,23 +78,23 @@ abbrev pub replayWith : End → ℕ → State → Memory → Replay
 replayWith e n s m = record { end = e; agreed = n; state = s; memory = m }
 
 -- one agreeing record more than a replay
-abbrev pub oneMore : Replay → Replay
-oneMore r = replayWith (r .end) (suc (r .agreed)) (r .state) (r .memory)
+abbrev pub oneRecordMore : Replay → Replay
+oneRecordMore r = replayWith (r .end) (suc (r .agreed)) (r .state) (r .memory)
 
 -- after a step, whose record differs first in `word`: the replay ends, the step being made; or it goes on with the rest
-abbrev pub afterStep : Told → ℕ → Stepped → Replay → Replay
-afterStep Completed word t rest =
-    pick (ltb word 4) (replayWith (end.Differed word) 0 (t .state) (t .memory)) (oneMore rest)
-afterStep (Ends e) word t rest = replayWith e 0 (t .state) (t .memory)
+abbrev pub afterRecord : Told → ℕ → Stepped → Replay → Replay
+afterRecord Completed word t rest =
+    pick (ltb word 4) (replayWith (end.Differed word) 0 (t .state) (t .memory)) (oneRecordMore rest)
+afterRecord (Ends e) word t rest = replayWith e 0 (t .state) (t .memory)
 
 -- a replay of n records, from record k on
 unfoldable pub replayOf : ℕ → ℕ → List ℕ → State → Memory → Replay
 replayOf zero k trace s m = replayWith end.Agreed 0 s m
 replayOf (suc n) k trace s m =
     let t = stepOf s m in
-    afterStep (tellingOf (t .answer)) (firstDifferenceOf (recordAt trace k) (recordOf s t)) t
+    afterRecord (tellingOf (t .answer)) (firstDifferenceOf (recordAt trace k) (recordOf s t)) t
     (replayOf n (k + 1) trace (t .state) (t .memory))
 
 -- the same put together from the lent registers and memories and what the code returns
-abbrev pub replayedBy : List ℕ → List ℕ → Finished → Memory → Replay
+abbrev pub replayedBy : List ℕ → List ℕ → FinishedReplay → Memory → Replay
 replayedBy regs sys r m = replayWith (r .end) (r .agreed) (stateOf regs sys (r .pc) (r .psw) (r .mode)) m

@@ -1,7 +1,7 @@
 // The public call. Refusals 1 to 5 and 14 are tested once, before any step.
 use crate::End;
 use crate::Replayed;
-use crate::stretch;
+use crate::records;
 use bus::Drawing;
 use bus::device::device_of;
 use bus::device::drawing_in;
@@ -51,7 +51,7 @@ pub fn replay(
             let hardware = processor.hardware;
             let mut device = device_of(registers, hardware);
             let mode = processor.mode;
-            let f = stretch::replay(
+            let f = records::replay(
                 rom,
                 wram,
                 vram,

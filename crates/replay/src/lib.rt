@@ -2,7 +2,7 @@
 // part. A record has 16 bytes, four little-endian words: PC before, PC after, PSW after and the sum of the general
 // registers after.
 pub mod calls;
-mod stretch;
+mod records;
 
 use bus::Drawing;
 use processor::Processor;
@@ -25,8 +25,8 @@ pub enum Told {
     Ends(End),
 }
 
-// What a stretch of records leaves beside the lent registers and memories.
-pub struct Finished {
+// What the replay of a trace leaves beside the lent registers and memories.
+pub struct FinishedReplay {
     pub pc: u32,
     pub psw: u32,
     pub mode: Mode,

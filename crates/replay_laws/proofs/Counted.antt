@@ -12,21 +12,21 @@ use Rattle.processor_machine.specs.State.{State, Stepped}
 use Rattle.processor_machine.specs.declared.Answer.{Answer}
 use Rattle.processor_machine.specs.declared.Answer.the-variants as answer
 use Rattle.processor_step.specs.Step.{stepOf}
-use Rattle.processor.specs.Run.{Run, runWith, runOf, afterOf, afterStep as afterRunStep}
-use Rattle.replay.specs.Replay.{recordAt, recordOf, firstDifferenceOf, tellingOf, Replay, replayWith, oneMore, afterStep, replayOf}
+use Rattle.processor.specs.Run.{Run, runWith, runOf, afterOf, afterStep}
+use Rattle.replay.specs.Replay.{recordAt, recordOf, firstDifferenceOf, tellingOf, Replay, replayWith, oneRecordMore, afterRecord, replayOf}
 use Rattle.replay.specs.declared.End.the-variants.{Agreed, Differed}
 use Rattle.replay_laws.specs.Ending.{AgreedRun}
 
 module _ (n : ℕ) (t : Stepped) (run : Run) (rest : Replay) (later : rest .end ≡ Agreed → run ≡ runWith Accepted n (rest .state) (rest .memory)) where
-  by-word : (b : Bool) (word : ℕ) → let r = pick b (replayWith (Differed word) 0 (t .state) (t .memory)) (oneMore rest) in
+  by-word : (b : Bool) (word : ℕ) → let r = pick b (replayWith (Differed word) 0 (t .state) (t .memory)) (oneRecordMore rest) in
       r .end ≡ Agreed → runWith (run .verdict) (suc (run .count)) (run .state) (run .memory) ≡ runWith Accepted (suc n) (r .state) (r .memory)
   by-word true word e =
       let z : _≡_ {A = ℕ} 0 1 = cc in
       absurd (omega arith)
   by-word false word e = rw (later e)
 
-  by-answer : (a : Answer) (word : ℕ) → let r = afterStep (tellingOf a) word t rest in
-      r .end ≡ Agreed → afterRunStep (afterOf a) t run ≡ runWith Accepted (suc n) (r .state) (r .memory)
+  by-answer : (a : Answer) (word : ℕ) → let r = afterRecord (tellingOf a) word t rest in
+      r .end ≡ Agreed → afterStep (afterOf a) t run ≡ runWith Accepted (suc n) (r .state) (r .memory)
   by-answer answer.Ended word e = by-word (ltb word 4) word e
   by-answer (answer.Trapped cause) word e = by-word (ltb word 4) word e
   by-answer (answer.Interrupted level) word e = by-word (ltb word 4) word e

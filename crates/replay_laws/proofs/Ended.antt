@@ -11,7 +11,7 @@ use Rattle.bus.specs.Memory.{Memory}
 use Rattle.processor_machine.specs.State.{State}
 use Rattle.processor_step.specs.Step.{stepOf}
 use Rattle.processor_laws.specs.Steps.{stepsOf}
-use Rattle.replay.specs.Replay.{recordAt, recordOf, firstDifferenceOf, tellingOf, Replay, afterStep, replayOf}
+use Rattle.replay.specs.Replay.{recordAt, recordOf, firstDifferenceOf, tellingOf, Replay, afterRecord, replayOf}
 use Rattle.replay.specs.declared.End.the-variants.{Agreed, Differed}
 use Rattle.replay.specs.declared.Told.{Told}
 use Rattle.replay.specs.declared.Told.the-variants.{Completed, Ends}
@@ -71,7 +71,7 @@ module _ (k n : ℕ) (trace : List ℕ) (s : State) (m : Memory) (told : telling
 
 module _ (k n : ℕ) (trace : List ℕ) (s : State) (m : Memory) (rest : Replay) (later : EndsFrom (k + 1) n trace (stepOf s m .state) (stepOf s m .memory) rest) where
   by-told : (u : Told) (word : ℕ) → tellingOf (stepOf s m .answer) ≡ u → word ≡ firstDifferenceOf (recordAt trace k) (recordOf s (stepOf s m))
-      → EndsFrom k (suc n) trace s m (afterStep u word (stepOf s m) rest)
+      → EndsFrom k (suc n) trace s m (afterRecord u word (stepOf s m) rest)
   unfolding stepsOf
   by-told (Ends e) word t f =
       record {

@@ -12,7 +12,7 @@ use Rattle.processor_machine.specs.declared.Answer.the-variants as answer
 use Rattle.processor_step.specs.Step.{stepOf}
 use Rattle.processor_laws.specs.Steps.{stepsOf}
 use Rattle.processor_laws.proofs.Runs.{Leaves, step-leaves}
-use Rattle.replay.specs.Replay.{recordAt, recordOf, firstDifferenceOf, tellingOf, Replay, replayWith, oneMore, afterStep, replayOf}
+use Rattle.replay.specs.Replay.{recordAt, recordOf, firstDifferenceOf, tellingOf, Replay, replayWith, oneRecordMore, afterRecord, replayOf}
 use Rattle.replay.specs.declared.End.{End}
 use Rattle.replay.specs.declared.End.the-variants.{Refused, Agreed, Differed, WasHalted, WasFatal, TurnedFatal}
 use Rattle.replay_laws.specs.Ending.{leftOf, ReplaySteps}
@@ -29,13 +29,13 @@ module _ (s : State) (m : Memory) where
   left-more TurnedFatal k = refl
 
   module _ (rest : Replay) (later : (rest .state, rest .memory) ≡ leftOf (rest .end) (rest .agreed) (stepOf s m .state) (stepOf s m .memory)) where
-    by-word : (b : Bool) (word : ℕ) → let r = pick b (replayWith (Differed word) 0 (stepOf s m .state) (stepOf s m .memory)) (oneMore rest) in
+    by-word : (b : Bool) (word : ℕ) → let r = pick b (replayWith (Differed word) 0 (stepOf s m .state) (stepOf s m .memory)) (oneRecordMore rest) in
         (r .state, r .memory) ≡ leftOf (r .end) (r .agreed) s m
     unfolding stepsOf
     by-word true word = refl
     by-word false word = later ∙ left-more (rest .end) (rest .agreed)
 
-    by-answer : (a : Answer) (word : ℕ) → Leaves a (stepOf s m) s m → let r = afterStep (tellingOf a) word (stepOf s m) rest in
+    by-answer : (a : Answer) (word : ℕ) → Leaves a (stepOf s m) s m → let r = afterRecord (tellingOf a) word (stepOf s m) rest in
         (r .state, r .memory) ≡ leftOf (r .end) (r .agreed) s m
     unfolding stepsOf
     by-answer answer.Ended word h = by-word (ltb word 4) word

@@ -22,14 +22,14 @@ use Rattle.replay.specs.declared.Told.{Told}
 use Rattle.replay.specs.declared.Told.the-variants.{Completed, Ends}
 
 -- step number i of the definition, the first being 0, and its record
-abbrev pub stepAt : ℕ → State → Memory → Stepped
-stepAt i s m = stepOf (stepsOf i s m .0) (stepsOf i s m .1)
+abbrev pub nthStep : ℕ → State → Memory → Stepped
+nthStep i s m = stepOf (stepsOf i s m .0) (stepsOf i s m .1)
 
 abbrev pub toldAt : ℕ → State → Memory → Told
-toldAt i s m = tellingOf (stepAt i s m .answer)
+toldAt i s m = tellingOf (nthStep i s m .answer)
 
 abbrev pub stepRecordAt : ℕ → State → Memory → Record
-stepRecordAt i s m = recordOf (stepsOf i s m .0) (stepAt i s m)
+stepRecordAt i s m = recordOf (stepsOf i s m .0) (nthStep i s m)
 
 -- word w of a record, 0 to 3
 abbrev pub wordOf : ℕ → Record → ℕ

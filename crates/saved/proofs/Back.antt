@@ -8,7 +8,6 @@ use mathlib.Core.Path.{_≡_, refl, sym, ap, _∙_}
 use lib.ListN.{length, getD, take, drop, replicate, length-append, length-take, length-drop, drop-of-length-le, length-replicate, getD-replicate, List·getD-eq-default}
 use lib.Seq.{drop-cons, getD-drop, getD-take, take-all}
 use Rattle.word.specs.LittleEndian.{halfAt}
-use Rattle.bus_timer.specs.Timer.{hardwareOf}
 use Rattle.bus_timer.specs.declared.Hardware.{Hardware}
 use Rattle.bus.specs.Memory.{Memory, memoryOf}
 use Rattle.processor_machine.specs.declared.Mode.{Mode}
@@ -18,12 +17,12 @@ use Rattle.saved_bytes.specs.Numbers.{bytesOf, halvesOf, halvesFrom, wordsFrom,
 use Rattle.saved_bytes.proofs.LittleEndian.{length-bytes, length-halves, length-words-from, words-from-append}
 use Rattle.saved_bytes.proofs.Reading as reading
 use Rattle.saved_bytes.proofs.Reading.{Under, under, halves-back, words-back, same-equal, halves-again}
-use Rattle.saved_layout.specs.File.{Bodies, bodiesOf, Sized, HeldBy, hardwareReset}
+use Rattle.saved_layout.specs.File.{Bodies, bodiesOf, SizedBodies, HeldBy, hardwareReset}
 use Rattle.saved_layout.specs.declared.Form.{Form}
 use Rattle.saved_layout.specs.declared.Form.the-variants.{One, Two}
 use Rattle.saved_layout.proofs.Files.{bodies-same}
 use Rattle.saved_kinds.specs.Kinds.{generalFrom, restFrom, drawingFrom, hardwareFrom}
-use Rattle.saved.specs.Body.{modeWordOf, modeOf, restOf, recordWordsOf, linesOf, machineBodiesOf, restoredProcessorOf, processorIn, memoryIn}
+use Rattle.saved.specs.Body.{modeWordOf, modeOf, restOf, recordWordsOf, linesOf, machineBodiesOf, restoredProcessorOf, processorInBodies, memoryIn}
 use Rattle.saved.specs.Calls.{formHolds}
 
 mode-back : (m : Mode) → modeOf (modeWordOf m) ≡ m
@@ -116,15 +115,15 @@ lines-size h = refl
 -- a whole machine
 module _ (p : Processor) (m : Memory) (l : length (p .regs) ≡ 32) (words : (k : ℕ) → getD (recordWordsOf p) k 0 < 2 ^ 32)
     (d : length (m .regs) ≡ 13) (halves : (k : ℕ) → getD (m .regs) k 0 < 65536) (lines : (k : ℕ) → getD (linesOf (p .hardware)) k 0 < 65536) where
-  pub processor-in-back : processorIn (machineBodiesOf p m) ≡ p
-  unfolding processorIn machineBodiesOf
+  pub processor-in-back : processorInBodies (machineBodiesOf p m) ≡ p
+  unfolding processorInBodies machineBodiesOf
   processor-in-back = rw (general-back p l words, rest-back p l words, lines-back (p .hardware) lines) (record-back p l words)
 
   pub memory-in-back : (rom : List ℕ) → memoryIn rom (machineBodiesOf p m) ≡ memoryOf rom (m .wram) (m .vram) (m .pak) (m .regs)
   unfolding memoryIn machineBodiesOf
   memory-in-back rom = rw (drawing-back (m .regs) d halves)
 
-  pub machine-sized : length (m .wram) ≡ 65536 → length (m .vram) ≡ 262144 → Sized (machineBodiesOf p m)
+  pub machine-sized : length (m .wram) ≡ 65536 → length (m .vram) ≡ 262144 → SizedBodies (machineBodiesOf p m)
   unfolding machineBodiesOf
   machine-sized w v =
       record {
@@ -135,7 +134,7 @@ module _ (p : Processor) (m : Memory) (l : length (p .regs) ≡ 32) (words : (k 
         hardware = lines-size (p .hardware);
       }
 
-zeros-bytes : (xs : List ℕ) → xs ≡ replicate 4 0 → bytesOf xs ≡ hardwareReset
+pub zeros-bytes : (xs : List ℕ) → xs ≡ replicate 4 0 → bytesOf xs ≡ hardwareReset
 unfolding bytesOf
 zeros-bytes xs e = rw e
 
@@ -204,10 +203,10 @@ module _ (body : List ℕ) (bytes : (k : ℕ) → getD body k 0 < 256) where
   lines-again l = ap bytesOf lines-are ∙ (halves-again body bytes 4 0 (omega arith) ∙ take-all 8 body (omega arith))
 
 -- all bodies
-pub bodies-again : (b : Bodies) (rom : List ℕ) → Sized b → ((k : ℕ) → getD (b .processor) k 0 < 256) → ((k : ℕ) → getD (b .drawing) k 0 < 256)
+pub bodies-again : (b : Bodies) (rom : List ℕ) → SizedBodies b → ((k : ℕ) → getD (b .processor) k 0 < 256) → ((k : ℕ) → getD (b .drawing) k 0 < 256)
     → ((k : ℕ) → getD (b .hardware) k 0 < 256) → getD (restFrom (b .processor)) 10 0 ≤ 2
-    → machineBodiesOf (processorIn b) (memoryIn rom b) ≡ b
-unfolding machineBodiesOf processorIn memoryIn
+    → machineBodiesOf (processorInBodies b) (memoryIn rom b) ≡ b
+unfolding machineBodiesOf processorInBodies memoryIn
 bodies-again b rom s u v w mode =
     bodies-same (processor-again (b .processor) u (hardwareFrom (b .hardware)) (s .processor) mode) (drawing-again (b .drawing) v (s .drawing)) refl refl refl
     (ap (λ (h : Hardware). bytesOf (linesOf h)) (hardware-again (generalFrom (b .processor)) (restFrom (b .processor)) (hardwareFrom (b .hardware)))

@@ -21,14 +21,14 @@ use Rattle.saved_bytes.specs.Numbers.{bytesOf, wordsFrom, halvesFrom}
 use Rattle.saved_bytes.proofs.LittleEndian.{length-words-from, getD-words-from, length-halves-from, getD-halves-from}
 use Rattle.saved_bytes.proofs.Reading.{same-self}
 use Rattle.saved_layout.specs.Layout.{bodyPlaceOf, lastPlaceOf, fileLengthOf}
-use Rattle.saved_layout.specs.File.{Bodies, fileOf, bodiesIn, contentsOk, hardwareIn, hardwareReset, Sized, HeldBy}
+use Rattle.saved_layout.specs.File.{Bodies, fileOf, bodiesIn, contentsOk, hardwareBytesIn, hardwareReset, SizedBodies, HeldBy}
 use Rattle.saved_layout.specs.declared.Form.{Form}
 use Rattle.saved_layout.specs.declared.Form.the-variants.{One, Two}
 use Rattle.saved_layout.proofs.Files.{file-length, file-held, contents-back, file-again, length-pak-in, sized-in}
 use Rattle.saved_kinds.specs.Fits.{formOf}
-use Rattle.saved_kinds.specs.Kinds.{generalFrom, restFrom, drawingFrom, hardwareFrom, systemOf, wordsOk, processorBodyOk, drawingBodyOk, hardwareBodyOk, bodiesOk, fileOk}
+use Rattle.saved_kinds.specs.Kinds.{generalFrom, restFrom, drawingFrom, hardwareFrom, systemFrom, wordsOk, processorBodyOk, drawingBodyOk, hardwareBodyOk, bodiesOk, fileOk}
 use Rattle.saved_move.proofs.Returning.{form-back}
-use Rattle.saved.specs.Body.{restOf, recordWordsOf, linesOf, machineBodiesOf, restoredProcessorOf, processorIn, memoryIn, modeWordOf}
+use Rattle.saved.specs.Body.{restOf, recordWordsOf, linesOf, machineBodiesOf, restoredProcessorOf, processorInBodies, memoryIn, modeWordOf}
 use Rattle.saved.specs.Calls.{stateFileOf, heldBodiesOf, heldProcessorOf, heldMemoryOf, formHolds, restoredOf, readBackOf}
 use Rattle.saved.specs.Exactly.{Savable, ReadWritten, Exactly, WrittenExactly}
 use Rattle.saved.proofs.Accepting.{Passed, passed, accepts, small, both-true}
@@ -47,7 +47,7 @@ module _ (form : Form) (p : Processor) (m : Memory) (s : Savable form p m) where
   few : length (m .pak) ≤ 16777216
   few = small p m (s .accepted)
 
-  sized : Sized (machineBodiesOf p m)
+  sized : SizedBodies (machineBodiesOf p m)
   sized = machine-sized p m (s .general) (s .words) (s .drawing) (s .halves) (s .lines) (known .lengths .wram-ok) (known .lengths .vram-ok)
 
   held : HeldBy form (machineBodiesOf p m)
@@ -154,7 +154,7 @@ module _ (form : Form) (p : ℕ) (file : List ℕ) (whole : length file ≡ file
   unfolding bodiesIn
   hardware-bytes k = by form k
     where
-      by : (f : Form) (k : ℕ) → getD (hardwareIn f p file) k 0 < 256
+      by : (f : Form) (k : ℕ) → getD (hardwareBytesIn f p file) k 0 < 256
       by One k = zero-bytes 8 k
       by Two k = part-bytes file bytes (lastPlaceOf p) 8 k
 
@@ -171,7 +171,7 @@ module _ (form : Form) (p : ℕ) (file : List ℕ) (whole : length file ≡ file
         (both-true (processorBodyOk (bodiesIn form p file .processor)) (drawingBodyOk (bodiesIn form p file .drawing)) (a .0), a .1)
 
     words-ok : (getD (restFrom (bodiesIn form p file .processor)) 10 0 ≤ 2)
-        × (stateOk (generalFrom (bodiesIn form p file .processor)) (systemOf (restFrom (bodiesIn form p file .processor))) (getD (restFrom (bodiesIn form p file .processor)) 0 0) (getD (restFrom (bodiesIn form p file .processor)) 6 0) ≡ true)
+        × (stateOk (generalFrom (bodiesIn form p file .processor)) (systemFrom (restFrom (bodiesIn form p file .processor))) (getD (restFrom (bodiesIn form p file .processor)) 0 0) (getD (restFrom (bodiesIn form p file .processor)) 6 0) ≡ true)
     unfolding processorBodyOk wordsOk
     words-ok =
         let rest = restFrom (bodiesIn form p file .processor) in
@@ -179,10 +179,10 @@ module _ (form : Form) (p : ℕ) (file : List ℕ) (whole : length file ≡ file
         (leb-true (getD (restFrom (bodiesIn form p file .processor)) 10 0) 2 (a .0), a .1)
 
     -- its records as bodies again, and the file that is written of them
-    pub bodies-are : (rom : List ℕ) → machineBodiesOf (processorIn (bodiesIn form p file)) (memoryIn rom (bodiesIn form p file)) ≡ bodiesIn form p file
+    pub bodies-are : (rom : List ℕ) → machineBodiesOf (processorInBodies (bodiesIn form p file)) (memoryIn rom (bodiesIn form p file)) ≡ bodiesIn form p file
     bodies-are rom = bodies-again (bodiesIn form p file) rom (sized-in p file form whole) processor-bytes drawing-bytes hardware-bytes (words-ok .0)
 
-    written-again : (rom : List ℕ) → stateFileOf form (processorIn (bodiesIn form p file)) (memoryIn rom (bodiesIn form p file)) ≡ file
+    written-again : (rom : List ℕ) → stateFileOf form (processorInBodies (bodiesIn form p file)) (memoryIn rom (bodiesIn form p file)) ≡ file
     unfolding stateFileOf
     written-again rom = ap (fileOf form) (bodies-are rom) ∙ file-again p file form whole bytes (tests .0)
 
@@ -190,7 +190,7 @@ module _ (form : Form) (p : ℕ) (file : List ℕ) (whole : length file ≡ file
     unfolding formHolds bodiesIn linesOf hardwareFrom
     held-lines = by form
       where
-        by : (f : Form) → formHolds f (linesOf (hardwareFrom (hardwareIn f p file))) ≡ true
+        by : (f : Form) → formHolds f (linesOf (hardwareFrom (hardwareBytesIn f p file))) ≡ true
         by One = refl
         by Two = refl
 
@@ -204,18 +204,18 @@ module _ (form : Form) (p : ℕ) (file : List ℕ) (whole : length file ≡ file
             pak-ok = rw (length-pak-in p file form whole) (l .pak-ok);
           }
 
-      accepted-held : acceptanceIn (processorIn (bodiesIn form p file)) (memoryIn rom (bodiesIn form p file)) ≡ Accepted
-      unfolding processorIn restoredProcessorOf memoryIn drawingBodyOk hardwareBodyOk
+      accepted-held : acceptanceIn (processorInBodies (bodiesIn form p file)) (memoryIn rom (bodiesIn form p file)) ≡ Accepted
+      unfolding processorInBodies restoredProcessorOf memoryIn drawingBodyOk hardwareBodyOk
       accepted-held =
-          accepts (processorIn (bodiesIn form p file)) (memoryIn rom (bodiesIn form p file))
+          accepts (processorInBodies (bodiesIn form p file)) (memoryIn rom (bodiesIn form p file))
           (record { lengths = lengths; state = words-ok .1; drawing = three .0 .1; hardware = three .1 })
 
-      general-length : length (processorIn (bodiesIn form p file) .regs) ≡ 32
-      unfolding processorIn restoredProcessorOf generalFrom
+      general-length : length (processorInBodies (bodiesIn form p file) .regs) ≡ 32
+      unfolding processorInBodies restoredProcessorOf generalFrom
       general-length = length-words-from (bodiesIn form p file .processor) 0 32
 
-      words-small : (k : ℕ) → getD (recordWordsOf (processorIn (bodiesIn form p file))) k 0 < 2 ^ 32
-      unfolding processorIn
+      words-small : (k : ℕ) → getD (recordWordsOf (processorInBodies (bodiesIn form p file))) k 0 < 2 ^ 32
+      unfolding processorInBodies
       words-small k =
           rw (words-held (bodiesIn form p file .processor) processor-bytes (hardwareFrom (bodiesIn form p file .hardware)) (words-ok .0))
           (words-fit (bodiesIn form p file .processor) processor-bytes 0 43 k)
@@ -228,16 +228,16 @@ module _ (form : Form) (p : ℕ) (file : List ℕ) (whole : length file ≡ file
       unfolding memoryIn drawingFrom
       halves-small k = halves-fit (bodiesIn form p file .drawing) drawing-bytes 0 13 k
 
-      lines-small : (k : ℕ) → getD (linesOf (processorIn (bodiesIn form p file) .hardware)) k 0 < 65536
-      unfolding processorIn restoredProcessorOf
+      lines-small : (k : ℕ) → getD (linesOf (processorInBodies (bodiesIn form p file) .hardware)) k 0 < 65536
+      unfolding processorInBodies restoredProcessorOf
       lines-small k =
           rw (lines-are (bodiesIn form p file .hardware) hardware-bytes) (halves-fit (bodiesIn form p file .hardware) hardware-bytes 0 4 k)
 
-      lines-held : formHolds form (linesOf (processorIn (bodiesIn form p file) .hardware)) ≡ true
-      unfolding processorIn restoredProcessorOf
+      lines-held : formHolds form (linesOf (processorInBodies (bodiesIn form p file) .hardware)) ≡ true
+      unfolding processorInBodies restoredProcessorOf
       lines-held = held-lines
 
-      savable : Savable form (processorIn (bodiesIn form p file)) (memoryIn rom (bodiesIn form p file))
+      savable : Savable form (processorInBodies (bodiesIn form p file)) (memoryIn rom (bodiesIn form p file))
       savable =
           record {
             accepted = accepted-held;

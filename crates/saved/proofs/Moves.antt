@@ -13,7 +13,7 @@ use Rattle.saved_kinds.specs.Fits.{formOf, pakLengthOf}
 use Rattle.saved_kinds.specs.Kinds.{fileOk}
 use Rattle.saved_move.specs.Move.{pakIn, heldIn, moveVerdictOf, movedOf}
 use Rattle.saved_move.proofs.Returning.{all-passed, lengths-passed, left, fit-in}
-use Rattle.saved.specs.Body.{machineBodiesOf, processorIn, memoryIn}
+use Rattle.saved.specs.Body.{machineBodiesOf, processorInBodies, memoryIn}
 use Rattle.saved.specs.Calls.{stateFileOf, heldBodiesOf, heldProcessorOf, heldMemoryOf}
 use Rattle.saved.specs.Exactly.{MoveWrites}
 use Rattle.saved.proofs.Made.{bodies-are}

@@ -18,7 +18,7 @@ use Rattle.saved_layout.specs.File.{bodiesOf, fileOf, bodiesIn}
 use Rattle.saved_layout.specs.declared.Form.{Form}
 use Rattle.saved_kinds.specs.Fits.{formOf}
 use Rattle.saved_kinds.specs.Kinds.{drawingFrom, fileOk}
-use Rattle.saved.specs.Body.{restOf, recordWordsOf, linesOf, machineBodiesOf, processorIn, memoryIn}
+use Rattle.saved.specs.Body.{restOf, recordWordsOf, linesOf, machineBodiesOf, processorInBodies, memoryIn}
 use Rattle.saved.specs.Calls.{stateFileOf, heldBodiesOf, heldProcessorOf, heldMemoryOf, formHolds, writeVerdictOf, writtenRoomOf, readVerdictOf, restoredOf, readBackOf}
 
 module _ (form : Form) (p : Processor) (m : Memory) (room : List ℕ) where
@@ -79,7 +79,7 @@ module _ (m : Memory) (file : List ℕ) (form : Form) (f : form ≡ formOf file)
   unfolding heldBodiesOf
   held-bodies = ap (λ (g : Form). bodiesIn g (length (m .pak)) file) f
 
-  pub restored-held : (state : Processor) (wram vram pak halves : List ℕ) → state ≡ processorIn (bodiesIn form (length (m .pak)) file)
+  pub restored-held : (state : Processor) (wram vram pak halves : List ℕ) → state ≡ processorInBodies (bodiesIn form (length (m .pak)) file)
       → wram ≡ bodiesIn form (length (m .pak)) file .wram → vram ≡ bodiesIn form (length (m .pak)) file .vram
       → pak ≡ bodiesIn form (length (m .pak)) file .pak → halves ≡ drawingFrom (bodiesIn form (length (m .pak)) file .drawing)
       → restoredOf Accepted state (memoryOf (m .rom) wram vram pak halves) ≡ restoredOf Accepted (heldProcessorOf m file) (heldMemoryOf m file)

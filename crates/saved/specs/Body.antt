@@ -75,8 +75,9 @@ restoredProcessorOf regs rest hardware =
     }
 
 -- the record that bodies stand for
-unfoldable pub processorIn : Bodies → Processor
-processorIn b = restoredProcessorOf (generalFrom (b .processor)) (restFrom (b .processor)) (hardwareFrom (b .hardware))
+unfoldable pub processorInBodies : Bodies → Processor
+processorInBodies b =
+    restoredProcessorOf (generalFrom (b .processor)) (restFrom (b .processor)) (hardwareFrom (b .hardware))
 
 -- the memories and drawing registers that they stand for, beside a ROM
 unfoldable pub memoryIn : List ℕ → Bodies → Memory

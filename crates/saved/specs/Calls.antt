@@ -21,7 +21,7 @@ use Rattle.saved_layout.specs.declared.Form.{Form}
 use Rattle.saved_layout.specs.declared.Form.the-variants.{One, Two}
 use Rattle.saved_kinds.specs.Fits.{formOf}
 use Rattle.saved_kinds.specs.Kinds.{fileOk}
-use Rattle.saved.specs.Body.{linesOf, machineBodiesOf, processorIn, memoryIn}
+use Rattle.saved.specs.Body.{linesOf, machineBodiesOf, processorInBodies, memoryIn}
 
 -- the file of a machine in a form
 unfoldable pub stateFileOf : Form → Processor → Memory → List ℕ
@@ -32,7 +32,7 @@ unfoldable pub heldBodiesOf : Memory → List ℕ → Bodies
 heldBodiesOf m file = bodiesIn (formOf file) (length (m .pak)) file
 
 unfoldable pub heldProcessorOf : Memory → List ℕ → Processor
-heldProcessorOf m file = processorIn (heldBodiesOf m file)
+heldProcessorOf m file = processorInBodies (heldBodiesOf m file)
 
 unfoldable pub heldMemoryOf : Memory → List ℕ → Memory
 heldMemoryOf m file = memoryIn (m .rom) (heldBodiesOf m file)

@@ -1,19 +1,22 @@
--- "Reading gives the state written", refusal 10 exactly, and what a move writes (paper 02, W1 and W12): the statements.
--- Their proofs are `read-written`, `written-exactly` and `move-writes` in proofs/.
+-- "Reading gives the state written", refusal 10 exactly, what a move writes, and that a move and a writer mean one
+-- refusal 16 (paper 02, W1 and W12): the statements. Their proofs are `read-written`, `written-exactly`, `move-writes`
+-- and `sixteen-agrees` in proofs/.
 use Prim.Native.Nat.{ℕ, _^_, _<_}
 use mathlib.Core.Bool.{true, false}
 use mathlib.Core.List.{List}
 use mathlib.Core.Path.{_≡_}
 use lib.ListN.{length, getD}
 use Rattle.refusal.specs.declared.Verdict.the-variants.{Accepted}
+use Rattle.bus_timer.specs.declared.Hardware.{Hardware}
 use Rattle.bus.specs.Memory.{Memory, memoryOf}
 use Rattle.processor.specs.Acceptance.{acceptanceIn}
 use Rattle.processor.specs.declared.Processor.{Processor}
+use Rattle.saved_bytes.specs.Numbers.{bytesOf}
 use Rattle.saved_layout.specs.Layout.{otherOf, fileLengthOf}
 use Rattle.saved_layout.specs.declared.Form.{Form}
 use Rattle.saved_kinds.specs.Fits.{formOf, pakLengthOf}
 use Rattle.saved_kinds.specs.Kinds.{fileOk}
-use Rattle.saved_move.specs.Move.{moveVerdictOf, movedOf}
+use Rattle.saved_move.specs.Move.{holdsBodyOk, moveVerdictOf, movedOf}
 use Rattle.saved.specs.Body.{recordWordsOf, linesOf}
 use Rattle.saved.specs.Calls.{stateFileOf, heldProcessorOf, heldMemoryOf, holdsOk, restoredOf, readBackOf}
 
@@ -63,3 +66,9 @@ MoveWrites =
     (file room : List ℕ) (n : Memory) → ((k : ℕ) → getD file k 0 < 256) → moveVerdictOf file room ≡ Accepted
     → length (n .pak) ≡ pakLengthOf (formOf file) (length file)
     → movedOf file room ≡ stateFileOf (otherOf (formOf file)) (heldProcessorOf n file) (heldMemoryOf n file)
+
+-- 16 of a writer is 16 of a move: a form holds lines and timer exactly where it holds their body
+abbrev pub SixteenAgrees : Type 0
+SixteenAgrees =
+    (form : Form) (h : Hardware) → ((k : ℕ) → getD (linesOf h) k 0 < 65536)
+    → holdsOk form h ≡ holdsBodyOk form (bytesOf (linesOf h))

@@ -66,7 +66,8 @@ fn write_form(
         v ≡ writeVerdictOf form processor (enteringWith rom wram vram pak (drawing .regs)) (now (room .entry))
         ⌝ }
     ensures room { λ _. ⌜
-        now (room .exit) ≡ writtenRoomOf form processor (enteringWith rom wram vram pak (drawing .regs)) (now (room .entry))
+        now (room .exit)
+        ≡ writtenRoomOf form processor (enteringWith rom wram vram pak (drawing .regs)) (now (room .entry))
         ⌝ }
 {
     match processor::calls::verdict(rom, wram, vram, pak, processor, drawing) {
@@ -98,7 +99,8 @@ pub fn write(
         v ≡ writeVerdictOf One processor (enteringWith rom wram vram pak (drawing .regs)) (now (room .entry))
         ⌝ }
     ensures room { λ _. ⌜
-        now (room .exit) ≡ writtenRoomOf One processor (enteringWith rom wram vram pak (drawing .regs)) (now (room .entry))
+        now (room .exit)
+        ≡ writtenRoomOf One processor (enteringWith rom wram vram pak (drawing .regs)) (now (room .entry))
         ⌝ }
 {
     write_form(Form::One, rom, wram, vram, pak, processor, drawing, room)
@@ -118,7 +120,8 @@ pub fn write_2(
         v ≡ writeVerdictOf Two processor (enteringWith rom wram vram pak (drawing .regs)) (now (room .entry))
         ⌝ }
     ensures room { λ _. ⌜
-        now (room .exit) ≡ writtenRoomOf Two processor (enteringWith rom wram vram pak (drawing .regs)) (now (room .entry))
+        now (room .exit)
+        ≡ writtenRoomOf Two processor (enteringWith rom wram vram pak (drawing .regs)) (now (room .entry))
         ⌝ }
 {
     write_form(Form::Two, rom, wram, vram, pak, processor, drawing, room)

@@ -1,5 +1,7 @@
 // The records of a machine as the words and halfwords of a file.
+use bus::DrawingRegisters;
 use bus_timer::Hardware;
+use bus_timer::record;
 use processor::Processor;
 use processor_machine::Mode;
 use saved_bytes::numbers;
@@ -12,7 +14,7 @@ ghost use Rattle.saved_bytes.specs.Numbers.{sameOf};
 ghost use Rattle.saved_layout.specs.Layout.{fileLengthOf};
 ghost use Rattle.saved_layout.specs.File.{bodiesIn};
 ghost use Rattle.saved_kinds.specs.Kinds.{generalFrom, restFrom, drawingFrom, hardwareFrom};
-ghost use Rattle.saved.specs.Body.{modeWordOf, modeOf, restOf, linesOf, restoredProcessorOf, processorIn};
+ghost use Rattle.saved.specs.Body.{modeWordOf, modeOf, restOf, linesOf, restoredProcessorOf, processorInBodies};
 ghost use Rattle.saved.specs.Calls.{formHolds};
 
 fn mode_word(mode: Mode) -> u32
@@ -111,7 +113,9 @@ fn processor_of(regs: [u32; 32], rest: [u32; 11], hardware: Hardware) -> Process
 // The record of a body of kind 1.
 fn processor(body: &[u8], hardware: Hardware) -> Processor
     requires { ⌜ length (now body) ≡ 172 ⌝ }
-    ensures { λ r. ⌜ r ≡ restoredProcessorOf (generalFrom (now (body .entry))) (restFrom (now (body .entry))) hardware ⌝ }
+    ensures { λ r. ⌜
+        r ≡ restoredProcessorOf (generalFrom (now (body .entry))) (restFrom (now (body .entry))) hardware
+        ⌝ }
 {
     let mut regs = [0u32; 32];
     let mut rest = [0u32; 11];
@@ -126,12 +130,7 @@ fn hardware(form: Form, file: &[u8], pak: usize) -> Hardware
     ensures { λ r. ⌜ r ≡ hardwareFrom (bodiesIn form pak (now (file .entry)) .hardware) ⌝ }
 {
     match form {
-        Form::One => Hardware {
-            lines: 0,
-            count: 0,
-            reload: 0,
-            control: 0,
-        },
+        Form::One => record::reset(),
         Form::Two => {
             let last = places::first(Form::Two, pak) + 327878 + pak;
             let end = last + 8;
@@ -143,7 +142,7 @@ fn hardware(form: Form, file: &[u8], pak: usize) -> Hardware
 // The record that a file of the due length holds.
 pub fn held(form: Form, file: &[u8], pak: usize) -> Processor
     requires { ⌜ (length (now file) ≡ fileLengthOf form pak) × (pak ≤ 16777216) ⌝ }
-    ensures { λ r. ⌜ r ≡ processorIn (bodiesIn form pak (now (file .entry))) ⌝ }
+    ensures { λ r. ⌜ r ≡ processorInBodies (bodiesIn form pak (now (file .entry))) ⌝ }
 {
     let at = places::first(form, pak);
     let end = at + 172;
@@ -151,7 +150,7 @@ pub fn held(form: Form, file: &[u8], pak: usize) -> Processor
 }
 
 // The drawing registers that it holds.
-pub fn drawing(form: Form, file: &[u8], pak: usize) -> [u16; 13]
+pub fn drawing(form: Form, file: &[u8], pak: usize) -> DrawingRegisters
     requires { ⌜ (length (now file) ≡ fileLengthOf form pak) × (pak ≤ 16777216) ⌝ }
     ensures { λ r. ⌜ r ≡ drawingFrom (bodiesIn form pak (now (file .entry)) .drawing) ⌝ }
 {

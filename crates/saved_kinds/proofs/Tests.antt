@@ -15,7 +15,7 @@ use Rattle.saved_layout.specs.declared.Form.{Form}
 use Rattle.saved_layout.specs.declared.Form.the-variants.{One, Two}
 use Rattle.saved_layout.proofs.Positions.{second}
 use Rattle.saved_layout.proofs.Written.{processor-part, drawing-part}
-use Rattle.saved_kinds.specs.Kinds.{generalFrom, restFrom, systemOf, wordsOk, processorBodyOk, drawingBodyOk, hardwareFrom, hardwareBodyOk, recordsOk, bodiesOk, fileOk}
+use Rattle.saved_kinds.specs.Kinds.{generalFrom, restFrom, systemFrom, wordsOk, processorBodyOk, drawingBodyOk, hardwareFrom, hardwareBodyOk, recordsOk, bodiesOk, fileOk}
 
 module _ (body general rest : List ℕ) (g : general ≡ wordsFrom body 0 32) (r : rest ≡ wordsFrom body 128 11) where
   opened : wordsOk general rest ≡ processorBodyOk body
@@ -29,11 +29,11 @@ module _ (body general rest : List ℕ) (g : general ≡ wordsFrom body 0 32) (r
   pub mode-none : 2 < getD rest 10 0 → false ≡ processorBodyOk body
   mode-none h = mode-opened h ∙ opened
 
-  state-opened : getD rest 10 0 ≤ 2 → stateOk general (systemOf rest) (getD rest 0 0) (getD rest 6 0) ≡ wordsOk general rest
+  state-opened : getD rest 10 0 ≤ 2 → stateOk general (systemFrom rest) (getD rest 0 0) (getD rest 6 0) ≡ wordsOk general rest
   unfolding wordsOk
   state-opened h = simp (le-leb (getD rest 10 0) 2 h)
 
-  pub state-decides : getD rest 10 0 ≤ 2 → stateOk general (systemOf rest) (getD rest 0 0) (getD rest 6 0) ≡ processorBodyOk body
+  pub state-decides : getD rest 10 0 ≤ 2 → stateOk general (systemFrom rest) (getD rest 0 0) (getD rest 6 0) ≡ processorBodyOk body
   state-decides h = state-opened h ∙ opened
 
 -- lines and timer at reset can be made

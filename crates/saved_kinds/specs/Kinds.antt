@@ -8,7 +8,7 @@ use lib.Dec.{leb}
 use lib.ListN.{getD, take, drop}
 use Rattle.word.specs.LittleEndian.{halfAt}
 use Rattle.bus.specs.Registers.{drawingOk}
-use Rattle.bus_timer.specs.Timer.{hardwareOf}
+use Rattle.bus_timer.specs.Record.{hardwareOf}
 use Rattle.bus_timer.specs.Ports.{hardwareOk}
 use Rattle.bus_timer.specs.declared.Hardware.{Hardware}
 use Rattle.processor.specs.Acceptance.{both, stateOk}
@@ -25,8 +25,8 @@ unfoldable pub restFrom : List ℕ → List ℕ
 restFrom body = wordsFrom body 128 11
 
 -- the stored system registers among the eleven, in the state's order
-abbrev pub systemOf : List ℕ → List ℕ
-systemOf rest =
+abbrev pub systemFrom : List ℕ → List ℕ
+systemFrom rest =
     getD rest 1 0
     ∷ getD rest 2 0
     ∷ getD rest 3 0
@@ -40,7 +40,7 @@ systemOf rest =
 -- the mode is one of three, and 5 has nothing against the processor
 unfoldable pub wordsOk : List ℕ → List ℕ → Bool
 wordsOk general rest =
-    both (leb (getD rest 10 0) 2) (stateOk general (systemOf rest) (getD rest 0 0) (getD rest 6 0))
+    both (leb (getD rest 10 0) 2) (stateOk general (systemFrom rest) (getD rest 0 0) (getD rest 6 0))
 
 unfoldable pub processorBodyOk : List ℕ → Bool
 processorBodyOk body = wordsOk (generalFrom body) (restFrom body)

@@ -1,6 +1,7 @@
 // Whether a body is one that a writer makes for some accepted state, and the same of a whole file. WRAM, VRAM and pak
 // RAM are free.
 use bus_timer::Hardware;
+use bus_timer::record;
 use saved_bytes::numbers;
 use saved_layout::Form;
 use saved_layout::contents;
@@ -53,12 +54,12 @@ pub fn hardware(body: &[u8]) -> Hardware
     requires { ⌜ length (now body) ≡ 8 ⌝ }
     ensures { λ r. ⌜ r ≡ hardwareFrom (now (body .entry)) ⌝ }
 {
-    Hardware {
-        lines: word::half_at(body, 0) as u16,
-        count: word::half_at(body, 2) as u16,
-        reload: word::half_at(body, 4) as u16,
-        control: word::half_at(body, 6) as u16,
-    }
+    record::hardware_of(
+        word::half_at(body, 0) as u16,
+        word::half_at(body, 2) as u16,
+        word::half_at(body, 4) as u16,
+        word::half_at(body, 6) as u16,
+    )
 }
 
 // Kind 6.

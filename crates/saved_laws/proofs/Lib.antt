@@ -1,2 +1,3 @@
 mod Bytes
+pub mod Resetting
 pub mod Salvaged

@@ -14,7 +14,7 @@ use Rattle.saved_kinds.specs.Kinds.{fileOk}
 use Rattle.saved_move.proofs.Returning.{form-back}
 use Rattle.saved.proofs.Made.{written-exactly}
 use Rattle.saved_salvage.specs.Keep.{keptIn}
-use Rattle.saved_salvage.specs.Salvage.{pakIn, salvageVerdictOf, salvagedRoomOf}
+use Rattle.saved_salvage.specs.Salvage.{pakInFormTwo, salvageVerdictOf, salvagedRoomOf}
 use Rattle.saved_salvage.proofs.Unharmed.{salvaged-right, output-is, whole}
 use Rattle.saved_laws.specs.Salvaged.{SalvagedAccepted}
 use Rattle.saved_laws.proofs.Bytes.{output-bytes}
@@ -23,11 +23,11 @@ module _ (file room : List ℕ) (e : salvageVerdictOf file room ≡ Accepted) wh
   form : formOf (salvagedRoomOf file room) ≡ Two
   form = ap formOf (output-is file room e) ∙ form-back Two _
 
-  due : length (salvagedRoomOf file room) ≡ fileLengthOf Two (pakIn file)
+  due : length (salvagedRoomOf file room) ≡ fileLengthOf Two (pakInFormTwo file)
   due = salvaged-right file room e .whole ∙ whole file room e
 
   bytes : ((k : ℕ) → getD file k 0 < 256) → (k : ℕ) → getD (salvagedRoomOf file room) k 0 < 256
-  bytes b k = rw (output-is file room e) (output-bytes (keptIn (pakIn file) file) (pakIn file) file (under 256 file b) k)
+  bytes b k = rw (output-is file room e) (output-bytes (keptIn (pakInFormTwo file) file) (pakInFormTwo file) file (under 256 file b) k)
 
 pub salvaged-accepted : SalvagedAccepted
 salvaged-accepted file room q n b e accepted l =

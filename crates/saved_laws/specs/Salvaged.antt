@@ -12,7 +12,7 @@ use Rattle.processor.specs.declared.Processor.{Processor}
 use Rattle.saved_layout.specs.declared.Form.the-variants.{Two}
 use Rattle.saved.specs.Calls.{stateFileOf, heldProcessorOf, heldMemoryOf}
 use Rattle.saved.specs.Exactly.{Savable}
-use Rattle.saved_salvage.specs.Salvage.{pakIn, salvageVerdictOf, salvagedRoomOf}
+use Rattle.saved_salvage.specs.Salvage.{pakInFormTwo, salvageVerdictOf, salvagedRoomOf}
 
 -- the machine that a file holds, beside the memory n, is one that 1 to 5 accept, and the file is what form 2's writer
 -- makes for it
@@ -25,5 +25,5 @@ pub record FileOfAccepted (n : Memory) (file : List ℕ) : Type 0 where
 abbrev pub SalvagedAccepted : Type 0
 SalvagedAccepted =
     (file room : List ℕ) (q : Processor) (n : Memory) → ((k : ℕ) → getD file k 0 < 256)
-    → salvageVerdictOf file room ≡ Accepted → acceptanceIn q n ≡ Accepted → length (n .pak) ≡ pakIn file
+    → salvageVerdictOf file room ≡ Accepted → acceptanceIn q n ≡ Accepted → length (n .pak) ≡ pakInFormTwo file
     → FileOfAccepted n (salvagedRoomOf file room)

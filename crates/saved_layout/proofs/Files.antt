@@ -13,7 +13,7 @@ use Rattle.saved_bytes.proofs.LittleEndian.{length-bytes}
 use Rattle.saved_bytes.proofs.Reading.{Under, halves-back, same-self, same-equal, halves-again}
 use Rattle.saved_bytes.proofs.Putting.{put-first}
 use Rattle.saved_layout.specs.Layout.{contentsOf, bodyPlaceOf, lastPlaceOf, fileLengthOf}
-use Rattle.saved_layout.specs.File.{Bodies, bodiesOf, sumsOf, lastOf, joinedOf, fileOf, hardwareReset, hardwareIn, bodiesIn, contentsIn, contentsOk, Sized, HeldBy}
+use Rattle.saved_layout.specs.File.{Bodies, bodiesOf, sumsOf, lastOf, joinedOf, fileOf, hardwareReset, hardwareBytesIn, bodiesIn, contentsIn, contentsOk, SizedBodies, HeldBy}
 use Rattle.saved_layout.specs.declared.Form.{Form}
 use Rattle.saved_layout.specs.declared.Form.the-variants.{One, Two}
 use Rattle.saved_layout.proofs.Positions.{first-small, second, third, fourth, fifth, last-place, length-is, contents-end, one-empty, one-some, two-empty, two-some}
@@ -112,7 +112,7 @@ pub bodies-same : {a1 a2 b1 b2 c1 c2 d1 d2 e1 e2 f1 f2 : List ℕ} → a1 ≡ a2
 bodies-same p q r s t u = rw (p, q, r, s, t, u)
 
 -- bodies that stand one after the other from the first place on are those of the file
-module _ (b : Bodies) (s : Sized b) (file : List ℕ) where
+module _ (b : Bodies) (s : SizedBodies b) (file : List ℕ) where
   module _ (form : Form) (start : drop (bodyPlaceOf form (length (b .pak)) 0) file ≡ joinedOf form b) where
     at0 : drop (bodyPlaceOf form (length (b .pak)) 0) file ≡ b .processor ++ (b .drawing ++ (b .wram ++ (b .vram ++ (b .pak ++ lastOf form (b .hardware)))))
     unfolding joinedOf
@@ -133,7 +133,7 @@ module _ (b : Bodies) (s : Sized b) (file : List ℕ) where
     at5 : (n : ℕ) → n ≡ bodyPlaceOf form (length (b .pak)) 4 + (length (b .pak)) → drop n file ≡ lastOf form (b .hardware)
     at5 n e = behind (bodyPlaceOf form (length (b .pak)) 4) (length (b .pak)) n file (b .pak) (lastOf form (b .hardware)) at4 refl e
 
-    pub held : hardwareIn form (length (b .pak)) file ≡ b .hardware → bodiesIn form (length (b .pak)) file ≡ b
+    pub held : hardwareBytesIn form (length (b .pak)) file ≡ b .hardware → bodiesIn form (length (b .pak)) file ≡ b
     unfolding bodiesIn
     held e =
         bodies-same
@@ -145,7 +145,7 @@ module _ (b : Bodies) (s : Sized b) (file : List ℕ) where
         e
 
   last-held : (form : Form) → drop (bodyPlaceOf form (length (b .pak)) 0) file ≡ joinedOf form b → HeldBy form b
-      → hardwareIn form (length (b .pak)) file ≡ b .hardware
+      → hardwareBytesIn form (length (b .pak)) file ≡ b .hardware
   last-held One start h = sym h
   last-held Two start h =
       here-last (lastPlaceOf (length (b .pak))) 8 file (b .hardware)
@@ -178,7 +178,7 @@ module _ (form : Form) (b : Bodies) where
       drop-at (bytesOf (contentsOf form (length (b .pak)) (sumsOf b))) (joinedOf form b) (bodyPlaceOf form (length (b .pak)) 0)
       (length-contents form (length (b .pak)) (sumsOf b))
 
-module _ (b : Bodies) (s : Sized b) where
+module _ (b : Bodies) (s : SizedBodies b) where
   pub joined-length : (form : Form) → length (joinedOf form b) + bodyPlaceOf form (length (b .pak)) 0 ≡ fileLengthOf form (length (b .pak))
   unfolding joinedOf
   joined-length One = simp length-append (omega (arith, s .processor, s .drawing, s .wram, s .vram, length-is One (length (b .pak))))
@@ -211,7 +211,7 @@ next a n m xs e =
     ∙ ap (λ (ys : List ℕ). take n (drop a xs) ++ ys) (drop-drop n a xs ∙ ap (λ (k : ℕ). drop k xs) (sym e))
 
 module _ (p : ℕ) (file : List ℕ) where
-  last-part : (form : Form) → length file ≡ fileLengthOf form p → (n : ℕ) → n ≡ bodyPlaceOf form p 4 + p → drop n file ≡ lastOf form (hardwareIn form p file)
+  last-part : (form : Form) → length file ≡ fileLengthOf form p → (n : ℕ) → n ≡ bodyPlaceOf form p 4 + p → drop n file ≡ lastOf form (hardwareBytesIn form p file)
   last-part One whole n e = drop-of-length-le file {i = n} (omega (arith, length-is One p, fifth One p))
   last-part Two whole n e =
       let f : n ≡ lastPlaceOf p = omega (arith, last-place p, fifth Two p) in
@@ -239,14 +239,14 @@ module _ (p : ℕ) (file : List ℕ) where
     unfolding bodiesIn
     length-pak-in = simp (length-take, length-drop) (omega (arith, length-is form p, fifth form p))
 
-    length-hardware-in : length (hardwareIn form p file) ≡ 8
+    length-hardware-in : length (hardwareBytesIn form p file) ≡ 8
     length-hardware-in = hardware form whole
       where
-        hardware : (f : Form) → length file ≡ fileLengthOf f p → length (hardwareIn f p file) ≡ 8
+        hardware : (f : Form) → length file ≡ fileLengthOf f p → length (hardwareBytesIn f p file) ≡ 8
         hardware One w = length-replicate {A = ℕ} 8 0
         hardware Two w = simp (length-take, length-drop) (omega (arith, length-is Two p, last-place p))
 
-    pub sized-in : Sized (bodiesIn form p file)
+    pub sized-in : SizedBodies (bodiesIn form p file)
     unfolding bodiesIn
     sized-in =
         record {

@@ -10,7 +10,7 @@ use Rattle.saved_bytes.specs.Parts.{putAt, bodySumOf}
 use Rattle.saved_bytes.proofs.LittleEndian.{length-bytes, length-halves}
 use Rattle.saved_bytes.proofs.Putting.{length-put, put-put, put-last}
 use Rattle.saved_layout.specs.Layout.{contentsOf, bodyPlaceOf, lastPlaceOf, fileLengthOf}
-use Rattle.saved_layout.specs.File.{Bodies, bodiesOf, sumsOf, lastOf, joinedOf, fileOf, bodiesIn, contentsIn, contentsOk, Sized}
+use Rattle.saved_layout.specs.File.{Bodies, bodiesOf, sumsOf, lastOf, joinedOf, fileOf, bodiesIn, contentsIn, contentsOk, SizedBodies}
 use Rattle.saved_layout.specs.declared.Form.{Form}
 use Rattle.saved_layout.specs.declared.Form.the-variants.{One, Two}
 use Rattle.saved_layout.proofs.Positions.{second, third, fourth, fifth, last-place, length-is, contents-end}
@@ -49,7 +49,7 @@ records-put d regs rest halves e f g at fits l1 l2 l3 p q r =
 -- a room whose bodies were put from the first place on
 module _ (regs rest halves wram vram pak hardware d : List ℕ) where
   module _ (l1 : length regs ≡ 32) (l2 : length rest ≡ 11) (l3 : length halves ≡ 13) (l4 : length wram ≡ 65536) (l5 : length vram ≡ 262144) (l6 : length hardware ≡ 4) where
-    sized : Sized (bodiesOf (bytesOf (halvesOf (regs ++ rest))) (bytesOf halves) wram vram pak (bytesOf hardware))
+    sized : SizedBodies (bodiesOf (bytesOf (halvesOf (regs ++ rest))) (bytesOf halves) wram vram pak (bytesOf hardware))
     sized =
         record {
           processor = omega (arith, length-words (regs ++ rest), length-append regs rest);

@@ -54,16 +54,16 @@ abbrev pub hardwareReset : List ℕ
 hardwareReset = replicate 8 0
 
 -- kind 6 of a file; a file in form 1 holds lines and timer at reset
-abbrev pub hardwareIn : Form → ℕ → List ℕ → List ℕ
-hardwareIn One pak file = hardwareReset
-hardwareIn Two pak file = take 8 (drop (lastPlaceOf pak) file)
+abbrev pub hardwareBytesIn : Form → ℕ → List ℕ → List ℕ
+hardwareBytesIn One pak file = hardwareReset
+hardwareBytesIn Two pak file = take 8 (drop (lastPlaceOf pak) file)
 
 -- what stands in a file, by the form and the pak RAM's length
 unfoldable pub bodiesIn : Form → ℕ → List ℕ → Bodies
 bodiesIn form pak file =
     bodiesOf (take 172 (drop (bodyPlaceOf form pak 0) file)) (take 26 (drop (bodyPlaceOf form pak 1) file))
     (take 65536 (drop (bodyPlaceOf form pak 2) file)) (take 262144 (drop (bodyPlaceOf form pak 3) file))
-    (take pak (drop (bodyPlaceOf form pak 4) file)) (hardwareIn form pak file)
+    (take pak (drop (bodyPlaceOf form pak 4) file)) (hardwareBytesIn form pak file)
 
 -- the contents that the bodies of a file ask for
 unfoldable pub contentsIn : Form → ℕ → List ℕ → List ℕ
@@ -75,7 +75,7 @@ unfoldable pub contentsOk : Form → ℕ → List ℕ → Bool
 contentsOk form pak file = sameOf (halvesFrom file 0 (length (contentsIn form pak file))) (contentsIn form pak file)
 
 -- the lengths of the bodies
-pub record Sized (b : Bodies) : Type 0 where
+pub record SizedBodies (b : Bodies) : Type 0 where
   pub processor : length (b .processor) ≡ 172
   pub drawing : length (b .drawing) ≡ 26
   pub wram : length (b .wram) ≡ 65536

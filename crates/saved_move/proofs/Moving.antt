@@ -9,7 +9,7 @@ use Rattle.saved_bytes.specs.Numbers.{bytesOf}
 use Rattle.saved_bytes.specs.Parts.{putAt}
 use Rattle.saved_bytes.proofs.Putting.{put-put, put-last}
 use Rattle.saved_layout.specs.Layout.{bodyPlaceOf, fileLengthOf}
-use Rattle.saved_layout.specs.File.{Bodies, bodiesOf, lastOf, joinedOf, fileOf, hardwareReset, bodiesIn, contentsIn, Sized}
+use Rattle.saved_layout.specs.File.{Bodies, bodiesOf, lastOf, joinedOf, fileOf, hardwareReset, bodiesIn, contentsIn, SizedBodies}
 use Rattle.saved_layout.specs.declared.Form.{Form}
 use Rattle.saved_layout.specs.declared.Form.the-variants.{One, Two}
 use Rattle.saved_layout.proofs.Positions.{length-is}
@@ -23,7 +23,7 @@ five-joined : (form : Form) (b : Bodies) → joinedOf form b ≡ fiveOf b ++ las
 unfolding joinedOf
 five-joined form b = simp append-assoc
 
-five-length : (b : Bodies) → Sized b → length (fiveOf b) ≡ 327878 + length (b .pak)
+five-length : (b : Bodies) → SizedBodies b → length (fiveOf b) ≡ 327878 + length (b .pak)
 five-length b s = simp length-append (omega (arith, s .processor, s .drawing, s .wram, s .vram))
 
 -- taken from a file
@@ -42,7 +42,7 @@ ending : (d : List ℕ) (at : ℕ) (xs room : List ℕ) → at + length xs ≡ l
 ending d at xs room e p =
     ap (drop at) (p ∙ put-last d at xs e) ∙ drop-at (take at d) xs at (length-take-le at d (omega arith))
 
-sealed-at : (b : Bodies) (form : Form) (p : ℕ) (room : List ℕ) → Sized b → length (b .pak) ≡ p → drop (bodyPlaceOf form p 0) room ≡ joinedOf form b
+sealed-at : (b : Bodies) (form : Form) (p : ℕ) (room : List ℕ) → SizedBodies b → length (b .pak) ≡ p → drop (bodyPlaceOf form p 0) room ≡ joinedOf form b
     → putAt room 0 (bytesOf (contentsIn form p room)) ≡ fileOf form b
 sealed-at b form p room s e start = rw (← e) (sealed b s room form (rw (← e) at start))
 

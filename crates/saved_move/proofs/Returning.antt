@@ -18,7 +18,7 @@ use Rattle.processor.specs.Acceptance.{both}
 use Rattle.saved_bytes.specs.Numbers.{bytesOf, sameOf}
 use Rattle.saved_bytes.proofs.Reading.{same-self, same-equal}
 use Rattle.saved_layout.specs.Layout.{otherOf, contentsOf, fileLengthOf}
-use Rattle.saved_layout.specs.File.{Bodies, sumsOf, joinedOf, fileOf, bodiesIn, contentsOk, hardwareReset, Sized, HeldBy}
+use Rattle.saved_layout.specs.File.{Bodies, sumsOf, joinedOf, fileOf, bodiesIn, contentsOk, hardwareReset, SizedBodies, HeldBy}
 use Rattle.saved_layout.specs.declared.Form.{Form}
 use Rattle.saved_layout.specs.declared.Form.the-variants.{One, Two}
 use Rattle.saved_layout.proofs.Positions.{one-empty, one-some, two-empty, two-some}
@@ -26,7 +26,7 @@ use Rattle.saved_layout.proofs.Files.{file-length, file-held, contents-back, fi
 use Rattle.saved_kinds.specs.Fits.{formOf, pakLengthOf, fitsOk}
 use Rattle.saved_kinds.specs.Kinds.{bodiesOk, fileOk}
 use Rattle.saved_kinds.proofs.Sizes.{pak-small, fits-exactly}
-use Rattle.saved_move.specs.Move.{pakIn, heldIn, lengthsOk, holdsOk, moveVerdictOf, movedOf}
+use Rattle.saved_move.specs.Move.{pakIn, heldIn, lengthsOk, holdsBodyOk, moveVerdictOf, movedOf}
 use Rattle.saved_move.specs.Back.{ThereAndBack, SixteenExactly}
 use Rattle.saved_move.proofs.Verdicts.{lengths-yes, fit, accepted, no-reset}
 
@@ -57,7 +57,7 @@ both-true false b e =
     absurd (omega arith)
 
 -- the move of a file that was written
-module _ (form : Form) (b : Bodies) (s : Sized b) (h : HeldBy form b) (legal : pakOk (length (b .pak)) ≡ true) (ok : bodiesOk b ≡ true) where
+module _ (form : Form) (b : Bodies) (s : SizedBodies b) (h : HeldBy form b) (legal : pakOk (length (b .pak)) ≡ true) (ok : bodiesOk b ≡ true) where
   fits : (fitsOk form (length (fileOf form b)) ≡ true) × (pakLengthOf form (length (fileOf form b)) ≡ length (b .pak))
   fits = fits-exactly form (length (fileOf form b)) .only (length (b .pak)) legal (sym (file-length b s form))
 
@@ -74,7 +74,7 @@ module _ (form : Form) (b : Bodies) (s : Sized b) (h : HeldBy form b) (legal : p
   ok-back =
       rw (form-back form b, pak-back, contents-back b s form (pak-small (length (b .pak)) legal), file-held b s form h) ok
 
-  pub moves : (room : List ℕ) → length room ≡ fileLengthOf (otherOf form) (length (b .pak)) → holdsOk (otherOf form) (b .hardware) ≡ true
+  pub moves : (room : List ℕ) → length room ≡ fileLengthOf (otherOf form) (length (b .pak)) → holdsBodyOk (otherOf form) (b .hardware) ≡ true
       → (Accepted ≡ moveVerdictOf (fileOf form b) room) × (fileOf (otherOf form) b ≡ movedOf (fileOf form b) room)
   moves room due holds =
       accepted (fileOf form b) room (rw (form-back form b) (fits .0)) (rw (form-back form b, pak-back) due) ok-back
@@ -88,19 +88,19 @@ passed false n v e =
     absurd (omega arith)
 
 opened : (file room : List ℕ)
-    → unless (lengthsOk file room) FileLength (unless (fileOk (formOf file) (pakIn file) file) FileBytes (unless (holdsOk (otherOf (formOf file)) (heldIn file .hardware)) NotAtReset Accepted))
+    → unless (lengthsOk file room) FileLength (unless (fileOk (formOf file) (pakIn file) file) FileBytes (unless (holdsBodyOk (otherOf (formOf file)) (heldIn file .hardware)) NotAtReset Accepted))
     ≡ moveVerdictOf file room
 unfolding moveVerdictOf
 opened file room = refl
 
 module _ (file room : List ℕ) (e : moveVerdictOf file room ≡ Accepted) where
   pub all-passed : (lengthsOk file room ≡ true)
-      × ((fileOk (formOf file) (pakIn file) file ≡ true) × (holdsOk (otherOf (formOf file)) (heldIn file .hardware) ≡ true))
+      × ((fileOk (formOf file) (pakIn file) file ≡ true) × (holdsBodyOk (otherOf (formOf file)) (heldIn file .hardware) ≡ true))
   unfolding moveVerdictOf
   all-passed =
       let a = passed (lengthsOk file room) FileLength _ e in
       let b = passed (fileOk (formOf file) (pakIn file) file) FileBytes _ (a .1) in
-      let c = passed (holdsOk (otherOf (formOf file)) (heldIn file .hardware)) NotAtReset Accepted (b .1) in
+      let c = passed (holdsBodyOk (otherOf (formOf file)) (heldIn file .hardware)) NotAtReset Accepted (b .1) in
       (a .0, (b .0, c .0))
 
   pub lengths-passed : (fitsOk (formOf file) (length file) ≡ true) × (length room ≡ fileLengthOf (otherOf (formOf file)) (pakIn file))
@@ -114,14 +114,14 @@ module _ (file room : List ℕ) (e : moveVerdictOf file room ≡ Accepted) where
   left = rw e
 
 -- lines and timer that form 1 holds are at reset
-holds-reset : (xs : List ℕ) → holdsOk One xs ≡ true → xs ≡ hardwareReset
+holds-reset : (xs : List ℕ) → holdsBodyOk One xs ≡ true → xs ≡ hardwareReset
 holds-reset xs e = same-equal xs hardwareReset e
 
-held-by : (form : Form) (b : Bodies) → holdsOk form (b .hardware) ≡ true → HeldBy form b
+held-by : (form : Form) (b : Bodies) → holdsBodyOk form (b .hardware) ≡ true → HeldBy form b
 held-by One b e = holds-reset (b .hardware) e
 held-by Two b e = tt
 
-holds-by : (form : Form) (b : Bodies) → HeldBy form b → holdsOk form (b .hardware) ≡ true
+holds-by : (form : Form) (b : Bodies) → HeldBy form b → holdsBodyOk form (b .hardware) ≡ true
 holds-by One b h = rw h (same-self hardwareReset)
 holds-by Two b h = refl
 
@@ -131,7 +131,7 @@ held-in Two p file = tt
 
 -- the two moves, by the first file's form and pak RAM
 module _ (form : Form) (p : ℕ) (file back : List ℕ) (bytes : (k : ℕ) → getD file k 0 < 256) (whole : length file ≡ fileLengthOf form p) where
-  module _ (legal : pakOk p ≡ true) (ok : fileOk form p file ≡ true) (holds : holdsOk (otherOf form) (bodiesIn form p file .hardware) ≡ true) where
+  module _ (legal : pakOk p ≡ true) (ok : fileOk form p file ≡ true) (holds : holdsBodyOk (otherOf form) (bodiesIn form p file .hardware) ≡ true) where
     tests : (contentsOk form p file ≡ true) × (bodiesOk (bodiesIn form p file) ≡ true)
     unfolding fileOk
     tests = both-true (contentsOk form p file) (bodiesOk (bodiesIn form p file)) ok
@@ -143,7 +143,7 @@ module _ (form : Form) (p : ℕ) (file back : List ℕ) (bytes : (k : ℕ) → g
         let b = bodiesIn form p file in
         let size = length-pak-in p file form whole in
         let due : length back ≡ fileLengthOf (otherOf (otherOf form)) (length (bodiesIn form p file .pak)) = rw (other-other form, size) (l ∙ whole) in
-        let again : holdsOk (otherOf (otherOf form)) (bodiesIn form p file .hardware) ≡ true
+        let again : holdsBodyOk (otherOf (otherOf form)) (bodiesIn form p file .hardware) ≡ true
         = rw (other-other form) (holds-by form (bodiesIn form p file) (held-in form p file)) in
         let m = moves (otherOf form) (bodiesIn form p file) (sized-in p file form whole) (held-by (otherOf form) (bodiesIn form p file) holds)
         (rw size legal) (tests .1) back due again in
@@ -177,7 +177,7 @@ refused-last false s u e =
     let z : _≡_ {A = ℕ} 0 1 = cc in
     absurd (omega arith)
 
-not-held : (form : Form) (xs : List ℕ) → holdsOk (otherOf form) xs ≡ false → (form ≡ Two) × (xs ≡ hardwareReset → ⊥)
+not-held : (form : Form) (xs : List ℕ) → holdsBodyOk (otherOf form) xs ≡ false → (form ≡ Two) × (xs ≡ hardwareReset → ⊥)
 not-held One xs e =
     let z : _≡_ {A = ℕ} 0 1 = cc in
     absurd (omega arith)
@@ -194,13 +194,13 @@ sixteen-exactly file room = record { refused = refused; only = only }
         → (lengthsOk file room ≡ true)
         × ((fileOk (formOf file) (pakIn file) file ≡ true) × ((formOf file ≡ Two) × (heldIn file .hardware ≡ hardwareReset → ⊥)))
     refused e =
-        let a = refused-last (lengthsOk file room) (fileOk (formOf file) (pakIn file) file) (holdsOk (otherOf (formOf file)) (heldIn file .hardware)) (opened file room ∙ e) in
+        let a = refused-last (lengthsOk file room) (fileOk (formOf file) (pakIn file) file) (holdsBodyOk (otherOf (formOf file)) (heldIn file .hardware)) (opened file room ∙ e) in
         (a .0, (a .1 .0, not-held (formOf file) (heldIn file .hardware) (a .1 .1)))
 
     only : lengthsOk file room ≡ true → fileOk (formOf file) (pakIn file) file ≡ true → formOf file ≡ Two
         → (heldIn file .hardware ≡ hardwareReset → ⊥)
         → moveVerdictOf file room ≡ Refused NotAtReset
     only t s f n =
-        let u : holdsOk (otherOf (formOf file)) (heldIn file .hardware) ≡ false
+        let u : holdsBodyOk (otherOf (formOf file)) (heldIn file .hardware) ≡ false
         = rw f (differs (sameOf (heldIn file .hardware) hardwareReset) (λ e. n (holds-reset (heldIn file .hardware) e))) in
         sym (opened file room) ∙ rw (t, s, u)

@@ -19,7 +19,7 @@ use Rattle.saved_layout.specs.declared.Form.the-variants.{One, Two}
 use Rattle.saved_kinds.specs.Fits.{formOf, pakLengthOf, fitsOk}
 use Rattle.saved_kinds.specs.Kinds.{fileOk}
 use Rattle.saved_kinds.proofs.Sizes.{pak-small, fits-exactly}
-use Rattle.saved_move.specs.Move.{pakIn, heldIn, lengthsOk, holdsOk, moveVerdictOf, movedOf}
+use Rattle.saved_move.specs.Move.{pakIn, heldIn, lengthsOk, holdsBodyOk, moveVerdictOf, movedOf}
 
 -- both clauses of the contract
 abbrev pub Leaves : List ℕ → List ℕ → Verdict → List ℕ → Type 0
@@ -63,18 +63,18 @@ module _ (file room : List ℕ) where
     no-bytes e = by-verdict (Refused FileBytes) (bytes-refused e)
 
     module _ (ok : fileOk (formOf file) (pakIn file) file ≡ true) where
-      reset-refused : holdsOk (otherOf (formOf file)) (heldIn file .hardware) ≡ false → Refused NotAtReset ≡ moveVerdictOf file room
+      reset-refused : holdsBodyOk (otherOf (formOf file)) (heldIn file .hardware) ≡ false → Refused NotAtReset ≡ moveVerdictOf file room
       unfolding moveVerdictOf
       reset-refused e = rw (lengths-yes, ok, e)
 
-      pub no-reset : holdsOk (otherOf (formOf file)) (heldIn file .hardware) ≡ false → Leaves file room (Refused NotAtReset) room
+      pub no-reset : holdsBodyOk (otherOf (formOf file)) (heldIn file .hardware) ≡ false → Leaves file room (Refused NotAtReset) room
       no-reset e = by-verdict (Refused NotAtReset) (reset-refused e)
 
-      held-accepted : holdsOk (otherOf (formOf file)) (heldIn file .hardware) ≡ true → Accepted ≡ moveVerdictOf file room
+      held-accepted : holdsBodyOk (otherOf (formOf file)) (heldIn file .hardware) ≡ true → Accepted ≡ moveVerdictOf file room
       unfolding moveVerdictOf
       held-accepted e = rw (lengths-yes, ok, e)
 
-      pub accepted : holdsOk (otherOf (formOf file)) (heldIn file .hardware) ≡ true → (after : List ℕ)
+      pub accepted : holdsBodyOk (otherOf (formOf file)) (heldIn file .hardware) ≡ true → (after : List ℕ)
           → after ≡ fileOf (otherOf (formOf file)) (heldIn file) → Leaves file room Accepted after
       accepted e after f = let l = by-verdict Accepted (held-accepted e) in (l .0, f ∙ l .1)
 
@@ -110,5 +110,5 @@ module _ (file room : List ℕ) (form : Form) (pak : ℕ) (f : form ≡ formOf f
   pub wrote-is : (after : List ℕ) → after ≡ fileOf (otherOf form) (bodiesIn form pak file) → after ≡ fileOf (otherOf (formOf file)) (heldIn file)
   wrote-is after e = e ∙ (ap (λ (g : Form). fileOf (otherOf g) (bodiesIn form pak file)) f ∙ ap (fileOf (otherOf (formOf file))) held-is)
 
-  pub holds-is : (s : Bool) → holdsOk (otherOf form) (bodiesIn form pak file .hardware) ≡ s → holdsOk (otherOf (formOf file)) (heldIn file .hardware) ≡ s
-  holds-is s e = ap (λ (g : Form). holdsOk (otherOf g) (heldIn file .hardware)) (sym f) ∙ (rw (← held-is) e)
+  pub holds-is : (s : Bool) → holdsBodyOk (otherOf form) (bodiesIn form pak file .hardware) ≡ s → holdsBodyOk (otherOf (formOf file)) (heldIn file .hardware) ≡ s
+  holds-is s e = ap (λ (g : Form). holdsBodyOk (otherOf g) (heldIn file .hardware)) (sym f) ∙ (rw (← held-is) e)

@@ -33,16 +33,16 @@ lengthsOk file room =
     both (fitsOk (formOf file) (length file)) (eqb (length room) (fileLengthOf (otherOf (formOf file)) (pakIn file)))
 
 -- 16: form 2 holds any lines and timer, form 1 only those at reset
-abbrev pub holdsOk : Form → List ℕ → Bool
-holdsOk One hardware = sameOf hardware hardwareReset
-holdsOk Two hardware = true
+abbrev pub holdsBodyOk : Form → List ℕ → Bool
+holdsBodyOk One hardware = sameOf hardware hardwareReset
+holdsBodyOk Two hardware = true
 
 -- 9, 10, 16
 unfoldable pub moveVerdictOf : List ℕ → List ℕ → Verdict
 moveVerdictOf file room =
     unless (lengthsOk file room) FileLength
     (unless (fileOk (formOf file) (pakIn file) file) FileBytes
-    (unless (holdsOk (otherOf (formOf file)) (heldIn file .hardware)) NotAtReset Accepted))
+    (unless (holdsBodyOk (otherOf (formOf file)) (heldIn file .hardware)) NotAtReset Accepted))
 
 -- the room afterwards
 unfoldable pub movedOf : List ℕ → List ℕ → List ℕ

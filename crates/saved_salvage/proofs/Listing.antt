@@ -8,12 +8,12 @@ use lib.ListN.{length, set, replicate, length-append}
 use lib.Seq.{set-append-seam, append-snoc}
 use Rattle.word.specs.Choose.{pick}
 use Rattle.saved_salvage.specs.declared.Kept.{Kept}
-use Rattle.saved_salvage.specs.declared.Listed.{Listed}
+use Rattle.saved_salvage.specs.declared.ListedKinds.{ListedKinds}
 use Rattle.saved_salvage.specs.Told.{withKind, replacedOf, listedKindsOf, addedOf}
 
-pub none-count : (l : Listed) → l ≡ listedKindsOf [] → l .count ≡ 0
+pub none-count : (l : ListedKinds) → l ≡ listedKindsOf [] → l .count ≡ 0
 unfolding listedKindsOf
-none-count l e = ap (λ (m : Listed). m .count) e
+none-count l e = ap (λ (m : ListedKinds). m .count) e
 
 zeros-more : (n : ℕ) → n < 6 → replicate {A = ℕ} (6 - n) 0 ≡ 0 ∷ replicate (6 - (n + 1)) 0
 zeros-more n h =
@@ -40,12 +40,12 @@ with-length xs kind true = omega arith
 with-length xs kind false = simp length-append (omega arith)
 
 -- one kind after the other
-step : (xs : List ℕ) (kind : ℕ) (kept : Bool) (l m : Listed) (n : ℕ) → n < 6 → length xs ≤ n → l ≡ listedKindsOf xs → m ≡ addedOf l kind kept
+step : (xs : List ℕ) (kind : ℕ) (kept : Bool) (l m : ListedKinds) (n : ℕ) → n < 6 → length xs ≤ n → l ≡ listedKindsOf xs → m ≡ addedOf l kind kept
     → (m ≡ listedKindsOf (withKind xs kind kept)) × (length (withKind xs kind kept) ≤ n + 1)
 step xs kind kept l m n few small e f =
-    (f ∙ (ap (λ (x : Listed). addedOf x kind kept) e ∙ added-listed xs kind (omega arith) kept), omega (arith, with-length xs kind kept))
+    (f ∙ (ap (λ (x : ListedKinds). addedOf x kind kept) e ∙ added-listed xs kind (omega arith) kept), omega (arith, with-length xs kind kept))
 
-pub all-listed : (k : Kept) (l0 l1 l2 l3 l4 l5 l6 : Listed) → l0 ≡ listedKindsOf [] → l1 ≡ addedOf l0 1 (k .processor) → l2 ≡ addedOf l1 2 (k .drawing)
+pub all-listed : (k : Kept) (l0 l1 l2 l3 l4 l5 l6 : ListedKinds) → l0 ≡ listedKindsOf [] → l1 ≡ addedOf l0 1 (k .processor) → l2 ≡ addedOf l1 2 (k .drawing)
     → l3 ≡ addedOf l2 3 (k .wram) → l4 ≡ addedOf l3 4 (k .vram) → l5 ≡ addedOf l4 5 (k .pak) → l6 ≡ addedOf l5 6 (k .hardware)
     → l6 ≡ listedKindsOf (replacedOf k)
 unfolding replacedOf

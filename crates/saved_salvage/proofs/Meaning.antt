@@ -28,7 +28,7 @@ use Rattle.saved_salvage.specs.declared.Kept.{Kept}
 use Rattle.saved_salvage.specs.declared.Salvaged.{Salvaged}
 use Rattle.saved_salvage.specs.Keep.{keepsOf, keptFrom, keptIn, processorReset, keptBodiesOf}
 use Rattle.saved_salvage.specs.Differ.{either, partDiffers, entryDiffers, entriesDiffer, entriesKept, contentsDiffer}
-use Rattle.saved_salvage.specs.Salvage.{outputOf, pakIn, toldWhen, salvageVerdictOf, salvageOf}
+use Rattle.saved_salvage.specs.Salvage.{outputOf, pakInFormTwo, toldWhen, salvageVerdictOf, salvageOf}
 use Rattle.saved_salvage.specs.Means.{entryRight, entriesRight, contentsRight, ContentsDifferMeans}
 use Rattle.saved_salvage.proofs.Salvaging.{by-verdict}
 use Rattle.saved_salvage.proofs.Unharmed.{both-true, fit, whole, size}
@@ -302,19 +302,19 @@ module _ (p : ℕ) (file sums rest : List ℕ) (few : p ≤ 16777216) (small : (
       (not-either (sameOf (halvesFrom file 0 3) (0 ∷ 2 ∷ length (partsOf Two p) ∷ [])) (entriesRight 6 (contentsEndOf Two (length (partsOf Two p))) (partsOf Two p) file))
 
 output-front : (file room : List ℕ) → salvageVerdictOf file room ≡ Accepted
-    → outputOf (pakIn file) file
-    ≡ bytesOf (contentsOf Two (pakIn file) (sumsOf (keptBodiesOf (keptIn (pakIn file) file) (bodiesIn Two (pakIn file) file)))) ++ joinedOf Two (keptBodiesOf (keptIn (pakIn file) file) (bodiesIn Two (pakIn file) file))
+    → outputOf (pakInFormTwo file) file
+    ≡ bytesOf (contentsOf Two (pakInFormTwo file) (sumsOf (keptBodiesOf (keptIn (pakInFormTwo file) file) (bodiesIn Two (pakInFormTwo file) file)))) ++ joinedOf Two (keptBodiesOf (keptIn (pakInFormTwo file) file) (bodiesIn Two (pakInFormTwo file) file))
 unfolding outputOf fileOf
 output-front file room e = rw (size file room e)
 
 kept-matches : (file : List ℕ)
-    → Matches file (sumsOf (keptBodiesOf (keptIn (pakIn file) file) (bodiesIn Two (pakIn file) file))) 6 (partsOf Two (pakIn file)) (entriesKept (pakIn file) (keptIn (pakIn file) file))
+    → Matches file (sumsOf (keptBodiesOf (keptIn (pakInFormTwo file) file) (bodiesIn Two (pakInFormTwo file) file))) 6 (partsOf Two (pakInFormTwo file)) (entriesKept (pakInFormTwo file) (keptIn (pakInFormTwo file) file))
 unfolding keptIn
-kept-matches file = matches (pakIn file) file (bodiesIn Two (pakIn file) file)
+kept-matches file = matches (pakInFormTwo file) file (bodiesIn Two (pakInFormTwo file) file)
 
 pub contents-differ-means : ContentsDifferMeans
 contents-differ-means file room bytes e =
     sym (ap (λ (s : Salvaged). s .differ) (by-verdict file room Accepted e .0))
-    ∙ (ap (contentsDiffer (pakIn file) (keptIn (pakIn file) file) file) (output-front file room e)
-    ∙ contents-mean (pakIn file) file (sumsOf (keptBodiesOf (keptIn (pakIn file) file) (bodiesIn Two (pakIn file) file))) _ (pak-small (pakIn file) (fit file room e .0))
-    (sums-small (keptBodiesOf (keptIn (pakIn file) file) (bodiesIn Two (pakIn file) file))) bytes (whole file room e) (keptIn (pakIn file) file) (kept-matches file))
+    ∙ (ap (contentsDiffer (pakInFormTwo file) (keptIn (pakInFormTwo file) file) file) (output-front file room e)
+    ∙ contents-mean (pakInFormTwo file) file (sumsOf (keptBodiesOf (keptIn (pakInFormTwo file) file) (bodiesIn Two (pakInFormTwo file) file))) _ (pak-small (pakInFormTwo file) (fit file room e .0))
+    (sums-small (keptBodiesOf (keptIn (pakInFormTwo file) file) (bodiesIn Two (pakInFormTwo file) file))) bytes (whole file room e) (keptIn (pakInFormTwo file) file) (kept-matches file))

@@ -12,7 +12,7 @@ use Rattle.saved_bytes.specs.Parts.{putAt}
 use Rattle.saved_bytes.proofs.LittleEndian.{length-bytes, length-halves}
 use Rattle.saved_bytes.proofs.Putting.{length-put, put-put, put-last}
 use Rattle.saved_layout.specs.Layout.{bodyPlaceOf, fileLengthOf}
-use Rattle.saved_layout.specs.File.{Bodies, bodiesOf, joinedOf, fileOf, bodiesIn, contentsIn, Sized}
+use Rattle.saved_layout.specs.File.{Bodies, bodiesOf, joinedOf, fileOf, bodiesIn, contentsIn, SizedBodies}
 use Rattle.saved_layout.specs.declared.Form.the-variants.{Two}
 use Rattle.saved_layout.proofs.Positions.{length-is}
 use Rattle.saved_layout.proofs.Files.{sealed, joined-length}
@@ -33,8 +33,8 @@ length-first : (k : Bool) (xs : List ℕ) → length xs ≡ 172 → length (pick
 length-first true xs e = e
 length-first false xs e = length-reset
 
-module _ (k : Kept) (b : Bodies) (s : Sized b) where
-  pub kept-sized : Sized (keptBodiesOf k b)
+module _ (k : Kept) (b : Bodies) (s : SizedBodies b) where
+  pub kept-sized : SizedBodies (keptBodiesOf k b)
   unfolding keptBodiesOf
   kept-sized =
       record {
@@ -69,7 +69,7 @@ module _ (d : List ℕ) (at : ℕ) (x1 x2 x3 x4 x5 x6 : List ℕ) where
       joined = simp append-assoc
 
 -- the bodies put are those of the output
-module _ (k : Kept) (b : Bodies) (s : Sized b) (p : ℕ) (e : length (b .pak) ≡ p) (d : List ℕ) (at : ℕ) (fits : at + 327886 + p ≤ length d) where
+module _ (k : Kept) (b : Bodies) (s : SizedBodies b) (p : ℕ) (e : length (b .pak) ≡ p) (d : List ℕ) (at : ℕ) (fits : at + 327886 + p ≤ length d) where
   output-joined : pick (k .processor) (b .processor) processorReset
       ++ (orZeros (k .drawing) (b .drawing)
       ++ (orZeros (k .wram) (b .wram) ++ (orZeros (k .vram) (b .vram) ++ (orZeros (k .pak) (b .pak) ++ orZeros (k .hardware) (b .hardware)))))
@@ -103,7 +103,7 @@ module _ (k : Kept) (b : Bodies) (s : Sized b) (p : ℕ) (e : length (b .pak) �
       ∙ ap (putAt d at) output-joined
 
 -- with the contents before them the room is the output
-module _ (p : ℕ) (b : Bodies) (s : Sized b) (e : length (b .pak) ≡ p) (d : List ℕ) (whole : length d ≡ fileLengthOf Two p) where
+module _ (p : ℕ) (b : Bodies) (s : SizedBodies b) (e : length (b .pak) ≡ p) (d : List ℕ) (whole : length d ≡ fileLengthOf Two p) where
   pub output-sealed : (f g : List ℕ) → f ≡ putAt d (bodyPlaceOf Two p 0) (joinedOf Two b) → g ≡ putAt f 0 (bytesOf (contentsIn Two p f)) → g ≡ fileOf Two b
   output-sealed f g q r =
       let l = joined-length b s Two in

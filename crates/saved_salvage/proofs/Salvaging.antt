@@ -20,12 +20,12 @@ use Rattle.saved_kinds.specs.Fits.{pakLengthOf, fitsOk}
 use Rattle.refusal.specs.Number.{whenAccepted}
 use Rattle.saved_kinds.proofs.Sizes.{pak-small, fits-exactly}
 use Rattle.saved_salvage.specs.declared.Kept.{Kept}
-use Rattle.saved_salvage.specs.declared.Listed.{Listed}
+use Rattle.saved_salvage.specs.declared.ListedKinds.{ListedKinds}
 use Rattle.saved_salvage.specs.declared.Salvaged.{Salvaged}
 use Rattle.saved_salvage.specs.Keep.{keptIn, keptBodiesOf}
 use Rattle.saved_salvage.specs.Told.{listedKindsOf, replacedOf}
 use Rattle.saved_salvage.specs.Differ.{contentsDiffer}
-use Rattle.saved_salvage.specs.Salvage.{outputOf, pakIn, salvageVerdictOf, toldOf, toldWhen, salvageOf, salvagedRoomOf}
+use Rattle.saved_salvage.specs.Salvage.{outputOf, pakInFormTwo, salvageVerdictOf, toldOf, toldWhen, salvageOf, salvagedRoomOf}
 use Rattle.saved_salvage.proofs.Replacing.{kept-sized, kept-pak, output-sealed}
 
 -- both clauses of the contract
@@ -39,7 +39,7 @@ fit n pak e t =
 
 module _ (file room : List ℕ) where
   pub by-verdict : (v : Verdict) → salvageVerdictOf file room ≡ v
-      → (toldWhen v file ≡ salvageOf file room) × (whenAccepted v room (outputOf (pakIn file) file) ≡ salvagedRoomOf file room)
+      → (toldWhen v file ≡ salvageOf file room) × (whenAccepted v room (outputOf (pakInFormTwo file) file) ≡ salvagedRoomOf file room)
   unfolding salvageOf salvagedRoomOf
   by-verdict v e = (rw e, rw e)
 
@@ -55,13 +55,13 @@ module _ (file room : List ℕ) where
   unfolding salvageVerdictOf
   verdict-accepted e f = simp (eq-eqb _ _ e, f)
 
-  refused : (n : refusal.Refusal) (l : Listed) → salvageVerdictOf file room ≡ Refused n → l ≡ listedKindsOf [] → Leaves file room (toldOf (Refused n) l false) room
-  refused n l e f = let v = by-verdict (Refused n) e in (ap (λ (x : Listed). toldOf (Refused n) x false) f ∙ v .0, v .1)
+  refused : (n : refusal.Refusal) (l : ListedKinds) → salvageVerdictOf file room ≡ Refused n → l ≡ listedKindsOf [] → Leaves file room (toldOf (Refused n) l false) room
+  refused n l e f = let v = by-verdict (Refused n) e in (ap (λ (x : ListedKinds). toldOf (Refused n) x false) f ∙ v .0, v .1)
 
-  pub no-length : (l : Listed) → (length room ≡ length file → ⊥) → l ≡ listedKindsOf [] → Leaves file room (toldOf (Refused FileLength) l false) room
+  pub no-length : (l : ListedKinds) → (length room ≡ length file → ⊥) → l ≡ listedKindsOf [] → Leaves file room (toldOf (Refused FileLength) l false) room
   no-length l n f = refused FileLength l (length-refused n) f
 
-  pub no-layout : (l : Listed) → length room ≡ length file → fitsOk Two (length file) ≡ false → l ≡ listedKindsOf []
+  pub no-layout : (l : ListedKinds) → length room ≡ length file → fitsOk Two (length file) ≡ false → l ≡ listedKindsOf []
       → Leaves file room (toldOf (Refused NoLayout) l false) room
   no-layout l e g f = refused NoLayout l (layout-refused e g) f
 
@@ -76,7 +76,7 @@ module _ (file room : List ℕ) where
         (kept-pak kept (bodiesIn Two pak file) s ∙ length-pak-in pak file Two whole) room (alike ∙ whole) f g p q
         ∙ ap (λ (x : Kept). fileOf Two (keptBodiesOf x (bodiesIn Two pak file))) k
 
-    pub accepted : (f g : List ℕ) (l : Listed) (t : Bool) → f ≡ putAt room (bodyPlaceOf Two pak 0) (joinedOf Two (keptBodiesOf kept (bodiesIn Two pak file)))
+    pub accepted : (f g : List ℕ) (l : ListedKinds) (t : Bool) → f ≡ putAt room (bodyPlaceOf Two pak 0) (joinedOf Two (keptBodiesOf kept (bodiesIn Two pak file)))
         → g ≡ putAt f 0 (bytesOf (contentsIn Two pak f)) → l ≡ listedKindsOf (replacedOf kept) → t ≡ contentsDiffer pak kept file g
         → Leaves file room (toldOf Accepted l t) g
     accepted f g l t p q r u =
@@ -89,5 +89,5 @@ module _ (file room : List ℕ) where
           o ∙ (ap (λ (n : ℕ). outputOf n file) told ∙ v .1),
         )
       where
-        told-same : (x : Listed) (y : Bool) → {m : Listed} {n : Bool} → x ≡ m → y ≡ n → toldOf Accepted x y ≡ toldOf Accepted m n
+        told-same : (x : ListedKinds) (y : Bool) → {m : ListedKinds} {n : Bool} → x ≡ m → y ≡ n → toldOf Accepted x y ≡ toldOf Accepted m n
         told-same x y e f = rw (e, f)

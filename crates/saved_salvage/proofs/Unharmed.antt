@@ -22,7 +22,7 @@ use Rattle.saved_bytes.specs.Numbers.{bytesOf, halvesOf, halvesFrom, wordsFrom,
 use Rattle.saved_bytes.specs.Parts.{bodySumOf}
 use Rattle.saved_bytes.proofs.Reading.{same-self}
 use Rattle.saved_layout.specs.Layout.{contentsOf, fileLengthOf}
-use Rattle.saved_layout.specs.File.{Bodies, sumsOf, joinedOf, fileOf, bodiesIn, contentsOk, Sized, HeldBy}
+use Rattle.saved_layout.specs.File.{Bodies, sumsOf, joinedOf, fileOf, bodiesIn, contentsOk, SizedBodies, HeldBy}
 use Rattle.saved_layout.specs.declared.Form.the-variants.{Two}
 use Rattle.saved_layout.proofs.Positions.{two-empty, two-some}
 use Rattle.saved_layout.proofs.Files.{sums-small, file-length, file-held, contents-back, file-again, length-pak-in, sized-in}
@@ -34,7 +34,7 @@ use Rattle.saved_salvage.specs.declared.Kept.{Kept}
 use Rattle.saved_salvage.specs.Keep.{keepsOf, lastSumPlace, keptFrom, keptIn, resetWords, processorReset, orZeros, keptBodiesOf}
 use Rattle.saved_salvage.specs.Told.{withKind, replacedOf, listedKindsOf}
 use Rattle.saved_salvage.specs.Differ.{partDiffers, entryDiffers, entriesDiffer, entriesKept, contentsDiffer}
-use Rattle.saved_salvage.specs.Salvage.{outputOf, pakIn, toldOf, toldWhen, salvageVerdictOf, salvageOf, salvagedRoomOf}
+use Rattle.saved_salvage.specs.Salvage.{outputOf, pakInFormTwo, toldOf, toldWhen, salvageVerdictOf, salvageOf, salvagedRoomOf}
 use Rattle.saved_salvage.specs.Right.{Right, SalvagedRight, Unchanged, UndamagedEqual, SalvageAgain, listsOf, KeptExactly, KeptExactlyAll}
 use Rattle.saved_salvage.proofs.Replacing.{kept-sized, kept-pak}
 use Rattle.saved_salvage.proofs.Salvaging.{by-verdict, verdict-accepted}
@@ -67,7 +67,7 @@ hardware-made : (k : Bool) (body : List ℕ) → length body ≡ 8 → (k ≡ tr
 hardware-made true body l e = e refl
 hardware-made false body l e = rw l reset-ok
 
-module _ (pak : ℕ) (file : List ℕ) (b : Bodies) (s : Sized b) where
+module _ (pak : ℕ) (file : List ℕ) (b : Bodies) (s : SizedBodies b) where
   kept-processor : keptFrom pak file b .processor ≡ true → processorBodyOk (b .processor) ≡ true
   unfolding keptFrom
   kept-processor e = both-true (eqb (wordAt file 16) (bodySumOf (b .processor))) (processorBodyOk (b .processor)) e .1
@@ -103,33 +103,33 @@ module _ (file room : List ℕ) (e : salvageVerdictOf file room ≡ Accepted) wh
       let b = passed (fitsOk Two (length file)) NoLayout Accepted (a .1) in
       (eqb-true (length room) (length file) (a .0), b .0)
 
-  pub fit : (pakOk (pakIn file) ≡ true) × (fileLengthOf Two (pakIn file) ≡ length file)
+  pub fit : (pakOk (pakInFormTwo file) ≡ true) × (fileLengthOf Two (pakInFormTwo file) ≡ length file)
   fit = fits-exactly Two (length file) .fits (all-passed .1)
 
-  pub whole : length file ≡ fileLengthOf Two (pakIn file)
+  pub whole : length file ≡ fileLengthOf Two (pakInFormTwo file)
   whole = sym (fit .1)
 
-  pub left : outputOf (pakIn file) file ≡ salvagedRoomOf file room
+  pub left : outputOf (pakInFormTwo file) file ≡ salvagedRoomOf file room
   left = by-verdict file room Accepted e .1
 
-  pub sized : Sized (keptBodiesOf (keptIn (pakIn file) file) (bodiesIn Two (pakIn file) file))
-  sized = kept-sized (keptIn (pakIn file) file) (bodiesIn Two (pakIn file) file) (sized-in (pakIn file) file Two whole)
+  pub sized : SizedBodies (keptBodiesOf (keptIn (pakInFormTwo file) file) (bodiesIn Two (pakInFormTwo file) file))
+  sized = kept-sized (keptIn (pakInFormTwo file) file) (bodiesIn Two (pakInFormTwo file) file) (sized-in (pakInFormTwo file) file Two whole)
 
-  pub size : length (keptBodiesOf (keptIn (pakIn file) file) (bodiesIn Two (pakIn file) file) .pak) ≡ pakIn file
+  pub size : length (keptBodiesOf (keptIn (pakInFormTwo file) file) (bodiesIn Two (pakInFormTwo file) file) .pak) ≡ pakInFormTwo file
   size =
-      kept-pak (keptIn (pakIn file) file) (bodiesIn Two (pakIn file) file) (sized-in (pakIn file) file Two whole)
-      ∙ length-pak-in (pakIn file) file Two whole
+      kept-pak (keptIn (pakInFormTwo file) file) (bodiesIn Two (pakInFormTwo file) file) (sized-in (pakInFormTwo file) file Two whole)
+      ∙ length-pak-in (pakInFormTwo file) file Two whole
 
-  made : bodiesOk (keptBodiesOf (keptIn (pakIn file) file) (bodiesIn Two (pakIn file) file)) ≡ true
+  made : bodiesOk (keptBodiesOf (keptIn (pakInFormTwo file) file) (bodiesIn Two (pakInFormTwo file) file)) ≡ true
   unfolding keptIn
-  made = output-made (pakIn file) file (bodiesIn Two (pakIn file) file) (sized-in (pakIn file) file Two whole)
+  made = output-made (pakInFormTwo file) file (bodiesIn Two (pakInFormTwo file) file) (sized-in (pakInFormTwo file) file Two whole)
 
-  pub output-is : salvagedRoomOf file room ≡ fileOf Two (keptBodiesOf (keptIn (pakIn file) file) (bodiesIn Two (pakIn file) file))
+  pub output-is : salvagedRoomOf file room ≡ fileOf Two (keptBodiesOf (keptIn (pakInFormTwo file) file) (bodiesIn Two (pakInFormTwo file) file))
   unfolding outputOf
   output-is = sym left
 
 -- a file that was written from bodies that can be made
-module _ (b : Bodies) (s : Sized b) (legal : pakOk (length (b .pak)) ≡ true) (ok : bodiesOk b ≡ true) where
+module _ (b : Bodies) (s : SizedBodies b) (legal : pakOk (length (b .pak)) ≡ true) (ok : bodiesOk b ≡ true) where
   written-ok : fileOk Two (length (b .pak)) (fileOf Two b) ≡ true
   unfolding fileOk
   written-ok = rw (contents-back b s Two (pak-small (length (b .pak)) legal), file-held b s Two tt) ok
@@ -141,7 +141,7 @@ salvaged-right file room e =
       whole = ap length (output-is file room e) ∙ (file-length _ (sized file room e) Two ∙ (ap (fileLengthOf Two) (size file room e) ∙ fit file room e .1));
       right =
           rw (output-is file room e)
-          (rw (size file room e) at (written-ok (keptBodiesOf (keptIn (pakIn file) file) (bodiesIn Two (pakIn file) file)) (sized file room e) (rw (size file room e) legal) (made file room e)));
+          (rw (size file room e) at (written-ok (keptBodiesOf (keptIn (pakInFormTwo file) file) (bodiesIn Two (pakInFormTwo file) file)) (sized file room e) (rw (size file room e) legal) (made file room e)));
     }
 
 -- the sums stand in the contents at their places
@@ -211,7 +211,7 @@ unfolding contentsDiffer
 contents-self p k xs = rw (part-self 0 6 xs) (entries-self (entriesKept p k) 6 xs)
 
 -- a file that was written from bodies that can be made comes out equal
-module _ (b : Bodies) (s : Sized b) (legal : pakOk (length (b .pak)) ≡ true) (ok : bodiesOk b ≡ true) where
+module _ (b : Bodies) (s : SizedBodies b) (legal : pakOk (length (b .pak)) ≡ true) (ok : bodiesOk b ≡ true) where
   oks : ((processorBodyOk (b .processor) ≡ true) × (drawingBodyOk (b .drawing) ≡ true)) × (hardwareBodyOk (b .hardware) ≡ true)
   unfolding bodiesOk
   oks =
@@ -245,7 +245,7 @@ module _ (b : Bodies) (s : Sized b) (legal : pakOk (length (b .pak)) ≡ true) (
   unfolding outputOf keptBodiesOf allKept
   output-same = rw (kept-all, file-held b s Two tt)
 
-  told-pak : (fitsOk Two (length (fileOf Two b)) ≡ true) × (pakIn (fileOf Two b) ≡ length (b .pak))
+  told-pak : (fitsOk Two (length (fileOf Two b)) ≡ true) × (pakInFormTwo (fileOf Two b) ≡ length (b .pak))
   told-pak = fits-exactly Two (length (fileOf Two b)) .only (length (b .pak)) legal (sym (file-length b s Two))
 
   pub unchanged : (room : List ℕ) → length room ≡ length (fileOf Two b) → Unchanged (fileOf Two b) room
@@ -262,15 +262,15 @@ module _ (b : Bodies) (s : Sized b) (legal : pakOk (length (b .pak)) ≡ true) (
 pub undamaged-equal : UndamagedEqual
 undamaged-equal file room bytes e ok =
     let w = whole file room e in
-    let t = parts (pakIn file) file ok in
-    let f : fileOf Two (bodiesIn Two (pakIn file) file) ≡ file = file-again (pakIn file) file Two w bytes (t .0) in
-    let l = length-pak-in (pakIn file) file Two w in
-    rw f at (unchanged (bodiesIn Two (pakIn file) file) (sized-in (pakIn file) file Two w) (rw l (fit file room e .0)) (t .1) room (rw f (all-passed file room e .0)))
+    let t = parts (pakInFormTwo file) file ok in
+    let f : fileOf Two (bodiesIn Two (pakInFormTwo file) file) ≡ file = file-again (pakInFormTwo file) file Two w bytes (t .0) in
+    let l = length-pak-in (pakInFormTwo file) file Two w in
+    rw f at (unchanged (bodiesIn Two (pakInFormTwo file) file) (sized-in (pakInFormTwo file) file Two w) (rw l (fit file room e .0)) (t .1) room (rw f (all-passed file room e .0)))
 
 pub salvage-again : SalvageAgain
 salvage-again file room again e l =
     rw (output-is file room e)
-    (unchanged (keptBodiesOf (keptIn (pakIn file) file) (bodiesIn Two (pakIn file) file)) (sized file room e) (rw (size file room e) (fit file room e .0)) (made file room e) again
+    (unchanged (keptBodiesOf (keptIn (pakInFormTwo file) file) (bodiesIn Two (pakInFormTwo file) file)) (sized file room e) (rw (size file room e) (fit file room e .0)) (made file room e) again
     (l ∙ (sym (salvaged-right file room e .whole) ∙ ap length (output-is file room e))))
 
 -- which kinds are listed
@@ -322,15 +322,15 @@ module _ (k : Kept) where
 
 pub kept-exactly : KeptExactlyAll
 kept-exactly file room e =
-    let k = keptIn (pakIn file) file in
+    let k = keptIn (pakInFormTwo file) file in
     record {
       bodies =
           rw (output-is file room e)
-          (rw (size file room e) at (file-held (keptBodiesOf (keptIn (pakIn file) file) (bodiesIn Two (pakIn file) file)) (sized file room e) Two tt));
-      processor = lists-1 (keptIn (pakIn file) file);
-      drawing = lists-2 (keptIn (pakIn file) file);
-      wram = lists-3 (keptIn (pakIn file) file);
-      vram = lists-4 (keptIn (pakIn file) file);
-      pak = lists-5 (keptIn (pakIn file) file);
-      hardware = lists-6 (keptIn (pakIn file) file);
+          (rw (size file room e) at (file-held (keptBodiesOf (keptIn (pakInFormTwo file) file) (bodiesIn Two (pakInFormTwo file) file)) (sized file room e) Two tt));
+      processor = lists-1 (keptIn (pakInFormTwo file) file);
+      drawing = lists-2 (keptIn (pakInFormTwo file) file);
+      wram = lists-3 (keptIn (pakInFormTwo file) file);
+      vram = lists-4 (keptIn (pakInFormTwo file) file);
+      pak = lists-5 (keptIn (pakInFormTwo file) file);
+      hardware = lists-6 (keptIn (pakInFormTwo file) file);
     }

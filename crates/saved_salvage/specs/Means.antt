@@ -12,7 +12,7 @@ use Rattle.processor.specs.Acceptance.{both}
 use Rattle.saved_bytes.specs.Numbers.{halvesOf, halvesFrom, sameOf}
 use Rattle.saved_layout.specs.Layout.{Part, partsOf, contentsEndOf}
 use Rattle.saved_layout.specs.declared.Form.the-variants.{Two}
-use Rattle.saved_salvage.specs.Salvage.{pakIn, salvageVerdictOf, salvageOf}
+use Rattle.saved_salvage.specs.Salvage.{pakInFormTwo, salvageVerdictOf, salvageOf}
 
 -- the kind, offset and length of an entry at byte `at`, for a body that starts at byte `place`
 abbrev pub entryRight : ℕ → ℕ → Part → List ℕ → Bool
@@ -32,4 +32,4 @@ contentsRight pak file =
 abbrev pub ContentsDifferMeans : Type 0
 ContentsDifferMeans =
     (file room : List ℕ) → ((k : ℕ) → getD file k 0 < 256) → salvageVerdictOf file room ≡ Accepted
-    → salvageOf file room .differ ≡ pick (contentsRight (pakIn file) file) false true
+    → salvageOf file room .differ ≡ pick (contentsRight (pakInFormTwo file) file) false true

@@ -13,14 +13,14 @@ use Rattle.saved_layout.specs.declared.Form.the-variants.{Two}
 use Rattle.saved_kinds.specs.Kinds.{fileOk}
 use Rattle.saved_salvage.specs.Keep.{keptIn, keptBodiesOf}
 use Rattle.saved_salvage.specs.Told.{listedKindsOf, replacedOf}
-use Rattle.saved_salvage.specs.Salvage.{pakIn, toldOf, salvageVerdictOf, salvageOf, salvagedRoomOf}
+use Rattle.saved_salvage.specs.Salvage.{pakInFormTwo, toldOf, salvageVerdictOf, salvageOf, salvagedRoomOf}
 use Rattle.saved_salvage.specs.declared.Kept.{Kept}
 
 -- the output has the file's length, and reading it with pak RAM of that length refuses neither by 9 nor by 10: it is
 -- what form 2's writer makes for an accepted state (`salvaged-accepted` of the crate saved_laws)
 pub record Right (file room : List ℕ) : Type 0 where
   pub whole : length (salvagedRoomOf file room) ≡ length file
-  pub right : fileOk Two (pakIn file) (salvagedRoomOf file room) ≡ true
+  pub right : fileOk Two (pakInFormTwo file) (salvagedRoomOf file room) ≡ true
 
 abbrev pub SalvagedRight : Type 0
 SalvagedRight = (file room : List ℕ) → salvageVerdictOf file room ≡ Accepted → Right file room
@@ -33,7 +33,7 @@ pub record Unchanged (file room : List ℕ) : Type 0 where
 abbrev pub UndamagedEqual : Type 0
 UndamagedEqual =
     (file room : List ℕ) → ((k : ℕ) → getD file k 0 < 256) → salvageVerdictOf file room ≡ Accepted
-    → fileOk Two (pakIn file) file ≡ true
+    → fileOk Two (pakInFormTwo file) file ≡ true
     → Unchanged file room
 
 -- of its own output, in any room of the same length
@@ -49,7 +49,9 @@ listsOf k kind kept = member kind (replacedOf k) ≡ pick kept false true
 -- the output's bodies are the file's where they are kept and reset's where not (Keep), and the list has the kinds of
 -- the second
 pub record KeptExactly (file room : List ℕ) (k : Kept) : Type 0 where
-  pub bodies : bodiesIn Two (pakIn file) (salvagedRoomOf file room) ≡ keptBodiesOf k (bodiesIn Two (pakIn file) file)
+  pub bodies :
+      bodiesIn Two (pakInFormTwo file) (salvagedRoomOf file room)
+      ≡ keptBodiesOf k (bodiesIn Two (pakInFormTwo file) file)
   pub processor : listsOf k 1 (k .processor)
   pub drawing : listsOf k 2 (k .drawing)
   pub wram : listsOf k 3 (k .wram)
@@ -59,4 +61,5 @@ pub record KeptExactly (file room : List ℕ) (k : Kept) : Type 0 where
 
 abbrev pub KeptExactlyAll : Type 0
 KeptExactlyAll =
-    (file room : List ℕ) → salvageVerdictOf file room ≡ Accepted → KeptExactly file room (keptIn (pakIn file) file)
+    (file room : List ℕ) → salvageVerdictOf file room ≡ Accepted
+    → KeptExactly file room (keptIn (pakInFormTwo file) file)

@@ -16,28 +16,28 @@ use Rattle.saved_salvage.specs.Keep.{keptIn, keptBodiesOf}
 use Rattle.saved_salvage.specs.Told.{listedKindsOf, replacedOf}
 use Rattle.saved_salvage.specs.Differ.{contentsDiffer}
 use Rattle.saved_salvage.specs.declared.Salvaged.{Salvaged}
-use Rattle.saved_salvage.specs.declared.Listed.{Listed}
+use Rattle.saved_salvage.specs.declared.ListedKinds.{ListedKinds}
 
 -- the output for a file whose pak RAM has `pak` bytes
 unfoldable pub outputOf : ℕ → List ℕ → List ℕ
 outputOf pak file = fileOf Two (keptBodiesOf (keptIn pak file) (bodiesIn Two pak file))
 
 -- the pak RAM's length, by the file's
-abbrev pub pakIn : List ℕ → ℕ
-pakIn file = pakLengthOf Two (length file)
+abbrev pub pakInFormTwo : List ℕ → ℕ
+pakInFormTwo file = pakLengthOf Two (length file)
 
 -- 9, 17
 unfoldable pub salvageVerdictOf : List ℕ → List ℕ → Verdict
 salvageVerdictOf file room =
     unless (eqb (length room) (length file)) FileLength (unless (fitsOk Two (length file)) NoLayout Accepted)
 
-abbrev pub toldOf : Verdict → Listed → Bool → Salvaged
+abbrev pub toldOf : Verdict → ListedKinds → Bool → Salvaged
 toldOf verdict list differ = record { verdict = verdict; list = list; differ = differ }
 
 abbrev pub toldWhen : Verdict → List ℕ → Salvaged
 toldWhen Accepted file =
-    toldOf Accepted (listedKindsOf (replacedOf (keptIn (pakIn file) file)))
-    (contentsDiffer (pakIn file) (keptIn (pakIn file) file) file (outputOf (pakIn file) file))
+    toldOf Accepted (listedKindsOf (replacedOf (keptIn (pakInFormTwo file) file)))
+    (contentsDiffer (pakInFormTwo file) (keptIn (pakInFormTwo file) file) file (outputOf (pakInFormTwo file) file))
 toldWhen (Refused n) file = toldOf (Refused n) (listedKindsOf []) false
 
 unfoldable pub salvageOf : List ℕ → List ℕ → Salvaged
@@ -45,4 +45,4 @@ salvageOf file room = toldWhen (salvageVerdictOf file room) file
 
 -- the room afterwards
 unfoldable pub salvagedRoomOf : List ℕ → List ℕ → List ℕ
-salvagedRoomOf file room = whenAccepted (salvageVerdictOf file room) room (outputOf (pakIn file) file)
+salvagedRoomOf file room = whenAccepted (salvageVerdictOf file room) room (outputOf (pakInFormTwo file) file)

@@ -5,7 +5,7 @@ use mathlib.Core.List.{List, [], _∷_, _++_}
 use lib.ListN.{length, replicate, set}
 use Rattle.word.specs.Choose.{pick}
 use Rattle.saved_salvage.specs.declared.Kept.{Kept}
-use Rattle.saved_salvage.specs.declared.Listed.{Listed}
+use Rattle.saved_salvage.specs.declared.ListedKinds.{ListedKinds}
 
 -- a kind at the end of the list, unless its body is kept
 abbrev pub withKind : List ℕ → ℕ → Bool → List ℕ
@@ -20,9 +20,9 @@ replacedOf k =
     6 (k .hardware)
 
 -- a list of at most six kinds, as it is told
-unfoldable pub listedKindsOf : List ℕ → Listed
+unfoldable pub listedKindsOf : List ℕ → ListedKinds
 listedKindsOf kinds = record { count = length kinds; kinds = kinds ++ replicate (6 - length kinds) 0 }
 
 -- what is told, with one kind more
-unfoldable pub addedOf : Listed → ℕ → Bool → Listed
+unfoldable pub addedOf : ListedKinds → ℕ → Bool → ListedKinds
 addedOf l kind kept = pick kept l (record { count = l .count + 1; kinds = set (l .kinds) (l .count) kind })

@@ -23,7 +23,7 @@ pub struct Kept {
 }
 
 // The kinds that were replaced, ascending: how many, and 0 after the last.
-pub struct Listed {
+pub struct ListedKinds {
     pub count: u32,
     pub kinds: [u32; 6],
 }
@@ -32,7 +32,7 @@ pub struct Listed {
 // file.
 pub struct Salvaged {
     pub verdict: Verdict,
-    pub list: Listed,
+    pub list: ListedKinds,
     pub differ: bool,
 }
 

@@ -1,23 +1,23 @@
 // The list of the kinds that were replaced.
 use crate::Kept;
-use crate::Listed;
+use crate::ListedKinds;
 ghost use mathlib.Core.Path.{_≡_};
 ghost use Prim.Native.Nat.{_+_, _<_, _≤_};
 ghost use mathlib.Core.List.{[]};
 ghost use Rattle.saved_salvage.specs.Told.{listedKindsOf, addedOf, replacedOf};
 
 // No kind.
-pub fn none() -> Listed
+pub fn none() -> ListedKinds
     ensures { λ r. ⌜ r ≡ listedKindsOf [] ⌝ }
 {
-    Listed {
+    ListedKinds {
         count: 0,
         kinds: [0u32; 6],
     }
 }
 
 // A list with a kind at its end, unless its body is kept.
-fn added(list: Listed, kind: u32, kept: bool) -> Listed
+fn added(list: ListedKinds, kind: u32, kept: bool) -> ListedKinds
     requires { ⌜ list .count < 6 ⌝ }
     ensures { λ r. ⌜ (r ≡ addedOf list kind kept) × (r .count ≤ list .count + 1) ⌝ }
 {
@@ -27,13 +27,13 @@ fn added(list: Listed, kind: u32, kept: bool) -> Listed
     let at = list.count as usize;
     let mut kinds = list.kinds;
     kinds[at] = kind;
-    Listed {
+    ListedKinds {
         count: list.count + 1,
         kinds,
     }
 }
 
-pub fn replaced(kept: Kept) -> Listed
+pub fn replaced(kept: Kept) -> ListedKinds
     ensures { λ r. ⌜ r ≡ listedKindsOf (replacedOf kept) ⌝ }
 {
     let one = added(none(), 1, kept.processor);

@@ -46,7 +46,8 @@ Differ frame another = frame ≡ another → ⊥
 abbrev pub FramesSwap : Type 0
 FramesSwap =
     (vram : List ℕ) (frame another : ℕ) (one other : Drawing) → Differ frame another
-    → stripsDrawnOf (stripsDrawnOf vram frame one) another other ≡ stripsDrawnOf (stripsDrawnOf vram another other) frame one
+    → stripsDrawnOf (stripsDrawnOf vram frame one) another other
+    ≡ stripsDrawnOf (stripsDrawnOf vram another other) frame one
 
 -- and so may two lists of drawings
 abbrev pub ListsSwap : Type 0

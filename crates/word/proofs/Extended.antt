@@ -1,50 +1,40 @@
 -- The laws of specs/Extend, proved.
-use Prim.Native.Nat.{ℕ, suc, _+_, _-_, _*_, _/_, _%_, _<_, _≤_, _^_}
+use Prim.Native.Nat.{ℕ, _+_, _-_, _*_, _/_, _%_, _<_, _≤_, _^_}
 use native.Mathlib.Decide.{decLt}
 use native.Mathlib.Nat.{div-eq-of-lt}
 use native.Mathlib.Omega.{arith}
 use mathlib.Core.Path.{_≡_, sym, ap, _∙_}
 use borrow.Author.Tests.{lt-ltb, le-ltb}
-use lib.IntN.{pos, negsuc, _-ℤ_}
 use lib.Pow.{pow-pos, pow-mono, pow-add, high, high-ones}
-use Rattle.word.specs.Extend.{extendOf, signedOf, ExtendedWord, ExtendedSigned, ExtendedBits}
+use Rattle.word.specs.Extend.{extendOf, ExtendedWord, ExtendedSigned, ExtendedBits}
+use Rattle.word.proofs.Integers.{is-equal}
+use Rattle.word.proofs.Readings.{reading-low, reading-high}
+
+pub extend-low : (half x : ℕ) → x < half → extendOf half x ≡ x
+unfolding extendOf
+extend-low half x h = simp (lt-ltb x half h)
+
+pub extend-high : (half x : ℕ) → half ≤ x → extendOf half x ≡ x + (2 ^ 32 - 2 * half)
+unfolding extendOf
+extend-high half x h = simp (le-ltb x half h)
 
 pub extended-word : ExtendedWord
-unfolding extendOf
 extended-word half x small h =
     elim (decLt x half) [
-      | yes p ↦ simp (lt-ltb x half p) (omega arith)
+      | yes p ↦ omega (arith, extend-low half x p)
       | no n ↦
           let above : half ≤ x = omega arith in
-          simp (le-ltb x half above) (omega arith)
+          omega (arith, extend-high half x above)
     ]
-
--- a difference below zero
-below-zero : (a b : ℕ) → a < b → pos a -ℤ pos b ≡ negsuc (b - suc a)
-below-zero a (suc b) h = simp (lt-ltb a (suc b) h)
-
-kept : (half x : ℕ) → half ≤ 2 ^ 31 → x < half → signedOf (2 ^ 31) (extendOf half x) ≡ signedOf half x
-unfolding extendOf signedOf
-kept half x small h =
-    let wide : x < 2 ^ 31 = omega arith in
-    simp (lt-ltb x half h) (simp (lt-ltb x (2 ^ 31) wide))
-
-copied : (half x : ℕ) → half ≤ 2 ^ 31 → half ≤ x → x < 2 * half → signedOf (2 ^ 31) (extendOf half x) ≡ signedOf half x
-unfolding extendOf signedOf
-copied half x small above h =
-    let y = x + (2 ^ 32 - 2 * half) in
-    let high : 2 ^ 31 ≤ x + (2 ^ 32 - 2 * half) = omega arith in
-    let wide : x + (2 ^ 32 - 2 * half) < 2 ^ 32 = omega arith in
-    let same : 2 ^ 32 - suc (x + (2 ^ 32 - 2 * half)) ≡ 2 * half - suc x = omega arith in
-    simp (le-ltb x half above)
-    (simp (le-ltb (x + (2 ^ 32 - 2 * half)) (2 ^ 31) high)
-    (below-zero (x + (2 ^ 32 - 2 * half)) (2 ^ 32) wide ∙ ap negsuc same ∙ sym (below-zero x (2 * half) h)))
 
 pub extended-signed : ExtendedSigned
 extended-signed half x small h =
     elim (decLt x half) [
-      | yes p ↦ kept half x small p
-      | no n ↦ copied half x small (omega arith) h
+      | yes p ↦ rw (extend-low half x p) (is-equal (reading-low (2 ^ 31) x (omega arith)) (reading-low half x p) (omega arith))
+      | no n ↦
+          let above : half ≤ x = omega arith in
+          rw (extend-high half x above)
+          (is-equal (reading-high (2 ^ 31) (x + (2 ^ 32 - 2 * half)) (omega arith)) (reading-high half x above) (omega arith))
     ]
 
 module _ (k j x : ℕ) (low : k ≤ j) (less : j < 32) where
@@ -71,11 +61,10 @@ module _ (k j x : ℕ) (low : k ≤ j) (less : j < 32) where
       ∙ sym (ap (λ (n : ℕ). n / 2 ^ k) sign ∙ high 1 k (omega arith))
 
 pub extended-bits : ExtendedBits
-unfolding extendOf
 extended-bits k j x h low less =
     elim (decLt x (2 ^ k)) [
-      | yes p ↦ simp (lt-ltb x (2 ^ k) p) (clear k j x low less p)
+      | yes p ↦ rw (extend-low (2 ^ k) x p) (clear k j x low less p)
       | no n ↦
           let above : 2 ^ k ≤ x = omega arith in
-          simp (le-ltb x (2 ^ k) above) (set k j x low less above h)
+          rw (extend-high (2 ^ k) x above) (set k j x low less above h)
     ]

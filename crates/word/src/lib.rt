@@ -1,4 +1,4 @@
-// Numbers alone: sign extension and little-endian halfwords and words.
+// Numbers alone: sign extension and little-endian halfwords and words. proofs/ has the laws of whole numbers.
 // These functions are `pub` for the crates above; none is a call of the library's users.
 ghost use mathlib.Core.Path.{_≡_};
 ghost use Prim.Native.Nat.{_+_, _*_, _<_, _≤_, _^_};

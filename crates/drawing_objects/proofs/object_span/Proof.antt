@@ -19,9 +19,9 @@ object-row-requires : tie.Need-object-row-requires
 object-row-requires c κs = search needs
 
 returns : tie.Need-returns
-returns c = let a = c .before .before .before .args in
+returns c = let a = c .before .before .before .before .before .args in
     span-kept _ _ _ _ _ (omega arith)
-    (λ x v l h. object-outside-rows (a .vram .now) (a .registers .now) (a .w .now) (a .o .now) (a .eye) x (8 * a .strip + a .r) v (omega arith))
+    (λ x v l h. object-outside-rows (a .vram .now) (a .registers .now) (a .w .now) (a .o .now) (a .view .eye) x (8 * a .view .strip + a .run .row) v (omega arith))
 
 element-copy-out-wide : tie.Need-element-copy-out-wide
 element-copy-out-wide c = search needs
@@ -50,27 +50,27 @@ element-copy-out-wide-2 c = search needs
 wide-requires-3 : tie.Need-wide-requires-3
 wide-requires-3 c κs = search needs
 
-add-span : tie.Need-add-span
-add-span c = search needs
+add-column : tie.Need-add-column
+add-column c = search needs
 
 object-left-requires : tie.Need-object-left-requires
 object-left-requires c κs = search needs
 
-sub-span : tie.Need-sub-span
-sub-span c = search needs
+sub-column : tie.Need-sub-column
+sub-column c = search needs
 
 span-requires : tie.Need-span-requires
 span-requires c κs = search needs
 
 returns-2 : tie.Need-returns-2
-returns-2 c = let a = c .before .before .before .before .before .before .before .before .before .before .before .before .before .args in
-    let pre = c .before .before .before .before .before .before .before .before .before .before .before .before .before .pre in
+returns-2 c = let a = c .before .before .before .before .before .before .before .before .before .before .before .before .before .before .before .before .args in
+    let pre = c .before .before .before .before .before .before .before .before .before .before .before .before .before .before .before .before .pre in
     span-change _ _ _ _ _ _ _
-    (λ x v l h. square-inside (a .vram .now) (a .registers .now) (a .w .now) (a .o .now) (a .eye) x (8 * a .strip + a .r) v (a .from) _ _ _ _ _
-    (pre .1 .1 .0) (c .before .before .before .before .before .before .before .before .before .before .before .object-row .ensures) (c .before .before .before .before .before .before .before .before .before .before .if1 .left) (c .before .object-left .ensures .0) (omega arith) l (omega arith)
-    (c .before .before .before .before .before .before .before .before .wide .ensures .0)
-    (c .before .before .before .before .before .wide2 .ensures .0 ∙ rw (c .before .before .before .before .before .before .half .ensures, c .before .before .before .before .before .before .before .row-address .ensures .0))
-    (c .before .before .before .wide3 .ensures .0))
+    (λ x v l h. square-inside (a .vram .now) (a .registers .now) (a .w .now) (a .o .now) (a .view .eye) x (8 * a .view .strip + a .run .row) v (a .run .from) _ _ _ _ _
+    (pre .1 .1 .0) (c .before .before .before .before .before .before .before .before .before .before .before .before .object-row .ensures) (c .before .before .before .before .before .before .before .before .before .before .before .if1 .left) (c .before .before .object-left .ensures .0) (omega arith) l (omega arith)
+    (c .before .before .before .before .before .before .before .before .before .wide .ensures .0)
+    (c .before .before .before .before .before .before .wide2 .ensures .0 ∙ rw (c .before .before .before .before .before .before .before .half .ensures, c .before .before .before .before .before .before .before .before .row-address .ensures .0))
+    (c .before .before .before .before .wide3 .ensures .0))
     (c .span .ensures)
 
 pub object-span-spec : {M : Type 1} → statement M
@@ -90,8 +90,8 @@ object-span-spec =
     mul-wide
     element-copy-out-wide-2
     wide-requires-3
-    add-span
+    add-column
     object-left-requires
-    sub-span
+    sub-column
     span-requires
     returns-2)

@@ -30,8 +30,8 @@ returns c =
       fits = c .byte-at .ensures .1;
     }
 
-masked-requires : tie.Need-masked-requires
-masked-requires c κs =
+wrapped-requires : tie.Need-wrapped-requires
+wrapped-requires c κs =
     let b = c .before .before .before .before .before .before in
     let n = length (now (b .args .rom)) in
     (rom-as-pak n (b .pre .rom-ok), power-pos 2 n (rom-power n (b .pre .rom-ok)))
@@ -46,7 +46,7 @@ returns-2 c =
     let here = found (a .address) 7 (c .before .before .if2 .taken) in
     let m = memoryOf (now (a .rom)) (now (a .wram)) (now (a .vram)) (now (a .pak)) (now (a .regs)) in
     record {
-      means = c .byte-at2 .ensures .0 ∙ rw (c .before .masked .ensures .0) (sym (rom-byte m (a .address) here (b .pre .rom-ok)));
+      means = c .byte-at2 .ensures .0 ∙ rw (c .before .wrapped .ensures .0) (sym (rom-byte m (a .address) here (b .pre .rom-ok)));
       fits = c .byte-at2 .ensures .1;
     }
 
@@ -69,7 +69,7 @@ byte-spec =
     cast-i
     byte-at-requires
     returns
-    masked-requires
+    wrapped-requires
     byte-at-requires-2
     returns-2
     elsewhere-requires

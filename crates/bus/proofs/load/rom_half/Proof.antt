@@ -14,11 +14,11 @@ use Rattle.bus.proofs.Accesses.{found}
 use Rattle.bus.proofs.load.rom_half.Statement.{statement}
 use Rattle.bus.proofs.load.rom_half.Tie as tie
 
-sub-masked : tie.Need-sub-masked
-sub-masked c = search needs
+sub-wrapped : tie.Need-sub-wrapped
+sub-wrapped c = search needs
 
-masked-requires : tie.Need-masked-requires
-masked-requires c κs =
+wrapped-requires : tie.Need-wrapped-requires
+wrapped-requires c κs =
     let b = c .before in
     let n = length (now (b .args .rom)) in
     (rom-as-pak n (b .pre .0), power-pos 2 n (rom-power n (b .pre .0)))
@@ -28,7 +28,7 @@ half-at-requires c κs =
     let b = c .before .before in
     let n = length (now (b .args .rom)) in
     let a = b .args in
-    rw (c .masked .ensures .0) (power-room n (rom-power n (b .pre .0)) (a .address - a .address % 2) 1 (omega arith))
+    rw (c .wrapped .ensures .0) (power-room n (rom-power n (b .pre .0)) (a .address - a .address % 2) 1 (omega arith))
 
 returns : tie.Need-returns
 returns c =
@@ -38,11 +38,11 @@ returns c =
     let fits = c .half-at .ensures .1 in (
       λ wram vram pak regs.
           record {
-            means = c .half-at .ensures .0 ∙ rw (c .before .masked .ensures .0) (sym (span-half (memoryOf (now (a .rom)) wram vram pak regs) (a .address) romAt _ (rom-span-half (memoryOf (now (a .rom)) wram vram pak regs) (a .address) here (b .pre .0))));
+            means = c .half-at .ensures .0 ∙ rw (c .before .wrapped .ensures .0) (sym (span-half (memoryOf (now (a .rom)) wram vram pak regs) (a .address) romAt _ (rom-span-half (memoryOf (now (a .rom)) wram vram pak regs) (a .address) here (b .pre .0))));
             fits = fits;
           },
       fits,
     )
 
 pub rom-half-spec : {M : Type 1} → statement M
-rom-half-spec = tie.close (tie.spec sub-masked masked-requires half-at-requires returns)
+rom-half-spec = tie.close (tie.spec sub-wrapped wrapped-requires half-at-requires returns)

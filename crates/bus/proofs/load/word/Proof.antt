@@ -34,11 +34,11 @@ returns c =
       fits = omega arith;
     }
 
-sub-masked : tie.Need-sub-masked
-sub-masked c = search needs
+sub-wrapped : tie.Need-sub-wrapped
+sub-wrapped c = search needs
 
-masked-requires : tie.Need-masked-requires
-masked-requires c κs =
+wrapped-requires : tie.Need-wrapped-requires
+wrapped-requires c κs =
     let b = c .before .before .before .before .before .before in
     let n = length (now (b .args .rom)) in
     (rom-as-pak n (b .pre .rom-ok), power-pos 2 n (rom-power n (b .pre .rom-ok)))
@@ -48,7 +48,7 @@ word-at-requires-2 c κs =
     let b = c .before .before .before .before .before .before .before in
     let n = length (now (b .args .rom)) in
     let a = b .args in
-    rw (c .masked .ensures .0) (power-room n (rom-power n (b .pre .rom-ok)) (a .address - a .address % 4) 3 (omega arith))
+    rw (c .wrapped .ensures .0) (power-room n (rom-power n (b .pre .rom-ok)) (a .address - a .address % 4) 3 (omega arith))
 
 returns-2 : tie.Need-returns-2
 returns-2 c =
@@ -57,7 +57,7 @@ returns-2 c =
     let here = found (a .address) 7 (c .before .before .if2 .taken) in
     let m = memoryOf (now (a .rom)) (now (a .wram)) (now (a .vram)) (now (a .pak)) (now (a .regs)) in
     record {
-      means = c .word-at2 .ensures ∙ rw (c .before .masked .ensures .0) (sym (span-word m (a .address) romAt _ (rom-span-word m (a .address) here (b .pre .rom-ok))));
+      means = c .word-at2 .ensures ∙ rw (c .before .wrapped .ensures .0) (sym (span-word m (a .address) romAt _ (rom-span-word m (a .address) here (b .pre .rom-ok))));
       fits = omega arith;
     }
 
@@ -84,8 +84,8 @@ word-spec =
     cast-i
     word-at-requires
     returns
-    sub-masked
-    masked-requires
+    sub-wrapped
+    wrapped-requires
     word-at-requires-2
     returns-2
     add-elsewhere

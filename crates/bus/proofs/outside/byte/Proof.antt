@@ -21,8 +21,8 @@ returns c =
     let m = memoryOf (now (a .rom)) (now (a .wram)) vram (now (a .pak)) regs in
     record { means = c .byte-at .ensures .0 ∙ sym (wram-byte m (a .address) here); fits = c .byte-at .ensures .1 }
 
-masked-requires : tie.Need-masked-requires
-masked-requires c κs =
+wrapped-requires : tie.Need-wrapped-requires
+wrapped-requires c κs =
     let b = c .before .before .before .before .before in
     let n = length (now (b .args .rom)) in
     (rom-as-pak n (b .pre .0), power-pos 2 n (rom-power n (b .pre .0)))
@@ -34,7 +34,7 @@ returns-2 c =
     let here = found (a .address) 7 (c .before .before .if2 .taken) in
     λ vram regs.
     let m = memoryOf (now (a .rom)) (now (a .wram)) vram (now (a .pak)) regs in
-    record { means = c .byte-at2 .ensures .0 ∙ rw (c .before .masked .ensures .0) (sym (rom-byte m (a .address) here (b .pre .0))); fits = c .byte-at2 .ensures .1 }
+    record { means = c .byte-at2 .ensures .0 ∙ rw (c .before .wrapped .ensures .0) (sym (rom-byte m (a .address) here (b .pre .0))); fits = c .byte-at2 .ensures .1 }
 
 byte-requires : tie.Need-byte-requires
 byte-requires c κs =
@@ -63,7 +63,7 @@ byte-spec =
     (λ c. search needs)
     (λ c κs. search needs)
     returns
-    masked-requires
+    wrapped-requires
     (λ c κs. search needs)
     returns-2
     byte-requires

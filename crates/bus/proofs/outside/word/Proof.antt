@@ -23,8 +23,8 @@ returns c =
     let m = memoryOf (now (a .rom)) (now (a .wram)) vram (now (a .pak)) regs in
     record { means = c .word-at .ensures ∙ sym (span-word m (a .address) wramAt _ (wram-span-word m (a .address) here)); fits = omega arith }
 
-masked-requires : tie.Need-masked-requires
-masked-requires c κs =
+wrapped-requires : tie.Need-wrapped-requires
+wrapped-requires c κs =
     let b = c .before .before .before .before .before in
     let n = length (now (b .args .rom)) in
     (rom-as-pak n (b .pre .0), power-pos 2 n (rom-power n (b .pre .0)))
@@ -34,7 +34,7 @@ word-at-requires-2 c κs =
     let b = c .before .before .before .before .before .before in
     let n = length (now (b .args .rom)) in
     let a = b .args in
-    rw (c .masked .ensures .0) (power-room n (rom-power n (b .pre .0)) (a .address - a .address % 4) 3 (omega arith))
+    rw (c .wrapped .ensures .0) (power-room n (rom-power n (b .pre .0)) (a .address - a .address % 4) 3 (omega arith))
 
 returns-2 : tie.Need-returns-2
 returns-2 c =
@@ -43,7 +43,7 @@ returns-2 c =
     let here = found (a .address) 7 (c .before .before .if2 .taken) in
     λ vram regs.
     let m = memoryOf (now (a .rom)) (now (a .wram)) vram (now (a .pak)) regs in
-    record { means = c .word-at2 .ensures ∙ rw (c .before .masked .ensures .0) (sym (span-word m (a .address) romAt _ (rom-span-word m (a .address) here (b .pre .0)))); fits = omega arith }
+    record { means = c .word-at2 .ensures ∙ rw (c .before .wrapped .ensures .0) (sym (span-word m (a .address) romAt _ (rom-span-word m (a .address) here (b .pre .0)))); fits = omega arith }
 
 word-requires : tie.Need-word-requires
 word-requires c κs =
@@ -74,7 +74,7 @@ word-spec =
     (λ c κs. search needs)
     returns
     (λ c. search needs)
-    masked-requires
+    wrapped-requires
     word-at-requires-2
     returns-2
     word-requires

@@ -20,8 +20,8 @@ returns c =
       fits = omega arith;
     }
 
-masked-requires : tie.Need-masked-requires
-masked-requires c κs = search needs
+wrapped-requires : tie.Need-wrapped-requires
+wrapped-requires c κs = search needs
 
 byte-at-requires : tie.Need-byte-at-requires
 byte-at-requires c κs = search needs
@@ -34,10 +34,10 @@ returns-2 c =
     record {
       means =
           c .byte-at .ensures .0
-          ∙ rw (c .before .masked .ensures .0)
+          ∙ rw (c .before .wrapped .ensures .0)
           (sym (pak-read (memoryOf rom wram vram (now (a .pak)) regs) (a .address) (c .before .before .before .before .pre .0) (c .before .before .before .before .pre .1) filled));
       fits = c .byte-at .ensures .1;
     }
 
 pub byte-spec : {M : Type 1} → statement M
-byte-spec = tie.close (tie.spec returns masked-requires byte-at-requires returns-2)
+byte-spec = tie.close (tie.spec returns wrapped-requires byte-at-requires returns-2)

@@ -17,8 +17,8 @@ returns c =
     λ rom wram vram regs.
     sym (pak-put-empty (memoryOf rom wram vram (now (a .pak)) regs) (a .address) (c .before .before .pre .0) (a .value) (c .if1 .taken))
 
-masked-requires : tie.Need-masked-requires
-masked-requires c κs = search needs
+wrapped-requires : tie.Need-wrapped-requires
+wrapped-requires c κs = search needs
 
 cast-pak : tie.Need-cast-pak
 cast-pak c = search needs
@@ -34,8 +34,8 @@ returns-2 c =
     let a = c .before .before .before .args in
     let filled : 0 < length (now (a .pak)) = omega arith in
     λ rom wram vram regs.
-    sym (pak-put (memoryOf rom wram vram (now (a .pak)) regs) (a .address) (c .before .before .before .pre .0) (a .value) (c .before .before .before .pre .1) filled ∙ rw (← c .masked .ensures .0))
+    sym (pak-put (memoryOf rom wram vram (now (a .pak)) regs) (a .address) (c .before .before .before .pre .0) (a .value) (c .before .before .before .pre .1) filled ∙ rw (← c .wrapped .ensures .0))
 
 pub put-byte-spec : {M : Type 1} → statement M
 put-byte-spec =
-    tie.close (tie.spec returns masked-requires cast-pak slice-write-pak same-length returns-2)
+    tie.close (tie.spec returns wrapped-requires cast-pak slice-write-pak same-length returns-2)

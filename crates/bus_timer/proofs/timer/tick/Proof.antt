@@ -22,13 +22,16 @@ returns-2 : tie.Need-returns-2
 unfolding tickOf countedOf tickedCountOf
 returns-2 c = let h = c .before .before .before .before .before .args .h in let on : h .control / 1 % 2 ≡ 1 = omega arith in let zero : startOf h - 1 ≡ 0 = omega (arith, c .before .before .start .ensures) in rw (c .reached-zero .ensures) (simp (eq-eqb _ _ on, eq-eqb _ _ zero))
 
-sub-t3 : tie.Need-sub-t3
-sub-t3 c = search needs
+sub-with-count : tie.Need-sub-with-count
+sub-with-count c = search needs
+
+with-count-requires : tie.Need-with-count-requires
+with-count-requires c κs = search needs
 
 returns-3 : tie.Need-returns-3
 unfolding tickOf countedOf tickedCountOf
-returns-3 c = let h = c .before .before .before .before .args .h in let on : h .control / 1 % 2 ≡ 1 = omega arith in let more : startOf h - 1 ≡ 0 → ⊥ = λ e. omega (arith, e, c .before .start .ensures) in rw (c .before .start .ensures) (simp (eq-eqb _ _ on, ne-eqb _ _ more))
+returns-3 c = let h = c .before .before .before .before .before .args .h in let on : h .control / 1 % 2 ≡ 1 = omega arith in let more : startOf h - 1 ≡ 0 → ⊥ = λ e. omega (arith, e, c .before .before .start .ensures) in rw (c .with-count .ensures, c .before .before .start .ensures) (simp (eq-eqb _ _ on, ne-eqb _ _ more))
 
 pub tick-spec : {M : Type 1} → statement M
 tick-spec =
-    tie.close (tie.spec returns start-requires reached-zero-requires returns-2 sub-t3 returns-3)
+    tie.close (tie.spec returns start-requires reached-zero-requires returns-2 sub-with-count with-count-requires returns-3)

@@ -14,21 +14,12 @@ wide-requires c κs = search needs
 across-requires : tie.Need-across-requires
 across-requires c κs = search needs
 
-maps-above-requires : tie.Need-maps-above-requires
-maps-above-requires c κs = search needs
-
-low-bits-requires : tie.Need-low-bits-requires
-low-bits-requires c κs = search needs
-
-add-result : tie.Need-add-result
-add-result c = search needs
-
-add-result-2 : tie.Need-add-result-2
-add-result-2 c = search needs
+map-at-requires : tie.Need-map-at-requires
+map-at-requires c κs = search needs
 
 returns : tie.Need-returns
 unfolding mapNumberOf mapsAcrossOf
-returns c = (rw (c .low-bits .ensures .0, c .before .maps-above .ensures .0, c .before .before .across .ensures .0, c .before .before .before .wide .ensures .0), omega arith)
+returns c = (rw (c .map-at .ensures .0, c .before .across .ensures .0, c .before .before .wide .ensures .0), omega arith)
 
 pub map-number-spec : {M : Type 1} → statement M
 map-number-spec =
@@ -37,8 +28,5 @@ map-number-spec =
     element-copy-out-wide
     wide-requires
     across-requires
-    maps-above-requires
-    low-bits-requires
-    add-result
-    add-result-2
+    map-at-requires
     returns)

@@ -34,19 +34,19 @@ whole-rows-requires c κs = search needs
 
 returns : tie.Need-returns
 returns c =
-    let a = c .before .before .before .before .before .before .before .before .before .args in
-    block-of-whole (a .vram .now) (a .registers .now) (a .w .now) (a .top) (a .bottom) (a .from) (a .to) (a .sx) (a .sy) _ _ _ _ _ _
-    (c .before .before .before .before .before .wide .ensures .0) (c .before .before .before .before .before .before .half .ensures) (c .before .before .before .before .before .before .before .cell-address .ensures .0) (c .before .before .before .wide2 .ensures .0) (omega arith) (omega arith)
-    (c .before .before .if1 .taken) (c .whole-rows .ensures)
+    let a = c .before .before .before .before .before .before .before .before .before .before .before .before .before .before .args in
+    block-of-whole (a .vram .now) (a .registers .now) (a .w .now) (a .area .top) (a .area .bottom) (a .area .from) (a .area .to) (a .source .x) (a .source .y) _ _ _ _ _ _
+    (c .before .before .before .before .before .before .before .before .wide .ensures .0) (c .before .before .before .before .before .before .before .before .before .half .ensures) (c .before .before .before .before .before .before .before .before .before .before .cell-address .ensures .0) (c .before .before .before .before .before .before .wide2 .ensures .0) (c .before .before .before .before .before .before .before .before .before .before .before .before .before .before .pre .1 .1 .1 .1 .1 .1 .0) (c .before .before .before .before .before .before .before .before .before .before .before .before .before .before .pre .1 .1 .1 .1 .1 .1 .1)
+    (c .before .before .before .if1 .taken) (c .whole-rows .ensures)
 
 part-rows-requires : tie.Need-part-rows-requires
 part-rows-requires c κs = search needs
 
 returns-2 : tie.Need-returns-2
 returns-2 c =
-    let a = c .before .before .before .before .before .before .before .before .before .args in
-    block-of-part (a .vram .now) (a .registers .now) (a .w .now) (a .top) (a .bottom) (a .from) (a .to) (a .sx) (a .sy) _ _ _ _ _ _
-    (c .before .before .before .before .before .wide .ensures .0) (c .before .before .before .before .before .before .half .ensures) (c .before .before .before .before .before .before .before .cell-address .ensures .0) (c .before .before .before .wide2 .ensures .0) (omega arith) (omega arith)
+    let a = c .before .before .before .before .before .before .before .before .before .before .before .before .before .before .before .args in
+    block-of-part (a .vram .now) (a .registers .now) (a .w .now) (a .area .top) (a .area .bottom) (a .area .from) (a .area .to) (a .source .x) (a .source .y) _ _ _ _ _ _
+    (c .before .before .before .before .before .before .before .before .before .wide .ensures .0) (c .before .before .before .before .before .before .before .before .before .before .half .ensures) (c .before .before .before .before .before .before .before .before .before .before .before .cell-address .ensures .0) (c .before .before .before .before .before .before .before .wide2 .ensures .0) (c .before .before .before .before .before .before .before .before .before .before .before .before .before .before .before .pre .1 .1 .1 .1 .1 .1 .0) (c .before .before .before .before .before .before .before .before .before .before .before .before .before .before .before .pre .1 .1 .1 .1 .1 .1 .1)
     (c .part-rows .ensures)
 
 pub cell-block-spec : {M : Type 1} → statement M

@@ -14,9 +14,9 @@ span-requires : tie.Need-span-requires
 span-requires c κs = search needs
 
 returns : tie.Need-returns
-returns c = let f = c .before .before .fetch .ensures in
+returns c = let f = c .before .before .before .fetch .ensures in
     span-change _ _ _ _ _ _ _
-    (λ x v l h. source-pixel-along _ _ _ _ _ _ _ _ (f .0) (f .1 .0) (f .1 .1) (x - c .before .before .before .before .args .from) (omega arith) v)
+    (λ x v l h. source-pixel-along _ _ _ _ _ _ _ _ (f .0) (f .1 .0) (f .1 .1) (x - c .before .before .before .before .before .args .run .from) (omega arith) v)
     (c .span .ensures)
 
 pub cell-span-spec : {M : Type 1} → statement M

@@ -10,12 +10,12 @@ use Rattle.drawing_pixel.specs.Buffer.{Block}
 use Rattle.drawing_pixel.proofs.Blocks.{block-no-column, block-beside, block-change}
 
 abbrev Inv-loop : tie.InvT-loop
-Inv-loop vram registers w buffer₀ top bottom from to sx sy x₀ buffer x =
-    (from ≤ x)
-    × ((x ≤ to) × Block top bottom from x (λ z r. sourcePixelOf vram registers w (sx + (z - from)) (sy + (r - top))) buffer₀ buffer)
+Inv-loop vram registers w buffer₀ area source x₀ buffer x =
+    (area .from ≤ x)
+    × ((x ≤ area .to) × Block (area .top) (area .bottom) (area .from) x (λ z r. sourcePixelOf vram registers w (source .x + (z - area .from)) (source .y + (r - area .top))) buffer₀ buffer)
 
 abbrev μ-loop : tie.MeasureT-loop
-μ-loop vram registers w buffer₀ top bottom from to sx sy x₀ buffer x = to - x
+μ-loop vram registers w buffer₀ area source x₀ buffer x = area .to - x
 
 loop-holds : tie.Need-loop-holds Inv-loop μ-loop
 loop-holds c = (omega arith, (omega arith, block-no-column _ _ _ _ _))
@@ -36,32 +36,32 @@ least-requires : tie.Need-least-requires Inv-loop μ-loop
 least-requires c κs = search needs
 
 cell-block-requires : tie.Need-cell-block-requires Inv-loop μ-loop
-cell-block-requires c κs = omega (arith, c .before .before .before .loop .inv .1 .1 .size)
+cell-block-requires c κs = omega (arith, c .before .before .before .before .before .before .loop .inv .1 .1 .size)
 
 loop-less : tie.Need-loop-less Inv-loop μ-loop
 loop-less c = omega arith
 
 loop-again : tie.Need-loop-again Inv-loop μ-loop
 loop-again c =
-    let a = c .before .before .before .before .before .before .args in
-    let x = c .before .before .before .before .loop .x in
-    let inv = c .before .before .before .before .loop .inv in (
+    let a = c .before .before .before .before .before .before .before .before .before .args in
+    let x = c .before .before .before .before .before .before .before .loop .x in
+    let inv = c .before .before .before .before .before .before .before .loop .inv in (
       omega arith,
       (
         omega arith,
         block-beside _ _ _ x _ _ _ _ _ (inv .0) (omega arith) (inv .1 .1)
             (block-change _ _ _ _ _ _ _ _
             (λ z r v l h t u.
-            let e : a .sx + (x - a .from) + (z - x) ≡ a .sx + (z - a .from) = omega arith in
-            ap (λ s. sourcePixelOf (a .vram .now) (a .registers .now) (a .w .now) s (a .sy + (r - a .top)) v) e)
+            let e : a .source .x + (x - a .area .from) + (z - x) ≡ a .source .x + (z - a .area .from) = omega arith in
+            ap (λ s. sourcePixelOf (a .vram .now) (a .registers .now) (a .w .now) s (a .source .y + (r - a .area .top)) v) e)
             (c .cell-block .ensures)),
       ),
     )
 
 returns : tie.Need-returns Inv-loop μ-loop
 returns c =
-    let e : c .before .loop .x ≡ c .before .before .before .args .to = omega arith in
-    rw e at (c .before .loop .inv .1 .1)
+    let e : c .before .before .loop .x ≡ c .before .before .before .before .args .area .to = omega arith in
+    rw e at (c .before .before .loop .inv .1 .1)
 
 pub cells-block-spec : {M : Type 1} → statement M
 cells-block-spec =

@@ -21,26 +21,28 @@ cells-block-requires : tie.Need-cells-block-requires
 cells-block-requires c κs = search needs
 
 returns : tie.Need-returns
-returns c = rw (c .if1 .taken) at (c .before .cells-block .ensures)
+returns c = rw (c .if1 .taken) at (c .before .before .cells-block .ensures)
 
-sub-cells-block : tie.Need-sub-cells-block
-sub-cells-block c = search needs
+sub-y : tie.Need-sub-y
+sub-y c = search needs
 
-add-cells-block : tie.Need-add-cells-block
-add-cells-block c = search needs
+add-y : tie.Need-add-y
+add-y c = search needs
 
 cells-block-requires-2 : tie.Need-cells-block-requires-2
 cells-block-requires-2 c κs = search needs
 
 returns-2 : tie.Need-returns-2
 returns-2 c =
-    let a = c .before .before .before .before .before .before .before .args in
-    let mid = c .before .before .before .before .before .least .result in
-    block-under _ mid _ _ _ _ _ _ _ (omega arith) (omega arith) (omega arith) (c .before .before .before .cells-block .ensures)
+    let a = c .before .before .before .before .before .before .before .before .before .before .before .before .args in
+    let mid = c .before .before .before .before .before .before .before .before .least .result in
+    let pre = c .before .before .before .before .before .before .before .before .before .before .before .before .pre in
+    let below = c .before .before .before .before .before .before .before .before .least .ensures in
+    block-under _ mid _ _ _ _ _ _ _ (omega (arith, pre .1 .1 .1 .1 .0, below)) (omega (arith, pre .1 .1 .1 .1 .0, below)) (omega (arith, pre .1 .1 .1 .1 .1 .0)) (c .before .before .before .before .before .before .cells-block .ensures)
     (block-change _ _ _ _ _ _ _ _
     (λ x r v l h t u.
-    let e : a .sy + (mid - a .top) + (r - mid) ≡ a .sy + (r - a .top) = omega arith in
-    ap (λ y. sourcePixelOf (a .vram .now) (a .registers .now) (a .w .now) (a .sx + (x - a .from)) y v) e)
+    let e : a .source .y + (mid - a .area .top) + (r - mid) ≡ a .source .y + (r - a .area .top) = omega (arith, t, pre .1 .1 .1 .1 .0, below) in
+    ap (λ y. sourcePixelOf (a .vram .now) (a .registers .now) (a .w .now) (a .source .x + (x - a .area .from)) y v) e)
     (c .cells-block2 .ensures))
 
 pub plain-block-spec : {M : Type 1} → statement M
@@ -52,7 +54,7 @@ plain-block-spec =
     least-requires
     cells-block-requires
     returns
-    sub-cells-block
-    add-cells-block
+    sub-y
+    add-y
     cells-block-requires-2
     returns-2)

@@ -10,10 +10,10 @@ use Rattle.drawing_pixel.proofs.Spans.{span-none, span-join, span-change}
 use borrow.Author.Needs.{needs}
 
 abbrev Inv-loop : tie.InvT-loop
-Inv-loop vram registers w buffer₀ r from to sx sy x₀ buffer x = (from ≤ x) × ((x ≤ to) × Span r from x (λ y. sourcePixelOf vram registers w (sx + (y - from)) sy) buffer₀ buffer)
+Inv-loop vram registers w buffer₀ run source x₀ buffer x = (run .from ≤ x) × ((x ≤ run .to) × Span (run .row) (run .from) x (λ y. sourcePixelOf vram registers w (source .x + (y - run .from)) (source .y)) buffer₀ buffer)
 
 abbrev μ-loop : tie.MeasureT-loop
-μ-loop vram registers w buffer₀ r from to sx sy x₀ buffer x = to - x
+μ-loop vram registers w buffer₀ run source x₀ buffer x = run .to - x
 
 loop-holds : tie.Need-loop-holds Inv-loop μ-loop
 loop-holds c = (omega arith, (omega arith, span-none _ _ _ _))
@@ -34,30 +34,30 @@ least-requires : tie.Need-least-requires Inv-loop μ-loop
 least-requires c κs = search needs
 
 cell-span-requires : tie.Need-cell-span-requires Inv-loop μ-loop
-cell-span-requires c κs = omega (arith, c .before .before .before .loop .inv .1 .1 .size)
+cell-span-requires c κs = omega (arith, c .before .before .before .before .before .before .loop .inv .1 .1 .size)
 
 loop-less : tie.Need-loop-less Inv-loop μ-loop
 loop-less c = omega arith
 
 loop-again : tie.Need-loop-again Inv-loop μ-loop
-loop-again c = let a = c .before .before .before .before .before .before .args in
-    let x = c .before .before .before .before .loop .x in
-    let inv = c .before .before .before .before .loop .inv in (
+loop-again c = let a = c .before .before .before .before .before .before .before .before .before .args in
+    let x = c .before .before .before .before .before .before .before .loop .x in
+    let inv = c .before .before .before .before .before .before .before .loop .inv in (
       omega arith,
       (
         omega arith,
         span-join _ _ x _ _ _ _ _ (inv .0) (omega arith) (inv .1 .1)
             (span-change _ _ _ _ _ _ _
             (λ y v l h.
-            let e : a .sx + (x - a .from) + (y - x) ≡ a .sx + (y - a .from) = omega arith in
-            ap (λ s. sourcePixelOf (a .vram .now) (a .registers .now) (a .w .now) s (a .sy) v) e)
+            let e : a .source .x + (x - a .run .from) + (y - x) ≡ a .source .x + (y - a .run .from) = omega arith in
+            ap (λ s. sourcePixelOf (a .vram .now) (a .registers .now) (a .w .now) s (a .source .y) v) e)
             (c .cell-span .ensures)),
       ),
     )
 
 returns : tie.Need-returns Inv-loop μ-loop
-returns c = let e : c .before .loop .x ≡ c .before .before .before .args .to = omega arith in
-    rw e at (c .before .loop .inv .1 .1)
+returns c = let e : c .before .before .loop .x ≡ c .before .before .before .before .args .run .to = omega arith in
+    rw e at (c .before .before .loop .inv .1 .1)
 
 pub plain-span-spec : {M : Type 1} → statement M
 plain-span-spec =

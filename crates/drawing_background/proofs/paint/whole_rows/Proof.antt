@@ -12,13 +12,13 @@ use Rattle.drawing_pixel.proofs.Blocks.{block-no-row, block-row}
 use Rattle.drawing_pixel.proofs.Small.{shade-small}
 
 abbrev Inv-loop : tie.InvT-loop
-Inv-loop vram buffer₀ top bottom from cell palette y r₀ buffer r =
-    (top ≤ r)
-    × ((r ≤ bottom)
-    × Block top r from (from + 8) (λ x q. shadeOf palette (pixelValueOf cell (halfAt vram (rowAddressOf cell (y + (q - top)))) (x - from))) buffer₀ buffer)
+Inv-loop vram buffer₀ area cell palette y r₀ buffer r =
+    (area .top ≤ r)
+    × ((r ≤ area .bottom)
+    × Block (area .top) r (area .from) (area .to) (λ x q. shadeOf palette (pixelValueOf cell (halfAt vram (rowAddressOf cell (y + (q - area .top)))) (x - area .from))) buffer₀ buffer)
 
 abbrev μ-loop : tie.MeasureT-loop
-μ-loop vram buffer₀ top bottom from cell palette y r₀ buffer r = bottom - r
+μ-loop vram buffer₀ area cell palette y r₀ buffer r = area .bottom - r
 
 loop-holds : tie.Need-loop-holds Inv-loop μ-loop
 loop-holds c = (omega arith, (omega arith, block-no-row _ _ _ _ _))
@@ -39,7 +39,7 @@ wide-requires : tie.Need-wide-requires Inv-loop μ-loop
 wide-requires c κs = tt
 
 whole-requires : tie.Need-whole-requires Inv-loop μ-loop
-whole-requires c κs = omega (arith, c .before .before .before .before .before .loop .inv .1 .1 .size)
+whole-requires c κs = omega (arith, c .before .before .before .before .before .before .before .loop .inv .1 .1 .size)
 
 add-r : tie.Need-add-r Inv-loop μ-loop
 add-r c = omega arith
@@ -49,24 +49,24 @@ loop-less c = omega arith
 
 loop-again : tie.Need-loop-again Inv-loop μ-loop
 loop-again c =
-    let a = c .before .before .before .before .before .before .before .before .args in
-    let q = c .before .before .before .before .before .before .loop .r in
-    let inv = c .before .before .before .before .before .before .loop .inv in
-    let e : c .before .before .wide .result ≡ halfAt (a .vram .now) (rowAddressOf (a .cell) (a .y + (q - a .top))) =
+    let a = c .before .before .before .before .before .before .before .before .before .before .args in
+    let q = c .before .before .before .before .before .before .before .before .loop .r in
+    let inv = c .before .before .before .before .before .before .before .before .loop .inv in
+    let e : c .before .before .wide .result ≡ halfAt (a .vram .now) (rowAddressOf (a .cell) (a .y + (q - a .area .top))) =
     c .before .before .wide .ensures .0 ∙ (c .before .before .before .half .ensures ∙ ap (halfAt (a .vram .now)) (c .before .before .before .before .row-address .ensures .0))
-    in (
+    in let t : a .area .from + 8 ≡ a .area .to = c .before .before .before .before .before .before .before .before .before .before .pre .1 .1 .0 in (
       omega arith,
       (
         omega arith,
         block-row _ _ _ _ _ _ _ _ (inv .0) (omega arith) (λ x v h. shade-small _ _ v h) (inv .1 .1)
-            (span-change _ _ _ _ _ _ _ (λ x v l h. ap (λ n. shadeOf (a .palette) (pixelValueOf (a .cell) n (x - a .from)) v) e) (c .whole .ensures)),
+            (span-change _ _ _ _ _ _ _ (λ x v l h. ap (λ n. shadeOf (a .palette) (pixelValueOf (a .cell) n (x - a .area .from)) v) e) (rw t at (c .whole .ensures))),
       ),
     )
 
 returns : tie.Need-returns Inv-loop μ-loop
 returns c =
-    let e : c .before .loop .r ≡ c .before .before .before .args .bottom = omega arith in
-    rw e at (c .before .loop .inv .1 .1)
+    let e : c .before .before .loop .r ≡ c .before .before .before .before .args .area .bottom = omega arith in
+    rw e at (c .before .before .loop .inv .1 .1)
 
 pub whole-rows-spec : {M : Type 1} → statement M
 whole-rows-spec =

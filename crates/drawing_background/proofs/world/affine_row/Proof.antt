@@ -24,24 +24,24 @@ affine-parameter-requires-5 c κs = search needs
 affine-shift-requires : tie.Need-affine-shift-requires
 affine-shift-requires c κs = search needs
 
-add-along-span : tie.Need-add-along-span
-add-along-span c = search needs
+add-n : tie.Need-add-n
+add-n c = search needs
 
 along-span-requires : tie.Need-along-span-requires
 along-span-requires c κs = search needs
 
 returns : tie.Need-returns
-returns c = let a = c .before .before .before .before .before .before .before .before .before .args in
-    let pre = c .before .before .before .before .before .before .before .before .before .pre in
+returns c = let a = c .before .before .before .before .before .before .before .before .before .before .args in
+    let pre = c .before .before .before .before .before .before .before .before .before .before .pre in
     span-change _ _ _ _ _ _ _
-    (λ x v l h. affine-pixel (a .vram .now) (a .registers .now) (a .w .now) (a .eye) (a .i) (a .j) (x - a .from) _ _ _ _ _ _
+    (λ x v l h. affine-pixel (a .vram .now) (a .registers .now) (a .w .now) (a .eye) (a .offsets .i) (a .offsets .j) (x - a .run .from) _ _ _ _ _ _
     (pre .1 .1 .1 .1 .1 .1 .1)
-    (c .before .before .before .before .before .before .before .affine-parameter .ensures .0)
-    (c .before .before .before .before .before .before .affine-parameter2 .ensures .0)
-    (c .before .before .before .before .before .affine-parameter3 .ensures .0)
-    (c .before .before .before .before .affine-parameter4 .ensures .0)
-    (c .before .before .before .affine-parameter5 .ensures .0)
-    (c .before .affine-shift .ensures .0) v)
+    (c .before .before .before .before .before .before .before .before .affine-parameter .ensures .0)
+    (c .before .before .before .before .before .before .before .affine-parameter2 .ensures .0)
+    (c .before .before .before .before .before .before .affine-parameter3 .ensures .0)
+    (c .before .before .before .before .before .affine-parameter4 .ensures .0)
+    (c .before .before .before .before .affine-parameter5 .ensures .0)
+    (c .before .before .before .affine-shift .ensures .0) v)
     (c .along-span .ensures)
 
 pub affine-row-spec : {M : Type 1} → statement M
@@ -54,6 +54,6 @@ affine-row-spec =
     affine-parameter-requires-4
     affine-parameter-requires-5
     affine-shift-requires
-    add-along-span
+    add-n
     along-span-requires
     returns)

@@ -44,8 +44,8 @@ least-requires-2 c κs = search needs
 
 returns : tie.Need-returns
 returns c =
-    let a = c .before .before .before .before .before .before .before .before .before .args in
-    no-row-inside (a .vram .now) (a .registers .now) (a .w .now) (a .eye) (a .strip) _ _ (omega arith) (omega arith) (a .from) (a .to) _ (c .if1 .taken)
+    let a = c .before .before .before .before .before .before .before .before .before .before .args in
+    no-row-inside (a .vram .now) (a .registers .now) (a .w .now) (a .view .eye) (a .view .strip) _ _ (omega arith) (omega arith) (a .from) (a .to) _ (c .if1 .taken)
 
 plain-left-requires : tie.Need-plain-left-requires
 plain-left-requires c κs = search needs
@@ -76,12 +76,12 @@ plain-block-requires c κs = search needs
 
 returns-2 : tie.Need-returns-2
 returns-2 c =
-    let a = c .before .before .before .before .before .before .before .before .before .before .before .before .before .before .args in
-    let pre = c .before .before .before .before .before .before .before .before .before .before .before .before .before .before .pre in
-    let t : (c .before .before .before .before .before .before .before .before .before .before .before .wide .result + 32768) % 65536 ≡ gyOf (a .w .now) = omega arith in
-    rows-inside (a .vram .now) (a .registers .now) (a .w .now) (a .eye) (a .strip) _ _ (omega arith) (omega arith)
+    let a = c .before .before .before .before .before .before .before .before .before .before .before .before .before .before .before .args in
+    let pre = c .before .before .before .before .before .before .before .before .before .before .before .before .before .before .before .pre in
+    let t : (c .before .before .before .before .before .before .before .before .before .before .before .before .wide .result + 32768) % 65536 ≡ gyOf (a .w .now) = omega arith in
+    rows-inside (a .vram .now) (a .registers .now) (a .w .now) (a .view .eye) (a .view .strip) _ _ (omega arith) (omega arith)
     (omega arith) (pre .1 .1 .0) (omega arith) (a .from) (a .to) (omega arith) (omega arith) _ _ (omega arith)
-    (c .before .before .normal-y .ensures .0 ∙ ap (λ n. normalYOf (a .w .now) (8 * a .strip + 32768 + c .before .before .before .before .before .before .before .before .before .least .result - n)) t) _ _ (c .plain-block .ensures)
+    (c .before .before .normal-y .ensures .0 ∙ ap (λ n. normalYOf (a .w .now) (8 * a .view .strip + 32768 + c .before .before .before .before .before .before .before .before .before .least .result - n)) t) _ _ (c .plain-block .ensures)
 
 pub normal-block-spec : {M : Type 1} → statement M
 normal-block-spec =

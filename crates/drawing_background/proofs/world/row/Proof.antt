@@ -38,14 +38,14 @@ plain-span-requires : tie.Need-plain-span-requires
 plain-span-requires c κs = search needs
 
 returns-2 : tie.Need-returns-2
-returns-2 c = let a = c .before .before .before .before .before .before .before .before .args in
+returns-2 c = let a = c .before .before .before .before .before .before .before .before .before .args in
     span-change _ _ _ _ _ _ _
-    (λ x v l h. plain-pixel (a .vram .now) (a .registers .now) (a .w .now) (a .eye) (a .i) (a .j) (x - a .from) _ _ _
-    (c .before .before .before .before .before .if1 .left)
+    (λ x v l h. plain-pixel (a .vram .now) (a .registers .now) (a .w .now) (a .eye) (a .offsets .i) (a .offsets .j) (x - a .run .from) _ _ _
+    (c .before .before .before .before .before .before .if1 .left)
     (omega arith)
-    (c .before .before .before .before .plain-left .ensures .0)
+    (c .before .before .before .before .before .plain-left .ensures .0)
     (c .before .before .before .row-bias .ensures .0)
-    (c .before .normal-y .ensures .0) v)
+    (c .before .before .normal-y .ensures .0) v)
     (c .plain-span .ensures)
 
 pub row-spec : {M : Type 1} → statement M

@@ -27,9 +27,9 @@ add-y-2 : tie.Need-add-y-2
 add-y-2 c = search needs
 
 returns : tie.Need-returns
-returns c = let a = c .before .before .before .before .args in
+returns c = let a = c .before .before .before .before .before .before .args in
     span-kept _ _ _ _ _ (omega arith)
-    (λ x v l h. background-above (a .vram .now) (a .registers .now) (a .w .now) (a .eye) x (8 * a .strip + a .r) v (omega arith))
+    (λ x v l h. background-above (a .vram .now) (a .registers .now) (a .w .now) (a .view .eye) x (8 * a .view .strip + a .run .row) v (omega arith))
 
 rows-requires : tie.Need-rows-requires
 rows-requires c κs = search needs
@@ -38,27 +38,27 @@ add-if2 : tie.Need-add-if2
 add-if2 c = search needs
 
 returns-2 : tie.Need-returns-2
-returns-2 c = let a = c .before .before .before .before .before .before .args in
+returns-2 c = let a = c .before .before .before .before .before .before .before .before .args in
     span-kept _ _ _ _ _ (omega arith)
-    (λ x v l h. background-below (a .vram .now) (a .registers .now) (a .w .now) (a .eye) x (8 * a .strip + a .r) v (omega arith))
+    (λ x v l h. background-below (a .vram .now) (a .registers .now) (a .w .now) (a .view .eye) x (8 * a .view .strip + a .run .row) v (omega arith))
 
-add-row : tie.Need-add-row
-add-row c = search needs
+add-i : tie.Need-add-i
+add-i c = search needs
 
 window-left-requires : tie.Need-window-left-requires
 window-left-requires c κs = search needs
 
-sub-row : tie.Need-sub-row
-sub-row c = search needs
+sub-i : tie.Need-sub-i
+sub-i c = search needs
 
 row-requires : tie.Need-row-requires
 row-requires c κs = search needs
 
 returns-3 : tie.Need-returns-3
-returns-3 c = let a = c .before .before .before .before .before .before .before .before .before .args in
-    let pre = c .before .before .before .before .before .before .before .before .before .pre in
+returns-3 c = let a = c .before .before .before .before .before .before .before .before .before .before .before .before .args in
+    let pre = c .before .before .before .before .before .before .before .before .before .before .before .before .pre in
     span-change _ _ _ _ _ _ _
-    (λ x v l h. row-inside (a .vram .now) (a .registers .now) (a .w .now) (a .eye) x (8 * a .strip + a .r) v (a .from) _ _
+    (λ x v l h. row-inside (a .vram .now) (a .registers .now) (a .w .now) (a .view .eye) x (8 * a .view .strip + a .run .row) v (a .run .from) _ _
     (pre .1 .1 .0) (omega arith) (omega arith) (pre .1 .1 .1 .0) l (omega arith) (omega arith) (omega arith))
     (c .row .ensures)
 
@@ -76,8 +76,8 @@ strip-row-spec =
     rows-requires
     add-if2
     returns-2
-    add-row
+    add-i
     window-left-requires
-    sub-row
+    sub-i
     row-requires
     returns-3)

@@ -25,7 +25,7 @@ returns c =
     let a = c .before .before .before .before .before .before .args in
     let p = c .before .before .before .before .before .before .pre in
     let f = sym (rw (c .before .before .before .object .ensures) at (c .before .covers .ensures)) ∙ not-true _ (c .if1 .taken) in
-    (listing-as _ _ _ _ _ _ (object-not-covering (a .vram .now) (a .registers .now) (p .1 .1) (a .eye) (a .x) (a .y) (a .k) (p .0 .1 .1 .0) (a .worlds) (p .1 .0 .0) f) (listing-none _ _), omega arith)
+    (listing-as _ _ _ _ _ _ (object-not-covering (a .vram .now) (a .registers .now) (p .1 .1) (a .pixel .eye) (a .pixel .x) (a .pixel .y) (a .k) (p .0 .1 .1 .0) (a .worlds) (p .1 .0 .0) f) (listing-none _ _), omega arith)
 
 in-groups-requires : tie.Need-in-groups-requires
 in-groups-requires c κs = search needs
@@ -35,7 +35,7 @@ returns-2 c =
     let a = c .before .before .before .before .before .before .before .before .args in
     let p = c .before .before .before .before .before .before .before .before .pre in
     let f = sym (c .before .in-groups .ensures) ∙ not-true _ (c .if2 .taken) in
-    (listing-as _ _ _ _ _ _ (object-not-drawn (a .vram .now) (a .registers .now) (p .1 .1) (a .eye) (a .x) (a .y) (a .k) (p .0 .1 .1 .0) (a .worlds) (p .1 .0 .0) f) (listing-none _ _), omega arith)
+    (listing-as _ _ _ _ _ _ (object-not-drawn (a .vram .now) (a .registers .now) (p .1 .1) (a .pixel .eye) (a .pixel .x) (a .pixel .y) (a .k) (p .0 .1 .1 .0) (a .worlds) (p .1 .0 .0) f) (listing-none _ _), omega arith)
 
 array-read-wide : tie.Need-array-read-wide
 array-read-wide c = search needs
@@ -50,7 +50,7 @@ row-address-requires : tie.Need-row-address-requires
 row-address-requires c κs =
     let a = c .before .before .before .before .before .before .before .before .before .before .before .before .args in
     let covered = sym (c .before .before .before .before .before .before .before .covers .ensures) ∙ not-false _ (c .before .before .before .before .before .before .if1 .left) in
-    omega (arith, object-row-there (c .before .before .before .before .before .before .before .before .before .object .result) (a .eye) (a .x) (a .y) covered, c .object-row .ensures)
+    omega (arith, object-row-there (c .before .before .before .before .before .before .before .before .before .object .result) (a .pixel .eye) (a .pixel .x) (a .pixel .y) covered, c .object-row .ensures)
 
 put-half-requires : tie.Need-put-half-requires
 put-half-requires c κs = search needs
@@ -65,10 +65,10 @@ returns-3 c =
     let covered = sym (rw (c .before .before .before .before .before .before .before .before .before .before .before .before .before .object .ensures) at (c .before .before .before .before .before .before .before .before .before .before .before .covers .ensures)) ∙ not-false _ (c .before .before .before .before .before .before .before .before .before .before .if1 .left) in
     let drawn = sym (c .before .before .before .before .before .before .before .before .before .in-groups .ensures) ∙ not-false _ (c .before .before .before .before .before .before .before .before .if2 .left) in
     let bytes =
-    object-row-bytes (objectOf (a .vram .now) (a .k)) (a .y) (c .before .before .before .before .before .before .wide .result) (c .before .before .before .before .object-row .result) (c .before .before .before .row-address .result) (c .before .before .before .row-address .ensures .0)
+    object-row-bytes (objectOf (a .vram .now) (a .k)) (a .pixel .y) (c .before .before .before .before .before .before .wide .result) (c .before .before .before .before .object-row .result) (c .before .before .before .row-address .result) (c .before .before .before .row-address .ensures .0)
     (c .before .before .before .before .before .before .wide .ensures .0 ∙ ap (λ (o : List ℕ). getD o 3 0) (c .before .before .before .before .before .before .before .before .before .before .before .before .before .object .ensures)) (rw (c .before .before .before .before .before .before .before .before .before .before .before .before .before .object .ensures) at (c .before .before .before .before .object-row .ensures)) in (
       listing-as _ _ _ _ _ _
-          (bytes ∙ object-drawn (a .vram .now) (a .registers .now) (p .1 .1) (a .eye) (a .x) (a .y) (a .k) (p .0 .1 .1 .0) (a .worlds) (p .1 .0 .0) covered drawn)
+          (bytes ∙ object-drawn (a .vram .now) (a .registers .now) (p .1 .1) (a .pixel .eye) (a .pixel .x) (a .pixel .y) (a .k) (p .0 .1 .1 .0) (a .worlds) (p .1 .0 .0) covered drawn)
           (c .before .before .put-half .ensures),
       omega (arith, c .before .before .put-half .ensures .count),
     )

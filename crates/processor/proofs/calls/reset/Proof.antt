@@ -1,13 +1,16 @@
 -- `processor::calls::reset`: the definition's own values.
-use mathlib.Core.Path.{refl}
 use Rattle.bus.specs.Registers.{hardwareIn}
+use borrow.Author.Needs.{needs}
 use Rattle.processor.specs.Calls.{resetOf}
 use Rattle.processor.proofs.calls.reset.Statement.{statement}
 use Rattle.processor.proofs.calls.reset.Tie as tie
 
+reset-requires : tie.Need-reset-requires
+reset-requires c κs = search needs
+
 returns : tie.Need-returns
 unfolding resetOf hardwareIn
-returns c = refl
+returns c = rw (c .reset .ensures)
 
 pub reset-spec : {M : Type 1} → statement M
-reset-spec = tie.close (tie.spec returns)
+reset-spec = tie.close (tie.spec reset-requires returns)

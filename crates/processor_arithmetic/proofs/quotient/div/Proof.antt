@@ -1,7 +1,7 @@
 -- `processor_arithmetic::quotient::div`: the parts of the result, each by its callee's promise; `by-signs` ties them to the definition.
 use native.Mathlib.Omega.{arith}
 use borrow.Author.Needs.{needs}
-use Rattle.processor_arithmetic.proofs.Carry.{pick-not, pick-leb}
+use Rattle.word.proofs.Choices.{pick-not, pick-leb}
 use Rattle.processor_arithmetic.proofs.Magnitude.{magnitude-positive}
 use Rattle.processor_arithmetic.proofs.Division.{signsQuotientOf, signsRemainderOf, quotientOverflowsOf, by-signs}
 use Rattle.processor_arithmetic.specs.Quotient.{divideOf}

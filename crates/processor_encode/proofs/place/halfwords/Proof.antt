@@ -54,14 +54,14 @@ placed-requires-8 c κs = search needs
 enum-told-9 : tie.Need-enum-told-9
 enum-told-9 c = search needs
 
-branch-requires : tie.Need-branch-requires
-branch-requires c κs = search needs
+branch-placed-requires : tie.Need-branch-placed-requires
+branch-placed-requires c κs = search needs
 
 enum-told-10 : tie.Need-enum-told-10
 enum-told-10 c = search needs
 
-jump-requires : tie.Need-jump-requires
-jump-requires c κs = search needs
+jump-placed-requires : tie.Need-jump-placed-requires
+jump-placed-requires c κs = search needs
 
 low-half-requires : tie.Need-low-half-requires
 low-half-requires c κs = search needs
@@ -130,10 +130,10 @@ returns-8 : tie.Need-returns-8
 returns-8 c = rw (c .before .enum-told8 .given .1, c .placed8 .ensures)
 
 returns-9 : tie.Need-returns-9
-returns-9 c = rw (c .before .enum-told9 .given .1, c .branch .ensures)
+returns-9 c = rw (c .before .enum-told9 .given .1, c .branch-placed .ensures)
 
 returns-10 : tie.Need-returns-10
-returns-10 c = rw (c .before .before .enum-told10 .given .1, c .low-half .ensures, c .before .jump .ensures)
+returns-10 c = rw (c .before .before .enum-told10 .given .1, c .low-half .ensures, c .before .jump-placed .ensures)
 
 returns-11 : tie.Need-returns-11
 returns-11 c = rw (c .before .before .enum-told11 .given .1, c .low-half2 .ensures, c .before .placed9 .ensures)
@@ -171,9 +171,9 @@ halfwords-spec =
     enum-told-8
     placed-requires-8
     enum-told-9
-    branch-requires
+    branch-placed-requires
     enum-told-10
-    jump-requires
+    jump-placed-requires
     low-half-requires
     enum-told-11
     placed-requires-9

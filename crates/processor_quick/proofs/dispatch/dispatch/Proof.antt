@@ -1,5 +1,6 @@
 -- `processor_quick::dispatch::dispatch`: each arm is the row of its opcode.
 use mathlib.Core.Path.{refl}
+use native.Mathlib.Omega.{arith}
 use borrow.Author.Needs.{needs}
 use denote.Ref.{now}
 use Rattle.bus.specs.Memory.{memoryOf}
@@ -101,67 +102,67 @@ greater-requires : tie.Need-greater-requires
 greater-requires c κs = c .match .keys40
 
 movea-requires : tie.Need-movea-requires
-movea-requires c κs = c .before .before .before .before .before .before .pre .2
+movea-requires c κs = omega (arith, c .before .before .before .before .before .before .fits .w)
 
 addi-requires : tie.Need-addi-requires
-addi-requires c κs = c .before .before .before .before .before .before .pre .2
+addi-requires c κs = omega (arith, c .before .before .before .before .before .before .fits .w)
 
 jr-requires : tie.Need-jr-requires
-jr-requires c κs = c .before .before .before .before .before .pre .2
+jr-requires c κs = omega (arith, c .before .before .before .before .before .fits .w)
 
 jal-requires : tie.Need-jal-requires
-jal-requires c κs = c .before .before .before .before .before .before .pre .2
+jal-requires c κs = omega (arith, c .before .before .before .before .before .before .fits .w)
 
 ori-requires : tie.Need-ori-requires
-ori-requires c κs = c .before .before .before .before .before .before .pre .2
+ori-requires c κs = omega (arith, c .before .before .before .before .before .before .fits .w)
 
 andi-requires : tie.Need-andi-requires
-andi-requires c κs = c .before .before .before .before .before .before .pre .2
+andi-requires c κs = omega (arith, c .before .before .before .before .before .before .fits .w)
 
 xori-requires : tie.Need-xori-requires
-xori-requires c κs = c .before .before .before .before .before .before .pre .2
+xori-requires c κs = omega (arith, c .before .before .before .before .before .before .fits .w)
 
 movhi-requires : tie.Need-movhi-requires
-movhi-requires c κs = c .before .before .before .before .before .before .pre .2
+movhi-requires c κs = omega (arith, c .before .before .before .before .before .before .fits .w)
 
 load-byte-requires : tie.Need-load-byte-requires
-load-byte-requires c κs = (c .before .before .before .before .before .before .before .before .pre .0, c .before .before .before .before .before .before .before .before .pre .2)
+load-byte-requires c κs = (c .before .before .before .before .before .before .before .before .pre .0, omega (arith, c .before .before .before .before .before .before .before .before .fits .w))
 
 load-half-requires : tie.Need-load-half-requires
-load-half-requires c κs = (c .before .before .before .before .before .before .before .before .pre .0, c .before .before .before .before .before .before .before .before .pre .2)
+load-half-requires c κs = (c .before .before .before .before .before .before .before .before .pre .0, omega (arith, c .before .before .before .before .before .before .before .before .fits .w))
 
 load-word-requires : tie.Need-load-word-requires
-load-word-requires c κs = (c .before .before .before .before .before .before .before .before .pre .0, c .before .before .before .before .before .before .before .before .pre .2)
+load-word-requires c κs = (c .before .before .before .before .before .before .before .before .pre .0, omega (arith, c .before .before .before .before .before .before .before .before .fits .w))
 
 store-byte-requires : tie.Need-store-byte-requires
-store-byte-requires c κs = (c .before .before .before .before .before .before .before .before .pre .0 .wram-ok, c .before .before .before .before .before .before .before .before .pre .0 .vram-ok, c .before .before .before .before .before .before .before .before .pre .2)
+store-byte-requires c κs = (c .before .before .before .before .before .before .before .before .pre .0 .wram-ok, c .before .before .before .before .before .before .before .before .pre .0 .vram-ok, omega (arith, c .before .before .before .before .before .before .before .before .fits .w))
 
 store-half-requires : tie.Need-store-half-requires
-store-half-requires c κs = (c .before .before .before .before .before .before .before .before .pre .0 .wram-ok, c .before .before .before .before .before .before .before .before .pre .0 .vram-ok, c .before .before .before .before .before .before .before .before .pre .2)
+store-half-requires c κs = (c .before .before .before .before .before .before .before .before .pre .0 .wram-ok, c .before .before .before .before .before .before .before .before .pre .0 .vram-ok, omega (arith, c .before .before .before .before .before .before .before .before .fits .w))
 
 store-word-requires : tie.Need-store-word-requires
-store-word-requires c κs = (c .before .before .before .before .before .before .before .before .pre .0 .wram-ok, c .before .before .before .before .before .before .before .before .pre .0 .vram-ok, c .before .before .before .before .before .before .before .before .pre .2)
+store-word-requires c κs = (c .before .before .before .before .before .before .before .before .pre .0 .wram-ok, c .before .before .before .before .before .before .before .before .pre .0 .vram-ok, omega (arith, c .before .before .before .before .before .before .before .before .fits .w))
 
 input-byte-requires : tie.Need-input-byte-requires
-input-byte-requires c κs = (c .before .before .before .before .before .before .before .before .pre .0, c .before .before .before .before .before .before .before .before .pre .2)
+input-byte-requires c κs = (c .before .before .before .before .before .before .before .before .pre .0, omega (arith, c .before .before .before .before .before .before .before .before .fits .w))
 
 input-half-requires : tie.Need-input-half-requires
-input-half-requires c κs = (c .before .before .before .before .before .before .before .before .pre .0, c .before .before .before .before .before .before .before .before .pre .2)
+input-half-requires c κs = (c .before .before .before .before .before .before .before .before .pre .0, omega (arith, c .before .before .before .before .before .before .before .before .fits .w))
 
 load-word-requires-2 : tie.Need-load-word-requires-2
-load-word-requires-2 c κs = (c .before .before .before .before .before .before .before .before .pre .0, c .before .before .before .before .before .before .before .before .pre .2)
+load-word-requires-2 c κs = (c .before .before .before .before .before .before .before .before .pre .0, omega (arith, c .before .before .before .before .before .before .before .before .fits .w))
 
 store-byte-requires-2 : tie.Need-store-byte-requires-2
-store-byte-requires-2 c κs = (c .before .before .before .before .before .before .before .before .pre .0 .wram-ok, c .before .before .before .before .before .before .before .before .pre .0 .vram-ok, c .before .before .before .before .before .before .before .before .pre .2)
+store-byte-requires-2 c κs = (c .before .before .before .before .before .before .before .before .pre .0 .wram-ok, c .before .before .before .before .before .before .before .before .pre .0 .vram-ok, omega (arith, c .before .before .before .before .before .before .before .before .fits .w))
 
 store-half-requires-2 : tie.Need-store-half-requires-2
-store-half-requires-2 c κs = (c .before .before .before .before .before .before .before .before .pre .0 .wram-ok, c .before .before .before .before .before .before .before .before .pre .0 .vram-ok, c .before .before .before .before .before .before .before .before .pre .2)
+store-half-requires-2 c κs = (c .before .before .before .before .before .before .before .before .pre .0 .wram-ok, c .before .before .before .before .before .before .before .before .pre .0 .vram-ok, omega (arith, c .before .before .before .before .before .before .before .before .fits .w))
 
 extended-requires : tie.Need-extended-requires
 extended-requires c κs = tt
 
 store-word-requires-2 : tie.Need-store-word-requires-2
-store-word-requires-2 c κs = (c .before .before .before .before .before .before .before .before .pre .0 .wram-ok, c .before .before .before .before .before .before .before .before .pre .0 .vram-ok, c .before .before .before .before .before .before .before .before .pre .2)
+store-word-requires-2 c κs = (c .before .before .before .before .before .before .before .before .pre .0 .wram-ok, c .before .before .before .before .before .before .before .before .pre .0 .vram-ok, omega (arith, c .before .before .before .before .before .before .before .before .fits .w))
 
 returns : tie.Need-returns
 unfolding decodeOf shortRows

@@ -9,15 +9,15 @@ use denote.Ref.{now}
 use lib.ListN.{length}
 use Rattle.bus.proofs.Places.{region-code}
 use Rattle.processor_quick.proofs.Fetches.{rom-room, wram-room}
-use Rattle.processor_quick.proofs.Leading.{stretched-none}
+use Rattle.processor_quick.proofs.Leading.{stretched-full}
 use Rattle.processor_quick.proofs.stretch.common.Statement.{statement}
 use Rattle.processor_quick.proofs.stretch.common.Tie as tie
 
 returns : tie.Need-returns
-returns c = λ sys. stretched-none _ _ sys _ _ _
+returns c = record { within = omega arith; stretched = λ sys. stretched-full _ _ sys _ _ _ }
 
 returns-2 : tie.Need-returns-2
-returns-2 c = λ sys. stretched-none _ _ sys _ _ _
+returns-2 c = record { within = omega arith; stretched = λ sys. stretched-full _ _ sys _ _ _ }
 
 cast-n : tie.Need-cast-n
 cast-n c =
@@ -94,7 +94,7 @@ returns-4 : tie.Need-returns-4
 returns-4 c = c .before .before .before .before .inside2 .ensures
 
 returns-5 : tie.Need-returns-5
-returns-5 c = λ sys. stretched-none _ _ sys _ _ _
+returns-5 c = record { within = omega arith; stretched = λ sys. stretched-full _ _ sys _ _ _ }
 
 pub common-spec : {M : Type 1} → statement M
 common-spec =

@@ -43,9 +43,6 @@ loop-holds c =
       refl,
     )
 
-sub-t21 : tie.Need-sub-t21 Inv-loop μ-loop
-sub-t21 c = omega (arith, c .before .before .loop .inv .1)
-
 wrapping-add-u32-requires : tie.Need-wrapping-add-u32-requires Inv-loop μ-loop
 wrapping-add-u32-requires c κs = tt
 
@@ -64,9 +61,12 @@ returns c =
     let a = b .args in
     let even = stands-even (length (now (a .rom))) (a .base) (a .last) (a .in-rom) (b .pre .0 .rom-ok) (b .pre .1) in
     let l = c .before .before .before .before .loop in
-    λ sys.
-    ends (a .budget) (l .left) (now (a .regs)) (l .regs) sys (now (a .rom)) (now (a .wram)) (l .wram) (now (a .vram)) (l .vram) (now (a .pak)) (now (a .device)) (a .pc) (a .psw) (a .base) (l .x) _ _ (l .flags)
-    (c .before .wrapping-add-u32 .ensures) (c .packed .ensures) (l .inv .0 sys)
+    record {
+      within = l .inv .1;
+      stretched = λ sys.
+          ends (a .budget) (l .left) (now (a .regs)) (l .regs) sys (now (a .rom)) (now (a .wram)) (l .wram) (now (a .vram)) (l .vram) (now (a .pak)) (now (a .device)) (a .pc) (a .psw) (a .base) (l .x) _ _ (l .flags)
+          (c .before .wrapping-add-u32 .ensures) (c .packed .ensures) (l .inv .0 sys);
+    }
 
 cast-fetch : tie.Need-cast-fetch Inv-loop μ-loop
 cast-fetch c = search needs
@@ -88,7 +88,6 @@ dispatch-requires c κs =
     let i = c .before .before .before .before .before .before .before .loop .inv in
     let pre = b .pre .0 in (
       record { rom-ok = pre .rom-ok; wram-ok = i .3 ∙ pre .wram-ok; vram-ok = i .4 ∙ pre .vram-ok; pak-ok = pre .pak-ok },
-      omega arith,
       omega arith,
     )
 
@@ -127,9 +126,6 @@ loop-again c =
 enum-told : tie.Need-enum-told Inv-loop μ-loop
 enum-told c = c .match .keys2
 
-sub-t35 : tie.Need-sub-t35 Inv-loop μ-loop
-sub-t35 c = omega (arith, c .before .before .before .before .before .before .before .before .before .before .before .before .before .before .loop .inv .1)
-
 wrapping-add-u32-requires-2 : tie.Need-wrapping-add-u32-requires-2 Inv-loop μ-loop
 wrapping-add-u32-requires-2 c κs = tt
 
@@ -154,12 +150,12 @@ returns-2 c =
     let at = fetches m (a .base) (l .x) (a .last) (a .in-rom) (b .pre .0 .rom-ok) (b .pre .1) (l .inv .2) (c .before .before .before .before .before .before .before .before .before .before .before .before .before .before .if1 .left) in
     let first = at .0 ∙ sym (w .ensures .0) in
     let second = at .1 ∙ sym (w .ensures .1) in
-    λ sys.
-    ends (a .budget) (l .left) (now (a .regs)) _ sys (now (a .rom)) (now (a .wram)) _ (now (a .vram)) _ (now (a .pak)) (now (a .device)) (a .pc) (a .psw) (a .base) (l .x) _ _ (l .flags)
-    (c .before .wrapping-add-u322 .ensures) (c .packed2 .ensures) (leads-same _ _ (a .budget - l .left) (l .regs) _ sys (a .base) (l .x) (a .psw) _ _ (l .flags) m _ (d .result) (l .inv .0 sys) first second even (l .inv .2) (d .ensures) (c .before .before .enum-told .given .1))
-
-sub-t38 : tie.Need-sub-t38 Inv-loop μ-loop
-sub-t38 c = omega (arith, c .before .loop .inv .1)
+    record {
+      within = l .inv .1;
+      stretched = λ sys.
+          ends (a .budget) (l .left) (now (a .regs)) _ sys (now (a .rom)) (now (a .wram)) _ (now (a .vram)) _ (now (a .pak)) (now (a .device)) (a .pc) (a .psw) (a .base) (l .x) _ _ (l .flags)
+          (c .before .wrapping-add-u322 .ensures) (c .packed2 .ensures) (leads-same _ _ (a .budget - l .left) (l .regs) _ sys (a .base) (l .x) (a .psw) _ _ (l .flags) m _ (d .result) (l .inv .0 sys) first second even (l .inv .2) (d .ensures) (c .before .before .enum-told .given .1));
+    }
 
 wrapping-add-u32-requires-3 : tie.Need-wrapping-add-u32-requires-3 Inv-loop μ-loop
 wrapping-add-u32-requires-3 c κs = tt
@@ -179,9 +175,12 @@ returns-3 c =
     let a = b .args in
     let even = stands-even (length (now (a .rom))) (a .base) (a .last) (a .in-rom) (b .pre .0 .rom-ok) (b .pre .1) in
     let l = c .before .before .before .loop in
-    λ sys.
-    ends (a .budget) (l .left) (now (a .regs)) (l .regs) sys (now (a .rom)) (now (a .wram)) (l .wram) (now (a .vram)) (l .vram) (now (a .pak)) (now (a .device)) (a .pc) (a .psw) (a .base) (l .x) _ _ (l .flags)
-    (c .before .wrapping-add-u323 .ensures) (c .packed3 .ensures) (l .inv .0 sys)
+    record {
+      within = l .inv .1;
+      stretched = λ sys.
+          ends (a .budget) (l .left) (now (a .regs)) (l .regs) sys (now (a .rom)) (now (a .wram)) (l .wram) (now (a .vram)) (l .vram) (now (a .pak)) (now (a .device)) (a .pc) (a .psw) (a .base) (l .x) _ _ (l .flags)
+          (c .before .wrapping-add-u323 .ensures) (c .packed3 .ensures) (l .inv .0 sys);
+    }
 
 pub inside-spec : {M : Type 1} → statement M
 inside-spec =
@@ -192,7 +191,6 @@ inside-spec =
     wrapping-sub-u32-requires
     unpacked-requires
     loop-holds
-    sub-t21
     wrapping-add-u32-requires
     packed-requires
     same-length
@@ -206,13 +204,11 @@ inside-spec =
     loop-less
     loop-again
     enum-told
-    sub-t35
     wrapping-add-u32-requires-2
     packed-requires-2
     same-length-3
     same-length-4
     returns-2
-    sub-t38
     wrapping-add-u32-requires-3
     packed-requires-3
     same-length-5

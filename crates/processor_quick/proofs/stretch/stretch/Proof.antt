@@ -8,7 +8,7 @@ use Rattle.processor_machine.specs.State.{stateOf}
 use Rattle.processor_machine.specs.declared.Mode.the-variants.{Running}
 use Rattle.processor_quick.specs.Leads.{Stretched}
 use Rattle.processor_quick.proofs.Leading.{stretched-none}
-use Rattle.processor_quick.proofs.Stretches.{stretched-on}
+use Rattle.processor_quick.proofs.Stretches.{stretched-on, stretched-rest}
 use Rattle.processor_quick.proofs.stretch.stretch.Statement.{statement}
 use Rattle.processor_quick.proofs.stretch.stretch.Tie as tie
 
@@ -32,13 +32,12 @@ common-requires c κs =
     let i = c .before .before .before .before .loop .inv in
     record { rom-ok = pre .rom-ok; wram-ok = i .1 ∙ pre .wram-ok; vram-ok = i .2 ∙ pre .vram-ok; pak-ok = pre .pak-ok }
 
-add-n : tie.Need-add-n Inv-loop μ-loop
-add-n c =
+sub-n : tie.Need-sub-n Inv-loop μ-loop
+sub-n c =
     let a = c .before .before .before .before .before .before .before .before .before .before .before .before .before .before .before .args in
     let l = c .before .before .before .before .before .before .before .before .before .before .loop in
     let q = c .before .before .before .before .before .common in
-    let e : a .budget - l .n + l .n ≡ a .budget = omega (arith, c .before .before .before .before .before .before .before .before .before .loop-test .taken) in
-    let f = stretched-on _ _ _ _ _ _ (l .inv .0) (a .budget - l .n) _ _ _ e (q .ensures (l .sys)) in
+    let f = stretched-rest (a .budget) (l .n) _ _ _ _ (l .inv .0) (q .result .left) _ _ (q .ensures .within) (q .ensures .stretched (l .sys)) in
     omega (arith, f .within, c .before .before .before .before .before .before .before .before .before .before .before .before .before .before .before .fits .budget)
 
 sub-controls : tie.Need-sub-controls Inv-loop μ-loop
@@ -46,8 +45,7 @@ sub-controls c =
     let a = c .before .before .before .before .before .before .before .before .before .before .before .before .before .before .before .before .before .before .before .args in
     let l = c .before .before .before .before .before .before .before .before .before .before .before .before .before .before .loop in
     let q = c .before .before .before .before .before .before .before .before .before .common in
-    let e : a .budget - l .n + l .n ≡ a .budget = omega (arith, c .before .before .before .before .before .before .before .before .before .before .before .before .before .loop-test .taken) in
-    let f = stretched-on _ _ _ _ _ _ (l .inv .0) (a .budget - l .n) _ _ _ e (q .ensures (l .sys)) in
+    let f = stretched-rest (a .budget) (l .n) _ _ _ _ (l .inv .0) (q .result .left) _ _ (q .ensures .within) (q .ensures .stretched (l .sys)) in
     omega (arith, f .within)
 
 controls-requires : tie.Need-controls-requires Inv-loop μ-loop
@@ -57,15 +55,14 @@ controls-requires c κs =
     let k = c .before .before .before .before .before .before .before .before .before .common .kept .1 in
     record { rom-ok = pre .rom-ok; wram-ok = k .0 ∙ i .1 ∙ pre .wram-ok; vram-ok = k .1 .0 ∙ i .2 ∙ pre .vram-ok; pak-ok = pre .pak-ok }
 
-add-n-2 : tie.Need-add-n-2 Inv-loop μ-loop
-add-n-2 c =
+add-n : tie.Need-add-n Inv-loop μ-loop
+add-n c =
     let a = c .before .before .before .before .before .before .before .before .before .before .before .before .before .before .before .before .before .before .before .before .before .args in
     let l = c .before .before .before .before .before .before .before .before .before .before .before .before .before .before .before .before .loop in
     let q = c .before .before .before .before .before .before .before .before .before .before .before .common in
-    let e : a .budget - l .n + l .n ≡ a .budget = omega (arith, c .before .before .before .before .before .before .before .before .before .before .before .before .before .before .before .loop-test .taken) in
-    let f = stretched-on _ _ _ _ _ _ (l .inv .0) (a .budget - l .n) _ _ _ e (q .ensures (l .sys)) in
-    let h : a .budget - (l .n + q .result .count) + (l .n + q .result .count) ≡ a .budget = omega (arith, f .within) in
-    let g = stretched-on _ _ _ _ _ _ f (a .budget - (l .n + q .result .count)) _ _ _ h (c .before .controls .ensures) in
+    let f = stretched-rest (a .budget) (l .n) _ _ _ _ (l .inv .0) (q .result .left) _ _ (q .ensures .within) (q .ensures .stretched (l .sys)) in
+    let h : a .budget - (a .budget - q .result .left) + (a .budget - q .result .left) ≡ a .budget = omega (arith, f .within) in
+    let g = stretched-on _ _ _ _ _ _ f (a .budget - (a .budget - q .result .left)) _ _ _ h (c .before .controls .ensures) in
     omega (arith, g .within, c .before .before .before .before .before .before .before .before .before .before .before .before .before .before .before .before .before .before .before .before .before .fits .budget)
 
 same-length : tie.Need-same-length Inv-loop μ-loop
@@ -79,10 +76,9 @@ returns c =
     let a = c .before .before .before .before .before .before .before .before .before .before .before .before .before .before .before .before .before .before .before .before .before .before .before .args in
     let l = c .before .before .before .before .before .before .before .before .before .before .before .before .before .before .before .before .before .before .loop in
     let q = c .before .before .before .before .before .before .before .before .before .before .before .before .before .common in
-    let e : a .budget - l .n + l .n ≡ a .budget = omega (arith, c .before .before .before .before .before .before .before .before .before .before .before .before .before .before .before .before .before .loop-test .taken) in
-    let f = stretched-on _ _ _ _ _ _ (l .inv .0) (a .budget - l .n) _ _ _ e (q .ensures (l .sys)) in
-    let h : a .budget - (l .n + q .result .count) + (l .n + q .result .count) ≡ a .budget = omega (arith, f .within) in
-    let g = stretched-on _ _ _ _ _ _ f (a .budget - (l .n + q .result .count)) _ _ _ h (c .before .before .before .controls .ensures) in
+    let f = stretched-rest (a .budget) (l .n) _ _ _ _ (l .inv .0) (q .result .left) _ _ (q .ensures .within) (q .ensures .stretched (l .sys)) in
+    let h : a .budget - (a .budget - q .result .left) + (a .budget - q .result .left) ≡ a .budget = omega (arith, f .within) in
+    let g = stretched-on _ _ _ _ _ _ f (a .budget - (a .budget - q .result .left)) _ _ _ h (c .before .before .before .controls .ensures) in
     g
 
 loop-less : tie.Need-loop-less Inv-loop μ-loop
@@ -90,10 +86,9 @@ loop-less c =
     let a = c .before .before .before .before .before .before .before .before .before .before .before .before .before .before .before .before .before .before .before .before .before .before .before .args in
     let l = c .before .before .before .before .before .before .before .before .before .before .before .before .before .before .before .before .before .before .loop in
     let q = c .before .before .before .before .before .before .before .before .before .before .before .before .before .common in
-    let e : a .budget - l .n + l .n ≡ a .budget = omega (arith, c .before .before .before .before .before .before .before .before .before .before .before .before .before .before .before .before .before .loop-test .taken) in
-    let f = stretched-on _ _ _ _ _ _ (l .inv .0) (a .budget - l .n) _ _ _ e (q .ensures (l .sys)) in
-    let h : a .budget - (l .n + q .result .count) + (l .n + q .result .count) ≡ a .budget = omega (arith, f .within) in
-    let g = stretched-on _ _ _ _ _ _ f (a .budget - (l .n + q .result .count)) _ _ _ h (c .before .before .before .controls .ensures) in
+    let f = stretched-rest (a .budget) (l .n) _ _ _ _ (l .inv .0) (q .result .left) _ _ (q .ensures .within) (q .ensures .stretched (l .sys)) in
+    let h : a .budget - (a .budget - q .result .left) + (a .budget - q .result .left) ≡ a .budget = omega (arith, f .within) in
+    let g = stretched-on _ _ _ _ _ _ f (a .budget - (a .budget - q .result .left)) _ _ _ h (c .before .before .before .controls .ensures) in
     omega (arith, g .within, c .if1 .left, c .before .before .before .before .before .before .before .before .before .before .before .before .before .before .before .before .before .loop-test .taken)
 
 loop-again : tie.Need-loop-again Inv-loop μ-loop
@@ -101,10 +96,9 @@ loop-again c =
     let a = c .before .before .before .before .before .before .before .before .before .before .before .before .before .before .before .before .before .before .before .before .before .before .before .args in
     let l = c .before .before .before .before .before .before .before .before .before .before .before .before .before .before .before .before .before .before .loop in
     let q = c .before .before .before .before .before .before .before .before .before .before .before .before .before .common in
-    let e : a .budget - l .n + l .n ≡ a .budget = omega (arith, c .before .before .before .before .before .before .before .before .before .before .before .before .before .before .before .before .before .loop-test .taken) in
-    let f = stretched-on _ _ _ _ _ _ (l .inv .0) (a .budget - l .n) _ _ _ e (q .ensures (l .sys)) in
-    let h : a .budget - (l .n + q .result .count) + (l .n + q .result .count) ≡ a .budget = omega (arith, f .within) in
-    let g = stretched-on _ _ _ _ _ _ f (a .budget - (l .n + q .result .count)) _ _ _ h (c .before .before .before .controls .ensures) in
+    let f = stretched-rest (a .budget) (l .n) _ _ _ _ (l .inv .0) (q .result .left) _ _ (q .ensures .within) (q .ensures .stretched (l .sys)) in
+    let h : a .budget - (a .budget - q .result .left) + (a .budget - q .result .left) ≡ a .budget = omega (arith, f .within) in
+    let g = stretched-on _ _ _ _ _ _ f (a .budget - (a .budget - q .result .left)) _ _ _ h (c .before .before .before .controls .ensures) in
     (g, q .kept .1 .0 ∙ l .inv .1, q .kept .1 .1 .0 ∙ l .inv .2)
 
 same-length-3 : tie.Need-same-length-3 Inv-loop μ-loop
@@ -125,10 +119,10 @@ stretch-spec =
     loop-holds
     sub-common
     common-requires
-    add-n
+    sub-n
     sub-controls
     controls-requires
-    add-n-2
+    add-n
     same-length
     same-length-2
     returns

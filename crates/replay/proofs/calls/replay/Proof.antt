@@ -1,4 +1,4 @@
--- `replay::calls::replay`: refused as the definition says, else the stretch's promise. Assumes nothing.
+-- `replay::calls::replay`: refused as the definition says, else what the replay of the records promises. Assumes nothing.
 use borrow.Author.Needs.{needs}
 use denote.Ref.{now}
 use Rattle.bus.specs.Memory.{memoryOf}

@@ -16,6 +16,9 @@ use Rattle.saved.proofs.records.hardware.Tie as tie
 enum-told : tie.Need-enum-told
 enum-told c = search needs
 
+reset-requires : tie.Need-reset-requires
+reset-requires c κs = search needs
+
 enum-told-2 : tie.Need-enum-told-2
 enum-told-2 c = search needs
 
@@ -46,7 +49,7 @@ hardware-requires c κs = search needs
 
 returns : tie.Need-returns
 unfolding bodiesIn hardwareFrom
-returns c = rw ((c .enum-told .given .1)) refl
+returns c = rw ((c .before .enum-told .given .1)) (c .reset .ensures)
 
 returns-2 : tie.Need-returns-2
 returns-2 c = rw ((c .before .before .before .enum-told2 .given .1))
@@ -57,6 +60,7 @@ hardware-spec =
     tie.close
     (tie.spec
     enum-told
+    reset-requires
     enum-told-2
     first-requires
     add-last

@@ -9,7 +9,7 @@ use Rattle.saved_layout.specs.File.{bodiesIn}
 use Rattle.saved_kinds.specs.Kinds.{generalFrom, restFrom}
 use Rattle.saved_layout.proofs.Positions.{length-is}
 use Rattle.saved_layout.proofs.Written.{processor-part, drawing-part, hardware-part}
-use Rattle.saved.specs.Body.{restoredProcessorOf, processorIn}
+use Rattle.saved.specs.Body.{restoredProcessorOf, processorInBodies}
 use borrow.Author.Needs.{needs}
 use Rattle.saved.proofs.records.held.Statement.{statement}
 use Rattle.saved.proofs.records.held.Tie as tie
@@ -36,7 +36,7 @@ processor-requires : tie.Need-processor-requires
 processor-requires c κs = search needs
 
 returns : tie.Need-returns
-unfolding processorIn
+unfolding processorInBodies
 returns c = (c .processor .ensures)
     ∙ (ap (λ (xs : List ℕ). restoredProcessorOf (generalFrom xs) (restFrom xs) ((c .before .hardware .result))) (processor-part ((c .before .before .before .before .before .args .form)) ((c .before .before .before .before .before .args .pak)) ((c .before .before .before .first .result)) ((c .before .before .before .before .before .args .file .now)) ((c .before .before .before .first .ensures .0)) ((c .before .before .before .first .result)) (((c .before .before .before .first .result)) + 172 - ((c .before .before .before .first .result))) refl (omega arith))
     ∙ ap (λ (h : Hardware). restoredProcessorOf (generalFrom (bodiesIn ((c .before .before .before .before .before .args .form)) ((c .before .before .before .before .before .args .pak)) ((c .before .before .before .before .before .args .file .now)) .processor)) (restFrom (bodiesIn ((c .before .before .before .before .before .args .form)) ((c .before .before .before .before .before .args .pak)) ((c .before .before .before .before .before .args .file .now)) .processor)) h) ((c .before .hardware .ensures)))

@@ -1,0 +1,27 @@
+-- `drawing_pixel::field::edge` meets its contract: each eye's branch is its case. Assumes nothing.
+use borrow.Author.Needs.{needs}
+use Rattle.drawing_pixel.proofs.field.edge.Statement.{statement}
+use Rattle.drawing_pixel.proofs.field.edge.Tie as tie
+use borrow.Author.Tests.{eq-eqb, ne-eqb}
+use Rattle.drawing_pixel.specs.Signed.{edgeOf}
+use native.Mathlib.Omega.{arith}
+
+add-result : tie.Need-add-result
+add-result c = search needs
+
+sub-result : tie.Need-sub-result
+sub-result c = search needs
+
+returns : tie.Need-returns
+unfolding edgeOf
+returns c = (simp (eq-eqb _ _ (c .if1 .taken)), omega arith)
+
+add-result-2 : tie.Need-add-result-2
+add-result-2 c = search needs
+
+returns-2 : tie.Need-returns-2
+unfolding edgeOf
+returns-2 c = (simp (ne-eqb _ _ (c .if1 .left)), omega arith)
+
+pub edge-spec : {M : Type 1} → statement M
+edge-spec = tie.close (tie.spec add-result sub-result returns add-result-2 returns-2)

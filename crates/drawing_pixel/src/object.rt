@@ -1,0 +1,30 @@
+// The record of an object: its halfwords, and its left edge.
+ghost use mathlib.Core.Path.{_≡_};
+ghost use Prim.Native.Nat.{_<_};
+ghost use lib.ListN.{length};
+ghost use Rattle.bus.specs.Refusal.{vramBytes};
+ghost use Rattle.drawing_pixel.specs.Object.{objectOf, objectLeftOf};
+use crate::field::edge;
+use crate::field::half;
+use crate::field::wide;
+
+// The four halfwords of object k.
+pub fn object(vram: &[u8], k: usize) -> [u16; 4]
+    requires { ⌜ (length (now vram) ≡ vramBytes) × (k < 1024) ⌝ }
+    ensures { λ r. ⌜ r ≡ objectOf (now (vram .entry)) k ⌝ }
+{
+    let a = 253952 + 8 * k;
+    [
+        half(vram, a),
+        half(vram, a + 2),
+        half(vram, a + 4),
+        half(vram, a + 6),
+    ]
+}
+
+// The left edge of an object for an eye, plus 1,024.
+pub fn object_left(o: &[u16; 4], eye: usize) -> usize
+    ensures { λ r. ⌜ (r ≡ objectLeftOf (now (o .entry)) eye) × (r < 2048) ⌝ }
+{
+    edge(eye, (wide(o[0]) + 512) % 1024, (wide(o[1]) + 512) % 1024)
+}

@@ -1,0 +1,83 @@
+// The record of a world: its halfwords, and the window that they tell.
+ghost use mathlib.Core.Path.{_≡_};
+ghost use Prim.Native.Nat.{_<_, _≤_};
+ghost use lib.ListN.{length};
+ghost use Rattle.bus.specs.Refusal.{vramBytes};
+ghost use Rattle.drawing_pixel.specs.World.{worldOf, columnsOf, heightOf, rowsOf, windowLeftOf};
+use crate::field::edge;
+use crate::field::greatest;
+use crate::field::half;
+use crate::field::wide;
+
+// The eleven halfwords of world n.
+pub fn world(vram: &[u8], n: usize) -> [u16; 11]
+    requires { ⌜ (length (now vram) ≡ vramBytes) × (n < 32) ⌝ }
+    ensures { λ r. ⌜ r ≡ worldOf (now (vram .entry)) n ⌝ }
+{
+    let a = 251904 + 32 * n;
+    [
+        half(vram, a),
+        half(vram, a + 2),
+        half(vram, a + 4),
+        half(vram, a + 6),
+        half(vram, a + 8),
+        half(vram, a + 10),
+        half(vram, a + 12),
+        half(vram, a + 14),
+        half(vram, a + 16),
+        half(vram, a + 18),
+        half(vram, a + 20),
+    ]
+}
+
+// The columns of a world.
+pub fn columns(w: &[u16; 11]) -> usize
+    ensures { λ r. ⌜ (r ≡ columnsOf (now (w .entry))) × (r ≤ 4096) ⌝ }
+{
+    let width = wide(w[7]);
+    if w[0] / 4096 % 4 == 2 {
+        return width % 1024 + 1;
+    }
+    let biased = (width + 4096) % 8192;
+    if biased < 4096 {
+        return 0;
+    }
+    biased + 1 - 4096
+}
+
+// H + 1, and 0 where that is not above 0.
+pub fn height(w: &[u16; 11]) -> usize
+    ensures { λ r. ⌜ (r ≡ heightOf (now (w .entry))) × (r ≤ 32768) ⌝ }
+{
+    let biased = (wide(w[8]) + 32768) % 65536;
+    if biased < 32768 {
+        return 0;
+    }
+    biased + 1 - 32768
+}
+
+// The rows of a world. GY is signed: as a halfword it is below 224 exactly where it is from 0 to 223.
+pub fn rows(w: &[u16; 11]) -> usize
+    ensures { λ r. ⌜ (r ≡ rowsOf (now (w .entry))) × (r ≤ 32768) ⌝ }
+{
+    let stored = height(w);
+    let bgm = w[0] / 4096 % 4;
+    if bgm == 2 {
+        return stored;
+    }
+    let top = wide(w[3]);
+    if top < 224 {
+        return greatest(stored, 8 - top % 8);
+    }
+    if stored == 0 {
+        return 0;
+    }
+    greatest(stored, 8)
+}
+
+// The left edge of a world's window for an eye, plus 1,024.
+pub fn window_left(w: &[u16; 11], eye: usize) -> usize
+    ensures { λ r. ⌜ (r ≡ windowLeftOf (now (w .entry)) eye) × (r < 2048) ⌝ }
+{
+    edge(eye, (wide(w[1]) + 512) % 1024, (wide(w[2]) + 512) % 1024)
+}
