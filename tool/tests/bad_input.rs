@@ -129,8 +129,9 @@ fn bad_input_a_file_that_may_not_be_read() {
     assert_eq!((ran.status, ran.error.as_str()), (2, message));
 }
 
-/// The aim is 30 ms on an idle machine; this one may be busy.
+/// The aim is 30 ms on an idle machine.
 #[test]
+#[ignore = "timed"]
 fn speed_compare_and_why() {
     let folder = Folder::with_demo("speed");
     for command in [
@@ -145,6 +146,6 @@ fn speed_compare_and_why() {
         });
         let least = took.min().unwrap();
         println!("{command}: {least:?}");
-        assert!(least.as_millis() < 300, "{command}: {least:?}");
+        assert!(least.as_millis() < 30, "{command}: {least:?}");
     }
 }

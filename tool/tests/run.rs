@@ -3,6 +3,7 @@
 mod common;
 
 use common::Folder;
+use vb::grouped;
 
 const ADD_1_R1: u16 = 0x4421;
 const HALT: u16 = 0x6800;
@@ -179,10 +180,12 @@ fn bad_files_are_told() {
 #[test]
 fn a_long_run_on_a_terminal_shows_progress() {
     let folder = with_rom("run-progress", &[BRANCH_TO_ITSELF]);
-    let shown = folder.terminal("\"$VB\" run --rom a.rom --budget 100000000");
-    let Some(text) = shown else { return };
-    assert!(text.contains(" of at most 100,000,000 instructions, "), "{text}");
-    assert!(text.contains("instructions: 100,000,000 of at most 100,000,000"), "{text}");
+    let line = |budget| format!("\"$VB\" run --rom a.rom --budget {budget}");
+    let shown = folder.terminal_until(" million a second", line);
+    let Some((budget, text)) = shown else { return };
+    let all = grouped(budget);
+    assert!(text.contains(&format!(" of at most {all} instructions, ")), "{text}");
+    assert!(text.contains(&format!("instructions: {all} of at most {all}")), "{text}");
 }
 
 #[test]

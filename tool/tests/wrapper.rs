@@ -72,9 +72,10 @@ fn wrong_6_the_wrapper_works_through_a_symlink_and_with_cdpath() {
     assert_eq!(builds(&folder), 1);
 }
 
-/// The aim is 10 ms more than the tool's own start, on an idle machine; this one may be busy. The repository has as many
-/// sources as this one, under the same names.
+/// The aim is 10 ms more than the tool's own start, on an idle machine. The repository has as many sources as this one,
+/// under the same names.
 #[test]
+#[ignore = "timed"]
 fn speed_the_wrapper() {
     let folder = repository("wrapper-speed");
     let root = Path::new(env!("CARGO_MANIFEST_DIR")).join("..");
@@ -94,7 +95,7 @@ fn speed_the_wrapper() {
     };
     let (through, alone) = (least("./vbmodel"), least("tool/target/release/vbmodel"));
     println!("the tool {alone:?}, through the wrapper {through:?}");
-    assert!(through.saturating_sub(alone).as_millis() < 100, "{alone:?} {through:?}");
+    assert!(through.saturating_sub(alone).as_millis() < 10, "{alone:?} {through:?}");
     assert_eq!(builds(&folder), 1);
 }
 

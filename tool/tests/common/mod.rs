@@ -106,6 +106,24 @@ impl Folder {
         shown.ok().map(|shown| String::from_utf8(shown.stdout).unwrap())
     }
 
+    /// The first budget, with what the terminal shows, whose command shows such a text: a machine may be too fast for a
+    /// line of progress at 100 million instructions. A command that lasted ten seconds is the last one tried.
+    pub fn terminal_until(
+        &self,
+        shown: &str,
+        line: impl Fn(u64) -> String,
+    ) -> Option<(u64, String)> {
+        let mut budget = 100_000_000;
+        loop {
+            let begun = std::time::Instant::now();
+            let text = self.terminal(&line(budget))?;
+            if text.contains(shown) || begun.elapsed().as_secs() >= 10 {
+                return Some((budget, text));
+            }
+            budget *= 4;
+        }
+    }
+
     /// A folder with `a.rom`: code at the reset address, and handlers of the five levels of interrupts.
     pub fn with_rom(name: &str, code: &[u16], handler: &[u16]) -> Folder {
         let folder = Folder::new(name);
