@@ -16,7 +16,7 @@ use Rattle.processor_machine.specs.declared.Mode.{Mode}
 use Rattle.processor_machine.specs.declared.Mode.the-variants.{Running}
 
 -- what stands above the four flags stands above any place there
-above : (j p q : ℕ) → p / 2 ^ 4 ≡ q / 2 ^ 4 → p / 2 ^ (4 + j) ≡ q / 2 ^ (4 + j)
+pub above : (j p q : ℕ) → p / 2 ^ 4 ≡ q / 2 ^ 4 → p / 2 ^ (4 + j) ≡ q / 2 ^ (4 + j)
 above j p q e = sym (shr-shr p 4 j) ∙ ap (λ (n : ℕ). n / 2 ^ j) e ∙ shr-shr q 4 j
 
 -- PSW above its four flags decides

@@ -1,5 +1,5 @@
 mod Acceptance
 mod Fetches
 mod Leading
-mod Stretches
+mod Turning
 mod Written

@@ -30,11 +30,8 @@ pub record Stretched (budget : ℕ) (s₀ : State) (m₀ : Memory) (n : ℕ) (s 
   pub stays : Stays s₀ m₀ s m
 
 -- the same put together from the lent registers and memories and what the code returns, which is what is left of the
--- budget, for all system registers
-pub record StretchedBy (budget : ℕ) (regs₀ : List ℕ) (pc psw : ℕ) (m₀ : Memory) (regs : List ℕ) (r : Rest) (m : Memory)
+-- budget
+pub record StretchedBy (budget : ℕ) (s₀ : State) (m₀ : Memory) (regs sys : List ℕ) (r : Rest) (m : Memory)
     : Type 0 where
   pub within : r .left ≤ budget
-  pub stretched :
-      (sys : List ℕ)
-      → Stretched budget (stateOf regs₀ sys pc psw Running) m₀ (budget - r .left)
-      (stateOf regs sys (r .pc) (r .psw) Running) m
+  pub stretched : Stretched budget s₀ m₀ (budget - r .left) (stateOf regs sys (r .pc) (r .psw) Running) m

@@ -1,3 +1,3 @@
-pub mod Controlled
+pub mod Turns
 pub mod Stands
 pub mod Leads

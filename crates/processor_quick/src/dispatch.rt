@@ -1,4 +1,5 @@
-// One instruction, by its opcode, where it is one of the common ones.
+// One instruction, by its opcode, where it is one of the common ones or of those on the system registers.
+use crate::system;
 use bus::Device;
 use processor_flags::Flags;
 use processor_quick_compute::Quick;
@@ -6,12 +7,13 @@ use processor_quick_compute::arithmetic;
 use processor_quick_compute::floating;
 use processor_quick_move::branch;
 use processor_quick_move::transfer;
-ghost use lib.ListN.{length};
+ghost use lib.ListN.{length, getD};
 ghost use mathlib.Core.Path.{_≡_};
 ghost use Prim.Native.Nat.{_/_, _<_};
 ghost use Rattle.bus.specs.Memory.{Lengths};
 ghost use Rattle.bus.specs.Lent.{entering, leavingRam};
-ghost use Rattle.processor_quick_compute.specs.Quick.{Dispatches};
+ghost use Rattle.bus.specs.Registers.{linesPlace};
+ghost use Rattle.processor_quick.specs.Turns.{Turns};
 
 // f is the halfword of code at index x, and w is a word of it and of the halfword after it, which counts only where the
 // first asks for it. That is taken out of w where it is used: the loop's head stays short (docs/SPEED.md).
@@ -22,18 +24,21 @@ pub fn dispatch(
     pak: &[u8],
     device: &Device,
     regs: &mut [u32; 32],
+    sys: &mut [u32; 8],
     base: u32,
     f: u32,
     w: u32,
     x: u32,
+    psw: u32,
     flags: Flags,
 ) -> Quick
     requires { ⌜
         Lengths (length (now rom)) (length (now wram)) (length (now vram)) (length (now pak)) × (f < 65536)
         ⌝ }
     ensures { λ r. ⌜
-        Dispatches base f (w / 65536) r x flags (now (regs .entry)) (entering rom wram vram pak device)
-        (now (regs .exit)) (leavingRam rom wram vram pak device)
+        Turns (getD (now (device .entry)) linesPlace 0) base f (w / 65536) r x psw flags
+        (now (regs .entry)) (now (sys .entry)) (entering rom wram vram pak device)
+        (now (regs .exit)) (now (sys .exit)) (leavingRam rom wram vram pak device)
         ⌝ }
 {
     match f / 1024 {
@@ -59,15 +64,15 @@ pub fn dispatch(
         19 => arithmetic::cmp_immediate(regs, f, x, flags),
         20 => arithmetic::shl_immediate(regs, f, x, flags),
         21 => arithmetic::shr_immediate(regs, f, x, flags),
-        22 => Quick::Other,
+        22 => system::cli(device, x, psw, flags),
         23 => arithmetic::sar_immediate(regs, f, x, flags),
         24 => Quick::Other,
         25 => Quick::Other,
         26 => Quick::Other,
         27 => Quick::Other,
-        28 => Quick::Other,
-        29 => Quick::Other,
-        30 => Quick::Other,
+        28 => system::ldsr(regs, sys, f, x, psw, flags),
+        29 => system::stsr(regs, sys, f, x, psw, flags),
+        30 => system::sei(x, psw, flags),
         31 => Quick::Other,
         32 => branch::overflow_carry(f, x, flags),
         33 => branch::zero_not_higher(f, x, flags),

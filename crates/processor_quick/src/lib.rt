@@ -6,12 +6,6 @@ mod position;
 pub mod stretch;
 mod system;
 
-// What an instruction on the system registers did: it goes on at the following one, with this PSW; or nothing.
-pub enum Controlled {
-    Done { psw: u32 },
-    Other,
-}
-
 // What a stretch leaves beside the lent registers and memories: how many instructions ended, PC and PSW.
 pub struct Progress {
     pub count: u64,

@@ -5,10 +5,7 @@ use Prim.Native.Nat.{ℕ, _+_, _%_, _^_}
 use mathlib.Core.Bool.{Bool, true}
 use mathlib.Core.List.{List}
 use mathlib.Core.Path.{_≡_}
-use Rattle.word.specs.Choose.{pick}
 use Rattle.bus.specs.Memory.{Memory}
-use Rattle.processor_decode.specs.Format.{twoOf}
-use Rattle.processor_decode.specs.Opcode.{decodeOf}
 use Rattle.processor_decode.specs.declared.Decoded.{Decoded}
 use Rattle.processor_execute.specs.Execute.{settlesOf}
 use Rattle.processor_float.specs.declared.FloatOutcome.{FloatOutcome}
@@ -19,7 +16,7 @@ use Rattle.processor_machine.specs.declared.Answer.the-variants.{Ended}
 use Rattle.processor_machine.specs.declared.Mode.the-variants.{Running}
 use Rattle.processor_step.specs.Step.{nextOf, performOf}
 use Rattle.processor_quick_compute.specs.declared.Quick.{Quick}
-use Rattle.processor_quick_compute.specs.declared.Quick.the-variants.{Done, Other}
+use Rattle.processor_quick_compute.specs.declared.Quick.the-variants.{Done, Masked, Other}
 
 -- the address of index x
 abbrev pub addressOf : ℕ → ℕ → ℕ
@@ -29,10 +26,12 @@ addressOf base x = (base + x) % 2 ^ 32
 abbrev pub machineOf : List ℕ → List ℕ → ℕ → ℕ → ℕ → Flags → State
 machineOf regs sys base x psw g = stateOf regs sys (addressOf base x) (packedOf psw g) Running
 
--- an answer, for an instruction that gives t: before it the general registers and the memory were regs₀ and m₀
+-- an answer, for an instruction that gives t and leaves PSW above its flags: before it the general registers and the
+-- memory were regs₀ and m₀
 abbrev pub Does : Quick → ℕ → ℕ → List ℕ → Memory → List ℕ → Memory → List ℕ → Stepped → Type 0
 Does (Done x wide ov) base psw regs₀ m₀ regs m sys t =
     (steppedOf Ended (machineOf regs sys base x psw (record { wide = wide; ov = ov })) m ≡ t) × (x % 2 ≡ 0)
+Does (Masked p) base psw regs₀ m₀ regs m sys t = ⊥
 Does Other base psw regs₀ m₀ regs m sys t = (regs ≡ regs₀) × (m ≡ m₀)
 
 -- the answer for what was decoded at index x, of two halfwords or one: for every PSW and all system registers
@@ -56,8 +55,3 @@ Settles n o r x g regs₀ regs =
     (m : Memory) (base psw : ℕ) (sys : List ℕ) → base % 2 ≡ 0 → x % 2 ≡ 0
     → Does r base psw regs₀ m regs m sys
     (settlesOf n o (nextOf true (addressOf base x)) (machineOf regs₀ sys base x psw g) m)
-
--- the answer for the halfwords f and s
-abbrev pub Dispatches : ℕ → ℕ → ℕ → Quick → ℕ → Flags → List ℕ → Memory → List ℕ → Memory → Type 0
-Dispatches base f s r x g regs₀ m₀ regs m =
-    PerformsAt base (twoOf f) (decodeOf f (pick (twoOf f) s 0)) r x g regs₀ m₀ regs m

@@ -4,8 +4,10 @@ pub mod arithmetic;
 pub mod field;
 pub mod floating;
 
-// What the dispatch did: the instruction, which goes on at index x with these flags; or nothing.
+// What the dispatch did: the instruction, which goes on at index x with these flags, or at the following one with this
+// PSW above its flags; or nothing.
 pub enum Quick {
     Done { x: u32, wide: u64, ov: u32 },
+    Masked { psw: u32 },
     Other,
 }

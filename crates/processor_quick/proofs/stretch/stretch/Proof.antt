@@ -1,133 +1,125 @@
--- `processor_quick::stretch::stretch`: each turn is a stretch of the rest of the budget.
-use mathlib.Core.Path.{_≡_, refl, _∙_}
-use Prim.Native.Nat.{_+_, _-_}
+-- `processor_quick::stretch::stretch`: where the code stands.
+use mathlib.Core.Path.{_≡_, refl, sym, ap, _∙_}
+use mathlib.Core.Bool.{true≢false}
+use Prim.Native.Nat.{ℕ, _%_}
 use native.Mathlib.Omega.{arith}
+use native.Mathlib.Nat.{mod-le}
+use borrow.Author.Needs.{needs}
+use denote.Ref.{now}
 use lib.ListN.{length}
-use Rattle.bus.specs.Memory.{memoryOf}
-use Rattle.processor_machine.specs.State.{stateOf}
-use Rattle.processor_machine.specs.declared.Mode.the-variants.{Running}
-use Rattle.processor_quick.specs.Leads.{Stretched}
+use Rattle.bus.proofs.Places.{region-code}
+use Rattle.processor_quick.proofs.Fetches.{rom-room, wram-room}
 use Rattle.processor_quick.proofs.Leading.{stretched-none}
-use Rattle.processor_quick.proofs.Stretches.{stretched-on, stretched-rest}
 use Rattle.processor_quick.proofs.stretch.stretch.Statement.{statement}
 use Rattle.processor_quick.proofs.stretch.stretch.Tie as tie
 
-abbrev Inv-loop : tie.InvT-loop
-Inv-loop rom wram₀ vram₀ pak device regs₀ sys₀ pc psw budget at₀ status₀ n₀ wram vram regs sys at status n =
-    Stretched budget (stateOf regs₀ sys₀ pc psw Running) (memoryOf rom wram₀ vram₀ pak device) n (stateOf regs sys at status Running) (memoryOf rom wram vram pak device)
-    × (length wram ≡ length wram₀) × (length vram ≡ length vram₀)
+returns : tie.Need-returns
+returns c = stretched-none _ _ _ _ _ _
 
-abbrev μ-loop : tie.MeasureT-loop
-μ-loop rom wram₀ vram₀ pak device regs₀ sys₀ pc psw budget at₀ status₀ n₀ wram vram regs sys at status n = budget - n
+returns-2 : tie.Need-returns-2
+returns-2 c = stretched-none _ _ _ _ _ _
 
-loop-holds : tie.Need-loop-holds Inv-loop μ-loop
-loop-holds c = (stretched-none _ _ _ _ _ _, refl, refl)
+cast-n : tie.Need-cast-n
+cast-n c =
+    let b = c .before .before .before .before .before .before .before in
+    let room = rom-room (length (now (b .args .rom))) (b .pre .rom-ok) in
+    omega (arith, room .most)
 
-sub-common : tie.Need-sub-common Inv-loop μ-loop
-sub-common c = omega (arith, c .before .before .before .loop-test .taken)
+rem-base : tie.Need-rem-base
+rem-base c =
+    let b = c .before .before .before .before .before .before .before in
+    let room = rom-room (length (now (b .args .rom))) (b .pre .rom-ok) in
+    omega (arith, room .least)
 
-common-requires : tie.Need-common-requires Inv-loop μ-loop
-common-requires c κs =
-    let pre = c .before .before .before .before .before .before .before .before .before .pre in
-    let i = c .before .before .before .before .loop .inv in
-    record { rom-ok = pre .rom-ok; wram-ok = i .1 ∙ pre .wram-ok; vram-ok = i .2 ∙ pre .vram-ok; pak-ok = pre .pak-ok }
+sub-base : tie.Need-sub-base
+sub-base c =
+    let a = c .before .before .before .before .before .before .before .args in
+    omega (arith, mod-le (a .pc) (length (now (a .rom))))
 
-sub-n : tie.Need-sub-n Inv-loop μ-loop
-sub-n c =
-    let a = c .before .before .before .before .before .before .before .before .before .before .before .before .before .before .before .args in
-    let l = c .before .before .before .before .before .before .before .before .before .before .loop in
-    let q = c .before .before .before .before .before .common in
-    let f = stretched-rest (a .budget) (l .n) _ _ _ _ (l .inv .0) (q .result .left) _ _ (q .ensures .within) (q .ensures .stretched (l .sys)) in
-    omega (arith, f .within, c .before .before .before .before .before .before .before .before .before .before .before .before .before .before .before .fits .budget)
+sub-inside : tie.Need-sub-inside
+sub-inside c =
+    let b = c .before .before .before .before .before .before .before .before .before .before .before in
+    let room = rom-room (length (now (b .args .rom))) (b .pre .rom-ok) in
+    omega (arith, room .least)
 
-sub-controls : tie.Need-sub-controls Inv-loop μ-loop
-sub-controls c =
-    let a = c .before .before .before .before .before .before .before .before .before .before .before .before .before .before .before .before .before .before .before .args in
-    let l = c .before .before .before .before .before .before .before .before .before .before .before .before .before .before .loop in
-    let q = c .before .before .before .before .before .before .before .before .before .common in
-    let f = stretched-rest (a .budget) (l .n) _ _ _ _ (l .inv .0) (q .result .left) _ _ (q .ensures .within) (q .ensures .stretched (l .sys)) in
-    omega (arith, f .within)
+inside-requires : tie.Need-inside-requires
+inside-requires c κs =
+    let b = c .before .before .before .before .before .before .before .before .before .before .before in
+    let room = rom-room (length (now (b .args .rom))) (b .pre .rom-ok) in
+    let a = b .args in (
+      b .pre,
+      record {
+        word = omega (arith, mod-le (a .pc) (length (now (a .rom))));
+        in-rom = λ _. (omega (arith, room .least), room .start (a .pc), sym (region-code _) ∙ ap (λ (k : ℕ). k % 8) (room .same (a .pc)) ∙ c .before .before .before .before .if3 .taken);
+        in-wram = λ e. absurd (true≢false e);
+      },
+      omega (arith, c .before .before .before .before .before .before .if1 .left),
+      c .before .before .before .before .before .if2 .left,
+    )
 
-controls-requires : tie.Need-controls-requires Inv-loop μ-loop
-controls-requires c κs =
-    let pre = c .before .before .before .before .before .before .before .before .before .before .before .before .before .before .before .before .before .before .before .pre in
-    let i = c .before .before .before .before .before .before .before .before .before .before .before .before .before .before .loop .inv in
-    let k = c .before .before .before .before .before .before .before .before .before .common .kept .1 in
-    record { rom-ok = pre .rom-ok; wram-ok = k .0 ∙ i .1 ∙ pre .wram-ok; vram-ok = k .1 .0 ∙ i .2 ∙ pre .vram-ok; pak-ok = pre .pak-ok }
+sub-count : tie.Need-sub-count
+sub-count c = c .before .before .before .before .before .inside .ensures .within
 
-add-n : tie.Need-add-n Inv-loop μ-loop
-add-n c =
-    let a = c .before .before .before .before .before .before .before .before .before .before .before .before .before .before .before .before .before .before .before .before .before .args in
-    let l = c .before .before .before .before .before .before .before .before .before .before .before .before .before .before .before .before .loop in
-    let q = c .before .before .before .before .before .before .before .before .before .before .before .common in
-    let f = stretched-rest (a .budget) (l .n) _ _ _ _ (l .inv .0) (q .result .left) _ _ (q .ensures .within) (q .ensures .stretched (l .sys)) in
-    let h : a .budget - (a .budget - q .result .left) + (a .budget - q .result .left) ≡ a .budget = omega (arith, f .within) in
-    let g = stretched-on _ _ _ _ _ _ f (a .budget - (a .budget - q .result .left)) _ _ _ h (c .before .controls .ensures) in
-    omega (arith, g .within, c .before .before .before .before .before .before .before .before .before .before .before .before .before .before .before .before .before .before .before .before .before .fits .budget)
+same-length : tie.Need-same-length
+same-length c = c .before .before .before .before .before .inside .kept .1 .0
 
-same-length : tie.Need-same-length Inv-loop μ-loop
-same-length c = c .before .before .before .before .before .before .before .before .before .before .before .before .before .common .kept .1 .0 ∙ c .before .before .before .before .before .before .before .before .before .before .before .before .before .before .before .before .before .before .loop .inv .1
+same-length-2 : tie.Need-same-length-2
+same-length-2 c = c .before .before .before .before .before .inside .kept .1 .1 .0
 
-same-length-2 : tie.Need-same-length-2 Inv-loop μ-loop
-same-length-2 c = c .before .before .before .before .before .before .before .before .before .before .before .before .before .common .kept .1 .1 .0 ∙ c .before .before .before .before .before .before .before .before .before .before .before .before .before .before .before .before .before .before .loop .inv .2
+returns-3 : tie.Need-returns-3
+returns-3 c = c .before .before .before .before .before .inside .ensures .stretched
 
-returns : tie.Need-returns Inv-loop μ-loop
-returns c =
-    let a = c .before .before .before .before .before .before .before .before .before .before .before .before .before .before .before .before .before .before .before .before .before .before .before .args in
-    let l = c .before .before .before .before .before .before .before .before .before .before .before .before .before .before .before .before .before .before .loop in
-    let q = c .before .before .before .before .before .before .before .before .before .before .before .before .before .common in
-    let f = stretched-rest (a .budget) (l .n) _ _ _ _ (l .inv .0) (q .result .left) _ _ (q .ensures .within) (q .ensures .stretched (l .sys)) in
-    let h : a .budget - (a .budget - q .result .left) + (a .budget - q .result .left) ≡ a .budget = omega (arith, f .within) in
-    let g = stretched-on _ _ _ _ _ _ f (a .budget - (a .budget - q .result .left)) _ _ _ h (c .before .before .before .controls .ensures) in
-    g
+sub-base-2 : tie.Need-sub-base-2
+sub-base-2 c = search needs
 
-loop-less : tie.Need-loop-less Inv-loop μ-loop
-loop-less c =
-    let a = c .before .before .before .before .before .before .before .before .before .before .before .before .before .before .before .before .before .before .before .before .before .before .before .args in
-    let l = c .before .before .before .before .before .before .before .before .before .before .before .before .before .before .before .before .before .before .loop in
-    let q = c .before .before .before .before .before .before .before .before .before .before .before .before .before .common in
-    let f = stretched-rest (a .budget) (l .n) _ _ _ _ (l .inv .0) (q .result .left) _ _ (q .ensures .within) (q .ensures .stretched (l .sys)) in
-    let h : a .budget - (a .budget - q .result .left) + (a .budget - q .result .left) ≡ a .budget = omega (arith, f .within) in
-    let g = stretched-on _ _ _ _ _ _ f (a .budget - (a .budget - q .result .left)) _ _ _ h (c .before .before .before .controls .ensures) in
-    omega (arith, g .within, c .if1 .left, c .before .before .before .before .before .before .before .before .before .before .before .before .before .before .before .before .before .loop-test .taken)
+inside-requires-2 : tie.Need-inside-requires-2
+inside-requires-2 c κs =
+    let b = c .before .before .before .before .before .before .before .before .before .before .before .before in
+    let a = b .args in (
+      b .pre,
+      record {
+        word = omega arith;
+        in-rom = λ e. absurd (true≢false (sym e));
+        in-wram = λ _. (refl, wram-room .start (a .pc), sym (region-code _) ∙ ap (λ (k : ℕ). k % 8) (wram-room .same (a .pc)) ∙ c .before .before .before .before .if4 .taken);
+      },
+      omega (arith, c .before .before .before .before .before .before .before .if1 .left),
+      c .before .before .before .before .before .before .if2 .left,
+    )
 
-loop-again : tie.Need-loop-again Inv-loop μ-loop
-loop-again c =
-    let a = c .before .before .before .before .before .before .before .before .before .before .before .before .before .before .before .before .before .before .before .before .before .before .before .args in
-    let l = c .before .before .before .before .before .before .before .before .before .before .before .before .before .before .before .before .before .before .loop in
-    let q = c .before .before .before .before .before .before .before .before .before .before .before .before .before .common in
-    let f = stretched-rest (a .budget) (l .n) _ _ _ _ (l .inv .0) (q .result .left) _ _ (q .ensures .within) (q .ensures .stretched (l .sys)) in
-    let h : a .budget - (a .budget - q .result .left) + (a .budget - q .result .left) ≡ a .budget = omega (arith, f .within) in
-    let g = stretched-on _ _ _ _ _ _ f (a .budget - (a .budget - q .result .left)) _ _ _ h (c .before .before .before .controls .ensures) in
-    (g, q .kept .1 .0 ∙ l .inv .1, q .kept .1 .1 .0 ∙ l .inv .2)
+sub-count-2 : tie.Need-sub-count-2
+sub-count-2 c = c .before .before .before .before .before .inside2 .ensures .within
 
-same-length-3 : tie.Need-same-length-3 Inv-loop μ-loop
-same-length-3 c = c .before .loop .inv .1
+same-length-3 : tie.Need-same-length-3
+same-length-3 c = c .before .before .before .before .before .inside2 .kept .1 .0
 
-same-length-4 : tie.Need-same-length-4 Inv-loop μ-loop
-same-length-4 c = c .before .loop .inv .2
+same-length-4 : tie.Need-same-length-4
+same-length-4 c = c .before .before .before .before .before .inside2 .kept .1 .1 .0
 
-returns-2 : tie.Need-returns-2 Inv-loop μ-loop
-returns-2 c = c .before .loop .inv .0
+returns-4 : tie.Need-returns-4
+returns-4 c = c .before .before .before .before .before .inside2 .ensures .stretched
+
+returns-5 : tie.Need-returns-5
+returns-5 c = stretched-none _ _ _ _ _ _
 
 pub stretch-spec : {M : Type 1} → statement M
 stretch-spec =
     tie.close
     (tie.spec
-    Inv-loop
-    μ-loop
-    loop-holds
-    sub-common
-    common-requires
-    sub-n
-    sub-controls
-    controls-requires
-    add-n
+    returns
+    returns-2
+    cast-n
+    rem-base
+    sub-base
+    sub-inside
+    inside-requires
+    sub-count
     same-length
     same-length-2
-    returns
-    loop-less
-    loop-again
+    returns-3
+    sub-base-2
+    inside-requires-2
+    sub-count-2
     same-length-3
     same-length-4
-    returns-2)
+    returns-4
+    returns-5)

@@ -1,7 +1,8 @@
 -- `processor_quick::system::cli`: its own case, where nothing is accepted after it.
-use mathlib.Core.Path.{sym, _∙_}
+use mathlib.Core.Path.{refl, sym, _∙_}
 use Rattle.processor_execute.specs.Execute.{executeOf}
-use Rattle.processor_step.specs.Step.{nextOf}
+use Rattle.processor_quick_compute.proofs.Results.{after-one}
+use Rattle.processor_quick.proofs.Turning.{packed-clear}
 use borrow.Author.Needs.{needs}
 use Rattle.processor_quick.proofs.system.cli.Statement.{statement}
 use Rattle.processor_quick.proofs.system.cli.Tie as tie
@@ -9,15 +10,22 @@ use Rattle.processor_quick.proofs.system.cli.Tie as tie
 clear-id-requires : tie.Need-clear-id-requires
 clear-id-requires c κs = search needs
 
+element-copy-out-accepts : tie.Need-element-copy-out-accepts
+element-copy-out-accepts c = search needs
+
 accepts-requires : tie.Need-accepts-requires
 accepts-requires c κs = search needs
 
 returns : tie.Need-returns
-returns c = search needs
+returns c = λ regs sys m base aligned. (refl, refl, refl)
 
 returns-2 : tie.Need-returns-2
-unfolding executeOf nextOf
-returns-2 c = λ regs sys m pc. (rw (c .before .before .clear-id .ensures), λ u. sym (c .before .accepts .ensures) ∙ c .if1 .left)
+unfolding executeOf
+returns-2 c = λ regs sys m base aligned.
+    let a = c .before .before .before .before .args in (
+      rw (c .before .before .before .clear-id .ensures, packed-clear (a .psw) (a .flags), after-one base (a .x)),
+      λ u. sym (c .before .accepts .ensures) ∙ c .if1 .left,
+    )
 
 pub cli-spec : {M : Type 1} → statement M
-cli-spec = tie.close (tie.spec clear-id-requires accepts-requires returns returns-2)
+cli-spec = tie.close (tie.spec clear-id-requires element-copy-out-accepts accepts-requires returns returns-2)

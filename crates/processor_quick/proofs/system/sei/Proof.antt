@@ -1,7 +1,8 @@
 -- `processor_quick::system::sei`: its own case.
 use Rattle.processor_execute.specs.Execute.{executeOf}
-use Rattle.processor_step.specs.Step.{nextOf}
+use Rattle.processor_quick_compute.proofs.Results.{after-one}
 use Rattle.processor_quick.proofs.Acceptance.{accepts-id}
+use Rattle.processor_quick.proofs.Turning.{packed-set}
 use borrow.Author.Needs.{needs}
 use Rattle.processor_quick.proofs.system.sei.Statement.{statement}
 use Rattle.processor_quick.proofs.system.sei.Tie as tie
@@ -10,8 +11,12 @@ set-id-requires : tie.Need-set-id-requires
 set-id-requires c κs = search needs
 
 returns : tie.Need-returns
-unfolding executeOf nextOf
-returns c = λ lines regs sys m pc. (rw (c .set-id .ensures), λ u. rw (c .set-id .ensures) (accepts-id lines (c .before .args .psw)))
+unfolding executeOf
+returns c = λ lines regs sys m base aligned.
+    let a = c .before .args in (
+      rw (c .set-id .ensures, packed-set (a .psw) (a .flags), after-one base (a .x)),
+      λ u. rw (c .set-id .ensures) (accepts-id lines (a .psw)),
+    )
 
 pub sei-spec : {M : Type 1} → statement M
 sei-spec = tie.close (tie.spec set-id-requires returns)
