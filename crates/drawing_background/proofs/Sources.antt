@@ -1,7 +1,8 @@
 -- How a source pixel comes from its cell, its character row and its palette, which eight pixels side by side share.
 -- Assumes nothing.
-use Prim.Native.Nat.{ℕ, _+_, _-_, _*_, _/_, _%_, _<_, _≤_}
+use Prim.Native.Nat.{ℕ, _+_, _-_, _*_, _/_, _%_, _^_, _<_, _≤_}
 use native.Mathlib.Omega.{arith}
+use native.Mathlib.Nat.{mul-add}
 use mathlib.Core.Path.{_≡_, ap, _∙_}
 use mathlib.Core.List.{List}
 use lib.ListN.{getD}
@@ -11,7 +12,8 @@ use Rattle.drawing_pixel.specs.Signed.{bitSet}
 use Rattle.drawing_pixel.specs.Character.{shadeOf, pixelValueOf, flippedOf, rowAddressOf, cellPixelOf, twoBitsOf}
 use Rattle.drawing_pixel.specs.Background.{cellAddressOf, sourceCellAddressOf, sourcePixelOf, affineFloorOf}
 use Rattle.drawing_pixel.specs.Buffer.{repaintedOf, Block}
-use Rattle.drawing_background.specs.Row.{CellAt}
+use Rattle.drawing_background.specs.Row.{affineSumOf, CellAt}
+use Rattle.drawing_background.proofs.Powers.{product-lt}
 use Rattle.drawing_pixel.proofs.Blocks.{block-change}
 
 -- a function that agrees at the pixel of a row repaints it alike
@@ -75,6 +77,26 @@ source-repainted vram regs w q sx sy u v cell palette character h e f c =
 -- a parameter's index wraps at 16 bits, however it is reduced before
 pub index-wraps : (b k : ℕ) → (b + k % 65536) % 65536 ≡ (b + k) % 65536
 index-wraps b k = omega arith
+
+-- the sum of an affine row: its bounds, and one step further
+module _ (m d n : ℕ) where
+  pub sum-least : n < 65536 → 32768 ≤ affineSumOf m d n
+  unfolding affineSumOf
+  sum-least h = omega arith
+
+  pub sum-most : m < 65536 → d < 65536 → n < 65536 → affineSumOf m d n < 2 ^ 40
+  unfolding affineSumOf
+  sum-most h l k = omega (arith, product-lt d n l k)
+
+  pub sum-on : (s r : ℕ) → n < 65535 → s ≡ affineSumOf m d n → r + 32768 ≡ s + d → r ≡ affineSumOf m d (n + 1)
+  unfolding affineSumOf
+  sum-on s r h e k =
+      let p : d * (n + 1) ≡ d * n + d * 1 = mul-add d n 1 in
+      omega (arith, p)
+
+  pub floor-sum : (s : ℕ) → s ≡ affineSumOf m d n → s / 512 ≡ affineFloorOf m d n
+  unfolding affineSumOf affineFloorOf
+  floor-sum s e = ap (λ (k : ℕ). k / 512) e
 
 -- a row whose steps are one pixel to the right
 pub level-x : (m n k : ℕ) → affineFloorOf m 33280 n + k ≡ affineFloorOf m 33280 (n + k)

@@ -25,6 +25,10 @@ pub record MapsOf (w : List ℕ) (over : Bool) (base beside across down : ℕ) :
   pub width : across ≡ 6 + scxOf w
   pub height : down ≡ 6 + scyOf w
 
+-- 512 times a source coordinate n steps along an affine row, M and D biased by 32,768: what affineFloorOf divides
+unfoldable pub affineSumOf : ℕ → ℕ → ℕ → ℕ
+affineSumOf m d n = 64 * m + d * n + 4292870144 - 32768 * n
+
 -- the shades of a palette at their place in row r of a column, 16 bits for each value; nothing for value 0
 unfoldable pub inksOf : ℕ → ℕ → ℕ
 inksOf palette r =

@@ -19,6 +19,8 @@ use crate::ink::turned;
 use crate::paint::Source;
 use crate::paint::plain_span;
 use crate::source::affine_floor;
+use crate::source::affine_on;
+use crate::source::affine_sum;
 use drawing_pixel::character::character_address;
 use drawing_pixel::field::half;
 use drawing_pixel::field::pair;
@@ -154,7 +156,7 @@ pub fn cell_shaded(
     h - (h & ink(mask, v)) + ink(c.inks, v)
 }
 
-// A run of an affine world's row.
+// A run of an affine world's row. Both sums go on by a step's addition from pixel to pixel.
 pub fn affine_span(
     vram: &[u8],
     registers: &DrawingRegisters,
@@ -184,13 +186,16 @@ pub fn affine_span(
     let mask = inks(255, run.row);
     let maps = maps_of(w);
     let mut last = read(vram, registers, w, maps, run.row, 0, 0);
+    let mut px = affine_sum(course.mx, course.dx, course.n);
+    let mut py = affine_sum(course.my, course.dy, course.n);
     let mut x = run.from;
     while x < run.to {
-        let steps = course.n + (x - run.from);
-        let sx = affine_floor(course.mx, course.dx, steps);
-        let sy = affine_floor(course.my, course.dy, steps);
+        let sx = px / 512;
+        let sy = py / 512;
         last = held(vram, registers, w, maps, run.row, last, sx / 8, sy / 8);
         buffer[x] = cell_shaded(vram, buffer[x], run.row, mask, last, sx, sy);
+        px = affine_on(px, course.dx);
+        py = affine_on(py, course.dy);
         x += 1;
     }
 }

@@ -1,10 +1,11 @@
 // The source of a window's offsets: parameters, and where a row of an affine world leads.
 ghost use mathlib.Core.Path.{_≡_};
-ghost use Prim.Native.Nat.{_+_, _*_, _%_, _<_, _≤_};
+ghost use Prim.Native.Nat.{_+_, _*_, _%_, _^_, _<_, _≤_};
 ghost use lib.ListN.{length};
 ghost use Rattle.bus.specs.Refusal.{vramBytes};
 ghost use Rattle.drawing_pixel.specs.Background.{parameterOf, plainLeftOf, normalYOf, biasIndexOf, affineShiftOf};
 ghost use Rattle.drawing_pixel.specs.Background.{affineFloorOf, affineParameterOf};
+ghost use Rattle.drawing_background.specs.Row.{affineSumOf};
 use drawing_pixel::field::half;
 use drawing_pixel::field::wide;
 
@@ -73,10 +74,26 @@ pub fn affine_shift(eye: usize, mp: usize) -> usize
     mp - 32768
 }
 
+// 512 times a source coordinate n steps along an affine row, with what is below one of it.
+pub fn affine_sum(m: usize, d: usize, n: usize) -> usize
+    requires { ⌜ (m < 65536) × ((d < 65536) × (n < 65536)) ⌝ }
+    ensures { λ r. ⌜ r ≡ affineSumOf m d n ⌝ }
+{
+    64 * m + d * n + 4292870144 - 32768 * n
+}
+
+// The same one step further.
+pub fn affine_on(sum: usize, d: usize) -> usize
+    requires { ⌜ (32768 ≤ sum) × ((sum < 2 ^ 40) × (d < 65536)) ⌝ }
+    ensures { λ r. ⌜ r + 32768 ≡ sum + d ⌝ }
+{
+    sum + d - 32768
+}
+
 // A source coordinate n steps along an affine row.
 pub fn affine_floor(m: usize, d: usize, n: usize) -> usize
     requires { ⌜ (m < 65536) × ((d < 65536) × (n < 65536)) ⌝ }
     ensures { λ r. ⌜ r ≡ affineFloorOf m d n ⌝ }
 {
-    (64 * m + d * n + 4292870144 - 32768 * n) / 512
+    affine_sum(m, d, n) / 512
 }

@@ -1,35 +1,16 @@
--- `drawing_background::source::affine_floor` meets its contract: the product of two halfwords fits. Assumes nothing.
-use borrow.Author.Needs.{needs}
-use Rattle.drawing_background.proofs.source.affine_floor.Statement.{statement}
-use Rattle.drawing_background.proofs.source.affine_floor.Tie as tie
-use native.Mathlib.Omega.{arith}
+-- `drawing_background::source::affine_floor` meets its contract: the sum, without what is below one. Assumes nothing.
 use mathlib.Core.Path.{refl}
 use Rattle.drawing_pixel.specs.Background.{affineFloorOf}
-use Rattle.drawing_background.proofs.Powers.{product-lt}
+use Rattle.drawing_background.specs.Row.{affineSumOf}
+use Rattle.drawing_background.proofs.source.affine_floor.Statement.{statement}
+use Rattle.drawing_background.proofs.source.affine_floor.Tie as tie
 
-mul-result : tie.Need-mul-result
-mul-result c = search needs
-
-mul-result-2 : tie.Need-mul-result-2
-mul-result-2 c = omega (arith, product-lt (c .args .d) (c .args .n) (c .pre .1 .0) (c .pre .1 .1))
-
-add-result : tie.Need-add-result
-add-result c = omega (arith, product-lt (c .args .d) (c .args .n) (c .pre .1 .0) (c .pre .1 .1))
-
-add-result-2 : tie.Need-add-result-2
-add-result-2 c = omega (arith, product-lt (c .args .d) (c .args .n) (c .pre .1 .0) (c .pre .1 .1))
-
-mul-result-3 : tie.Need-mul-result-3
-mul-result-3 c = search needs
-
-sub-result : tie.Need-sub-result
-sub-result c = search needs
+affine-sum-requires : tie.Need-affine-sum-requires
+affine-sum-requires c κs = c .pre
 
 returns : tie.Need-returns
-unfolding affineFloorOf
-returns c = refl
+unfolding affineFloorOf affineSumOf
+returns c = rw (c .affine-sum .ensures)
 
 pub affine-floor-spec : {M : Type 1} → statement M
-affine-floor-spec =
-    tie.close
-    (tie.spec mul-result mul-result-2 add-result add-result-2 mul-result-3 sub-result returns)
+affine-floor-spec = tie.close (tie.spec affine-sum-requires returns)
