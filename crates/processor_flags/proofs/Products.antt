@@ -107,6 +107,17 @@ module _ (a b r : ℕ) (ha : a < 2 ^ 32) (hb : b < 2 ^ 32) (hr : r < 2 ^ 64) whe
   pub signed-product : (r + (a / 2 ^ 31 * b + b / 2 ^ 31 * a) % 2 ^ 32 * 2 ^ 32) % 2 ^ 64 ≡ a * b → r ≡ productOf a b
   signed-product e = signs-product e ∙ sym (product-signs a b ha hb)
 
+-- two words that are not negative
+pub plain-product : (a b : ℕ) → a < 2 ^ 31 → b < 2 ^ 31 → a * b ≡ productOf a b
+plain-product a b ha hb =
+    let sa : a / 2 ^ 31 ≡ 0 = omega arith in
+    let sb : b / 2 ^ 31 ≡ 0 = omega arith in
+    let la : a < 2 ^ 32 = omega arith in
+    let lb : b < 2 ^ 32 = omega arith in
+    let small : a * b < 2 ^ 64 = product-below 32 la lb in
+    let none : a * b + (0 * b + 0 * a) % 2 ^ 32 * 2 ^ 32 ≡ a * b = omega arith in
+    signed-product a b (a * b) la lb small (rw (sa, sb, none) (mod-eq-of-lt small))
+
 -- OV of a product, by its high word
 module _ (high low : ℕ) (h : low < 2 ^ 32) where
   pub overflow-none : high ≡ low / 2 ^ 31 * 4294967295 → overflowsOf (high * 2 ^ 32 + low) ≡ 0

@@ -37,11 +37,17 @@ pub fn mulu(a: u32, b: u32, flags: Flags) -> Pair
     words(a as u64 * b as u64, flags)
 }
 
-// The signed product at 64 bits: the unsigned one less each word, 32 bits up, where the other is negative.
+// The signed product at 64 bits: the unsigned one less each word, 32 bits up, where the other is negative. Two words
+// that are not negative are multiplied as they are.
 fn signed(a: u32, b: u32) -> u64
     ensures { λ r. ⌜ r ≡ productOf a b ⌝ }
 {
     let u = a as u64 * b as u64;
+    if a < 2147483648 {
+        if b < 2147483648 {
+            return u;
+        }
+    }
     let over = (a / 2147483648) as u64 * b as u64 + (b / 2147483648) as u64 * a as u64;
     std::num::wrapping_sub_u64(u, over % 4294967296 * 4294967296)
 }

@@ -2,13 +2,16 @@
 use Prim.Native.Nat.{_+_, _-_, _*_, _/_, _%_, _^_, _<_}
 use mathlib.Core.Path.{_≡_, refl, sym, ap, _∙_}
 use native.Mathlib.Omega.{arith}
-use Rattle.processor_flags.proofs.Products.{product-below, bit-times, signed-product}
+use Rattle.processor_flags.proofs.Products.{product-below, bit-times, signed-product, plain-product}
 use borrow.Author.Needs.{needs}
 use Rattle.processor_flags.proofs.product.signed.Statement.{statement}
 use Rattle.processor_flags.proofs.product.signed.Tie as tie
 
 mul-u : tie.Need-mul-u
 mul-u c = record { fits = product-below 32 (omega arith) (omega arith) }
+
+returns : tie.Need-returns
+returns c = plain-product (c .before .before .args .a) (c .before .before .args .b) (omega arith) (omega arith)
 
 cast-over : tie.Need-cast-over
 cast-over c = search needs
@@ -23,7 +26,9 @@ mul-over-2 : tie.Need-mul-over-2
 mul-over-2 c = record { fits = product-below 32 (omega arith) (omega arith) }
 
 add-over : tie.Need-add-over
-add-over c = omega (arith, bit-times (c .args .a / 2 ^ 31) (c .args .b) (omega arith) (omega arith), bit-times (c .args .b / 2 ^ 31) (c .args .a) (omega arith) (omega arith))
+add-over c =
+    let a = c .before .args in
+    omega (arith, bit-times (a .a / 2 ^ 31) (a .b) (omega arith) (omega arith), bit-times (a .b / 2 ^ 31) (a .a) (omega arith) (omega arith))
 
 mul-wrapping-sub-u64 : tie.Need-mul-wrapping-sub-u64
 mul-wrapping-sub-u64 c = search needs
@@ -31,14 +36,15 @@ mul-wrapping-sub-u64 c = search needs
 wrapping-sub-u64-requires : tie.Need-wrapping-sub-u64-requires
 wrapping-sub-u64-requires c κs = search needs
 
-returns : tie.Need-returns
-returns c = signed-product (c .before .args .a) (c .before .args .b) _ (omega arith) (omega arith) (omega arith) (c .wrapping-sub-u64 .ensures)
+returns-2 : tie.Need-returns-2
+returns-2 c = signed-product (c .before .before .args .a) (c .before .before .args .b) _ (omega arith) (omega arith) (omega arith) (c .wrapping-sub-u64 .ensures)
 
 pub signed-spec : {M : Type 1} → statement M
 signed-spec =
     tie.close
     (tie.spec
     mul-u
+    returns
     cast-over
     mul-over
     cast-over-2
@@ -46,4 +52,4 @@ signed-spec =
     add-over
     mul-wrapping-sub-u64
     wrapping-sub-u64-requires
-    returns)
+    returns-2)
