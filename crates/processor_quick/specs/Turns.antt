@@ -25,7 +25,8 @@ abbrev pub Quiet : ℕ → ℕ → ℕ → Type 0
 Quiet lines psw p = acceptsOf lines psw Running ≡ false → acceptsOf lines p Running ≡ false
 
 -- an answer at index x, for an instruction that gives t: before it the registers were regs₀ and sys₀, the memory m₀
-abbrev pub Turned : Quick → ℕ → ℕ → ℕ → ℕ → Flags → List ℕ → List ℕ → Memory → List ℕ → List ℕ → Memory → Stepped → Type 0
+abbrev pub Turned :
+    Quick → ℕ → ℕ → ℕ → ℕ → Flags → List ℕ → List ℕ → Memory → List ℕ → List ℕ → Memory → Stepped → Type 0
 Turned (Done to wide ov) lines base x psw g regs₀ sys₀ m₀ regs sys m t =
     (steppedOf Ended (machineOf regs sys base to psw (record { wide = wide; ov = ov })) m ≡ t) × (to % 2 ≡ 0)
 Turned (Masked p) lines base x psw g regs₀ sys₀ m₀ regs sys m t =
