@@ -104,8 +104,9 @@ fn wrong_8_ctrl_c_prints_and_writes_what_was_done() {
 #[test]
 fn wrong_8_the_progress_line_fits_its_terminal() {
     let folder = with_loop("arguments-progress");
-    let line =
-        |budget| format!("stty cols 30 rows 20; \"$VB\" run --rom a.rom --budget {budget} >/dev/null");
+    let line = |budget| {
+        format!("stty cols 30 rows 20; \"$VB\" run --rom a.rom --budget {budget} >/dev/null")
+    };
     let Some((_, text)) = folder.terminal_until(" of at most ", line) else { return };
     let lines: Vec<&str> =
         text.split(['\r', '\n']).map(|line| line.trim_start_matches("\x1b[K")).collect();
