@@ -7,9 +7,9 @@ use serde::Serialize;
 use vb::grouped;
 
 use super::Report;
-use crate::assembler::{assemble, Source};
 use crate::failure::Failure;
 use crate::files::{Input, Outputs};
+use crate::programs::assembler::{assemble, Source};
 
 #[derive(Args)]
 #[command(

@@ -9,16 +9,16 @@ use vb::{grouped, COLUMNS, ROWS, VRAM_LENGTH};
 
 use super::draw::Views;
 use super::{why, Report};
-use crate::brightness;
-use crate::capture::{Capture, Level, Wanted};
-use crate::difference::{differences, Bounds, Difference};
-use crate::explain::{eye_name, registers, FAULT};
 use crate::failure::Failure;
 use crate::files::{Input, Outputs};
-use crate::givers::{Givers, Share};
-use crate::number;
-use crate::picture::Picture;
-use crate::scene::{Read, Scene};
+use crate::inputs::capture::{Capture, Level, Wanted};
+use crate::inputs::number;
+use crate::inputs::scene::{Read, Scene};
+use crate::pictures::brightness;
+use crate::pictures::difference::{differences, Bounds, Difference};
+use crate::pictures::explain::{eye_name, registers, FAULT};
+use crate::pictures::picture::Picture;
+use crate::pictures::sources::{Share, Sources};
 
 /// What a capture must be.
 pub const CAPTURE: &str =
@@ -219,9 +219,9 @@ impl EyeTold {
 
     fn explain(&mut self, scene: &Read, eye: Eye, bounds: &Bounds, found: &[Difference]) {
         let vram = &scene.vram.bytes;
-        let givers = Givers::of(vram, &registers(&scene.drawing), eye, bounds);
-        self.why = Some(givers.shares(vram, found));
-        self.models_agree = Some(givers.agree(found));
+        let sources = Sources::of(vram, &registers(&scene.drawing), eye, bounds);
+        self.why = Some(sources.shares(vram, found));
+        self.models_agree = Some(sources.agree(found));
     }
 
     fn text(&self, frame: u32) -> String {

@@ -8,11 +8,11 @@ use vb::{grouped, Answer, Machine, Memories, Refusal, Stop, VRAM_LENGTH, WRAM_LE
 
 use super::draw::{Eyes, Views};
 use super::Report;
-use crate::called;
 use crate::demo::rom;
 use crate::failure::Failure;
 use crate::files::Outputs;
-use crate::number;
+use crate::inputs::number;
+use crate::reports::invocation;
 
 /// More instructions than a frame of the demo takes.
 const BUDGET: u64 = 5_000_000;
@@ -113,9 +113,9 @@ fn where_they_are(out: &Path) -> Vec<String> {
         format!("memories and records after frame 1: {}", at("*.bin")),
         format!(
             "next: {} why left 192 120 --vram {} --drawing {}",
-            called::name(),
-            called::quoted(&at("vram.bin")),
-            called::quoted(&at("drawing.bin"))
+            invocation::name(),
+            invocation::quoted(&at("vram.bin")),
+            invocation::quoted(&at("drawing.bin"))
         ),
     ]
 }

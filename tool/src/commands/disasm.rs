@@ -8,10 +8,10 @@ use serde::Serialize;
 use vb::{op, Decoded};
 
 use super::Report;
-use crate::disassembly::{disassemble, written};
 use crate::failure::Failure;
 use crate::files::Input;
-use crate::number;
+use crate::inputs::number;
+use crate::programs::disassembly::{disassemble, written};
 
 #[derive(Args)]
 #[command(after_help = "Example: the demo's first instructions, and what is run from reset

@@ -7,13 +7,13 @@ use serde::Serialize;
 use vb::{image_offset, Refusal, IMAGE_LENGTH, VRAM_LENGTH};
 
 use super::Report;
-use crate::brightness;
 use crate::failure::Failure;
 use crate::files::{Input, Outputs};
-use crate::number;
-use crate::overlay::{laid, Overlay};
-use crate::picture::Picture;
-use crate::scene::{Scene, VRAM};
+use crate::inputs::number;
+use crate::inputs::overlay::{laid, Overlay};
+use crate::inputs::scene::{Scene, VRAM};
+use crate::pictures::brightness;
+use crate::pictures::picture::Picture;
 
 #[derive(Args)]
 #[command(
@@ -141,7 +141,7 @@ pub fn run(options: &Options) -> Result<Report, Failure> {
     }
     outputs.write()?;
     let laid = overlay.as_ref().map(Overlay::text).unwrap_or_default();
-    let told = Told { frame, scale, as_is, overlay, written: outputs.paths() };
+    let told = Reported { frame, scale, as_is, overlay, written: outputs.paths() };
     let lines: String = told.written.iter().map(|path| format!("written: {path}\n")).collect();
     let done = if as_is { "as it is in VRAM" } else { "drawn, both eyes" };
     Ok(Report::new(format!("{laid}frame {frame} {done}\n{lines}"), &told, 0))
@@ -174,7 +174,7 @@ fn shown(options: &Options) -> Result<(Vec<u8>, Option<Overlay>), Failure> {
 }
 
 #[derive(Serialize)]
-struct Told {
+struct Reported {
     frame: u32,
     scale: usize,
     as_is: bool,

@@ -12,11 +12,11 @@ use serde::Serialize;
 use super::Report;
 use crate::failure::Failure;
 use crate::files::Outputs;
+use crate::inputs::number;
 use crate::interrupt;
-use crate::json::json;
 use crate::judge::{judge, junit, page, Judged, Lot, Part, Summary, Verdict, Wish};
-use crate::number;
-use crate::progress::Progress;
+use crate::reports::json::json;
+use crate::reports::progress::Progress;
 
 #[derive(Args)]
 #[command(after_help = "Example: the demo's two frames as a lot, with a report to look at

@@ -7,7 +7,6 @@ pub mod disasm;
 pub mod draw;
 pub mod judge;
 pub mod pages;
-pub mod ran;
 pub mod replay;
 pub mod run;
 pub mod state;
@@ -18,7 +17,7 @@ pub mod why;
 use serde::Serialize;
 
 use crate::failure::Failure;
-use crate::json::json;
+use crate::reports::json::json;
 
 /// What a command prints, in either form, and its exit status.
 pub struct Report {

@@ -8,17 +8,17 @@ use clap::Args;
 use serde::Serialize;
 use vb::{grouped, record, Hardware, Machine, Replayed, Word};
 
-use super::ran::Registers;
 use super::trace::tested;
 use super::Report;
 use crate::failure::Failure;
-use crate::follow::{step, Told};
+use crate::inputs::number;
+use crate::inputs::schedule::{Part, Schedule};
+use crate::inputs::setup::{Bench, Saves, Setup};
+use crate::inputs::trace::{records, Record, Traces, WORDS};
 use crate::interrupt;
-use crate::number;
-use crate::progress::Progress;
-use crate::schedule::{Part, Schedule};
-use crate::setup::{Bench, Saves, Setup};
-use crate::trace::{records, Record, Traces, WORDS};
+use crate::reports::progress::Progress;
+use crate::running::follow::{step, Effects};
+use crate::running::outcome::Registers;
 
 #[derive(Args)]
 #[command(after_help = "Example: the demo's trace, and a die whose PSW is wrong once
@@ -191,7 +191,7 @@ impl Replay {
         let pc = bench.machine.processor.pc;
         found.instruction = match verdict {
             Verdict::Differed(_) | Verdict::TurnedFatal => step(bench).ok().flatten(),
-            _ => Told::before(bench).ok(),
+            _ => Effects::before(bench).ok(),
         };
         if bench.machine != after {
             return Err(Failure::bad(format!(
@@ -261,7 +261,7 @@ struct Found {
     seen_record: Option<Record>,
     /// What the model did there, or has there.
     #[serde(skip_serializing_if = "Option::is_none")]
-    instruction: Option<Told>,
+    instruction: Option<Effects>,
     /// The last records that agreed.
     #[serde(skip_serializing_if = "Vec::is_empty")]
     before: Vec<Record>,

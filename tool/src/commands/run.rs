@@ -7,16 +7,16 @@ use std::time::Instant;
 use clap::Args;
 use vb::{grouped, Mode, Stop};
 
-use super::ran::finish;
 use super::Report;
 use crate::failure::Failure;
-use crate::follow::{follow, End, Followed, Stops};
+use crate::inputs::number;
+use crate::inputs::schedule::Schedule;
+use crate::inputs::setup::{Bench, Saves, Setup};
 use crate::interrupt;
-use crate::number;
-use crate::progress::Progress;
-use crate::schedule::Schedule;
-use crate::setup::{Bench, Saves, Setup};
-use crate::watch;
+use crate::reports::progress::Progress;
+use crate::running::follow::{follow, End, Followed, Stops};
+use crate::running::outcome::finish;
+use crate::running::watch;
 
 /// Instructions between two looks at the clock and at Ctrl-C.
 const SLICE: u64 = 2_000_000;

@@ -10,8 +10,10 @@ use vb::grouped;
 use super::Report;
 use crate::failure::Failure;
 use crate::files::{Input, Outputs};
-use crate::json::Named;
-use crate::state::{moved, Body, Fault, Form, Layout, NoState, Saved, NOT_STORED, PAK, STATE};
+use crate::inputs::state::{
+    moved, Body, Fault, Form, Layout, NoState, Saved, NOT_STORED, PAK, STATE,
+};
+use crate::reports::json::Named;
 
 #[derive(Args)]
 #[command(after_help = "Example: what does a run leave?
@@ -125,7 +127,7 @@ fn show(options: &Show) -> Result<Report, Failure> {
     let input = Input::read(&options.file, STATE)?;
     Ok(match Saved::of(&input) {
         Ok(saved) => {
-            let told = Told::of(&input, &saved);
+            let told = Reported::of(&input, &saved);
             Report::new(told.text(), &told, 0)
         }
         Err(wrong) => refused(&input, wrong),
@@ -243,7 +245,7 @@ impl Salvaged {
 
 /// What is told of a saved state; its members are those of the JSON.
 #[derive(Serialize)]
-struct Told {
+struct Reported {
     file: String,
     sound: bool,
     bytes: usize,
@@ -261,12 +263,12 @@ struct Told {
     not_stored: Option<&'static str>,
 }
 
-impl Told {
-    fn of(input: &Input, saved: &Saved) -> Told {
+impl Reported {
+    fn of(input: &Input, saved: &Saved) -> Reported {
         let Saved { layout, machine, .. } = saved;
         let drawing = machine.drawing.registers();
         let drawing = drawing.iter().map(|(name, value, _)| (name.to_lowercase(), *value));
-        Told {
+        Reported {
             file: input.name(),
             sound: true,
             bytes: input.bytes.len(),
@@ -286,7 +288,7 @@ impl Told {
     }
 
     fn text(&self) -> String {
-        let Told { file, form, mode, pc, psw, .. } = self;
+        let Reported { file, form, mode, pc, psw, .. } = self;
         let bytes = grouped(self.bytes as u64);
         let mut lines = vec![
             format!("{file}: a saved state of form {form}, {bytes} bytes"),

@@ -5,14 +5,14 @@ use std::io::{stdout, BufWriter, ErrorKind, Write};
 use clap::Args;
 use vb::Mode;
 
-use super::ran::finish;
 use super::Report;
 use crate::failure::Failure;
-use crate::follow::{follow, Stops};
+use crate::inputs::number;
+use crate::inputs::setup::{Saves, Setup};
 use crate::interrupt;
-use crate::json::json;
-use crate::number;
-use crate::setup::{Saves, Setup};
+use crate::reports::json::json;
+use crate::running::follow::{follow, Stops};
+use crate::running::outcome::finish;
 
 #[derive(Args)]
 #[command(after_help = "Example: the demo's first instructions, and from a store into VRAM on

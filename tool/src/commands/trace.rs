@@ -6,16 +6,16 @@ use std::time::Instant;
 use clap::Args;
 use vb::{grouped, record, Answer, Mode, Refusal};
 
-use super::ran::{finish_traced, Traced};
 use super::Report;
 use crate::failure::Failure;
 use crate::files::Stream;
-use crate::follow::{End, Followed};
+use crate::inputs::number;
+use crate::inputs::schedule::Schedule;
+use crate::inputs::setup::{Bench, Saves, Setup};
 use crate::interrupt;
-use crate::number;
-use crate::progress::Progress;
-use crate::schedule::Schedule;
-use crate::setup::{Bench, Saves, Setup};
+use crate::reports::progress::Progress;
+use crate::running::follow::{End, Followed};
+use crate::running::outcome::{finish_traced, Traced};
 
 /// Records between two looks at the clock and at Ctrl-C.
 const SLICE: u64 = 65_536;

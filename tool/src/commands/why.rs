@@ -5,10 +5,10 @@ use model::world::Eye;
 use vb::{image_offset, COLUMNS, ROWS};
 
 use super::Report;
-use crate::explain::{explain, Explanation, Question};
 use crate::failure::Failure;
-use crate::number;
-use crate::scene::{Read, Scene};
+use crate::inputs::number;
+use crate::inputs::scene::{Read, Scene};
+use crate::pictures::explain::{explain, Explanation, Question};
 
 /// The exit status where the independent model and the proved library disagree.
 pub const FAULT: i32 = 3;

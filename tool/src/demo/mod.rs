@@ -4,7 +4,7 @@ mod art;
 mod characters;
 mod letters;
 
-use crate::assembler::{assemble, Source};
+use crate::programs::assembler::{assemble, Source};
 use characters::{Characters, Picture};
 
 /// The ROM image of the demo. It is run from reset and halts for each frame.

@@ -31,8 +31,8 @@ impl Input {
             let bytes = standard_input().map_err(failed)?;
             return Ok(Input { path: PathBuf::from("standard input"), bytes, identity: None });
         }
-        let file = fs::File::open(path).map_err(|error| failed(told(&error)))?;
-        let about = file.metadata().map_err(|error| failed(told(&error)))?;
+        let file = fs::File::open(path).map_err(|error| failed(reason(&error)))?;
+        let about = file.metadata().map_err(|error| failed(reason(&error)))?;
         if about.is_dir() {
             return Err(failed("is a folder".to_string()));
         }
@@ -51,7 +51,7 @@ impl Input {
 }
 
 /// An error without the system's number.
-pub fn told(error: &io::Error) -> String {
+pub fn reason(error: &io::Error) -> String {
     let text = error.to_string();
     match text.split_once(" (os error") {
         Some((sentence, _)) => sentence.to_string(),
@@ -61,7 +61,7 @@ pub fn told(error: &io::Error) -> String {
 
 fn limited(file: impl Read) -> Result<Vec<u8>, String> {
     let mut bytes = Vec::new();
-    file.take(LARGEST + 1).read_to_end(&mut bytes).map_err(|error| told(&error))?;
+    file.take(LARGEST + 1).read_to_end(&mut bytes).map_err(|error| reason(&error))?;
     match bytes.len() as u64 > LARGEST {
         true => Err(format!("has over {} bytes", grouped(LARGEST))),
         false => Ok(bytes),

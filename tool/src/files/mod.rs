@@ -4,7 +4,7 @@ mod input;
 mod output;
 mod place;
 
-pub use input::{told, Input};
+pub use input::{reason, Input};
 pub use output::{Outputs, Stream};
 
 use std::fs::Metadata;

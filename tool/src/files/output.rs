@@ -8,7 +8,7 @@ use std::path::{Path, PathBuf};
 
 use tempfile::{Builder, NamedTempFile};
 
-use super::input::told;
+use super::input::reason;
 use super::place::{folder_of, Place};
 use super::Identity;
 use crate::failure::Failure;
@@ -48,7 +48,7 @@ impl Outputs {
         }
         for (passing, target, path) in std::mem::take(&mut staged.files) {
             passing.persist(target).map_err(|error| {
-                Failure::bad(format!("{}: {}", path.display(), told(&error.error)))
+                Failure::bad(format!("{}: {}", path.display(), reason(&error.error)))
             })?;
         }
         staged.folders.clear();
@@ -92,7 +92,7 @@ fn written_through(target: &Path, bytes: &[u8]) -> io::Result<()> {
 }
 
 fn failed(path: &Path, error: &io::Error) -> Failure {
-    Failure::bad(format!("{}: {}; nothing was written", path.display(), told(error)))
+    Failure::bad(format!("{}: {}; nothing was written", path.display(), reason(error)))
 }
 
 /// Files under their passing names with the names they will have and those that were asked for, what is written

@@ -5,8 +5,8 @@ use vb::grouped;
 use super::junit::escaped;
 use super::verdict::{Explained, EyeJudged, Pictures};
 use super::{Judged, Summary, Verdict};
-use crate::difference::Bounds;
-use crate::givers::Share;
+use crate::pictures::difference::Bounds;
+use crate::pictures::sources::Share;
 
 const STYLE: &str = include_str!("page.css");
 const SCRIPT: &str = include_str!("page.js");
@@ -76,7 +76,7 @@ fn section(number: usize, one: &Judged) -> String {
     if one.verdict == Verdict::Fault {
         out += &format!(
             "<p class=\"fault\">The independent model has other values: {}</p>\n",
-            crate::explain::FAULT
+            crate::pictures::explain::FAULT
         );
     }
     out.extend(one.eyes.iter().map(eye));
@@ -93,7 +93,7 @@ fn eye(one: &EyeJudged) -> String {
     out += &format!("{count} of 86,016 pixels differ, in {}</h3>\n", bounds.text());
     out += &format!("<p>capture {}", escaped(&one.capture));
     if let Some(levels) = &one.levels {
-        let told: Vec<String> = levels.iter().map(crate::capture::Level::text).collect();
+        let told: Vec<String> = levels.iter().map(crate::inputs::capture::Level::text).collect();
         out += &format!("; levels taken: {}", escaped(&told.join(", ")));
     }
     out += "</p>\n";
@@ -105,7 +105,7 @@ fn eye(one: &EyeJudged) -> String {
     out
 }
 
-/// The givers of the differing pixels; those beyond the tenth on demand.
+/// The sources of the differing pixels; those beyond the tenth on demand.
 fn shares(all: &[Share]) -> String {
     let table = |some: &[Share]| {
         let head = "<tr><th>Pixels</th><th>What the model shows there</th><th>First at</th></tr>";

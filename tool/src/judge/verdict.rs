@@ -5,16 +5,16 @@ use serde::Serialize;
 use vb::{grouped, COLUMNS, ROWS, VRAM_LENGTH};
 
 use super::{Entry, Part};
-use crate::capture::{Capture, Level, Wanted};
 use crate::commands::compare::CAPTURE;
 use crate::commands::draw::Views;
-use crate::difference::{differences, Bounds, Difference};
-use crate::explain::{explain, eye_name, registers, Question};
 use crate::failure::Failure;
 use crate::files::{Identity, Input};
-use crate::givers::{Givers, Share};
-use crate::picture::Picture;
-use crate::scene::{Read, Scene};
+use crate::inputs::capture::{Capture, Level, Wanted};
+use crate::inputs::scene::{Read, Scene};
+use crate::pictures::difference::{differences, Bounds, Difference};
+use crate::pictures::explain::{explain, eye_name, registers, Question};
+use crate::pictures::picture::Picture;
+use crate::pictures::sources::{Share, Sources};
 
 #[derive(Clone, Copy, Debug, PartialEq, Eq, Serialize)]
 #[serde(rename_all = "lowercase")]
@@ -191,9 +191,9 @@ fn judge_eye(
     };
     if let Some(bounds) = bounds {
         let vram = &scene.vram.bytes;
-        let givers = Givers::of(vram, &registers(&scene.drawing), eye, &bounds);
-        judged.shares = givers.shares(vram, &found);
-        judged.agree = givers.agree(&found);
+        let sources = Sources::of(vram, &registers(&scene.drawing), eye, &bounds);
+        judged.shares = sources.shares(vram, &found);
+        judged.agree = sources.agree(&found);
         let first = found.iter().take(wish.first).map(|pixel| explained(scene, eye, pixel));
         judged.first = first.collect::<Result<_, _>>()?;
     }

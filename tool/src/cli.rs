@@ -1,0 +1,149 @@
+//! The command line: the commands, their options, and what is printed.
+
+use std::ffi::OsString;
+use std::io::{stderr, stdout, ErrorKind, Write};
+
+use clap::{CommandFactory, Parser, Subcommand};
+
+use crate::commands::{self, Report};
+use crate::failure::Failure;
+use crate::reports::json::json;
+
+#[derive(Parser)]
+#[command(
+    name = "vbmodel",
+    version,
+    about = "Runs, draws and compares the proved reference model of the console",
+    after_help = "Start with `vbmodel demo`; `vbmodel help COMMAND` has an example for each command.
+Numbers are decimal or, after 0x, hexadecimal; `_` may stand between digits. The file `-` is standard input.
+
+Exit status: 0 done (compare, judge, replay: equal); 1 compare, judge, replay: different; 2 refused or bad input; 3 why,
+compare --why, judge: the independent model and the proved library differ; 130 stopped by Ctrl-C."
+)]
+struct Cli {
+    #[command(subcommand)]
+    command: Command,
+}
+
+#[derive(Subcommand)]
+enum Command {
+    /// Runs a small program for the console from reset and writes both frames as PNG
+    Demo(commands::demo::Options),
+    /// Runs a program from memory images and prints the answer, the count and the registers
+    Run(Box<commands::run::Options>),
+    /// Records a trace of a program: four words a completed step
+    Trace(Box<commands::trace::Options>),
+    /// Steps the model beside a die's recorded trace and tells the first record that differs
+    Replay(Box<commands::replay::Options>),
+    /// Follows a program: what each instruction does to registers and memory
+    Step(Box<commands::step::Options>),
+    /// Draws a frame from VRAM and drawing registers and writes PNGs
+    Draw(commands::draw::Options),
+    /// Compares the model's frame with a die's capture of it
+    Compare(commands::compare::Options),
+    /// Judges a whole lot: many captures against the model, with a report
+    Judge(commands::judge::Options),
+    /// Tells which worlds and objects cover a pixel, and the bytes it answers to
+    Why(commands::why::Options),
+    /// Assembles a program into a ROM image
+    Asm(commands::asm::Options),
+    /// Disassembles a ROM image into text that assembles to the same bytes
+    Disasm(commands::disasm::Options),
+    /// Tells what a saved state holds, or which rule it breaks
+    State(commands::state::Options),
+    /// Prints completions for a shell
+    Completions(commands::pages::Completions),
+    /// Prints the manual page
+    Man(commands::pages::Man),
+}
+
+impl Command {
+    fn json(&self) -> bool {
+        match self {
+            Command::Demo(_) | Command::Completions(_) | Command::Man(_) => false,
+            Command::Run(options) => options.json,
+            Command::Step(options) => options.json,
+            Command::Trace(options) => options.json,
+            Command::Replay(options) => options.json,
+            Command::Draw(options) => options.json,
+            Command::Compare(options) => options.json,
+            Command::Judge(options) => options.json,
+            Command::Why(options) => options.json,
+            Command::Asm(options) => options.json,
+            Command::Disasm(options) => options.json,
+            Command::State(options) => options.json(),
+        }
+    }
+
+    fn run(&self) -> Result<Report, Failure> {
+        match self {
+            Command::Demo(options) => commands::demo::run(options),
+            Command::Run(options) => commands::run::run(options),
+            Command::Step(options) => commands::step::run(options),
+            Command::Trace(options) => commands::trace::run(options),
+            Command::Replay(options) => commands::replay::run(options),
+            Command::Draw(options) => commands::draw::run(options),
+            Command::Compare(options) => commands::compare::run(options),
+            Command::Judge(options) => commands::judge::run(options),
+            Command::Why(options) => commands::why::run(options),
+            Command::Asm(options) => commands::asm::run(options),
+            Command::Disasm(options) => commands::disasm::run(options),
+            Command::State(options) => commands::state::run(options),
+            Command::Completions(options) => {
+                Ok(commands::pages::completions(options, Cli::command()))
+            }
+            Command::Man(_) => Ok(commands::pages::man(&Cli::command())),
+        }
+    }
+}
+
+/// Does what the arguments say, the first being the program's name, and gives the exit status.
+pub fn run(arguments: Vec<OsString>) -> i32 {
+    match Cli::try_parse_from(&arguments) {
+        Ok(Cli { command }) => reported(command.run(), command.json()),
+        Err(error) if error.use_stderr() => {
+            warn(&error.to_string());
+            let wants_json = arguments.iter().any(|argument| argument == "--json");
+            let message = error.to_string();
+            let failure = Failure::bad(message.trim_start_matches("error: ").trim_end());
+            let text = if wants_json { json(&failure) + "\n" } else { String::new() };
+            printed(&text, 2)
+        }
+        Err(help) => printed(&help.to_string(), 0),
+    }
+}
+
+/// Prints what a command did or why it did not, and gives the exit status.
+fn reported(done: Result<Report, Failure>, as_json: bool) -> i32 {
+    match done {
+        Ok(report) => {
+            let text = if as_json { report.json + "\n" } else { report.text };
+            let status = printed(&text, report.status);
+            if let Some(failure) = report.failure {
+                warn(&format!("vbmodel: {}\n", failure.message));
+            }
+            status
+        }
+        Err(failure) => {
+            warn(&format!("vbmodel: {}\n", failure.message));
+            let text = if as_json { json(&failure) + "\n" } else { String::new() };
+            printed(&text, 2)
+        }
+    }
+}
+
+/// Prints to standard output. A reader that has gone away is no error of the command; anything else is one.
+fn printed(text: &str, status: i32) -> i32 {
+    let mut out = stdout().lock();
+    match out.write_all(text.as_bytes()).and_then(|()| out.flush()) {
+        Err(error) if error.kind() != ErrorKind::BrokenPipe => {
+            warn(&format!("vbmodel: standard output: {error}\n"));
+            2
+        }
+        _ => status,
+    }
+}
+
+fn warn(text: &str) {
+    let _ = stderr().write_all(text.as_bytes());
+}

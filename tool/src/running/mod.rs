@@ -1,0 +1,5 @@
+//! Running a program: step by step, what is watched for, and how it ended.
+
+pub mod follow;
+pub mod outcome;
+pub mod watch;
