@@ -21,7 +21,7 @@ use Rattle.processor_laws.proofs.Registers.{set-systems, eipc-system, e
 abbrev pub Left : Stepped → Type 0
 Left t = Good (t .state) (t .memory)
 
-code-small : (c : Cause) → codeOf c < 65536
+pub code-small : (c : Cause) → codeOf c < 65536
 code-small ZeroDivision = omega arith
 code-small Illegal = omega arith
 code-small (Trap vector) = omega arith

@@ -1,16 +1,17 @@
--- Opcode 111110: its traps' flags, its decoding, and what its instructions leave alone.
+-- Opcode 111110: its traps' flags, its decoding, and what its instructions change.
 use Prim.Native.Nat.{ℕ, zero, suc, _+_, _*_, _/_, _%_, _^_, _≤_, _<_}
 use mathlib.Core.Path.{_≡_, refl, sym, _∙_, ap, subst}
-use mathlib.Core.Logic.{_≢_}
+use mathlib.Core.Logic.{_≢_, _⊎_, inl, inr}
 use mathlib.Core.Bool.{Bool, true, false}
-use mathlib.Core.List.{List, _++_}
+use mathlib.Core.List.{List, [], _∷_, _++_}
+use native.Mathlib.Decide.{ℕ-discrete}
 use native.Mathlib.Omega.{arith}
 use lib.Dec.{ltb, eqb}
 use lib.ListN.{getD, set}
 use lib.Seq.{getD-set-other}
-use lib.Ieee.{binary32, toBits}
+use lib.Ieee.{Float, binary32, toBits, ofInt}
 use Rattle.processor_arithmetic.specs.Bit.{bitAt}
-use Rattle.processor_arithmetic.specs.Flag.{flagOf}
+use Rattle.processor_arithmetic.specs.Integer.{signed}
 use Rattle.processor_arithmetic.proofs.Places.{set-flag, set-flag-others}
 use Rattle.bus.specs.Memory.{Memory}
 use Rattle.processor_decode.specs.SubOpcode.{subRows, extendedOf}
@@ -18,24 +19,25 @@ use Rattle.processor_decode.specs.Opcode.{shortRows, branchRows, longRows, deco
 use Rattle.processor_decode.specs.declared.Decoded.{Decoded}
 use Rattle.processor_decode.specs.declared.Decoded.the-variants.{Modelled, NotModelled}
 use Rattle.processor_decode.specs.declared.Instruction.the-variants.{Illegal}
+use Rattle.processor_decode.specs.declared.FloatingOperation.{FloatingOperation}
 use Rattle.processor_float.specs.Operand.{isZero}
+use Rattle.processor_float.specs.Arithmetic.{outcomeOf}
+use Rattle.processor_float.specs.Conversion.{nearestSizeOf, truncatedSizeOf, convertedOf, nearestOf, truncatedOf}
 use Rattle.processor_float.specs.Comparison.{comparisonOf}
-use Rattle.processor_float.specs.Flag.{orderFlagsOf, underflowOf, numberFlagsOf, comparisonFlagsOf, conversionFlagsOf}
+use Rattle.processor_float.specs.Flag.{orderFlagsOf, underflowOf, numberFlagsOf, conversionFlagsOf}
+use Rattle.processor_float.specs.declared.Operation.{Operation}
 use Rattle.processor_float.specs.declared.Compared.{Compared}
 use Rattle.processor_float.specs.declared.FloatOutcome.{FloatOutcome}
 use Rattle.processor_float.specs.declared.FloatOutcome.the-variants.{Number, Word, Reserved, Invalid, ZeroDivide, Overflow}
 use Rattle.processor_float_laws.proofs.Flagged.{order-placed, number-placed, conversion-placed}
 use Rattle.processor_machine.specs.State.{State, Stepped, regOf, putOf}
-use Rattle.processor_machine.specs.Exception.{codeOf, handlerOf, restoreOf, savedOf, fatalOf, duplexedEntryOf, regularEntryOf, enterOf, raiseOf}
-use Rattle.processor_machine.specs.declared.Cause.{Cause}
 use Rattle.processor_machine.specs.declared.Cause.the-variants as cause
-use Rattle.processor_machine.specs.declared.Answer.{Answer}
-use Rattle.processor_machine.specs.declared.Answer.the-variants.{Ended, Trapped, TurnedFatal}
 use Rattle.processor_execute.specs.Floating.{floatingOf, nintendoOf}
 use Rattle.processor_execute.specs.Execute.{goesOn, settlesOf, comparesOf, executeOf}
-use Rattle.processor_laws.specs.Extended.{FlagsSaved, Decodes, Touches, ExtendedTouches}
+use Rattle.processor_laws.specs.Trapping.{Outside}
+use Rattle.processor_laws.specs.Extended.{FlagsSaved, Decodes, Changes, Traps, floatingFlags, CmpfChanges, FloatingChanges, NintendoChanges}
 use Rattle.processor_laws.proofs.Lists.{each-at, pick-each}
-use Rattle.processor_laws.proofs.Floats.{Kept, floating-kept}
+use Rattle.processor_laws.proofs.Floats.{Kept, outcome-kept, converted-each}
 
 pub flags-saved : FlagsSaved
 flags-saved =
@@ -76,75 +78,122 @@ decodes f s =
       ignored = ignored-bits f s;
     }
 
--- ---- what is left alone
+-- ---- what changes
 
-not-ended : (a : Answer) (c : Cause) → (a ≡ Trapped c) → a ≡ Ended → ⊥
-not-ended a c p q =
-    let z : _≡_ {A = ℕ} 0 1 = cc in
-    omega arith
+-- a floating outcome's flags leave every bit of PSW but those of `flags`
+abbrev Within : List ℕ → ℕ → FloatOutcome → Type 0
+Within flags psw (Number v underflowed) =
+    (k : ℕ) → Outside k flags → bitAt k (numberFlagsOf psw (toBits binary32 v) underflowed) ≡ bitAt k psw
+Within flags psw (Word w) = (k : ℕ) → Outside k flags → bitAt k (conversionFlagsOf psw w) ≡ bitAt k psw
+Within flags psw Reserved = Unit {0}
+Within flags psw Invalid = Unit {0}
+Within flags psw ZeroDivide = Unit {0}
+Within flags psw Overflow = Unit {0}
 
-not-ended-fatal : (a : Answer) (c : Cause) → (a ≡ TurnedFatal c) → a ≡ Ended → ⊥
-not-ended-fatal a c p q =
-    let z : _≡_ {A = ℕ} 0 1 = cc in
-    omega arith
+module _ (psw : ℕ) where
+  -- Z, S and OV alone
+  conversion-within : (w : ℕ) → w < 2 ^ 32 → Within (0 ∷ 1 ∷ 2 ∷ []) psw (Word w)
+  conversion-within w h k n =
+      let p = conversion-placed psw w h in
+      elim (ℕ-discrete k 3) [
+        | yes e ↦ rw e (p .at-cy)
+        | no ne ↦ p .others k (omega (arith, n .0, n .1 .0, n .1 .1 .0))
+      ]
 
-module _ (reg2 : ℕ) (s : State) (m : Memory) where
-  fatal-touches : (c : Cause) → Touches reg2 s m (fatalOf c s m)
-  fatal-touches c = record { memory = refl; general = λ k n. refl; psw = λ e. absurd (not-ended-fatal (TurnedFatal c) c refl e) }
+  converted-within : (w n : ℕ) → Within (0 ∷ 1 ∷ 2 ∷ []) psw (convertedOf w n)
+  converted-within = converted-each (Within (0 ∷ 1 ∷ 2 ∷ []) psw) tt tt conversion-within
 
-  duplexed-touches : (c : Cause) (code restore saved : ℕ) → Touches reg2 s m (duplexedEntryOf c code restore saved s m)
-  duplexed-touches c code restore saved = record { memory = refl; general = λ k n. refl; psw = λ e. absurd (not-ended (Trapped c) c refl e) }
+  -- Z, S, OV, CY and FUD
+  number-within : (o : FloatOutcome) → Kept o → Within (0 ∷ 1 ∷ 2 ∷ 3 ∷ 5 ∷ []) psw o
+  number-within (Number v underflowed) h =
+      λ k n. number-placed psw (toBits binary32 v) underflowed .others k (omega (arith, n .0, n .1 .0, n .1 .1 .0, n .1 .1 .1 .0)) (n .1 .1 .1 .1 .0)
+  number-within (Word w) h = λ k n. conversion-within w h k (n .0, (n .1 .0, (n .1 .1 .0, tt)))
+  number-within Reserved h = tt
+  number-within Invalid h = tt
+  number-within ZeroDivide h = tt
+  number-within Overflow h = tt
 
-  regular-touches : (c : Cause) (code handler restore saved : ℕ) → Touches reg2 s m (regularEntryOf c code handler restore saved s m)
-  regular-touches c code handler restore saved = record { memory = refl; general = λ k n. refl; psw = λ e. absurd (not-ended (Trapped c) c refl e) }
+  -- Z, S, OV and CY
+  order-within : (z n : Bool) (k : ℕ) → Outside k (0 ∷ 1 ∷ 2 ∷ 3 ∷ []) → bitAt k (orderFlagsOf psw z n) ≡ bitAt k psw
+  order-within z n k f = order-placed psw z n .others k (omega (arith, f .0, f .1 .0, f .1 .1 .0, f .1 .1 .1 .0))
 
-  raise-touches : (c : Cause) (next : ℕ) → Touches reg2 s m (raiseOf c next s m)
-  unfolding raiseOf enterOf
-  raise-touches c next =
-      pick-each (Touches reg2 s m) (eqb (flagOf 32768 (s .psw)) 1) (fatalOf c s m) _ (fatal-touches c)
-      (pick-each (Touches reg2 s m) (eqb (flagOf 16384 (s .psw)) 1)
-      (duplexedEntryOf c (codeOf c) (restoreOf c (s .pc) next) (savedOf c (s .psw)) s m)
-      (regularEntryOf c (codeOf c) (handlerOf c) (restoreOf c (s .pc) next) (savedOf c (s .psw)) s m)
-      (duplexed-touches c (codeOf c) (restoreOf c (s .pc) next) (savedOf c (s .psw)))
-      (regular-touches c (codeOf c) (handlerOf c) (restoreOf c (s .pc) next) (savedOf c (s .psw))))
+  floated-within : (v : Float) → Within (0 ∷ 1 ∷ 2 ∷ 3 ∷ []) psw (Number v false)
+  unfolding numberFlagsOf underflowOf
+  floated-within v k f = order-within (isZero (toBits binary32 v)) (ltb (2 ^ 31) (toBits binary32 v)) k f
 
-  put-general : (v k : ℕ) → k ≢ reg2 % 32 → getD (putOf (s .regs) reg2 v) k 0 ≡ getD (s .regs) k 0
-  unfolding putOf
-  put-general v k n =
-      pick-each (λ (l : List ℕ). getD l k 0 ≡ getD (s .regs) k 0) (eqb (reg2 % 32) 0) (s .regs) (set (s .regs) (reg2 % 32) v)
-      refl (getD-set-other (s .regs) (reg2 % 32) k v 0 n)
+  floating-within : (op : FloatingOperation) (a b : ℕ) → Within (floatingFlags op) psw (floatingOf op a b)
+  unfolding nearestOf truncatedOf
+  floating-within FloatingOperation.CvtWs a b = floated-within (ofInt binary32 (signed b))
+  floating-within FloatingOperation.CvtSw a b = converted-within b (nearestSizeOf b)
+  floating-within FloatingOperation.Addf a b = number-within (outcomeOf Operation.Add a b) (outcome-kept Operation.Add a b)
+  floating-within FloatingOperation.Subf a b = number-within (outcomeOf Operation.Subtract a b) (outcome-kept Operation.Subtract a b)
+  floating-within FloatingOperation.Mulf a b = number-within (outcomeOf Operation.Multiply a b) (outcome-kept Operation.Multiply a b)
+  floating-within FloatingOperation.Divf a b = number-within (outcomeOf Operation.Divide a b) (outcome-kept Operation.Divide a b)
+  floating-within FloatingOperation.TrncSw a b = converted-within b (truncatedSizeOf b)
 
-  gives-touches : (v psw next : ℕ) → ((k : ℕ) → 10 ≤ k → bitAt k psw ≡ bitAt k (s .psw)) → Touches reg2 s m (goesOn (putOf (s .regs) reg2 v) next psw s m)
-  gives-touches v psw next h = record { memory = refl; general = λ k n. put-general v k n; psw = λ e k l. h k l }
+-- reg2 written, every other general register stays
+put-general : (reg2 : ℕ) (s : State) (v k : ℕ) → Outside k (reg2 % 32 ∷ []) → getD (putOf (s .regs) reg2 v) k 0 ≡ getD (s .regs) k 0
+unfolding putOf
+put-general reg2 s v k n =
+    pick-each (λ (l : List ℕ). getD l k 0 ≡ getD (s .regs) k 0) (eqb (reg2 % 32) 0) (s .regs) (set (s .regs) (reg2 % 32) v)
+    refl (getD-set-other (s .regs) (reg2 % 32) k v 0 (n .0))
 
-  stays-touches : (psw next : ℕ) → ((k : ℕ) → 10 ≤ k → bitAt k psw ≡ bitAt k (s .psw)) → Touches reg2 s m (goesOn (s .regs) next psw s m)
-  stays-touches psw next h = record { memory = refl; general = λ k n. refl; psw = λ e k l. h k l }
+module _ (reg2 next : ℕ) (s : State) (m : Memory) where
+  abbrev Does : List ℕ → List ℕ → Stepped → Type 0
+  Does registers flags t = Changes registers flags next s m t ⊎ Traps next s m t
 
-  order-kept : (z n : Bool) (k : ℕ) → 10 ≤ k → bitAt k (orderFlagsOf (s .psw) z n) ≡ bitAt k (s .psw)
-  order-kept z n k l = order-placed (s .psw) z n .others k (omega arith)
+  gives : (flags : List ℕ) (v psw : ℕ) → ((k : ℕ) → Outside k flags → bitAt k psw ≡ bitAt k (s .psw))
+      → Changes (reg2 % 32 ∷ []) flags next s m (goesOn (putOf (s .regs) reg2 v) next psw s m)
+  gives flags v psw h =
+      record { answer = refl; memory = refl; general = put-general reg2 s v; system = refl; pc = refl; psw = h; mode = refl }
 
-  settles-touches : (o : FloatOutcome) (next : ℕ) → Kept o → Touches reg2 s m (settlesOf reg2 o next s m)
-  settles-touches (Number v u) next h =
+  stays : (z n : Bool) → Changes [] (0 ∷ 1 ∷ 2 ∷ 3 ∷ []) next s m (goesOn (s .regs) next (orderFlagsOf (s .psw) z n) s m)
+  stays z n =
+      record {
+        answer = refl;
+        memory = refl;
+        general = λ k f. refl;
+        system = refl;
+        pc = refl;
+        psw = order-within (s .psw) z n;
+        mode = refl;
+      }
+
+  settles : (flags : List ℕ) (o : FloatOutcome) → Within flags (s .psw) o → Does (reg2 % 32 ∷ []) flags (settlesOf reg2 o next s m)
+  settles flags (Number v underflowed) h =
       let w = toBits binary32 v in
-      gives-touches w (numberFlagsOf (s .psw) w u) next (λ k l. number-placed (s .psw) w u .others k (omega arith) (λ e. omega arith))
-  settles-touches (Word w) next h =
-      gives-touches w (conversionFlagsOf (s .psw) w) next (λ k l. conversion-placed (s .psw) w h .others k (omega arith))
-  settles-touches Reserved next h = raise-touches cause.FloatReserved next
-  settles-touches Invalid next h = raise-touches cause.FloatInvalid next
-  settles-touches ZeroDivide next h = raise-touches cause.FloatZeroDivide next
-  settles-touches Overflow next h = raise-touches cause.FloatOverflow next
+      inl (gives flags w (numberFlagsOf (s .psw) w underflowed) h)
+  settles flags (Word w) h = inl (gives flags w (conversionFlagsOf (s .psw) w) h)
+  settles flags Reserved h = inr (record { cause = cause.FloatReserved; floating = refl; raised = refl })
+  settles flags Invalid h = inr (record { cause = cause.FloatInvalid; floating = refl; raised = refl })
+  settles flags ZeroDivide h = inr (record { cause = cause.FloatZeroDivide; floating = refl; raised = refl })
+  settles flags Overflow h = inr (record { cause = cause.FloatOverflow; floating = refl; raised = refl })
 
-  compares-touches : (c : Compared) (next : ℕ) → Touches reg2 s m (comparesOf c next s m)
-  compares-touches Compared.Lower next = stays-touches (orderFlagsOf (s .psw) false true) next (order-kept false true)
-  compares-touches Compared.Equal next = stays-touches (orderFlagsOf (s .psw) true false) next (order-kept true false)
-  compares-touches Compared.Higher next = stays-touches (orderFlagsOf (s .psw) false false) next (order-kept false false)
-  compares-touches Compared.Reserved next = raise-touches cause.FloatReserved next
+  compares : (c : Compared) → Does [] (0 ∷ 1 ∷ 2 ∷ 3 ∷ []) (comparesOf c next s m)
+  compares Compared.Lower = inl (stays false true)
+  compares Compared.Equal = inl (stays true false)
+  compares Compared.Higher = inl (stays false false)
+  compares Compared.Reserved = inr (record { cause = cause.FloatReserved; floating = refl; raised = refl })
 
-pub extended-touches : ExtendedTouches
+pub cmpf-changes : CmpfChanges
 unfolding executeOf
-extended-touches =
+cmpf-changes reg1 reg2 next s m = compares reg2 next s m (comparisonOf (regOf s reg2) (regOf s reg1))
+
+pub floating-changes : FloatingChanges
+unfolding executeOf
+floating-changes op reg1 reg2 next s m =
+    let o = floatingOf op (regOf s reg2) (regOf s reg1) in
+    settles reg2 next s m (floatingFlags op) o (floating-within (s .psw) op (regOf s reg2) (regOf s reg1))
+
+pub nintendo-changes : NintendoChanges
+unfolding executeOf
+nintendo-changes op reg1 reg2 next s m =
     record {
-      cmpf = λ reg1 reg2 next s m. compares-touches reg2 s m (comparisonOf (regOf s reg2) (regOf s reg1)) next;
-      floating = λ op reg1 reg2 next s m. settles-touches reg2 s m (floatingOf op (regOf s reg2) (regOf s reg1)) next (floating-kept op (regOf s reg2) (regOf s reg1));
-      nintendo = λ op reg1 reg2 next s m. gives-touches reg2 s m (nintendoOf op (regOf s reg2) (regOf s reg1)) (s .psw) next (λ k l. refl);
+      answer = refl;
+      memory = refl;
+      general = put-general reg2 s (nintendoOf op (regOf s reg2) (regOf s reg1));
+      system = refl;
+      pc = refl;
+      psw = λ k f. refl;
+      mode = refl;
     }

@@ -55,7 +55,7 @@ settled-kept exact (inf s) h = tt
 settled-kept exact (fin s m e) h =
     pick-each Kept (isTiny m e) (Number (fin s 0 (pos 0)) (not exact)) (Number (fin s m e) false) (zero-fits s) h
 
-outcome-kept : (op : Operation) (x y : ℕ) → Kept (outcomeOf op x y)
+pub outcome-kept : (op : Operation) (x y : ℕ) → Kept (outcomeOf op x y)
 unfolding outcomeOf
 outcome-kept op x y =
     pick-each Kept (reservedOf x || reservedOf y) Reserved (pick (isDivide op && isZero y) (pick (isZero x) Invalid ZeroDivide) (floatResultOf op x y)) tt
@@ -76,14 +76,18 @@ inside-word w n =
           rw (le-ltb w (2 ^ 31) g) (λ e. omega arith)
     ]
 
-converted-kept : (w n : ℕ) → Kept (convertedOf w n)
-converted-kept w n =
-    pick-each Kept (reservedOf w) Reserved (pick (outside (signedBy w n)) Invalid (Word (signedWordOf w n))) tt
+-- what holds of the two traps and of every word holds of a conversion
+pub converted-each : (P : FloatOutcome → Type 0) → P Reserved → P Invalid → ((v : ℕ) → v < 2 ^ 32 → P (Word v)) → (w n : ℕ) → P (convertedOf w n)
+converted-each P reserved invalid word w n =
+    pick-each P (reservedOf w) Reserved (pick (outside (signedBy w n)) Invalid (Word (signedWordOf w n))) reserved
     (go (outside (signedBy w n)) refl)
   where
-    go : (b : Bool) → outside (signedBy w n) ≡ b → Kept (pick b Invalid (Word (signedWordOf w n)))
-    go true e = tt
-    go false e = inside-word w n e
+    go : (b : Bool) → outside (signedBy w n) ≡ b → P (pick b Invalid (Word (signedWordOf w n)))
+    go true e = invalid
+    go false e = word (signedWordOf w n) (inside-word w n e)
+
+converted-kept : (w n : ℕ) → Kept (convertedOf w n)
+converted-kept w n = converted-each Kept tt tt (λ v h. h) w n
 
 pub floating-kept : (op : FloatingOperation) (a b : ℕ) → Kept (floatingOf op a b)
 unfolding nearestOf truncatedOf

@@ -1,4 +1,4 @@
--- `Accepting`, `Calling`, `Runs` and `Extending` prove the statements of specs/.
+-- `Accepting`, `Calling`, `Runs`, `Trapping` and `Extending` prove the statements of specs/.
 mod Lists
 mod Invariant
 mod Psw
@@ -12,4 +12,5 @@ mod Executes
 pub mod Accepting
 pub mod Calling
 pub mod Runs
+pub mod Trapping
 pub mod Extending

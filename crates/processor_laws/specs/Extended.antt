@@ -1,10 +1,13 @@
 -- Opcode 111110 (request W4): the four floating traps set their own flag in the PSW that is saved and change no other
--- bit of it; every sub-opcode is decoded, by its six bits alone; and no instruction of this opcode changes memory, a
--- general register but reg2, or PSW outside bits 0 to 9, traps apart. The proofs are in proofs/Extending.
-use Prim.Native.Nat.{ℕ, _*_, _/_, _%_, _≤_}
+-- bit of it; every sub-opcode is decoded, by its six bits alone; an instruction of this opcode changes reg2 and its
+-- flags and nothing else, or traps. The proofs are in proofs/Extending. What a trap leaves is Trapping.
+use Prim.Native.Nat.{ℕ, _*_, _/_, _%_}
+use mathlib.Core.Bool.{true}
+use mathlib.Core.List.{List, [], _∷_}
 use mathlib.Core.Path.{_≡_}
-use mathlib.Core.Logic.{_≢_}
+use mathlib.Core.Logic.{_≢_, _⊎_}
 use lib.ListN.{getD}
+use Rattle.word.specs.Choose.{member}
 use Rattle.processor_arithmetic.specs.Bit.{bitAt}
 use Rattle.bus.specs.Memory.{Memory}
 use Rattle.processor_decode.specs.SubOpcode.{extendedOf}
@@ -15,12 +18,13 @@ use Rattle.processor_decode.specs.declared.Instruction.the-variants.{Cmpf, Floa
 use Rattle.processor_decode.specs.declared.FloatingOperation.{FloatingOperation}
 use Rattle.processor_decode.specs.declared.NintendoOperation.{NintendoOperation}
 use Rattle.processor_machine.specs.State.{State, Stepped}
-use Rattle.processor_machine.specs.Exception.{savedOf}
+use Rattle.processor_machine.specs.Exception.{codeOf, savedOf, raiseOf}
 use Rattle.processor_machine.specs.declared.Cause.{Cause}
 use Rattle.processor_machine.specs.declared.Cause.the-variants.{FloatReserved, FloatInvalid, FloatZeroDivide}
 use Rattle.processor_machine.specs.declared.Cause.the-variants.{FloatOverflow}
 use Rattle.processor_machine.specs.declared.Answer.the-variants.{Ended}
 use Rattle.processor_execute.specs.Execute.{executeOf}
+use Rattle.processor_laws.specs.Trapping.{Outside}
 
 -- "the corresponding flag is set in PSW, but otherwise will not be modified"
 pub record Saves (cause : Cause) (flag : ℕ) : Type 0 where
@@ -40,15 +44,50 @@ pub record Decodes (f s : ℕ) : Type 0 where
   pub modelled : extendedOf f s ≡ NotModelled → ⊥
   pub ignored : extendedOf f s ≡ extendedOf f (s / 1024 * 1024)
 
--- what an instruction with the destination reg2 leaves alone
-pub record Touches (reg2 : ℕ) (s : State) (m : Memory) (t : Stepped) : Type 0 where
+-- an instruction that ended and goes on at `next`: memory, the system registers and the mode stay; of the general
+-- registers those with the given numbers may change, of PSW the bits of the given flags, and nothing else
+pub record Changes (registers flags : List ℕ) (next : ℕ) (s : State) (m : Memory) (t : Stepped) : Type 0 where
+  pub answer : t .answer ≡ Ended
   pub memory : t .memory ≡ m
-  pub general : (k : ℕ) → k ≢ reg2 % 32 → getD (t .state .regs) k 0 ≡ getD (s .regs) k 0
-  pub psw : t .answer ≡ Ended → (k : ℕ) → 10 ≤ k → bitAt k (t .state .psw) ≡ bitAt k (s .psw)
+  pub general : (k : ℕ) → Outside k registers → getD (t .state .regs) k 0 ≡ getD (s .regs) k 0
+  pub system : t .state .sys ≡ s .sys
+  pub pc : t .state .pc ≡ next
+  pub psw : (k : ℕ) → Outside k flags → bitAt k (t .state .psw) ≡ bitAt k (s .psw)
+  pub mode : t .state .mode ≡ s .mode
 
-pub record ExtendedTouches : Type 0 where
-  pub cmpf : (reg1 reg2 next : ℕ) (s : State) (m : Memory) → Touches reg2 s m (executeOf (Cmpf reg1 reg2) next s m)
-  pub floating : (op : FloatingOperation) (reg1 reg2 next : ℕ) (s : State) (m : Memory)
-      → Touches reg2 s m (executeOf (Floating op reg1 reg2) next s m)
-  pub nintendo : (op : NintendoOperation) (reg1 reg2 next : ℕ) (s : State) (m : Memory)
-      → Touches reg2 s m (executeOf (Nintendo op reg1 reg2) next s m)
+-- a floating trap: the exception of the machine as the instruction found it, so that Trapping's statement holds of it
+pub record Traps (next : ℕ) (s : State) (m : Memory) (t : Stepped) : Type 0 where
+  pub cause : Cause
+  pub floating : member (codeOf cause) (0xFF60 ∷ 0xFF64 ∷ 0xFF68 ∷ 0xFF70 ∷ []) ≡ true
+  pub raised : t ≡ raiseOf cause next s m
+
+-- the flags that may change, by their bits: Z 0, S 1, OV 2, CY 3, FUD 5. CY stays where the result is a whole number
+-- (ruling W4.4), and only the four operations underflow
+abbrev pub floatingFlags : FloatingOperation → List ℕ
+floatingFlags FloatingOperation.CvtWs = 0 ∷ 1 ∷ 2 ∷ 3 ∷ []
+floatingFlags FloatingOperation.CvtSw = 0 ∷ 1 ∷ 2 ∷ []
+floatingFlags FloatingOperation.Addf = 0 ∷ 1 ∷ 2 ∷ 3 ∷ 5 ∷ []
+floatingFlags FloatingOperation.Subf = 0 ∷ 1 ∷ 2 ∷ 3 ∷ 5 ∷ []
+floatingFlags FloatingOperation.Mulf = 0 ∷ 1 ∷ 2 ∷ 3 ∷ 5 ∷ []
+floatingFlags FloatingOperation.Divf = 0 ∷ 1 ∷ 2 ∷ 3 ∷ 5 ∷ []
+floatingFlags FloatingOperation.TrncSw = 0 ∷ 1 ∷ 2 ∷ []
+
+-- CMPF.S changes no general register
+abbrev pub CmpfChanges : Type 0
+CmpfChanges =
+    (reg1 reg2 next : ℕ) (s : State) (m : Memory)
+    → let t = executeOf (Cmpf reg1 reg2) next s m in
+    Changes [] (0 ∷ 1 ∷ 2 ∷ 3 ∷ []) next s m t ⊎ Traps next s m t
+
+-- the other floating instructions change reg2, unless they trap
+abbrev pub FloatingChanges : Type 0
+FloatingChanges =
+    (op : FloatingOperation) (reg1 reg2 next : ℕ) (s : State) (m : Memory)
+    → let t = executeOf (Floating op reg1 reg2) next s m in
+    Changes (reg2 % 32 ∷ []) (floatingFlags op) next s m t ⊎ Traps next s m t
+
+-- XB, XH, REV and MPYHW change reg2 and no flag, and do not trap
+abbrev pub NintendoChanges : Type 0
+NintendoChanges =
+    (op : NintendoOperation) (reg1 reg2 next : ℕ) (s : State) (m : Memory)
+    → Changes (reg2 % 32 ∷ []) [] next s m (executeOf (Nintendo op reg1 reg2) next s m)
