@@ -1,3 +1,4 @@
 pub mod Readings
 pub mod Writings
+pub mod Elsewhere
 pub mod LinesKept

@@ -8,13 +8,13 @@ use Rattle.bus_timer.specs.Ports.{portWrittenOf}
 use Rattle.bus_timer.specs.Lines.{hardwareLineOf}
 use Rattle.bus_timer.specs.declared.Hardware.{Hardware}
 use Rattle.bus_timer.proofs.TimerLines.{write-lines, write-keeps-down}
-use Rattle.bus.specs.Registers.{deviceLength, keptOf}
+use Rattle.bus.specs.Registers.{deviceLength}
 use Rattle.bus.specs.Place.{Place, vramAt, wramAt, pakAt, romAt, drawingAt, versionAt, silent, unlisted, unmapped, hardwareAt, soundUnit, nothing, expansion}
-use Rattle.bus.specs.Memory.{Memory, putPlace, putDrawing, placeIn, putByte, putRegister, putHalfword, putFrom, storeOf}
-use Rattle.bus.proofs.Devices.{set-hardware, hardware-with}
-use Rattle.bus.proofs.DrawingPlaces.{Proper, place-proper}
+use Rattle.bus.specs.Memory.{Memory, putPlace, placeIn, putByte, putRegister, putHalfword, putFrom, storeOf}
+use Rattle.bus.proofs.Devices.{hardware-with}
 use Rattle.bus.proofs.Kept.{byte-shape, halfword-shape}
 use Rattle.bus_timer_laws.specs.Writing.{timerIn, LinesKept, LineNeverRises}
+use Rattle.bus_timer_laws.proofs.Elsewhere.{register-timer}
 
 -- what a step of a store leaves of the lines
 pub record Lowered (g h : Hardware) : Type 0 where
@@ -53,29 +53,12 @@ place-lowered m soundUnit b l = same (timerIn m)
 place-lowered m nothing b l = same (timerIn m)
 place-lowered m expansion b l = same (timerIn m)
 
-drawing-lowered : (m : Memory) (p : Place) (v : ℕ) → Proper p → Lowered (timerIn m) (timerIn (putDrawing m p v))
-drawing-lowered m (vramAt i) v less = same (timerIn m)
-drawing-lowered m (wramAt i) v less = same (timerIn m)
-drawing-lowered m (pakAt i) v less = same (timerIn m)
-drawing-lowered m (romAt i) v less = same (timerIn m)
-drawing-lowered m (drawingAt k x) v less = still (timerIn m) _ (set-hardware (m .regs) k (keptOf k v) less)
-drawing-lowered m (versionAt x) v less = same (timerIn m)
-drawing-lowered m (hardwareAt o) v less = same (timerIn m)
-drawing-lowered m silent v less = same (timerIn m)
-drawing-lowered m unlisted v less = same (timerIn m)
-drawing-lowered m unmapped v less = same (timerIn m)
-drawing-lowered m soundUnit v less = same (timerIn m)
-drawing-lowered m nothing v less = same (timerIn m)
-drawing-lowered m expansion v less = same (timerIn m)
-
 byte-lowered : (m : Memory) (a v : ℕ) → length (m .regs) ≡ deviceLength → Lowered (timerIn m) (timerIn (putByte m a v))
 unfolding putByte
 byte-lowered m a v l = place-lowered m (placeIn m a) (v % 256) l
 
 register-lowered : (m : Memory) (a v : ℕ) → Lowered (timerIn m) (timerIn (putRegister m a v))
-unfolding putRegister
-register-lowered m a v =
-    drawing-lowered m (placeIn m a) (v % 65536) (place-proper (length (m .rom)) (length (m .pak)) a)
+register-lowered m a v = still (timerIn m) _ (register-timer m a v)
 
 halfword-lowered : (m : Memory) (a v : ℕ) → length (m .regs) ≡ deviceLength → Lowered (timerIn m) (timerIn (putHalfword m a v))
 unfolding putHalfword

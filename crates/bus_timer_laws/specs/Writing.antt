@@ -1,8 +1,8 @@
 -- What stores do in region 2 and to the request lines (paper 02, W6; docs/DECISIONS.md, T4 to T8, T13, W6.1 to W6.3):
 -- the statements. Their proofs are `tlr-stores`, `thr-stores`, `tcr-stores`, `rest-stores`, `half-stores`,
--- `word-stores` and `timed-hardware` in proofs/Writings, `lines-kept` and `line-never-rises` in proofs/LinesKept. A
--- memory's registers are the bus's list of device registers.
-use Prim.Native.Nat.{ℕ, _%_, _≤_}
+-- `word-stores` and `timed-hardware` in proofs/Writings, `lines-kept` and `line-never-rises` in proofs/LinesKept,
+-- `stored-elsewhere` in proofs/Elsewhere. A memory's registers are the bus's list of device registers.
+use Prim.Native.Nat.{ℕ, _%_, _^_, _<_, _≤_}
 use mathlib.Core.Path.{_≡_}
 use lib.ListN.{length}
 use Rattle.bus_timer.specs.Ports.{tlr, thr, tcr, lowWrittenOf, highWrittenOf, reloadWrittenOf, tcrWrittenOf}
@@ -61,3 +61,8 @@ abbrev pub LineNeverRises : Type 0
 LineNeverRises =
     (m : Memory) (size a v : ℕ) → length (m .regs) ≡ deviceLength
     → hardwareLineOf 1 (timerIn (storeOf m size a v)) ≤ hardwareLineOf 1 (timerIn m)
+
+-- a store outside region 2, of 1, 2 or 4 bytes, changes neither the lines nor the timer
+abbrev pub StoredElsewhere : Type 0
+StoredElsewhere =
+    (m : Memory) (k a v : ℕ) → k < 3 → (regionOf a ≡ 2 → ⊥) → timerIn (storeOf m (2 ^ k) a v) ≡ timerIn m

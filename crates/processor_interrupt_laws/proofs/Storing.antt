@@ -1,6 +1,10 @@
--- The memory after a step is that before it, or a store to it: what holds of both holds of it. Assumes nothing.
+-- The memory after a step is that before it, or what its ST or OUT stored to it: what holds of both holds of it. Assumes
+-- nothing.
 use Prim.Native.Nat.{ℕ}
+use mathlib.Core.Bool.{Bool, true, false}
+use mathlib.Core.Path.{_≡_, refl, ap}
 use lib.Dec.{eqb}
+use Rattle.word.specs.Choose.{pick}
 use Rattle.processor_arithmetic.specs.Flag.{flagOf}
 use Rattle.processor_arithmetic.specs.Condition.{conditionOf}
 use Rattle.processor_arithmetic.specs.Quotient.{divideOf, divideUnsignedOf}
@@ -25,9 +29,10 @@ use Rattle.processor_float.specs.Comparison.{comparisonOf}
 use Rattle.processor_float.specs.declared.Compared.{Compared}
 use Rattle.processor_float.specs.declared.FloatOutcome.{FloatOutcome}
 use Rattle.processor_float.specs.declared.FloatOutcome.the-variants.{Number, Word, Reserved, Invalid, ZeroDivide, Overflow}
-use Rattle.processor_step.specs.Step.{firstOf, secondOf, nextOf, performOf, runningStepOf, stepInOf, instructionStepOf, acceptsIn, interruptStepOf, stepOf}
+use Rattle.processor_step.specs.Step.{firstOf, secondOf, fetchedAt, nextOf, performOf, runningStepOf, stepInOf, instructionStepOf, acceptsIn, interruptStepOf, stepOf, notFetched, fetchedInOf, fetchedOf}
+use Rattle.processor_step.specs.declared.step.Fetched.{Fetched}
 
-module _ (s : State) (m : Memory) (P : Memory → Type 0) (here : P m) (stored : (w : Width) (a v : ℕ) → P (storedOf m w a v)) where
+module _ (s : State) (m : Memory) (P : Memory → Type 0) (here : P m) where
   abbrev Leaves : Stepped → Type 0
   Leaves t = P (t .memory)
 
@@ -53,63 +58,88 @@ module _ (s : State) (m : Memory) (P : Memory → Type 0) (here : P m) (stored :
   compares-leaves Compared.Higher next = here
   compares-leaves Compared.Reserved next = raise-leaves cause.the-variants.FloatReserved next
 
-  execute-leaves : (i : Instruction) (next : ℕ) → Leaves (executeOf i next s m)
+  -- what ST or OUT stores, where it is the instruction d
+  abbrev pub Stored : Decoded → Type 0
+  Stored d =
+      (width : Width) (disp reg1 reg2 : ℕ)
+      → (d ≡ Modelled (Store width disp reg1 reg2) → P (storedOf m width (plusOf (regOf s reg1) disp) (regOf s reg2)))
+      × (d ≡ Modelled (Out width disp reg1 reg2) → P (storedOf m width (plusOf (regOf s reg1) disp) (regOf s reg2)))
+
+  execute-leaves : (i : Instruction) (next : ℕ) → Stored (Modelled i) → Leaves (executeOf i next s m)
   unfolding executeOf
-  execute-leaves (Register op reg1 reg2) next = here
-  execute-leaves (Immediate op imm reg2) next = here
-  execute-leaves (Long op imm reg1 reg2) next = here
-  execute-leaves (Mul reg1 reg2) next = here
-  execute-leaves (Mulu reg1 reg2) next = here
-  execute-leaves (Div reg1 reg2) next =
+  execute-leaves (Register op reg1 reg2) next h = here
+  execute-leaves (Immediate op imm reg2) next h = here
+  execute-leaves (Long op imm reg1 reg2) next h = here
+  execute-leaves (Mul reg1 reg2) next h = here
+  execute-leaves (Mulu reg1 reg2) next h = here
+  execute-leaves (Div reg1 reg2) next h =
       pick-each Leaves (eqb (regOf s reg1) 0) (raiseOf cause.the-variants.ZeroDivision next s m)
       (pairOf reg2 (divideOf (regOf s reg2) (regOf s reg1) (s .psw)) next s m)
       (raise-leaves cause.the-variants.ZeroDivision next) here
-  execute-leaves (Divu reg1 reg2) next =
+  execute-leaves (Divu reg1 reg2) next h =
       pick-each Leaves (eqb (regOf s reg1) 0) (raiseOf cause.the-variants.ZeroDivision next s m)
       (pairOf reg2 (divideUnsignedOf (regOf s reg2) (regOf s reg1) (s .psw)) next s m)
       (raise-leaves cause.the-variants.ZeroDivision next) here
-  execute-leaves (Setf cond reg2) next = here
-  execute-leaves (Load width disp reg1 reg2) next = here
-  execute-leaves (In width disp reg1 reg2) next = here
-  execute-leaves (Store width disp reg1 reg2) next = stored width (plusOf (regOf s reg1) disp) (regOf s reg2)
-  execute-leaves (Out width disp reg1 reg2) next = stored width (plusOf (regOf s reg1) disp) (regOf s reg2)
-  execute-leaves (Bcond cond disp) next =
+  execute-leaves (Setf cond reg2) next h = here
+  execute-leaves (Load width disp reg1 reg2) next h = here
+  execute-leaves (In width disp reg1 reg2) next h = here
+  execute-leaves (Store width disp reg1 reg2) next h = h width disp reg1 reg2 .0 refl
+  execute-leaves (Out width disp reg1 reg2) next h = h width disp reg1 reg2 .1 refl
+  execute-leaves (Bcond cond disp) next h =
       pick-each Leaves (conditionOf cond (s .psw)) (jumpsOf (plusOf (s .pc) disp) s m) (goesOn (s .regs) next (s .psw) s m)
       here here
-  execute-leaves (Jmp reg1) next = here
-  execute-leaves (Jr disp) next = here
-  execute-leaves (Jal disp) next = here
-  execute-leaves (Trap vector) next = raise-leaves (cause.the-variants.Trap vector) next
-  execute-leaves Reti next = pick-each Leaves (eqb (flagOf 32768 (s .psw)) 1) _ _ here here
-  execute-leaves Halt next = here
-  execute-leaves (Ldsr reg2 id) next = here
-  execute-leaves (Stsr id reg2) next = here
-  execute-leaves Cli next = here
-  execute-leaves Sei next = here
-  execute-leaves Illegal next = raise-leaves cause.the-variants.Illegal next
-  execute-leaves (Cmpf reg1 reg2) next = compares-leaves (comparisonOf (regOf s reg2) (regOf s reg1)) next
-  execute-leaves (Floating op reg1 reg2) next = settles-leaves reg2 (floatingOf op (regOf s reg2) (regOf s reg1)) next
-  execute-leaves (Nintendo op reg1 reg2) next = here
+  execute-leaves (Jmp reg1) next h = here
+  execute-leaves (Jr disp) next h = here
+  execute-leaves (Jal disp) next h = here
+  execute-leaves (Trap vector) next h = raise-leaves (cause.the-variants.Trap vector) next
+  execute-leaves Reti next h = pick-each Leaves (eqb (flagOf 32768 (s .psw)) 1) _ _ here here
+  execute-leaves Halt next h = here
+  execute-leaves (Ldsr reg2 id) next h = here
+  execute-leaves (Stsr id reg2) next h = here
+  execute-leaves Cli next h = here
+  execute-leaves Sei next h = here
+  execute-leaves Illegal next h = raise-leaves cause.the-variants.Illegal next
+  execute-leaves (Cmpf reg1 reg2) next h = compares-leaves (comparisonOf (regOf s reg2) (regOf s reg1)) next
+  execute-leaves (Floating op reg1 reg2) next h = settles-leaves reg2 (floatingOf op (regOf s reg2) (regOf s reg1)) next
+  execute-leaves (Nintendo op reg1 reg2) next h = here
 
-  perform-leaves : (d : Decoded) (next : ℕ) → Leaves (performOf d next s m)
-  perform-leaves (Modelled i) next = execute-leaves i next
-  perform-leaves NotModelled next = here
+  perform-leaves : (d : Decoded) (next : ℕ) → Stored d → Leaves (performOf d next s m)
+  perform-leaves (Modelled i) next h = execute-leaves i next h
+  perform-leaves NotModelled next h = here
 
-  running-leaves : Leaves (runningStepOf s m)
+  -- the instruction that was fetched
+  abbrev pub StoredAt : Fetched → Type 0
+  StoredAt f = Stored (decodeOf (f .first) (f .second))
+
+  running-leaves : StoredAt (fetchedAt (s .pc) m) → Leaves (runningStepOf s m)
   unfolding runningStepOf
-  running-leaves =
+  running-leaves h =
       let first = firstOf (s .pc) m in
-      perform-leaves (decodeOf first (secondOf (twoOf first) (s .pc) m)) (nextOf (twoOf first) (s .pc))
+      perform-leaves (decodeOf first (secondOf (twoOf first) (s .pc) m)) (nextOf (twoOf first) (s .pc)) h
 
-  mode-leaves : (mode : Mode) → Leaves (stepInOf mode s m)
-  mode-leaves Running = running-leaves
-  mode-leaves Halted = here
-  mode-leaves Fatal = here
+  mode-leaves : (mode : Mode) → StoredAt (fetchedInOf mode (s .pc) m) → Leaves (stepInOf mode s m)
+  mode-leaves Running h = running-leaves h
+  mode-leaves Halted h = here
+  mode-leaves Fatal h = here
 
-  instruction-leaves : Leaves (instructionStepOf s m)
+  instruction-leaves : StoredAt (fetchedInOf (s .mode) (s .pc) m) → Leaves (instructionStepOf s m)
   unfolding instructionStepOf
-  instruction-leaves = mode-leaves (s .mode)
+  instruction-leaves h = mode-leaves (s .mode) h
 
-  pub step-leaves : P (stepOf s m .memory)
-  unfolding stepOf
-  step-leaves = pick-each Leaves (acceptsIn s m) (interruptStepOf s m) (instructionStepOf s m) here instruction-leaves
+  chosen-leaves : (b : Bool) → StoredAt (pick b notFetched (fetchedInOf (s .mode) (s .pc) m)) → Leaves (pick b (interruptStepOf s m) (instructionStepOf s m))
+  chosen-leaves true h = here
+  chosen-leaves false h = instruction-leaves h
+
+  -- by the instruction that the step fetched
+  pub step-stores : StoredAt (fetchedOf s m) → P (stepOf s m .memory)
+  unfolding stepOf fetchedOf
+  step-stores h = chosen-leaves (acceptsIn s m) h
+
+-- whatever is stored
+pub step-leaves : (s : State) (m : Memory) (P : Memory → Type 0) → P m → ((w : Width) (a v : ℕ) → P (storedOf m w a v)) → P (stepOf s m .memory)
+step-leaves s m P here stored =
+    step-stores s m P here
+    (λ width disp reg1 reg2. (
+      λ e. stored width (plusOf (regOf s reg1) disp) (regOf s reg2),
+      λ e. stored width (plusOf (regOf s reg1) disp) (regOf s reg2),
+    ))
