@@ -11,3 +11,4 @@ pub mod RoundTrip
 pub mod RangeExactly
 pub mod FieldsExactly
 pub mod SignedRange
+pub mod SecondIgnored
