@@ -47,13 +47,13 @@ module _ (form : Form) (p : Processor) (m : Memory) (s : Savable form p m) where
   few : length (m .pak) ≤ 16777216
   few = small p m (s .accepted)
 
-  sized : SizedBodies (machineBodiesOf p m)
+  pub sized : SizedBodies (machineBodiesOf p m)
   sized = machine-sized p m (s .general) (s .words) (s .drawing) (s .halves) (s .lines) (known .lengths .wram-ok) (known .lengths .vram-ok)
 
   held : HeldBy form (machineBodiesOf p m)
   held = machine-held form p m (s .held)
 
-  made : bodiesOk (machineBodiesOf p m) ≡ true
+  pub made : bodiesOk (machineBodiesOf p m) ≡ true
   unfolding bodiesOk machineBodiesOf processorBodyOk drawingBodyOk hardwareBodyOk
   made =
       rw (

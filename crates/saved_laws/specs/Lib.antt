@@ -1,2 +1,3 @@
 pub mod Reset
 pub mod Salvaged
+pub mod Told
