@@ -17,7 +17,7 @@ use crate::reports::json::json;
     after_help = "Start with `vbmodel demo`; `vbmodel help COMMAND` has an example for each command.
 Numbers are decimal or, after 0x, hexadecimal; `_` may stand between digits. The file `-` is standard input.
 
-Exit status: 0 done (compare, judge, replay: equal); 1 compare, judge, replay: different; 2 refused or bad input; 3 why,
+Exit status: 0 done (compare, judge, replay: pass); 1 compare, judge, replay: fail; 2 refused, invalid or bad input; 3 why,
 compare --why, judge: the independent model and the proved library differ; 130 stopped by Ctrl-C."
 )]
 struct Cli {

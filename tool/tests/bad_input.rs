@@ -68,7 +68,12 @@ const FILES: [Read; 15] = [
         length: 327_920,
         allowed: "a saved state, form 1 or 2",
     },
-    Read { command: "compare SCENE", option: "--left", length: 24_576, allowed: "24,576" },
+    Read {
+        command: "compare SCENE --eyes left",
+        option: "--left",
+        length: 24_576,
+        allowed: "24,576",
+    },
     Read { command: "compare SCENE", option: "--capture", length: 262_144, allowed: "262,144" },
 ];
 
@@ -137,7 +142,7 @@ fn speed_compare_and_why() {
     for command in [
         format!("why left 192 120 {SCENE}"),
         format!("compare {SCENE} --frame 1 --capture out/vram.bin"),
-        format!("compare {SCENE} --frame 1 --left out/frame0-left.png --why"),
+        format!("compare {SCENE} --frame 1 --eyes left --left out/frame0-left.png --why"),
     ] {
         let took = (0..5).map(|_| {
             let begun = std::time::Instant::now();

@@ -92,10 +92,11 @@ fn a_capture_of_brightness_is_compared() {
     let folder = Folder::with_demo("brightness-compare");
     let shown = format!("{SCENE} --brightness --recommended-table --start 190");
     folder.vbmodel(&format!("draw {shown} --scale 3 --out a"));
-    let ran =
-        folder.vbmodel(&format!("compare {shown} --left a/frame1-left-brightness.png --out b"));
+    let ran = folder.vbmodel(&format!(
+        "compare {shown} --eyes left --left a/frame1-left-brightness.png --out b"
+    ));
     assert_eq!((ran.status, ran.error.as_str()), (0, ""), "{}", ran.text);
-    assert_eq!(ran.text, "left eye, frame 1: equal, 86,016 pixels\n");
+    assert_eq!(ran.text, "left eye, frame 1: pass, 86,016 pixels are equal\n");
 
     // the same as raw bytes, with one pixel darker and one brighter
     let picture = Rgb::read(&folder.read("a/frame1-left-brightness.png"));
@@ -105,10 +106,10 @@ fn a_capture_of_brightness_is_compared() {
     let bright = room.iter().position(|&level| level > 0).unwrap();
     (room[0], room[bright]) = (room[0] + 1, room[bright] - 1);
     folder.write("seen.bin", &room);
-    let ran = folder.vbmodel(&format!("compare {shown} --left seen.bin --out b"));
+    let ran = folder.vbmodel(&format!("compare {shown} --eyes left --left seen.bin --out b"));
     assert_eq!((ran.status, ran.error.as_str()), (1, ""), "{}", ran.text);
     assert!(
-        ran.text.starts_with("left eye, frame 1: different, 2 of 86,016 pixels\n"),
+        ran.text.starts_with("left eye, frame 1: fail, 2 of 86,016 pixels differ\n"),
         "{}",
         ran.text
     );
@@ -120,13 +121,14 @@ fn a_capture_of_brightness_is_compared() {
     room[bright] = 129;
     folder.write("seen.bin", &room);
     let at = format!("pixel ({}, {}) has the brightness 129", bright % WIDTH, bright / WIDTH);
-    let ran = folder.vbmodel(&format!("compare {shown} --left seen.bin --out c"));
+    let ran = folder.vbmodel(&format!("compare {shown} --eyes left --left seen.bin --out c"));
     assert!(ran.status == 2 && ran.error.contains(&at), "{}", ran.error);
     folder.write("seen.bin", &room[1..]);
-    let ran = folder.vbmodel(&format!("compare {shown} --left seen.bin --out c"));
+    let ran = folder.vbmodel(&format!("compare {shown} --eyes left --left seen.bin --out c"));
     assert!(ran.status == 2 && ran.error.contains("86,016"), "{}", ran.error);
     for other in ["--why", "--threshold 9"] {
-        let ran = folder.vbmodel(&format!("compare {shown} --left seen.bin {other} --out c"));
+        let ran =
+            folder.vbmodel(&format!("compare {shown} --eyes left --left seen.bin {other} --out c"));
         assert!(
             ran.status == 2 && ran.error.contains("--brightness goes with neither"),
             "{}",

@@ -10,7 +10,7 @@ const SCENE: &str = "--vram out/vram.bin --drawing out/drawing.bin";
 fn deliver_2_a_whole_vram_dump_is_taken_for_both_eyes() {
     let folder = Folder::with_demo("captures-dump");
     let equal =
-        "left eye, frame 1: equal, 86,016 pixels\nright eye, frame 1: equal, 86,016 pixels\n";
+        "left eye, frame 1: pass, 86,016 pixels are equal\nright eye, frame 1: pass, 86,016 pixels are equal\n";
     let ran = folder.vbmodel(&format!("compare {SCENE} --frame 1 --capture out/vram.bin"));
     assert_eq!((ran.status, ran.text.as_str()), (0, equal));
     let ran = folder
@@ -22,7 +22,7 @@ fn deliver_2_a_whole_vram_dump_is_taken_for_both_eyes() {
     let ran = folder.vbmodel(&format!("compare {SCENE} --frame 1 --capture die.dump"));
     assert_eq!(ran.status, 1);
     assert!(
-        ran.text.contains("right eye, frame 1: different, 1 of 86,016 pixels\n"),
+        ran.text.contains("right eye, frame 1: fail, 1 of 86,016 pixels differ\n"),
         "{}",
         ran.text
     );
@@ -60,14 +60,14 @@ fn deliver_2_a_threshold_takes_analogue_captures_and_prints_its_levels() {
     let folder = Folder::with_demo("captures-threshold");
     folder.write("a.png", &analogue(&folder, 12, 1));
     folder.write("b.png", &analogue(&folder, 12, 2));
-    let compare = format!("compare {SCENE} --frame 1 --left");
+    let compare = format!("compare {SCENE} --frame 1 --eyes left --left");
     assert_eq!(folder.vbmodel(&format!("{compare} a.png")).status, 2);
     let ran = folder.vbmodel(&format!("{compare} a.png --threshold 12"));
     assert_eq!(
         (ran.status, ran.text.as_str()),
         (
             0,
-            "left eye, frame 1: equal, 86,016 pixels\n  levels taken: 0 (00): 00 to 0C, 1 (55): 49 to 61, \
+            "left eye, frame 1: pass, 86,016 pixels are equal\n  levels taken: 0 (00): 00 to 0C, 1 (55): 49 to 61, \
              2 (AA): 9E to B6, 3 (FF): F3 to FF\n"
         )
     );
@@ -104,4 +104,43 @@ fn deliver_2_a_frame_buffer_is_shown_without_drawing() {
     );
     let both = folder.vbmodel("draw --vram v --drawing out/drawing.bin --as-is");
     assert!(both.status == 2 && both.error.contains("cannot be used with"), "{}", both.error);
+}
+
+#[test]
+fn compare_needs_both_eyes_unless_one_is_asked_for() {
+    let folder = Folder::with_demo("captures-eyes");
+    let compare = format!("compare {SCENE} --frame 1");
+    folder.refused(
+        &format!("{compare} --left out/frame1-left.png"),
+        "vbmodel: no capture of the right eye; both eyes are asked for (--eyes left asks for one)",
+    );
+    let json = folder.vbmodel(&format!("{compare} --left out/frame1-left.png --json"));
+    assert!(
+        json.text.starts_with("{\"verdict\": \"invalid\", \"error\": \"no capture of"),
+        "{}",
+        json.text
+    );
+    let one = folder.vbmodel(&format!("{compare} --eyes left --left out/frame1-left.png"));
+    assert_eq!(
+        (one.status, one.text.as_str()),
+        (0, "left eye, frame 1: pass, 86,016 pixels are equal\n")
+    );
+    folder.refused(
+        &format!("{compare} --eyes right --left out/frame1-left.png"),
+        "vbmodel: no capture of the right eye, which was asked for",
+    );
+    // what is given is judged, asked for or not
+    let both =
+        format!("{compare} --eyes left --left out/frame1-left.png --right out/frame0-right.png");
+    assert_eq!(folder.vbmodel(&both).status, 1);
+}
+
+#[test]
+fn a_picture_of_differences_that_cannot_be_written_is_an_error() {
+    let folder = Folder::with_demo("captures-marked");
+    std::fs::create_dir_all(folder.path("m/compare-frame1-left.png")).unwrap();
+    folder.refused(
+        &format!("compare {SCENE} --frame 1 --eyes left --left out/frame0-left.png --out m"),
+        "vbmodel: m/compare-frame1-left.png: is a folder; nothing was written",
+    );
 }

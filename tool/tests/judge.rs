@@ -7,7 +7,7 @@ use std::fs;
 use common::Folder;
 use serde_json::Value;
 
-/// The demo's files, and a folder `lot` with a part that is equal, one that differs and one that is no capture.
+/// The demo's files, and a folder `lot` with a part that passes and one that fails.
 fn with_lot(name: &str) -> Folder {
     let folder = Folder::with_demo(name);
     fs::create_dir(folder.path("lot")).unwrap();
@@ -34,32 +34,40 @@ fn deliver_1_a_folder_is_judged_by_its_names() {
     let ran = folder.vbmodel("judge lot");
     assert_eq!((ran.status, ran.error.as_str()), (1, ""));
     let lines: Vec<&str> = ran.text.lines().collect();
-    assert_eq!(lines[0], "equal      good: frame 0, left eye equal; right eye equal");
-    let start = "different  worn & <old>: frame 0, left eye: 11,715 of 86,016 pixels, columns ";
+    assert_eq!(lines[0], "pass     good: frame 0, left eye equal; right eye equal");
+    let start = "fail     worn & <old>: frame 0, left eye: 11,715 of 86,016 pixels, columns ";
     assert!(lines[1].starts_with(start) && lines[1].ends_with("; right eye equal"), "{}", lines[1]);
-    assert_eq!(lines[2..], ["2 parts: 1 equal, 1 different"]);
-    fs::remove_file(folder.path("lot/worn & <old>.left.png")).unwrap();
+    assert_eq!(lines[2..], ["2 parts: 1 pass, 1 fail"]);
+    ["left", "right"].iter().for_each(|eye| {
+        fs::remove_file(folder.path(&format!("lot/worn & <old>.{eye}.png"))).unwrap()
+    });
     assert_eq!(folder.vbmodel("judge lot").status, 0);
     // a part's own scene, frame 1, a whole VRAM for both eyes, and a file that is none of them
     for (from, to) in [
         ("vram.bin", "own.vram"),
         ("drawing.bin", "own.drawing"),
         ("frame1-left.png", "own.frame1.left.png"),
+        ("frame1-right.png", "own.frame1.right.png"),
         ("vram.bin", "all.vram"),
         ("vram.bin", "dumped.frame1.dump"),
         ("vram.bin", "notes.txt"),
+        ("vram.bin", ".left.png"),
     ] {
         fs::copy(folder.path(&format!("out/{from}")), folder.path(&format!("lot/{to}"))).unwrap();
     }
-    let ran = folder.vbmodel("judge lot");
+    let ran = folder.vbmodel("judge lot --allow-extra");
     assert_eq!(ran.status, 0, "{}", ran.text);
     for line in [
-        "equal      dumped.frame1: frame 1, left eye equal; right eye equal\n",
-        "equal      own.frame1: frame 1, left eye equal\n",
-        "not taken by the naming rule: notes.txt\n4 parts: 4 equal, 0 different\n",
+        "pass     dumped.frame1: frame 1, left eye equal; right eye equal\n",
+        "pass     own.frame1: frame 1, left eye equal; right eye equal\n",
+        "unknown files in the lot (not judged): .left.png, notes.txt\n3 parts: 3 pass, 0 fail\n",
     ] {
         assert!(ran.text.contains(line), "{line}: {}", ran.text);
     }
+    let ran = folder.vbmodel("judge lot");
+    let line = "unknown files in the lot (remove or rename, or give --allow-extra): .left.png, notes.txt\n\
+                3 parts: 3 pass, 0 fail, 2 unknown files\n";
+    assert!(ran.status == 2 && ran.text.ends_with(line), "{}", ran.text);
 }
 
 /// The demo's machine as a saved state of form 1: a count, kind, offset and length of each body, the bodies.
@@ -84,8 +92,8 @@ fn deliver_1_a_saved_state_is_a_scene() {
     let folder = with_lot("judge-state");
     folder.write("lot/saved.state", &saved_state(&folder));
     fs::copy(folder.path("out/frame1-left.png"), folder.path("lot/saved.left.png")).unwrap();
-    let ran = folder.vbmodel("judge lot");
-    assert!(ran.text.contains("equal      saved: frame 0, left eye equal\n"), "{}", ran.text);
+    let ran = folder.vbmodel("judge lot --eyes left");
+    assert!(ran.text.contains("pass     saved: frame 0, left eye equal\n"), "{}", ran.text);
     let by_state = folder.vbmodel("why left 192 120 --state lot/saved.state");
     let by_files = folder.vbmodel("why left 192 120 --vram out/vram.bin --drawing out/drawing.bin");
     assert_eq!((by_state.status, by_state.text), (0, by_files.text));
@@ -98,6 +106,7 @@ fn deliver_1_a_saved_state_is_a_scene() {
 const TOML: &str = "
 drawing = '../out/drawing.bin'
 frame = 1
+eyes = 'left'
 
 [[part]]
 name = 'good'
@@ -108,7 +117,7 @@ left = '../out/frame1-left.png'
 name = 'worn'
 vram = '../out/vram.bin'
 frame = 0x0
-left = '../out/frame0-left.png'
+eyes = 'both'
 capture = '../out/vram.bin'
 
 [[part]]
@@ -117,11 +126,11 @@ vram = '../out/vram.bin'
 lift = '../out/frame1-left.png'
 ";
 
-const CSV: &str = "name, vram, drawing, frame, left, right
-good, out/vram.bin, out/drawing.bin, 1, out/frame1-left.png,
-\"worn, old\", out/vram.bin, out/drawing.bin, 1, , out/frame0-right.png
+const CSV: &str = "name, vram, drawing, frame, left, right, eyes
+good, out/vram.bin, out/drawing.bin, 1, out/frame1-left.png, , left
+\"worn, old\", out/vram.bin, out/drawing.bin, 1, , out/frame0-right.png, right
 short, out/vram.bin
-none, out/vram.bin, out/drawing.bin, 1, out/none.png,
+none, out/vram.bin, out/drawing.bin, 1, out/none.png, , left
 ";
 
 #[test]
@@ -140,10 +149,10 @@ fn deliver_1_manifests_in_toml_and_csv_are_judged() {
     starts(
         &ran.text,
         &[
-            "equal      good: frame 1, left eye equal",
-            "different  worn: frame 0, left eye",
-            "bad        mistyped: lots/a.toml: unknown field `lift`, expected one of `name`, `state`",
-            "3 parts: 1 equal, 1 different, 1 bad",
+            "pass     good: frame 1, left eye equal",
+            "fail     worn: frame 0, left eye",
+            "invalid  mistyped: lots/a.toml: unknown field `lift`, expected one of `name`, `state`",
+            "3 parts: 1 pass, 1 fail, 1 invalid",
         ],
     );
     folder.write("b.csv", CSV.as_bytes());
@@ -152,11 +161,11 @@ fn deliver_1_manifests_in_toml_and_csv_are_judged() {
     starts(
         &ran.text,
         &[
-            "equal      good: frame 1, left eye equal",
-            "different  worn, old: frame 1, right eye: ",
-            "bad        line 4: b.csv: CSV error: record 3",
-            "bad        none: out/none.png: No such file or directory; it must be a capture",
-            "4 parts: 1 equal, 1 different, 2 bad",
+            "pass     good: frame 1, left eye equal",
+            "fail     worn, old: frame 1, right eye: ",
+            "invalid  line 4: b.csv: CSV error: record 3",
+            "invalid  none: out/none.png: No such file or directory; it must be a capture",
+            "4 parts: 1 pass, 1 fail, 2 invalid",
         ],
     );
 }
@@ -166,8 +175,8 @@ fn a_manifest_may_come_from_a_spreadsheet() {
     let folder = Folder::with_demo("judge-spreadsheet");
     let text = "\u{FEFF}name;vram;drawing;frame;left\r\ngood;out/vram.bin;out/drawing.bin;1;out/frame1-left.png\r\n";
     folder.write("lot.csv", text.as_bytes());
-    let ran = folder.vbmodel("judge lot.csv");
-    let expected = "equal      good: frame 1, left eye equal\n1 part: 1 equal, 0 different\n";
+    let ran = folder.vbmodel("judge lot.csv --eyes left");
+    let expected = "pass     good: frame 1, left eye equal\n1 part: 1 pass, 0 fail\n";
     assert_eq!((ran.status, ran.text.as_str()), (0, expected), "{}", ran.error);
 }
 
@@ -178,7 +187,7 @@ fn deliver_1_json_has_a_line_for_each_part_and_one_for_all() {
     assert_eq!(ran.status, 1);
     let lines = json_lines(&ran.text);
     assert_eq!(lines.len(), 3);
-    assert_eq!((&lines[0]["name"], &lines[0]["verdict"]), (&"good".into(), &"equal".into()));
+    assert_eq!((&lines[0]["name"], &lines[0]["verdict"]), (&"good".into(), &"pass".into()));
     let left = &lines[1]["eyes"][0];
     assert_eq!(left["capture"], "lot/worn & <old>.left.png");
     assert_eq!(left["different"], 11_715);
@@ -186,22 +195,24 @@ fn deliver_1_json_has_a_line_for_each_part_and_one_for_all() {
     let shares = left["shares"].as_array().unwrap();
     let counted: u64 = shares.iter().map(|share| share["pixels"].as_u64().unwrap()).sum();
     assert_eq!(counted, 11_715, "every differing pixel is accounted for once");
-    assert_eq!(lines[2]["summary"]["different"], 1);
+    assert_eq!(lines[2]["summary"]["fail"], 1);
 }
 
 #[test]
 fn deliver_1_junit_is_written_for_a_test_server() {
     let folder = with_lot("judge-junit");
     folder.write("lot/bad.left.png", b"no PNG");
+    folder.write("lot/notes.txt", b"x");
     let ran = folder.vbmodel("judge lot --junit reports/lot.xml");
     assert_eq!(ran.status, 2);
     assert!(ran.text.ends_with("written: reports/lot.xml\n"), "{}", ran.text);
     let xml = String::from_utf8(folder.read("reports/lot.xml")).unwrap();
     for part in [
-        "<testsuite name=\"vbmodel judge\" tests=\"3\" failures=\"1\" errors=\"1\" skipped=\"0\" time=\"",
+        "<testsuite name=\"vbmodel judge\" tests=\"4\" failures=\"1\" errors=\"2\" skipped=\"0\" time=\"",
         "<testcase classname=\"vbmodel.judge\" name=\"good\"/>",
         "name=\"worn &amp; &lt;old&gt;\"><failure message=\"frame 0, left eye: 11,715 of 86,016 pixels",
         "name=\"bad\"><error message=\"lot/bad.left.png (6 bytes): a capture is a raw frame buffer",
+        "name=\"unknown files\"><error message=\"notes.txt\"/>",
     ] {
         assert!(xml.contains(part), "{part}: {xml}");
     }
@@ -210,7 +221,7 @@ fn deliver_1_junit_is_written_for_a_test_server() {
         .arg(folder.path("reports/lot.xml"))
         .output();
     if let Ok(parsed) = parsed {
-        assert_eq!(String::from_utf8_lossy(&parsed.stdout), "3\n");
+        assert_eq!(String::from_utf8_lossy(&parsed.stdout), "4\n");
     }
 }
 
@@ -220,9 +231,9 @@ fn deliver_1_the_page_needs_nothing_else_and_explains_a_failed_part() {
     assert_eq!(folder.vbmodel("judge lot --html report.html").status, 1);
     let page = String::from_utf8(folder.read("report.html")).unwrap();
     for part in [
-        "2 parts: 1 equal, 1 different",
-        "<tr class=\"equal\"><td>good</td>",
-        "<h2>worn &amp; &lt;old&gt;: different</h2>",
+        "2 parts: 1 pass, 1 fail",
+        "<tr class=\"pass\"><td>good</td>",
+        "<h2>worn &amp; &lt;old&gt;: fail</h2>",
         "11,715 of 86,016 pixels differ, in columns ",
         "<svg viewBox=\"0 0 384 224\"><rect x=\"",
         "<h3>right eye: equal</h3>",
@@ -239,7 +250,7 @@ fn deliver_1_the_page_needs_nothing_else_and_explains_a_failed_part() {
 }
 
 #[test]
-fn deliver_1_one_bad_part_does_not_stop_the_others() {
+fn an_invalid_part_does_not_stop_the_others() {
     let folder = with_lot("judge-bad");
     fs::create_dir(folder.path("lot/folder.left.png")).unwrap();
     folder.write("lot/empty.left.raw", b"");
@@ -251,14 +262,14 @@ fn deliver_1_one_bad_part_does_not_stop_the_others() {
     let ran = folder.vbmodel("judge lot");
     assert_eq!(ran.status, 2);
     for line in [
-        "bad        empty: lot/empty.left.raw (0 bytes): a capture is a raw frame buffer of 24,576 bytes, a whole VRAM of",
-        "bad        folder: lot/folder.left.png: is a folder; it must be a capture: ",
-        "equal      good: ",
-        "bad        lonely: lot/lonely.state (1 bytes): refusal 9: no saved state has this length; it must be a saved state, form 1 or 2",
-        "bad        short: lot/short.vram (262,143 bytes): refusal 3: VRAM has 262,143 bytes; it must have 262,144",
-        "bad        wide: lot/wide.drawing (26 bytes): refusal 5: SPT0 is 0x0000FFFF; it must be at most 0x3FF (10 bits)",
-        "different  worn & <old>: ",
-        "7 parts: 1 equal, 1 different, 5 bad",
+        "invalid  empty: lot/empty.left.raw (0 bytes): a capture is a raw frame buffer of 24,576 bytes, a whole VRAM of",
+        "invalid  folder: lot/folder.left.png: is a folder; it must be a capture: ",
+        "pass     good: ",
+        "invalid  lonely: lot/lonely.state (1 bytes): refusal 9: no saved state has this length; it must be a saved state, form 1 or 2",
+        "invalid  short: lot/short.vram (262,143 bytes): refusal 3: VRAM has 262,143 bytes; it must have 262,144",
+        "invalid  wide: lot/wide.drawing (26 bytes): refusal 5: SPT0 is 0x0000FFFF; it must be at most 0x3FF (10 bits)",
+        "fail     worn & <old>: ",
+        "7 parts: 1 pass, 1 fail, 5 invalid",
     ] {
         assert!(ran.text.lines().any(|l| l.starts_with(line)), "{line}\nnot in\n{}", ran.text);
     }
@@ -280,7 +291,7 @@ fn bad_input_a_lot_that_is_none_is_told() {
         ("wrong.toml", "wrong.toml (8 bytes): is no manifest: invalid type: integer `3`, expected a sequence for key `part` at line 1 column 8"),
         ("empty.toml", "empty.toml: has no part"),
         ("nothing", "nothing: has no part"),
-        ("heads.csv", "heads.csv (10 bytes): its first line must name the columns: name, and of state, vram, drawing, frame, left, right, capture and threshold those that are used"),
+        ("heads.csv", "heads.csv (10 bytes): its first line must name the columns: name, and of state, vram, drawing, frame, left, right, capture, threshold and eyes those that are used"),
     ] {
         folder.refused(&format!("judge {lot} --html report.html"), &format!("vbmodel: {message}"));
     }
@@ -291,7 +302,7 @@ fn bad_input_a_lot_that_is_none_is_told() {
     let ran = folder.vbmodel("judge lot --html lot/good.left.png");
     assert_eq!(ran.status, 2);
     assert!(ran.error.contains("is read by this command"), "{}", ran.error);
-    assert!(ran.text.contains("2 parts: 1 equal, 1 different\n"), "{}", ran.text);
+    assert!(ran.text.contains("2 parts: 1 pass, 1 fail\n"), "{}", ran.text);
 }
 
 #[test]
@@ -302,7 +313,7 @@ fn two_parts_of_one_name_are_told() {
     let ran = folder.vbmodel("judge lot.toml");
     assert_eq!(ran.status, 2);
     assert!(
-        ran.text.contains("bad        a: the name a is given to an earlier part\n"),
+        ran.text.contains("invalid  a: the name a is given to an earlier part\n"),
         "{}",
         ran.text
     );
@@ -322,7 +333,7 @@ fn a_lot_is_stopped_by_ctrl_c_with_what_was_judged() {
     fs::remove_file(folder.path("many/0001.left.png")).unwrap();
     assert_eq!(folder.shell("mkfifo many/0001.left.raw").status, 0);
     let child = std::process::Command::new(env!("CARGO_BIN_EXE_vbmodel"))
-        .args(["judge", "many"])
+        .args(["judge", "many", "--eyes", "left"])
         .env("RAYON_NUM_THREADS", "1")
         .current_dir(folder.path("."))
         .stdout(std::process::Stdio::piped())
@@ -347,19 +358,20 @@ fn deliver_1_a_lot_on_a_terminal_shows_progress() {
     }
     assert_eq!(folder.shell("for i in 0 1 2; do mkfifo many/000$i.left.raw; done").status, 0);
     let feed = "for i in 0 1 2; do sleep 0.3; head -c 24576 /dev/zero >many/000$i.left.raw; done";
-    let command = format!("{{ {feed}; }} & RAYON_NUM_THREADS=1 \"$VB\" judge many; wait");
+    let command =
+        format!("{{ {feed}; }} & RAYON_NUM_THREADS=1 \"$VB\" judge many --eyes left; wait");
     let Some(text) = folder.terminal(&command) else { return };
     assert!(text.contains(" of 3 parts\r"), "{text:?}");
-    assert!(text.contains("3 parts: 0 equal, 3 different"), "{text}");
+    assert!(text.contains("3 parts: 0 pass, 3 fail"), "{text}");
 }
 
 #[test]
 fn a_lot_of_a_hundred_states() {
     let folder = Folder::with_demo("judge-hundred");
     lot_of(&folder, 100);
-    let ran = folder.vbmodel("judge many --html many.html");
+    let ran = folder.vbmodel("judge many --eyes left --html many.html");
     assert_eq!(ran.status, 1, "{}", ran.text);
-    assert!(ran.text.contains("100 parts: 90 equal, 10 different\n"), "{}", ran.text);
+    assert!(ran.text.contains("100 parts: 90 pass, 10 fail\n"), "{}", ran.text);
 }
 
 /// The aim is 5 s on two idle cores. What is timed runs on demand, since a gate's machine may be busy:
@@ -370,9 +382,9 @@ fn speed_a_lot_of_a_thousand_states() {
     let folder = Folder::with_demo("judge-speed");
     lot_of(&folder, 1_000);
     let begun = std::time::Instant::now();
-    let ran = folder.vbmodel("judge many");
+    let ran = folder.vbmodel("judge many --eyes left");
     let took = begun.elapsed();
-    assert!(ran.text.contains("1,000 parts: 900 equal, 100 different\n"), "{}", ran.text);
+    assert!(ran.text.contains("1,000 parts: 900 pass, 100 fail\n"), "{}", ran.text);
     println!("1,000 captures of one eye from 1,000 states: {took:?}");
     assert!(took.as_secs_f64() < 5.0, "{took:?}");
 }

@@ -169,7 +169,7 @@ fn wrong_7_compare_does_not_write_over_its_own_capture() {
         .unwrap();
     let before = folder.read("out/compare-frame1-left.png");
     folder.refused(
-        &format!("compare {scene} --left out/compare-frame1-left.png"),
+        &format!("compare {scene} --eyes left --left out/compare-frame1-left.png"),
         "vbmodel: out/compare-frame1-left.png: is read by this command, and would be written over; nothing was written",
     );
     assert!(folder.read("out/compare-frame1-left.png") == before);

@@ -48,9 +48,11 @@ fn draw_and_compare_refuse_bad_input() {
     folder.write("wide.drawing", &drawing);
     folder.write("short.drawing", &drawing[..25]);
     folder.write("short.image", &[0; 24_575]);
-    for command in
-        ["draw --out pictures", "compare --left short.image --out pictures", "why left 0 0"]
-    {
+    for command in [
+        "draw --out pictures",
+        "compare --eyes left --left short.image --out pictures",
+        "why left 0 0",
+    ] {
         for (arguments, message) in [
             ("--vram short.vram --drawing wide.drawing", "short.vram (262,143 bytes): refusal 3: VRAM has 262,143 bytes; it must have 262,144"),
             ("--vram out/vram.bin --drawing wide.drawing", "wide.drawing (26 bytes): refusal 5: BKCOL is 0x00000004; it must be at most 3 (2 bits)"),
@@ -62,8 +64,10 @@ fn draw_and_compare_refuse_bad_input() {
     }
     let message = "vbmodel: refusal 7: frame 2 was asked for; frames are 0 and 1";
     folder.refused(&format!("draw {SCENE} --frame 2 --out pictures"), message);
-    folder
-        .refused(&format!("compare {SCENE} --frame 2 --left short.image --out pictures"), message);
+    folder.refused(
+        &format!("compare {SCENE} --frame 2 --eyes left --left short.image --out pictures"),
+        message,
+    );
     folder.refused(
         &format!("draw {SCENE} --out out/vram.bin"),
         "vbmodel: out/vram.bin/frame0-left.png: out/vram.bin is a file, not a folder; nothing was written",
@@ -87,7 +91,7 @@ fn wrong_7_compare_writes_no_picture_where_nothing_differs() {
         assert_eq!((ran.status, ran.error.as_str()), (0, ""));
         assert_eq!(
             ran.text,
-            "left eye, frame 1: equal, 86,016 pixels\nright eye, frame 1: equal, 86,016 pixels\n"
+            "left eye, frame 1: pass, 86,016 pixels are equal\nright eye, frame 1: pass, 86,016 pixels are equal\n"
         );
         assert!(!folder.path("m").exists(), "nothing differs, so there is nothing to mark");
     }
@@ -95,7 +99,10 @@ fn wrong_7_compare_writes_no_picture_where_nothing_differs() {
     let mut raw = folder.read("left.raw");
     raw[56] ^= 0xFF;
     folder.write("below.raw", &raw);
-    assert_eq!(folder.vbmodel(&format!("compare {SCENE} --frame 1 --left below.raw")).status, 0);
+    assert_eq!(
+        folder.vbmodel(&format!("compare {SCENE} --frame 1 --eyes left --left below.raw")).status,
+        0
+    );
 }
 
 #[test]
@@ -109,13 +116,13 @@ fn wrong_8_compare_json_names_capture_and_memory() {
     assert_eq!(first, 0);
     raw[0] |= 3;
     folder.write("right.raw", &raw);
-    let command = format!("compare {SCENE} --frame 1 --right right.raw --out m");
+    let command = format!("compare {SCENE} --frame 1 --eyes right --right right.raw --out m");
     let ran = folder.vbmodel(&command);
     assert_eq!((ran.status, ran.error.as_str()), (1, ""));
     assert_eq!(
         ran.text,
         format!(
-            "right eye, frame 1: different, 2 of 86,016 pixels\n  column 0, row 0: expected 0, seen 3\n  \
+            "right eye, frame 1: fail, 2 of 86,016 pixels differ\n  column 0, row 0: expected 0, seen 3\n  \
              column 383, row 223: expected {before}, seen {after}\n  all of them in columns 0 to 383, rows 0 to 223\n\
              written: m/compare-frame1-right.png\n"
         )
@@ -128,17 +135,18 @@ fn wrong_8_compare_json_names_capture_and_memory() {
     assert_eq!(json.status, 1);
     assert_eq!(
         json.text,
-        "{\"equal\": false, \"vram\": \"out/vram.bin\", \"drawing\": \"out/drawing.bin\", \"frame\": 1, \"eyes\": \
-         [{\"eye\": \"right\", \"capture\": \"right.raw\", \"equal\": false, \"different\": 2, \
+        "{\"verdict\": \"fail\", \"vram\": \"out/vram.bin\", \"drawing\": \"out/drawing.bin\", \"frame\": 1, \"eyes\": \
+         [{\"eye\": \"right\", \"capture\": \"right.raw\", \"verdict\": \"fail\", \"different\": 2, \
          \"first\": [{\"column\": 0, \"row\": 0, \"expected\": 0, \"seen\": 3}], \
          \"bounds\": {\"left\": 0, \"top\": 0, \"right\": 383, \"bottom\": 223}}], \
          \"written\": [\"m/compare-frame1-right.png\"]}\n"
     );
     // the demo's two frames show different moments
-    let ran =
-        folder.vbmodel(&format!("compare {SCENE} --frame 1 --left out/frame0-left.png --first 0"));
+    let ran = folder.vbmodel(&format!(
+        "compare {SCENE} --frame 1 --eyes left --left out/frame0-left.png --first 0"
+    ));
     assert_eq!(ran.status, 1);
-    assert!(ran.text.starts_with("left eye, frame 1: different, "), "{}", ran.text);
+    assert!(ran.text.starts_with("left eye, frame 1: fail, "), "{}", ran.text);
     assert!(ran.text.lines().nth(1).unwrap().starts_with("  and "), "{}", ran.text);
 }
 
@@ -159,7 +167,7 @@ fn compare_refuses_other_captures() {
         ("none.raw", "none.raw: No such file or directory; it must be a capture: a raw frame buffer of 24,576 bytes, a whole \
           VRAM of 262,144, or a PNG"),
     ] {
-        folder.refused(&format!("compare {SCENE} --left {file}"), &format!("vbmodel: {message}"));
+        folder.refused(&format!("compare {SCENE} --eyes left --left {file}"), &format!("vbmodel: {message}"));
     }
     for (file, part) in [
         (
@@ -173,7 +181,7 @@ fn compare_refuses_other_captures() {
             "it must be opaque red or grey of 00, 55, AA or FF (values 0 to 3)",
         ),
     ] {
-        let ran = folder.vbmodel(&format!("compare {SCENE} --left {file} --out marks"));
+        let ran = folder.vbmodel(&format!("compare {SCENE} --eyes left --left {file} --out marks"));
         assert_eq!((ran.status, ran.text.as_str()), (2, ""), "{file}");
         assert!(ran.error.contains(part), "{file}: {}", ran.error);
     }
@@ -248,7 +256,7 @@ fn draw_lays_an_overlay_and_tells_refused_writes() {
     let told = "overlay: 2 written, 1 refused\n  line 4: refusal 13: the probe was to write at 0x0003D800; it may write \
                 characters 1,536 to 2,047 and background maps 12 and 13, at 0x0001E000 to 0x0001FFFF, 0x00038000 to \
                 0x0003BFFF and their mirrors\nframe 0 drawn, both eyes\n";
-    assert_eq!(ran.status, 0);
+    assert_eq!(ran.status, 2, "a write of the overlay that is refused is an error");
     assert!(ran.text.starts_with(told), "{}", ran.text);
     let (before, after) = (folder.read("out/vram.bin"), folder.read("after.bin"));
     assert_eq!(after[0x3_8000..0x3_8002], [0x00, 0x06]);

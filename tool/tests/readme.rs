@@ -54,7 +54,7 @@ fn done_when_readme_leads_from_a_folder_of_captures_to_a_report() {
     let folder = repository("readme-judge");
     follow(&folder, "Judging a lot");
     let page = String::from_utf8(folder.read("report.html")).unwrap();
-    assert!(page.contains("<h2>die-2: different</h2>"));
+    assert!(page.contains("<h2>die-2: fail</h2>"));
 }
 
 #[test]

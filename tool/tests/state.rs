@@ -228,7 +228,7 @@ fn state_show_tells_the_rule_and_the_byte() {
             "step --rom out/rom.bin",
             "draw --out drawn",
             "why left 0 0",
-            "compare --left out/frame0-left.png --out compared",
+            "compare --eyes left --left out/frame0-left.png --out compared",
         ] {
             folder.refused(&format!("{command} --state b.state"), &format!("vbmodel: {message}"));
         }
@@ -272,7 +272,7 @@ fn state_takes_the_place_of_vram_and_drawing() {
     for (command, status) in [
         ("why left 192 120 SCENE", 0),
         ("compare SCENE --frame 1 --left out/frame1-left.png --right out/frame1-right.png", 0),
-        ("compare SCENE --frame 1 --left out/frame0-left.png --why", 1),
+        ("compare SCENE --frame 1 --eyes left --left out/frame0-left.png --why", 1),
         ("draw SCENE --frame 1 --out drawn --save-vram drawn/vram", 0),
     ] {
         let by_files = folder.vbmodel(&command.replace("SCENE", scene));
@@ -334,7 +334,7 @@ fn state_bad_files_are_refused() {
             "step --rom out/rom.bin --state-form 1 --save-state saved --state",
             "draw --out saved --state",
             "why left 0 0 --state",
-            "compare --left out/frame0-left.png --out saved --state",
+            "compare --eyes left --left out/frame0-left.png --out saved --state",
         ] {
             folder.refused(&format!("{command} {bad}"), &refusal_of(bad, given));
         }

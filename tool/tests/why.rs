@@ -95,7 +95,8 @@ fn deliver_3_the_json_has_all_that_the_text_has() {
 #[test]
 fn deliver_3_compare_groups_differing_pixels_by_what_wins_there() {
     let folder = Folder::with_demo("why-compare");
-    let compare = format!("compare {SCENE} --frame 1 --left out/frame0-left.png --first 1 --why");
+    let compare =
+        format!("compare {SCENE} --frame 1 --eyes left --left out/frame0-left.png --first 1 --why");
     let ran = folder.vbmodel(&compare);
     assert_eq!(ran.status, 1, "{}", ran.error);
     let shares: Vec<&str> = ran

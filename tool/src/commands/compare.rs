@@ -1,4 +1,4 @@
-//! `vbmodel compare`: the model's frame against a die's capture.
+//! `vbmodel compare`: the model's frame compared with a die's captures.
 
 use std::path::PathBuf;
 
@@ -14,11 +14,13 @@ use crate::files::{Input, Outputs};
 use crate::inputs::capture::{Capture, Level, Wanted};
 use crate::inputs::number;
 use crate::inputs::scene::{Read, Scene};
+use crate::judge::{missing, Eyes, Verdict};
 use crate::pictures::brightness;
 use crate::pictures::difference::{differences, Bounds, Difference};
 use crate::pictures::explain::{eye_name, registers, FAULT};
 use crate::pictures::picture::Picture;
 use crate::pictures::sources::{Share, Sources};
+use crate::reports::json::json;
 
 /// What a capture must be.
 pub const CAPTURE: &str =
@@ -30,7 +32,7 @@ const LISTED: usize = 10;
 #[derive(Args)]
 #[command(after_help = "Example: a picture against the model's, then the pixel that differs
   vbmodel demo
-  vbmodel compare --vram out/vram.bin --drawing out/drawing.bin --frame 1 --left out/frame0-left.png --why
+  vbmodel compare --vram out/vram.bin --drawing out/drawing.bin --frame 1 --eyes left --left out/frame0-left.png --why
   vbmodel why left 297 9 --vram out/vram.bin --drawing out/drawing.bin
 
 A capture is a raw frame buffer of 24,576 bytes (rows 224 to 255 are not compared), a whole VRAM of 262,144 bytes, or a
@@ -40,8 +42,9 @@ printed. Where something differs, a PNG marks it: the model's picture in grey, y
 cyan where it is darker. With --brightness both are apparent brightness, 0 to 128, by the display unit: the capture is
 86,016 bytes, row by row, or a PNG in the reds that `draw --brightness` writes.
 
-Exit status: 0 equal; 1 different; 2 refused or bad input, and then nothing is written; 3 with --why, where the
-independent model and the proved library differ.")]
+Both eyes must have a capture; --eyes left or --eyes right asks for one.
+Exit status: 0 pass, every capture is equal; 1 fail, one differs; 2 invalid, something could not be judged or is refused,
+and then nothing is written; 3 with --why, where the independent model and the proved library differ.")]
 pub struct Options {
     #[command(flatten)]
     scene: Scene,
@@ -57,6 +60,9 @@ pub struct Options {
     /// The die's whole VRAM, taken for both eyes
     #[arg(long, value_name = "FILE", conflicts_with_all = ["left", "right"])]
     capture: Option<PathBuf>,
+    /// The eyes that must have a capture; a further capture is judged too
+    #[arg(long, value_enum, value_name = "EYES", default_value = "both")]
+    eyes: Eyes,
     /// How far a PNG's sample may lie from 00, 55, AA or FF, 1 to 42 [default: not at all]
     #[arg(long, value_name = "N", value_parser = number::threshold)]
     threshold: Option<u8>,
@@ -79,10 +85,10 @@ pub struct Options {
     pub json: bool,
 }
 
-/// What is told; its members are those of the JSON.
+/// What is reported; its members are those of the JSON.
 #[derive(Serialize)]
 struct Told {
-    equal: bool,
+    verdict: Verdict,
     vram: String,
     drawing: String,
     frame: u32,
@@ -94,7 +100,7 @@ struct Told {
 struct EyeTold {
     eye: &'static str,
     capture: String,
-    equal: bool,
+    verdict: Verdict,
     different: usize,
     first: Vec<Difference>,
     bounds: Option<Bounds>,
@@ -107,7 +113,23 @@ struct EyeTold {
     levels: Option<Vec<Level>>,
 }
 
+/// What is reported where the captures could not be judged.
+#[derive(Serialize)]
+struct Invalid<'a> {
+    verdict: Verdict,
+    #[serde(flatten)]
+    failure: &'a Failure,
+}
+
 pub fn run(options: &Options) -> Result<Report, Failure> {
+    compared(options).or_else(|failure| {
+        let told = Invalid { verdict: Verdict::Invalid, failure: &failure };
+        let json = json(&told);
+        Ok(Report { text: String::new(), json, status: 2, failure: Some(failure) })
+    })
+}
+
+fn compared(options: &Options) -> Result<Report, Failure> {
     if options.seen.asked()
         && (options.why || options.threshold.is_some() || options.capture.is_some())
     {
@@ -165,6 +187,9 @@ fn captures(options: &Options) -> Result<Vec<(u32, Input)>, Failure> {
         if let Some(path) = path {
             let what = if options.seen.asked() { brightness::CAPTURE } else { CAPTURE };
             inputs.push((eye, Input::read(path, what)?));
+        } else if options.capture.is_none() && options.eyes.need(eye) {
+            let eye = if eye == 0 { "left" } else { "right" };
+            return Err(Failure::bad(missing(eye, options.eyes)));
         }
     }
     Ok(inputs)
@@ -183,8 +208,13 @@ fn mark(options: &Options, outputs: &mut Outputs, eye: &str, expected: &Picture,
 }
 
 fn report(options: &Options, scene: &Read, eyes: Vec<EyeTold>, outputs: &Outputs) -> Report {
+    let fault = eyes.iter().any(|eye| eye.models_agree == Some(false));
     let told = Told {
-        equal: eyes.iter().all(|eye| eye.equal),
+        verdict: match eyes.iter().all(|eye| eye.verdict == Verdict::Pass) {
+            _ if fault => Verdict::Fault,
+            true => Verdict::Pass,
+            false => Verdict::Fail,
+        },
         vram: scene.vram.name(),
         drawing: scene.drawing_file.name(),
         frame: options.frame,
@@ -193,11 +223,10 @@ fn report(options: &Options, scene: &Read, eyes: Vec<EyeTold>, outputs: &Outputs
     };
     let mut text: String = told.eyes.iter().map(|eye| eye.text(options.frame)).collect();
     text.extend(told.written.iter().map(|path| format!("written: {path}\n")));
-    let fault = told.eyes.iter().any(|eye| eye.models_agree == Some(false));
-    let status = match told.equal {
-        _ if fault => why::FAULT,
-        true => 0,
-        false => 1,
+    let status = match told.verdict {
+        Verdict::Fault => why::FAULT,
+        Verdict::Pass => 0,
+        _ => 1,
     };
     Report::new(text, &told, status)
 }
@@ -207,7 +236,7 @@ impl EyeTold {
         EyeTold {
             eye: eye_name(eye),
             capture: capture.name(),
-            equal: found.is_empty(),
+            verdict: if found.is_empty() { Verdict::Pass } else { Verdict::Fail },
             different: found.len(),
             first: found.iter().take(first).copied().collect(),
             bounds: Bounds::of(found),
@@ -227,12 +256,11 @@ impl EyeTold {
     fn text(&self, frame: u32) -> String {
         let all = grouped((COLUMNS * ROWS) as u64);
         let count = grouped(self.different as u64);
-        let mut text = match self.equal {
-            true => format!("{} eye, frame {frame}: equal, {all} pixels\n", self.eye),
-            false => {
-                format!("{} eye, frame {frame}: different, {count} of {all} pixels\n", self.eye)
-            }
+        let found = match self.verdict {
+            Verdict::Pass => format!("pass, {all} pixels are equal"),
+            _ => format!("fail, {count} of {all} pixels differ"),
         };
+        let mut text = format!("{} eye, frame {frame}: {found}\n", self.eye);
         if let Some(levels) = &self.levels {
             let told: Vec<String> = levels.iter().map(Level::text).collect();
             text += &format!("  levels taken: {}\n", told.join(", "));

@@ -27,7 +27,8 @@ With --as-is the frame buffer is shown as it is in VRAM, and no drawing record i
 A PNG has red 00, 55, AA and FF for the pixel values 0 to 3; `vbmodel compare` reads it back.
 With --brightness it shows what a person sees instead: the time that a pixel's shade is lit, times the repeats of its
 columns in the column table, from 0 (black) to 128 and above (full red).
-Exit status: 0 drawn; 2 refused or bad input, and then nothing is written."
+Exit status: 0 drawn; 2 refused or bad input, and then nothing is written, or drawn although a write of the overlay was
+refused, which is printed."
 )]
 pub struct Options {
     /// VRAM, 262,144 bytes; - is standard input
@@ -144,7 +145,8 @@ pub fn run(options: &Options) -> Result<Report, Failure> {
     let told = Reported { frame, scale, as_is, overlay, written: outputs.paths() };
     let lines: String = told.written.iter().map(|path| format!("written: {path}\n")).collect();
     let done = if as_is { "as it is in VRAM" } else { "drawn, both eyes" };
-    Ok(Report::new(format!("{laid}frame {frame} {done}\n{lines}"), &told, 0))
+    let status = if told.overlay.as_ref().is_none_or(Overlay::is_whole) { 0 } else { 2 };
+    Ok(Report::new(format!("{laid}frame {frame} {done}\n{lines}"), &told, status))
 }
 
 /// VRAM after drawing, or as it is, and what became of an overlay's writes.

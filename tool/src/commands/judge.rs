@@ -14,7 +14,7 @@ use crate::failure::Failure;
 use crate::files::Outputs;
 use crate::inputs::number;
 use crate::interrupt;
-use crate::judge::{judge, junit, page, Judged, Lot, Part, Summary, Verdict, Wish};
+use crate::judge::{judge, junit, page, plain, Eyes, Judged, Lot, Part, Summary, Wish};
 use crate::reports::json::json;
 use crate::reports::progress::Progress;
 
@@ -25,7 +25,9 @@ use crate::reports::progress::Progress;
   cp out/vram.bin lot/all.vram
   cp out/drawing.bin lot/all.drawing
   cp out/frame1-left.png lot/good.left.png
+  cp out/frame1-right.png lot/good.right.png
   cp out/frame0-left.png lot/worn.left.png
+  cp out/frame1-right.png lot/worn.right.png
   vbmodel judge lot --html report.html
 
 A folder's files say by their names what they are: NAME.vram and NAME.drawing, or NAME.state (a saved state), is the
@@ -41,11 +43,16 @@ A manifest in TOML has a table for each part, and may have defaults above them:
   frame = 1
   left = \"7-left.png\"
   right = \"7-right.png\"
-The names are name, state, vram, drawing, frame, left, right, capture (a whole VRAM) and threshold. A manifest in CSV
-has them as its first line, and a line for each part. Files are named from the manifest's folder.
+The names are name, state, vram, drawing, frame, left, right, capture (a whole VRAM), threshold (1 to 42) and eyes (both,
+left or right). A manifest in CSV has them as its first line, and a line for each part. Files are named from the
+manifest's folder.
 
-Exit status: 0 all equal; 1 some different; 2 some could not be judged, or nothing could; 3 the independent model and
-the proved library differ; 130 stopped by Ctrl-C. A part that could not be judged does not stop the others.")]
+A part passes when both eyes have a capture and both are equal. It fails when one differs. It is invalid when something
+could not be judged: a capture is missing or broken, there are two of one eye or two scenes, or a name differs only in
+case. An invalid part does not stop the others.
+
+Exit status: 0 all pass; 1 some fail; 2 some are invalid, an unknown file is in the folder, or nothing could be judged;
+3 the independent model and the proved library differ; 130 stopped by Ctrl-C.")]
 pub struct Options {
     /// A folder, or a manifest whose name ends in .toml or .csv
     lot: PathBuf,
@@ -56,11 +63,17 @@ pub struct Options {
     #[arg(long, value_name = "FILE")]
     drawing: Option<PathBuf>,
     /// A saved state for the parts that have no scene
-    #[arg(long, value_name = "FILE", conflicts_with = "vram")]
+    #[arg(long, value_name = "FILE", conflicts_with_all = ["vram", "drawing"])]
     state: Option<PathBuf>,
     /// How far a PNG's sample may lie from 00, 55, AA or FF, 1 to 42 [default: not at all]
     #[arg(long, value_name = "N", value_parser = number::threshold)]
     threshold: Option<u8>,
+    /// The eyes that must have a capture, for parts that do not say; a further capture is judged too
+    #[arg(long, value_enum, value_name = "EYES", default_value = "both")]
+    eyes: Eyes,
+    /// Allow files in the lot's folder that no naming rule takes
+    #[arg(long)]
+    allow_extra: bool,
     /// How many differing pixels to explain for each eye
     #[arg(long, value_name = "N", default_value = "3", value_parser = number::word)]
     first: u32,
@@ -79,7 +92,7 @@ pub struct Options {
 #[derive(Serialize)]
 struct Whole<'a> {
     summary: Summary,
-    not_taken: &'a [String],
+    unknown: &'a [String],
     written: &'a [String],
     #[serde(flatten)]
     failure: Option<Failure>,
@@ -92,6 +105,7 @@ pub fn run(options: &Options) -> Result<Report, Failure> {
         drawing: options.drawing.clone(),
         state: options.state.clone(),
         threshold: options.threshold,
+        eyes: Some(options.eyes),
         ..Part::default()
     };
     let lot = Lot::read(&options.lot, &defaults)?;
@@ -100,17 +114,18 @@ pub fn run(options: &Options) -> Result<Report, Failure> {
     interrupt::watch();
     let wish = Wish { first: options.first as usize, pictures: options.html.is_some() };
     let judged = all(&lot, wish);
-    let summary = Summary::of(&judged, lot.entries.len());
+    let unknown = if options.allow_extra { 0 } else { lot.unknown.len() };
+    let summary = Summary::of(&judged, lot.entries.len(), unknown);
 
     let mut outputs = Outputs::default();
     judged.iter().flat_map(|one| &one.read).for_each(|read| outputs.keep(Some(*read)));
     if let Some(path) = &options.html {
         let title = format!("{} judged", name(&options.lot));
-        outputs.add(path, page(&title, &judged, &summary, &lot.not_taken).into_bytes());
+        outputs.add(path, page(&title, &judged, &summary, &lot.unknown).into_bytes());
     }
     if let Some(path) = &options.junit {
         let seconds = begun.elapsed().as_secs_f64();
-        outputs.add(path, junit(&judged, &summary, seconds).into_bytes());
+        outputs.add(path, junit(&judged, &summary, &lot.unknown, seconds).into_bytes());
     }
     Ok(report(&lot, &judged, summary, &outputs))
 }
@@ -145,24 +160,22 @@ fn report(lot: &Lot, judged: &[Judged], summary: Summary, outputs: &Outputs) -> 
     let failure = outputs.write().err();
     let written = if failure.is_none() { outputs.paths() } else { Vec::new() };
     let mut text: String = judged.iter().map(line).collect();
-    if !lot.not_taken.is_empty() {
-        text += &format!("not taken by the naming rule: {}\n", lot.not_taken.join(", "));
+    if !lot.unknown.is_empty() {
+        let wish = match summary.unknown_files {
+            0 => "not judged",
+            _ => "remove or rename, or give --allow-extra",
+        };
+        text += &format!("unknown files in the lot ({wish}): {}\n", lot.unknown.join(", "));
     }
     text += &format!("{}\n", summary.text());
     text.extend(written.iter().map(|path| format!("written: {path}\n")));
     let mut lines: Vec<String> = judged.iter().map(json).collect();
-    let not_taken = lot.not_taken.as_slice();
-    lines.push(json(&Whole { summary, not_taken, written: &written, failure: failure.clone() }));
+    let unknown = lot.unknown.as_slice();
+    lines.push(json(&Whole { summary, unknown, written: &written, failure: failure.clone() }));
     let status = if failure.is_some() { 2 } else { summary.status() };
     Report { text, json: lines.join("\n"), status, failure }
 }
 
 fn line(one: &Judged) -> String {
-    let verdict = match one.verdict {
-        Verdict::Equal => "equal",
-        Verdict::Different => "different",
-        Verdict::Bad => "bad",
-        Verdict::Fault => "fault",
-    };
-    format!("{verdict:<9}  {}: {}\n", one.name, one.line())
+    format!("{:<7}  {}: {}\n", one.verdict.word(), plain(&one.name), plain(&one.line()))
 }

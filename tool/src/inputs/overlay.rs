@@ -39,6 +39,11 @@ struct Refused {
 }
 
 impl Overlay {
+    /// Whether every write was made.
+    pub fn is_whole(&self) -> bool {
+        self.refused.is_empty()
+    }
+
     /// The lines that are printed.
     pub fn text(&self) -> String {
         let mut text =

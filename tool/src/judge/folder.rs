@@ -4,14 +4,15 @@
 //! for parts that have none. `NAME.left.png`, `NAME.right.png` (or `.raw`) and `NAME.dump` (a whole VRAM) are its
 //! captures; those of frame 1 have `.frame1` after NAME.
 
-use std::collections::BTreeMap;
+use std::collections::{BTreeMap, BTreeSet};
 use std::fs;
 use std::path::{Path, PathBuf};
 
-use super::{Entry, Lot, Part};
+use super::{plain, plain_path, Entry, Lot, Part};
 use crate::failure::Failure;
 
 /// What a file is, by the end of its name.
+#[derive(Clone, Copy)]
 enum Kind {
     Vram,
     Drawing,
@@ -32,6 +33,13 @@ const ENDS: [(&str, Kind); 8] = [
     (".dump", Kind::Dump),
 ];
 
+/// The scenes by name, and the captures by name and frame.
+#[derive(Default)]
+struct Found {
+    scenes: BTreeMap<String, Part>,
+    parts: BTreeMap<(String, u32), Part>,
+}
+
 pub fn read(folder: &Path) -> Result<Lot, Failure> {
     let failed = |error: std::io::Error| Failure::bad(format!("{}: {error}", folder.display()));
     let mut names = Vec::new();
@@ -40,71 +48,135 @@ pub fn read(folder: &Path) -> Result<Lot, Failure> {
     }
     names.sort();
     let mut lot = Lot::default();
-    let mut scenes: BTreeMap<String, Part> = BTreeMap::new();
-    let mut parts: BTreeMap<(String, u32), Part> = BTreeMap::new();
+    let mut found = Found::default();
     for name in names {
         let path = folder.join(&name);
         let name = name.to_string_lossy().into_owned();
-        if name.starts_with('.') {
-            continue;
-        }
-        let known = ENDS.iter().find_map(|(end, kind)| Some((name.strip_suffix(end)?, kind)));
-        match known {
-            Some((part, kind)) if !part.is_empty() => {
-                take(part, kind, path, &mut scenes, &mut parts)
-            }
-            _ => lot.not_taken.push(name),
+        match ending(&name) {
+            Some((part, kind)) if !part.is_empty() => found.take(part, kind, path),
+            _ => match ending(&name.to_lowercase()) {
+                Some((part, kind)) if !part.is_empty() => found.mistyped(&name, kind, path),
+                _ => lot.unknown.push(plain(&name)),
+            },
         }
     }
-    let all = scenes.remove("all").unwrap_or_default();
-    lot.entries = entries(&scenes, parts, &all);
+    found.refuse_names_that_differ_in_case();
+    lot.entries = found.entries();
     Ok(lot)
 }
 
-fn take(
-    name: &str,
-    kind: &Kind,
-    path: PathBuf,
-    scenes: &mut BTreeMap<String, Part>,
-    parts: &mut BTreeMap<(String, u32), Part>,
-) {
-    let (base, frame) = framed(name);
-    match kind {
-        Kind::Vram => scenes.entry(name.to_string()).or_default().vram = Some(path),
-        Kind::Drawing => scenes.entry(name.to_string()).or_default().drawing = Some(path),
-        Kind::State => scenes.entry(name.to_string()).or_default().state = Some(path),
-        Kind::Left => parts.entry((base, frame)).or_default().left = Some(path),
-        Kind::Right => parts.entry((base, frame)).or_default().right = Some(path),
-        Kind::Dump => parts.entry((base, frame)).or_default().capture = Some(path),
-    }
+/// A name without its ending, and what the ending says.
+fn ending(name: &str) -> Option<(&str, Kind)> {
+    ENDS.iter().find_map(|(end, kind)| Some((name.strip_suffix(end)?, *kind)))
 }
 
-/// A capture's name without its frame.
-fn framed(name: &str) -> (String, u32) {
-    match name.strip_suffix(".frame1") {
-        Some(base) => (base.to_string(), 1),
-        None => (name.strip_suffix(".frame0").unwrap_or(name).to_string(), 0),
-    }
-}
-
-/// The parts with their scenes; a scene that no capture belongs to is told as a part without one.
-fn entries(
-    scenes: &BTreeMap<String, Part>,
-    mut parts: BTreeMap<(String, u32), Part>,
-    all: &Part,
-) -> Vec<Entry> {
-    for name in scenes.keys() {
-        if !parts.keys().any(|(base, _)| base == name) {
-            parts.insert((name.clone(), 0), Part::default());
+impl Found {
+    fn take(&mut self, name: &str, kind: Kind, path: PathBuf) {
+        let (base, frame, wrong) = framed(name);
+        let part = match kind {
+            Kind::Vram | Kind::Drawing | Kind::State => {
+                self.scenes.entry(name.to_string()).or_default()
+            }
+            Kind::Left | Kind::Right | Kind::Dump => self.parts.entry((base, frame)).or_default(),
+        };
+        let place = match kind {
+            Kind::Vram => &mut part.vram,
+            Kind::Drawing => &mut part.drawing,
+            Kind::State => &mut part.state,
+            Kind::Left => &mut part.left,
+            Kind::Right => &mut part.right,
+            Kind::Dump => &mut part.capture,
+        };
+        if let Some(other) = place.replace(path.clone()) {
+            let [first, second] = [&other, &path].map(|path| plain_path(path));
+            part.refuse(format!("{first} and {second} are the same capture; it must have one"));
+        }
+        if let Some(wrong) = wrong {
+            part.refuse(format!("{}: {wrong}", plain_path(&path)));
         }
     }
-    let entry = |((base, frame), captures): ((String, u32), Part)| {
-        let scene = scenes.get(&base).cloned().unwrap_or_default();
-        let name = if frame == 0 { base } else { format!("{base}.frame{frame}") };
-        let Part { left, right, capture, .. } = captures;
-        let mut entry = Entry::of(Part { name, frame: Some(frame), left, right, capture, ..scene });
-        entry.complete(all);
-        entry
-    };
-    parts.into_iter().map(entry).collect()
+
+    /// A file whose ending is known but for its case: the part cannot be judged without knowing what it is.
+    fn mistyped(&mut self, name: &str, kind: Kind, path: PathBuf) {
+        let known = ENDS.iter().find(|(end, _)| name.to_lowercase().ends_with(end));
+        let Some((end, _)) = known.filter(|(end, _)| name.is_char_boundary(name.len() - end.len()))
+        else {
+            return;
+        };
+        let part = &name[..name.len() - end.len()];
+        self.take(part, kind, path.clone());
+        let (base, frame, _) = framed(part);
+        let wrong = format!("{}: the ending must be written `{end}`", plain_path(&path));
+        match kind {
+            Kind::Vram | Kind::Drawing | Kind::State => {
+                self.scenes.entry(part.to_string()).or_default().refuse(wrong)
+            }
+            _ => self.parts.entry((base, frame)).or_default().refuse(wrong),
+        }
+    }
+
+    /// Two names that differ only in case may be one part: neither is judged.
+    fn refuse_names_that_differ_in_case(&mut self) {
+        let mut spelled: BTreeMap<String, BTreeSet<String>> = BTreeMap::new();
+        let names = self.scenes.keys().chain(self.parts.keys().map(|(base, _)| base));
+        for name in names {
+            spelled.entry(name.to_lowercase()).or_default().insert(name.clone());
+        }
+        spelled.retain(|_, names| names.len() > 1);
+        let wrong = |name: &str| {
+            let names: Vec<String> =
+                spelled.get(&name.to_lowercase())?.iter().map(|name| plain(name)).collect();
+            Some(format!("the names {} differ only in case", names.join(" and ")))
+        };
+        for (name, part) in &mut self.scenes {
+            wrong(name).into_iter().for_each(|wrong| part.refuse(wrong));
+        }
+        for ((name, _), part) in &mut self.parts {
+            wrong(name).into_iter().for_each(|wrong| part.refuse(wrong));
+        }
+    }
+
+    /// The parts with their scenes; a scene that no capture belongs to is reported as a part without one.
+    fn entries(mut self) -> Vec<Entry> {
+        let all = self.scenes.remove("all").unwrap_or_default();
+        for name in self.scenes.keys() {
+            if !self.parts.keys().any(|(base, _)| base == name) {
+                self.parts.insert((name.clone(), 0), Part::default());
+            }
+        }
+        let scenes = self.scenes;
+        let entry = |((base, frame), captures): ((String, u32), Part)| {
+            let scene = scenes.get(&base).cloned().unwrap_or_default();
+            let name = if frame == 0 { base } else { format!("{base}.frame{frame}") };
+            let Part { left, right, capture, ambiguous, .. } = captures;
+            let ambiguous = ambiguous.or(scene.ambiguous.clone());
+            let part = Part { name, frame: Some(frame), left, right, capture, ambiguous, ..scene };
+            let mut entry = Entry::of(part);
+            entry.complete(&all);
+            entry
+        };
+        self.parts.into_iter().map(entry).collect()
+    }
+}
+
+impl Part {
+    /// Notes the first reason why the part's files are not known.
+    fn refuse(&mut self, wrong: String) {
+        self.ambiguous.get_or_insert(wrong);
+    }
+}
+
+/// A capture's name without its frame, and what is wrong with the frame.
+fn framed(name: &str) -> (String, u32, Option<String>) {
+    let Some((base, last)) = name.rsplit_once('.') else { return (name.to_string(), 0, None) };
+    let number = last.to_lowercase().strip_prefix("frame").map(str::to_string);
+    match (last, number) {
+        ("frame0", _) => (base.to_string(), 0, None),
+        ("frame1", _) => (base.to_string(), 1, None),
+        (_, Some(number)) if number.chars().all(|c| c.is_ascii_digit()) => {
+            let wrong = format!("`{}` is not a frame; write frame0 or frame1", plain(last));
+            (base.to_string(), u32::from(number == "1"), Some(wrong))
+        }
+        _ => (name.to_string(), 0, None),
+    }
 }

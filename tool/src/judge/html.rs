@@ -16,7 +16,7 @@ const LISTED: usize = 10;
 const POLICY: &str =
     "default-src 'none'; img-src data:; style-src 'unsafe-inline'; script-src 'unsafe-inline'";
 
-pub fn page(title: &str, judged: &[Judged], summary: &Summary, not_taken: &[String]) -> String {
+pub fn page(title: &str, judged: &[Judged], summary: &Summary, unknown: &[String]) -> String {
     let title = escaped(title);
     let mut out = format!(
         "<!DOCTYPE html>\n<html lang=\"en\">\n<head>\n<meta charset=\"utf-8\">\n\
@@ -26,9 +26,9 @@ pub fn page(title: &str, judged: &[Judged], summary: &Summary, not_taken: &[Stri
         escaped(&summary.text()),
         escaped(&summary.text())
     );
-    if !not_taken.is_empty() {
-        let names = escaped(&not_taken.join(", "));
-        out += &format!("<p>Files that the naming rule does not take: {names}</p>\n");
+    if !unknown.is_empty() {
+        let names = escaped(&unknown.join(", "));
+        out += &format!("<p>Unknown files in the lot's folder: {names}</p>\n");
     }
     out += "<p><label>Find a part <input id=\"find\" type=\"search\" placeholder=\"name or verdict\"></label></p>\n";
     out += "<table id=\"parts\">\n<tr><th>Part</th><th>Verdict</th><th>What</th></tr>\n";
@@ -37,33 +37,24 @@ pub fn page(title: &str, judged: &[Judged], summary: &Summary, not_taken: &[Stri
     }
     out += "</table>\n";
     for (number, one) in judged.iter().enumerate() {
-        if matches!(one.verdict, Verdict::Different | Verdict::Fault) {
+        if matches!(one.verdict, Verdict::Fail | Verdict::Fault) {
             out += &section(number, one);
         }
     }
     out + &format!("<script>\n{SCRIPT}</script>\n</body>\n</html>\n")
 }
 
-fn verdict(one: &Judged) -> &'static str {
-    match one.verdict {
-        Verdict::Equal => "equal",
-        Verdict::Different => "different",
-        Verdict::Bad => "bad",
-        Verdict::Fault => "fault",
-    }
-}
-
 fn row(number: usize, one: &Judged) -> String {
-    let (name, verdict, line) = (escaped(&one.name), verdict(one), escaped(&one.line()));
+    let (name, verdict, line) = (escaped(&one.name), one.verdict.word(), escaped(&one.line()));
     let name = match one.verdict {
-        Verdict::Different | Verdict::Fault => format!("<a href=\"#part-{number}\">{name}</a>"),
+        Verdict::Fail | Verdict::Fault => format!("<a href=\"#part-{number}\">{name}</a>"),
         _ => name,
     };
     format!("<tr class=\"{verdict}\"><td>{name}</td><td>{verdict}</td><td>{line}</td></tr>\n")
 }
 
 fn section(number: usize, one: &Judged) -> String {
-    let (name, verdict) = (escaped(&one.name), verdict(one));
+    let (name, verdict) = (escaped(&one.name), one.verdict.word());
     let source = |what: &str, file: &Option<String>| {
         file.as_ref().map_or(String::new(), |file| format!("{what} {}", escaped(file)))
     };

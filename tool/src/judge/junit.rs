@@ -22,18 +22,25 @@ pub fn escaped(text: &str) -> String {
     out
 }
 
-pub fn junit(judged: &[Judged], summary: &Summary, seconds: f64) -> String {
+/// The parts as test cases; unknown files in the lot's folder are a further one, an error.
+pub fn junit(judged: &[Judged], summary: &Summary, unknown: &[String], seconds: f64) -> String {
     let mut lines = vec![
         r#"<?xml version="1.0" encoding="UTF-8"?>"#.to_string(),
         format!(
             r#"<testsuite name="vbmodel judge" tests="{}" failures="{}" errors="{}" skipped="{}" time="{seconds:.3}">"#,
-            summary.parts,
-            summary.different,
-            summary.bad + summary.fault,
+            summary.parts + usize::from(summary.unknown_files > 0),
+            summary.fail,
+            summary.invalid + summary.fault + usize::from(summary.unknown_files > 0),
             summary.not_judged
         ),
     ];
     lines.extend(judged.iter().map(case));
+    if summary.unknown_files > 0 {
+        let names = escaped(&unknown.join(", "));
+        lines.push(format!(
+            r#"  <testcase classname="vbmodel.judge" name="unknown files"><error message="{names}"/></testcase>"#
+        ));
+    }
     lines.push("</testsuite>".to_string());
     lines.join("\n") + "\n"
 }
@@ -43,14 +50,14 @@ fn case(one: &Judged) -> String {
     let head = format!(r#"  <testcase classname="vbmodel.judge" name="{name}""#);
     let line = escaped(&one.line());
     let inner = match one.verdict {
-        Verdict::Equal => return format!("{head}/>"),
-        Verdict::Different => {
+        Verdict::Pass => return format!("{head}/>"),
+        Verdict::Fail => {
             let details: Vec<String> =
                 one.eyes.iter().flat_map(|eye| &eye.first).map(detail).collect();
             let details = escaped(&details.join("\n"));
             format!("<failure message=\"{line}\">{details}</failure>")
         }
-        Verdict::Bad => format!("<error message=\"{line}\"/>"),
+        Verdict::Invalid => format!("<error message=\"{line}\"/>"),
         Verdict::Fault => {
             let what = "the independent model and the proved library differ";
             format!("<error message=\"{what}: {line}\"/>")

@@ -3,14 +3,14 @@
 use std::collections::HashSet;
 use std::path::{Path, PathBuf};
 
-use super::{folder, manifest, Entry, Part};
+use super::{folder, manifest, plain_path, Entry, Part};
 use crate::failure::Failure;
 
-/// The entries in order, the files of a folder that the naming rule does not take, and what parts leave out.
+/// The entries in order, and the files of a folder that no naming rule takes.
 #[derive(Default)]
 pub struct Lot {
     pub entries: Vec<Entry>,
-    pub not_taken: Vec<String>,
+    pub unknown: Vec<String>,
 }
 
 impl Lot {
@@ -35,6 +35,7 @@ impl Lot {
         }
         lot.entries.iter_mut().for_each(|entry| entry.complete(defaults));
         lot.refuse_repeated();
+        lot.entries.iter_mut().for_each(Entry::refuse_ambiguous);
         Ok(lot)
     }
 
@@ -59,6 +60,14 @@ impl Entry {
         Entry { name, part: Err(Failure::bad(message)) }
     }
 
+    /// A part with two scenes, two captures of an eye or a name that is not known is not judged.
+    fn refuse_ambiguous(&mut self) {
+        let wrong = self.part.as_ref().ok().and_then(Part::wrong);
+        if let Some(wrong) = wrong {
+            self.part = Err(Failure::bad(wrong));
+        }
+    }
+
     pub fn complete(&mut self, defaults: &Part) {
         if let Ok(part) = &mut self.part {
             part.complete(defaults);
@@ -67,7 +76,23 @@ impl Entry {
 }
 
 impl Part {
-    /// Takes what the part leaves out. A part with a state of its own needs no VRAM, and the other way round.
+    /// What makes a part's files ambiguous, if anything does.
+    fn wrong(&self) -> Option<String> {
+        if let Some(wrong) = &self.ambiguous {
+            return Some(wrong.clone());
+        }
+        let two = |first: &Option<PathBuf>, second: &Option<PathBuf>, what: &str| {
+            let [first, second] = [first.as_deref()?, second.as_deref()?].map(plain_path);
+            Some(format!("{first} and {second} are {what}; it must have one"))
+        };
+        two(&self.state, &self.vram, "two scenes")
+            .or_else(|| two(&self.state, &self.drawing, "two scenes"))
+            .or_else(|| two(&self.capture, &self.left, "two captures of the left eye"))
+            .or_else(|| two(&self.capture, &self.right, "two captures of the right eye"))
+    }
+
+    /// Takes what the part leaves out. A part with a state of its own needs no VRAM, and the other way round. Both
+    /// are taken where the defaults have both, so that they are seen to be two scenes.
     fn complete(&mut self, defaults: &Part) {
         let own = self.state.is_some() || self.vram.is_some();
         let take = |own: &mut Option<PathBuf>, other: &Option<PathBuf>| {
@@ -80,12 +105,11 @@ impl Part {
         }
         if !own {
             take(&mut self.vram, &defaults.vram);
-            if self.vram.is_none() {
-                take(&mut self.state, &defaults.state);
-            }
+            take(&mut self.state, &defaults.state);
         }
         self.frame = self.frame.or(defaults.frame);
         self.threshold = self.threshold.or(defaults.threshold);
+        self.eyes = self.eyes.or(defaults.eyes);
     }
 
     /// Makes the files' paths those in a folder.

@@ -5,9 +5,10 @@ use std::path::Path;
 
 use serde::Deserialize;
 
-use super::{Entry, Lot, Part};
+use super::{Entry, Eyes, Lot, Part};
 use crate::failure::Failure;
 use crate::files::Input;
+use crate::inputs::capture::LARGEST_THRESHOLD;
 
 const MANIFEST: &str = "a manifest, TOML or CSV";
 
@@ -20,6 +21,7 @@ struct Toml {
     drawing: Option<std::path::PathBuf>,
     frame: Option<u32>,
     threshold: Option<u8>,
+    eyes: Option<Eyes>,
     #[serde(default)]
     part: Vec<toml::Value>,
 }
@@ -44,16 +46,23 @@ pub fn toml(path: &Path) -> Result<Lot, Failure> {
         drawing: read.drawing,
         frame: read.frame,
         threshold: read.threshold,
+        eyes: read.eyes,
         ..Part::default()
     };
     let defaults = defaults.within(folder);
+    if let Some(wrong) = defaults.out_of_range() {
+        return Err(Failure::bad(input.wrong(wrong)));
+    }
     let mut lot = Lot::default();
     for (number, value) in read.part.into_iter().enumerate() {
-        let name = value.get("name").and_then(|name| name.as_str()).map(str::to_string);
-        let name = name.unwrap_or(format!("part {}", number + 1));
-        let mut entry = match value.try_into::<Part>() {
-            Ok(part) => Entry::of(part.within(folder)),
-            Err(error) => Entry::wrong(name, format!("{}: {error}", path.display())),
+        let place = format!("part {}", number + 1);
+        let mut entry = match value.clone().try_into::<Part>() {
+            Ok(part) => taken(part, folder, path, place),
+            Err(error) => {
+                let name = value.get("name").and_then(|name| name.as_str()).map(str::to_string);
+                let name = name.filter(|name| !name.trim().is_empty()).unwrap_or(place);
+                Entry::wrong(name, format!("{}: {error}", path.display()))
+            }
         };
         entry.complete(&defaults);
         lot.entries.push(entry);
@@ -73,19 +82,44 @@ pub fn csv(path: &Path) -> Result<Lot, Failure> {
     let heads = reader.headers().map_err(broken)?.clone();
     if !heads.iter().any(|head| head == "name") {
         let rule = "its first line must name the columns: name, and of state, vram, drawing, frame, left, right, \
-                    capture and threshold those that are used";
+                    capture, threshold and eyes those that are used";
         return Err(Failure::bad(input.wrong(rule)));
     }
     let mut lot = Lot::default();
     for record in reader.records() {
-        let entry = match record.and_then(|record| record.deserialize::<Part>(Some(&heads))) {
-            Ok(part) => Entry::of(part.within(folder)),
+        let line = |position: Option<&csv::Position>| {
+            format!("line {}", position.map_or(0, |position| position.line()))
+        };
+        let read = record.and_then(|record| {
+            let part = record.deserialize::<Part>(Some(&heads))?;
+            Ok((part, line(record.position())))
+        });
+        let entry = match read {
+            Ok((part, place)) => taken(part, folder, path, place),
             Err(error) => {
-                let line = error.position().map_or(0, |position| position.line());
-                Entry::wrong(format!("line {line}"), format!("{}: {error}", path.display()))
+                Entry::wrong(line(error.position()), format!("{}: {error}", path.display()))
             }
         };
         lot.entries.push(entry);
     }
     Ok(lot)
+}
+
+/// A part as a manifest has it, by its name; one without a name is known by its place.
+fn taken(part: Part, folder: &Path, manifest: &Path, place: String) -> Entry {
+    let named = !part.name.trim().is_empty();
+    let wrong = match part.out_of_range() {
+        _ if !named => "the name is empty; it must have at least one character".to_string(),
+        Some(wrong) => wrong,
+        None => return Entry::of(part.within(folder)),
+    };
+    let name = if named { part.name } else { place };
+    Entry::wrong(name, format!("{}: {wrong}", manifest.display()))
+}
+
+impl Part {
+    fn out_of_range(&self) -> Option<String> {
+        let threshold = self.threshold.filter(|n| !(1..=LARGEST_THRESHOLD).contains(n))?;
+        Some(format!("threshold is {threshold}; it must be 1 to {LARGEST_THRESHOLD}"))
+    }
 }

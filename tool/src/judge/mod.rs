@@ -1,19 +1,22 @@
-//! A lot judged: many parts, each a scene and the captures of it, held against the model.
+//! A lot judged: many parts, each a scene and the captures of it, compared with the model.
 
 mod folder;
 mod html;
 mod junit;
 mod lot;
 mod manifest;
+mod summary;
 mod verdict;
 
 pub use html::page;
 pub use junit::junit;
 pub use lot::Lot;
-pub use verdict::{judge, Judged, Verdict, Wish};
+pub use summary::Summary;
+pub use verdict::{judge, missing, Judged, Verdict, Wish};
 
-use std::path::PathBuf;
+use std::path::{Path, PathBuf};
 
+use clap::ValueEnum;
 use serde::{Deserialize, Serialize};
 
 use crate::failure::Failure;
@@ -32,6 +35,35 @@ pub struct Part {
     /// A whole VRAM, taken for both eyes.
     pub capture: Option<PathBuf>,
     pub threshold: Option<u8>,
+    /// Which eyes must have a capture.
+    pub eyes: Option<Eyes>,
+    /// Why a folder's names do not say which files are the part's.
+    #[serde(skip)]
+    pub ambiguous: Option<String>,
+}
+
+/// The eyes whose captures a part must have.
+#[derive(Clone, Copy, Debug, Default, PartialEq, Eq, Deserialize, Serialize, ValueEnum)]
+#[serde(rename_all = "lowercase")]
+pub enum Eyes {
+    /// Both eyes
+    #[default]
+    Both,
+    /// The left eye; a capture of the right one is judged where there is one
+    Left,
+    /// The right eye; a capture of the left one is judged where there is one
+    Right,
+}
+
+impl Eyes {
+    /// Whether an eye, 0 left or 1 right, must have a capture.
+    pub fn need(self, eye: u32) -> bool {
+        match self {
+            Eyes::Both => true,
+            Eyes::Left => eye == 0,
+            Eyes::Right => eye == 1,
+        }
+    }
 }
 
 /// A part, or what is wrong with its entry.
@@ -40,56 +72,16 @@ pub struct Entry {
     pub part: Result<Part, Failure>,
 }
 
-/// How many parts came out how.
-#[derive(Clone, Copy, Debug, Default, PartialEq, Eq, Serialize)]
-pub struct Summary {
-    pub parts: usize,
-    pub equal: usize,
-    pub different: usize,
-    pub bad: usize,
-    pub fault: usize,
-    /// Ctrl-C came first.
-    pub not_judged: usize,
+/// A name as a terminal may show it: control characters are escaped.
+pub fn plain(text: &str) -> String {
+    let shown = |c: char| match c.is_control() {
+        true => c.escape_default().to_string(),
+        false => c.to_string(),
+    };
+    text.chars().map(shown).collect()
 }
 
-impl Summary {
-    pub fn of(judged: &[Judged], parts: usize) -> Summary {
-        let count = |verdict: Verdict| judged.iter().filter(|one| one.verdict == verdict).count();
-        Summary {
-            parts,
-            equal: count(Verdict::Equal),
-            different: count(Verdict::Different),
-            bad: count(Verdict::Bad),
-            fault: count(Verdict::Fault),
-            not_judged: parts - judged.len(),
-        }
-    }
-
-    /// `3 parts: 1 equal, 1 different, 1 bad`
-    pub fn text(&self) -> String {
-        let mut counts =
-            vec![format!("{} equal", self.equal), format!("{} different", self.different)];
-        for (count, what) in [
-            (self.bad, "bad"),
-            (self.fault, "where the independent model and the proved library differ"),
-            (self.not_judged, "not judged"),
-        ] {
-            if count > 0 {
-                counts.push(format!("{count} {what}"));
-            }
-        }
-        let s = if self.parts == 1 { "" } else { "s" };
-        format!("{} part{s}: {}", vb::grouped(self.parts as u64), counts.join(", "))
-    }
-
-    /// 3 for a fault, then 2 for a bad part, 1 for a different one.
-    pub fn status(&self) -> i32 {
-        match self {
-            _ if self.not_judged > 0 => crate::interrupt::STATUS,
-            _ if self.fault > 0 => 3,
-            _ if self.bad > 0 => 2,
-            _ if self.different > 0 => 1,
-            _ => 0,
-        }
-    }
+/// A path as a terminal may show it.
+pub fn plain_path(path: &Path) -> String {
+    plain(&path.to_string_lossy())
 }

@@ -4,7 +4,7 @@ use model::world::Eye;
 use serde::Serialize;
 use vb::{grouped, COLUMNS, ROWS, VRAM_LENGTH};
 
-use super::{Entry, Part};
+use super::{Entry, Eyes, Part};
 use crate::commands::compare::CAPTURE;
 use crate::commands::draw::Views;
 use crate::failure::Failure;
@@ -19,15 +19,29 @@ use crate::pictures::sources::{Share, Sources};
 #[derive(Clone, Copy, Debug, PartialEq, Eq, Serialize)]
 #[serde(rename_all = "lowercase")]
 pub enum Verdict {
-    Equal,
-    Different,
-    /// It could not be judged.
-    Bad,
+    /// Every capture that was asked for is there, valid and equal.
+    Pass,
+    /// Something differs.
+    Fail,
+    /// Something could not be judged: missing, unreadable, ambiguous or out of its range.
+    Invalid,
     /// The independent model and the proved library differ.
     Fault,
 }
 
-/// How much is told of a part that differs.
+impl Verdict {
+    /// The word of every report.
+    pub fn word(self) -> &'static str {
+        match self {
+            Verdict::Pass => "pass",
+            Verdict::Fail => "fail",
+            Verdict::Invalid => "invalid",
+            Verdict::Fault => "fault",
+        }
+    }
+}
+
+/// How much is reported of a part that differs.
 #[derive(Clone, Copy)]
 pub struct Wish {
     /// How many differing pixels are explained for each eye.
@@ -90,7 +104,7 @@ pub struct Pictures {
 pub fn judge(entry: &Entry, wish: Wish) -> Judged {
     let mut judged = Judged {
         name: entry.name.clone(),
-        verdict: Verdict::Bad,
+        verdict: Verdict::Invalid,
         frame: 0,
         vram: None,
         drawing: None,
@@ -104,17 +118,18 @@ pub fn judge(entry: &Entry, wish: Wish) -> Judged {
     };
     judged.failure = done.err();
     judged.verdict = match &judged {
-        Judged { failure: Some(_), .. } => Verdict::Bad,
         Judged { eyes, .. } if eyes.iter().any(|eye| !eye.agree) => Verdict::Fault,
-        Judged { eyes, .. } if eyes.iter().all(|eye| eye.equal) => Verdict::Equal,
-        _ => Verdict::Different,
+        Judged { failure: Some(_), .. } => Verdict::Invalid,
+        Judged { eyes, .. } if eyes.iter().all(|eye| eye.equal) => Verdict::Pass,
+        _ => Verdict::Fail,
     };
-    let wanted = wish.pictures && matches!(judged.verdict, Verdict::Different | Verdict::Fault);
+    let wanted = wish.pictures && matches!(judged.verdict, Verdict::Fail | Verdict::Fault);
     judged.eyes.iter_mut().for_each(|eye| eye.show(wanted));
     judged
 }
 
 impl Judged {
+    /// Judges each eye that there is a capture of. What is missing or wrong is the failure, all of it in one line.
     fn part(&mut self, part: &Part, wish: Wish) -> Result<(), Failure> {
         self.frame = part.frame.unwrap_or(0);
         let Part { state, vram, drawing, .. } = part.clone();
@@ -123,46 +138,82 @@ impl Judged {
         self.read.extend(scene.vram.identity);
         self.read.extend(scene.drawing_file.identity);
         let drawn = scene.drawn(self.frame)?;
-        for (eye, input) in captures(part)? {
-            self.read.extend(input.identity);
-            let threshold = part.threshold.unwrap_or(0);
-            let wanted = Wanted { frame: self.frame, eye: eye.number(), threshold };
-            let capture = Capture::read(&input, wanted)?;
-            let expected = Views::one(&drawn, self.frame, eye.number());
-            self.eyes.push(judge_eye(&scene, eye, input.name(), expected, capture, wish)?);
+        let mut wrong: Vec<Failure> = Vec::new();
+        for eye in [Eye::Left, Eye::Right] {
+            if let Err(failure) = self.eye(part, &scene, &drawn, eye, wish) {
+                if wrong.iter().all(|before| before.message != failure.message) {
+                    wrong.push(failure);
+                }
+            }
         }
+        let messages: Vec<&str> = wrong.iter().map(|one| one.message.as_str()).collect();
+        let message = messages.join("; ");
+        match wrong.first() {
+            Some(first) => Err(Failure { message, ..first.clone() }),
+            None => Ok(()),
+        }
+    }
+
+    fn eye(
+        &mut self,
+        part: &Part,
+        scene: &Read,
+        drawn: &[u8],
+        eye: Eye,
+        wish: Wish,
+    ) -> Result<(), Failure> {
+        let Some(input) = capture(part, eye)? else { return Ok(()) };
+        self.read.extend(input.identity);
+        let threshold = part.threshold.unwrap_or(0);
+        let wanted = Wanted { frame: self.frame, eye: eye.number(), threshold };
+        let capture = Capture::read(&input, wanted)?;
+        let expected = Views::one(drawn, self.frame, eye.number());
+        self.eyes.push(judge_eye(scene, eye, input.name(), expected, capture, wish)?);
         Ok(())
     }
 
-    /// One line for a list: what differs, or what is wrong.
+    /// One line for a list: what is wrong, and what differs.
     pub fn line(&self) -> String {
-        if let Some(failure) = &self.failure {
-            return failure.message.clone();
+        let found: Vec<String> = self.eyes.iter().map(EyeJudged::line).collect();
+        let found = format!("frame {}, {}", self.frame, found.join("; "));
+        match &self.failure {
+            None => found,
+            Some(failure) if self.eyes.is_empty() => failure.message.clone(),
+            Some(failure) => format!("{}; {found}", failure.message),
         }
-        let told: Vec<String> = self.eyes.iter().map(EyeJudged::line).collect();
-        format!("frame {}, {}", self.frame, told.join("; "))
     }
 }
 
-/// The captures with their eyes; there must be one.
-fn captures(part: &Part) -> Result<Vec<(Eye, Input)>, Failure> {
-    let mut all = Vec::new();
+/// An eye's capture; none where it is not there and was not asked for.
+fn capture(part: &Part, eye: Eye) -> Result<Option<Input>, Failure> {
     if let Some(path) = &part.capture {
         let input = Input::read(path, "a whole VRAM of 262,144 bytes")?;
         if input.bytes.len() != VRAM_LENGTH {
             let rule = "a capture of both eyes is a whole VRAM of 262,144 bytes";
             return Err(Failure::bad(input.wrong(rule)));
         }
-        all.extend([(Eye::Left, input.clone()), (Eye::Right, input)]);
+        return Ok(Some(input));
     }
-    for (eye, path) in [(Eye::Left, &part.left), (Eye::Right, &part.right)] {
-        if let Some(path) = path {
-            all.push((eye, Input::read(path, CAPTURE)?));
+    let path = if eye == Eye::Left { &part.left } else { &part.right };
+    let asked = part.eyes.unwrap_or_default();
+    match path {
+        Some(path) => Input::read(path, CAPTURE).map(Some),
+        None if part.left.is_none() && part.right.is_none() => {
+            Err(Failure::bad("it has no capture: left and right, or a whole VRAM of both"))
         }
+        None if asked.need(eye.number()) => Err(Failure::bad(missing(eye_name(eye), asked))),
+        None => Ok(None),
     }
-    match all.is_empty() {
-        true => Err(Failure::bad("it has no capture: left, right, or a whole VRAM of both")),
-        false => Ok(all),
+}
+
+/// What is said of an eye that has no capture.
+pub fn missing(eye: &str, asked: Eyes) -> String {
+    let other = if eye == "left" { "right" } else { "left" };
+    match asked {
+        Eyes::Both => format!(
+            "no capture of the {eye} eye; both eyes are asked for (--eyes {other} asks for one)"
+        ),
+        _ => format!("no capture of the {eye} eye, which was asked for"),
     }
 }
 
