@@ -18,7 +18,7 @@ use crate::reports::json::json;
 Numbers are decimal or, after 0x, hexadecimal; `_` may stand between digits. The file `-` is standard input.
 
 Exit status: 0 done (compare, judge, replay: pass); 1 compare, judge, replay: fail; 2 refused, invalid or bad input; 3 why,
-compare --why, judge: the independent model and the proved library differ; 130 stopped by Ctrl-C."
+compare --why, judge, selftest: the independent model and the proved library differ; 130 stopped by Ctrl-C."
 )]
 struct Cli {
     #[command(subcommand)]
@@ -51,6 +51,8 @@ enum Command {
     Disasm(commands::disasm::Options),
     /// Tells what a saved state holds, or which rule it breaks
     State(commands::state::Options),
+    /// Checks the linked library on this machine against the independent model and recorded answers
+    Selftest(commands::selftest::Options),
     /// Prints completions for a shell
     Completions(commands::pages::Completions),
     /// Prints the manual page
@@ -72,6 +74,7 @@ impl Command {
             Command::Asm(options) => options.json,
             Command::Disasm(options) => options.json,
             Command::State(options) => options.json(),
+            Command::Selftest(options) => options.json,
         }
     }
 
@@ -89,6 +92,7 @@ impl Command {
             Command::Asm(options) => commands::asm::run(options),
             Command::Disasm(options) => commands::disasm::run(options),
             Command::State(options) => commands::state::run(options),
+            Command::Selftest(options) => commands::selftest::run(options),
             Command::Completions(options) => {
                 Ok(commands::pages::completions(options, Cli::command()))
             }

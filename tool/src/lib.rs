@@ -13,3 +13,4 @@ pub mod pictures;
 pub mod programs;
 pub mod reports;
 pub mod running;
+pub mod selftest;

@@ -75,7 +75,7 @@ pub fn run(options: &Options) -> Result<Report, Failure> {
 
 /// The VIP's interrupt, which ends the HALT: its line is raised until the processor has accepted it. On the console the
 /// handler's write to INTCLR would take it back.
-fn interrupt(machine: &mut Machine, memories: &mut Memories) -> Result<u64, Failure> {
+pub fn interrupt(machine: &mut Machine, memories: &mut Memories) -> Result<u64, Failure> {
     machine.processor.hardware.lines |= VIP;
     let answer = machine.step(memories).map_err(refused)?;
     machine.processor.hardware.lines &= !VIP;
@@ -86,7 +86,7 @@ fn interrupt(machine: &mut Machine, memories: &mut Memories) -> Result<u64, Fail
 }
 
 /// Runs to the next HALT.
-fn to_halt(machine: &mut Machine, memories: &mut Memories) -> Result<u64, Failure> {
+pub fn to_halt(machine: &mut Machine, memories: &mut Memories) -> Result<u64, Failure> {
     let ran = machine.run(memories, BUDGET).map_err(refused)?;
     match ran.stop {
         Stop::Halted => Ok(ran.count),

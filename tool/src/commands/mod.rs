@@ -9,6 +9,7 @@ pub mod judge;
 pub mod pages;
 pub mod replay;
 pub mod run;
+pub mod selftest;
 pub mod state;
 pub mod step;
 pub mod trace;
