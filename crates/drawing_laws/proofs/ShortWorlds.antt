@@ -1,23 +1,23 @@
 -- W3: the rows that a world covers. For GY from 0 to 223 a normal or H-bias world covers the rows of H + 1 and those to
--- the end of GY's strip, and no others; an affine world those of H + 1. Assumes nothing.
+-- the end of GY's strip, and no others; an affine world, and a world with any other GY, those of H + 1. Assumes nothing.
 use Prim.Native.Nat.{ℕ, _+_, _-_, _*_, _/_, _%_, _≤_, _<_, max}
 use native.Mathlib.Omega.{arith}
 use mathlib.Core.Bool.{Bool, true, false, _&&_, _||_, not}
 use mathlib.Core.List.{List}
 use mathlib.Core.Path.{_≡_, refl, sym, ap, _∙_}
-use borrow.Author.Tests.{eq-eqb, ne-eqb, le-leb, lt-ltb, leb-true, ltb-true, ltb-false, eqb-true}
+use borrow.Author.Tests.{eq-eqb, ne-eqb, le-leb, lt-ltb, leb-true, ltb-true, ltb-false}
 use lib.Dec.{eqb, leb, ltb}
 use lib.IntN.{pos, _+ℤ_}
 use Rattle.word.specs.Choose.{pick}
 use Rattle.drawing_pixel.specs.World.{worldOf, bgmOf, gyOf, heightOf, topInImageOf, rowsOf, worldShownOf, columnCoveredOf, rowCoveredOf, worldCoversOf}
 use Rattle.drawing_pixel.specs.Fields.{GY}
 use Rattle.word.specs.Integers.{aboveZero}
-use Rattle.drawing_pixel.proofs.HeightFormulas.{world-height}
+use Rattle.drawing_pixel.proofs.HeightFormulas.{world-height, top-in-image}
 use Rattle.drawing_pixel.specs.WindowFormulas.{plainRow}
 use Rattle.drawing_pixel.proofs.WindowFormulas.{window-top, plain-row}
 use Rattle.drawing_pixel.proofs.Painting.{world-covers}
 use Rattle.drawing_laws.specs.Covers.{reachedOf, backgroundCoversOf}
-use Rattle.drawing_laws.specs.ShortWorlds.{Showing, WorldTopInImage, StripCovered, AddedInStrip, PlainCovered, AffinePlain, FiveRows}
+use Rattle.drawing_laws.specs.ShortWorlds.{Showing, WorldTopInImage, StripCovered, AddedInStrip, PlainCovered, AffinePlain, OutsidePlain, FiveRows}
 use Rattle.word.proofs.Choices.{and-left, and-right, and-both, not-of-false}
 
 -- GY as it is kept
@@ -35,18 +35,13 @@ rows-in-image w g b e s =
     let rest : gyOf w % 8 ≡ g % 8 = omega arith in
     rw rest (simp (ne-eqb _ _ n, le-leb _ _ low, le-leb _ _ high))
 
-none-or-eight : (none : Bool) (h : ℕ) → (none ≡ true → h ≡ 0) → h ≤ pick none 0 (max h 8)
-none-or-eight true h e = let z = e refl in omega arith
-none-or-eight false h e = omega arith
-
-no-shorter : (affine inside : Bool) (h r : ℕ) → h ≤ pick affine h (pick inside (max h r) (pick (eqb h 0) 0 (max h 8)))
-no-shorter true inside h r = omega arith
-no-shorter false true h r = omega arith
-no-shorter false false h r = none-or-eight (eqb h 0) h (eqb-true h 0)
+no-shorter : (inside : Bool) (h r : ℕ) → h ≤ pick inside (max h r) h
+no-shorter true h r = omega arith
+no-shorter false h r = omega arith
 
 rows-no-shorter : (w : List ℕ) → heightOf w ≤ rowsOf w
 unfolding rowsOf
-rows-no-shorter w = no-shorter (eqb (bgmOf w) 2) (topInImageOf w) (heightOf w) _
+rows-no-shorter w = no-shorter (not (eqb (bgmOf w) 2) && topInImageOf w) (heightOf w) _
 
 row-from : (w : List ℕ) (y : ℕ) → gyOf w ≤ y + 32768 → y + 32768 < gyOf w + rowsOf w → rowCoveredOf w y ≡ true
 unfolding rowCoveredOf
@@ -119,13 +114,33 @@ affine-rows : (w : List ℕ) → bgmOf w ≡ 2 → rowsOf w ≡ heightOf w
 unfolding rowsOf
 affine-rows w b = simp (eq-eqb _ _ b)
 
-pub affine-plain : AffinePlain
-affine-plain vram eye x y n b covered =
+plain-else : (mode : Bool) (h r : ℕ) → pick (mode && false) (max h r) h ≡ h
+plain-else true h r = refl
+plain-else false h r = refl
+
+outside-rows : (w : List ℕ) → topInImageOf w ≡ false → rowsOf w ≡ heightOf w
+unfolding rowsOf
+outside-rows w o =
+    ap (λ b. pick (not (eqb (bgmOf w) 2) && b) (max (heightOf w) (8 - gyOf w % 8)) (heightOf w)) o
+    ∙ plain-else (not (eqb (bgmOf w) 2)) (heightOf w) _
+
+-- a world of H + 1 rows covers no other row
+plain-alone : (vram : List ℕ) (eye x y n : ℕ) → rowsOf (worldOf vram n) ≡ heightOf (worldOf vram n)
+    → backgroundCoversOf vram eye x y n ≡ true
+    → plainRow (worldOf vram n) y ≡ true
+plain-alone vram eye x y n e covered =
     let w = worldOf vram n in
     let held = covers-row vram eye x y n covered in
     let first = row-first w y held in
-    let last : y + 32768 < gyOf w + heightOf w = omega (arith, row-last w y held, affine-rows w b) in
+    let last : y + 32768 < gyOf w + heightOf w = omega (arith, row-last w y held, e) in
     sym (plain-row w y) ∙ and-both (leb (gyOf w) (y + 32768)) _ (le-leb _ _ first) (lt-ltb _ _ last)
+
+pub affine-plain : AffinePlain
+affine-plain vram eye x y n b = plain-alone vram eye x y n (affine-rows (worldOf vram n) b)
+
+pub outside-plain : OutsidePlain
+outside-plain vram eye x y n o =
+    plain-alone vram eye x y n (outside-rows (worldOf vram n) (top-in-image (worldOf vram n) ∙ o))
 
 pub five-rows : FiveRows
 five-rows w b g h =

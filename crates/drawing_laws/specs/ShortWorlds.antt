@@ -1,6 +1,7 @@
 -- W3 of paper 02, "Short worlds are taller on the chip", in the request's own words and of "covers" (specs/Covers).
--- The proofs are `strip-covered`, `added-in-strip`, `plain-covered`, `affine-plain` and `five-rows` in proofs/. GY and
--- H are signed; strip s is rows 8s to 8s + 7, so that the strip holding row g ends above row 8 (g / 8 + 1).
+-- The proofs are `strip-covered`, `added-in-strip`, `plain-covered`, `affine-plain`, `outside-plain` and `five-rows` in
+-- proofs/. GY and H are signed; strip s is rows 8s to 8s + 7, so that the strip holding row g ends above row
+-- 8 (g / 8 + 1).
 use Prim.Native.Nat.{ℕ, _+_, _*_, _/_, _≤_, _<_}
 use mathlib.Core.Bool.{true, false}
 use mathlib.Core.List.{List}
@@ -8,6 +9,7 @@ use mathlib.Core.Path.{_≡_}
 use lib.IntN.{pos}
 use Rattle.drawing_pixel.specs.World.{worldOf, bgmOf, rowsOf, worldShownOf, columnCoveredOf}
 use Rattle.drawing_pixel.specs.Fields.{GY, H}
+use Rattle.drawing_pixel.specs.HeightFormulas.{topInImage}
 use Rattle.drawing_pixel.specs.WindowFormulas.{plainRow}
 use Rattle.drawing_laws.specs.Covers.{reachedOf, backgroundCoversOf}
 
@@ -53,6 +55,13 @@ PlainCovered =
 abbrev pub AffinePlain : Type 0
 AffinePlain =
     (vram : List ℕ) (eye x y n : ℕ) → bgmOf (worldOf vram n) ≡ 2
+    → backgroundCoversOf vram eye x y n ≡ true
+    → plainRow (worldOf vram n) y ≡ true
+
+-- where no strip of the image holds GY, a world covers no row that H + 1 does not (R5)
+abbrev pub OutsidePlain : Type 0
+OutsidePlain =
+    (vram : List ℕ) (eye x y n : ℕ) → topInImage (worldOf vram n) ≡ false
     → backgroundCoversOf vram eye x y n ≡ true
     → plainRow (worldOf vram n) y ≡ true
 

@@ -2,21 +2,18 @@
 use Prim.Native.Nat.{ℕ, _+_, _-_, _%_}
 use native.Mathlib.Nat as NatL
 use native.Mathlib.Omega.{arith}
-use mathlib.Core.Path.{_≡_, sym, ap, subst, _∙_}
+use mathlib.Core.Path.{_≡_, sym, ap, _∙_}
 use mathlib.Core.List.{List}
-use lib.Dec.{T, eqb, leb, ltb, ltb→lt, lt→ltb, eqb→eq}
-use borrow.Author.Tests.{eq-eqb}
+use lib.Dec.{leb}
 use lib.ListN.{getD}
 use lib.IntN.{pos, _-ℤ_}
-use lib.Signed.{leZ, ltZ}
-use Rattle.drawing_pixel.specs.Signed.{biasedOf}
-use Rattle.drawing_pixel.specs.World.{gyOf, heightOf, stripRestOf, rowsOf}
+use lib.Signed.{leZ}
+use Rattle.drawing_pixel.specs.World.{gyOf, stripRestOf, rowsOf}
 use Rattle.word.specs.Integers.{aboveZero}
-use Rattle.word.proofs.Choices.{bool-same}
-use Rattle.word.proofs.Integers.{is-pos, is-difference, is-le-test, is-lt-test, is-above}
+use Rattle.word.proofs.Integers.{is-pos, is-difference, is-le-test, is-above}
 use Rattle.word.specs.Floors.{modZ}
 use Rattle.word.proofs.Floors.{is-mod}
-use Rattle.drawing_pixel.specs.Fields.{GY, H}
+use Rattle.drawing_pixel.specs.Fields.{GY}
 use Rattle.drawing_pixel.proofs.Fields.{is-field, field-plus-one}
 use Rattle.drawing_pixel.specs.HeightFormulas.{WorldHeight, TopInImage, StripRest, WorldRows}
 
@@ -39,16 +36,6 @@ strip-rest w =
     let g : stripRestOf w ≡ 8 + 0 - (0 + gyOf w % 8) = omega arith in
     g ∙ sym f ∙ ap (λ z. aboveZero (pos 8 -ℤ z)) e
 
-no-height : (w : List ℕ) → eqb (heightOf w) 0 ≡ ltZ (H w) (pos 0)
-no-height w =
-    let e : ltZ (H w) (pos 0) ≡ ltb (biasedOf 32768 (getD w 8 0) + 0) 32768 =
-    is-lt-test (is-field 32768 (getD w 8 0) (omega arith)) (is-pos 0) in
-    bool-same (eqb (heightOf w) 0) (ltb (biasedOf 32768 (getD w 8 0) + 0) 32768)
-    (λ t. let h = eqb→eq (heightOf w) 0 t in lt→ltb (biasedOf 32768 (getD w 8 0) + 0) 32768 (omega arith))
-    (λ t. let h = ltb→lt (biasedOf 32768 (getD w 8 0) + 0) 32768 t in
-    subst T (sym (eq-eqb (heightOf w) 0 (omega arith))) tt)
-    ∙ sym e
-
 pub world-rows : WorldRows
 unfolding rowsOf
-world-rows w = rw (top-in-image w, strip-rest w, no-height w, world-height w)
+world-rows w = rw (top-in-image w, strip-rest w, world-height w)

@@ -1,14 +1,14 @@
--- The rows of a world in the cases that the code tells apart: by BGM, by GY as the halfword it is stored in, by H + 1.
+-- The rows of a world in the cases that the code tells apart: by BGM, by GY as the halfword it is stored in.
 -- Assumes nothing.
 use Prim.Native.Nat.{ℕ, _-_, _/_, _%_, _<_, _≤_, max}
 use native.Mathlib.Decide.{decLt}
 use native.Mathlib.Omega.{arith}
-use mathlib.Core.Path.{_≡_, _∙_}
+use mathlib.Core.Path.{_≡_}
 use mathlib.Core.Bool.{and-false}
 use mathlib.Core.List.{List}
 use borrow.Author.Tests.{eq-eqb, ne-eqb, lt-leb, le-leb}
 use lib.ListN.{getD}
-use Rattle.drawing_pixel.specs.World.{bgmOf, gyOf, heightOf, atLeastEight, rowsOf}
+use Rattle.drawing_pixel.specs.World.{bgmOf, gyOf, heightOf, rowsOf}
 
 module _ (w : List ℕ) where
   pub rows-affine : bgmOf w ≡ 2 → rowsOf w ≡ heightOf w
@@ -25,17 +25,10 @@ module _ (w : List ℕ) where
       rw rest (simp (ne-eqb _ _ b, le-leb _ _ low, le-leb _ _ high))
 
   -- any other halfword is a GY below 0 or above 223
-  pub rows-outside : (bgmOf w ≡ 2 → ⊥) → 224 ≤ getD w 3 0 → getD w 3 0 < 65536 → rowsOf w ≡ atLeastEight (heightOf w)
+  pub rows-outside : (bgmOf w ≡ 2 → ⊥) → 224 ≤ getD w 3 0 → getD w 3 0 < 65536 → rowsOf w ≡ heightOf w
   unfolding rowsOf
   rows-outside b g s =
       elim (decLt (getD w 3 0) 32768) [
         | yes l ↦ let high : 32991 < gyOf w = omega arith in simp (ne-eqb _ _ b, lt-leb _ _ high, and-false)
         | no n ↦ let low : gyOf w < 32768 = omega arith in simp (ne-eqb _ _ b, lt-leb _ _ low)
       ]
-
-  pub rows-none : (bgmOf w ≡ 2 → ⊥) → 224 ≤ getD w 3 0 → getD w 3 0 < 65536 → heightOf w ≡ 0 → rowsOf w ≡ 0
-  rows-none b g s h = rows-outside b g s ∙ simp (eq-eqb _ _ h)
-
-  pub rows-eight : (bgmOf w ≡ 2 → ⊥) → 224 ≤ getD w 3 0 → getD w 3 0 < 65536 → (heightOf w ≡ 0 → ⊥)
-      → rowsOf w ≡ max (heightOf w) 8
-  rows-eight b g s h = rows-outside b g s ∙ simp (ne-eqb _ _ h)

@@ -1,12 +1,12 @@
 -- The rows of a world over the integers: readings R4 and R5, and W3 ("Short worlds are taller on the chip").
--- `rows` has the four cases, with GY and H signed; `world-rows` says that drawing is proved against them.
+-- `rows` has two cases, with GY and H signed; `world-rows` says that drawing is proved against them.
 use Prim.Native.Nat.{ℕ, _+_, _-_, max}
 use mathlib.Core.Path.{_≡_}
-use mathlib.Core.Bool.{Bool, _&&_}
+use mathlib.Core.Bool.{Bool, _&&_, not}
 use mathlib.Core.List.{List}
 use lib.Dec.{eqb}
 use lib.IntN.{pos, _+ℤ_, _-ℤ_}
-use lib.Signed.{leZ, ltZ}
+use lib.Signed.{leZ}
 use Rattle.word.specs.Choose.{pick}
 use Rattle.drawing_pixel.specs.World.{bgmOf, heightOf, topInImageOf, stripRestOf, rowsOf}
 use Rattle.word.specs.Integers.{aboveZero}
@@ -34,13 +34,12 @@ abbrev pub StripRest : Type 0
 StripRest =
     (w : List ℕ) → stripRestOf w ≡ stripRest w
 
--- the rows of a world. Affine: H + 1. Normal and H-bias: at least W3's strip for GY from 0 to 223; for any other GY no
--- rows where H is negative, and at least 8 where it is not (R5)
+-- the rows of a world: max(0, H + 1, 8 - GY mod 8) where it is normal or H-bias and GY is from 0 to 223 (W3);
+-- max(0, H + 1) where it is affine or no strip of the image holds GY (R5)
 abbrev pub rows : List ℕ → ℕ
 rows w =
-    pick (eqb (bgmOf w) 2) (aboveZero (H w +ℤ pos 1))
-    (pick (topInImage w) (max (aboveZero (H w +ℤ pos 1)) (stripRest w))
-    (pick (ltZ (H w) (pos 0)) 0 (max (aboveZero (H w +ℤ pos 1)) 8)))
+    pick (not (eqb (bgmOf w) 2) && topInImage w) (max (aboveZero (H w +ℤ pos 1)) (stripRest w))
+    (aboveZero (H w +ℤ pos 1))
 
 abbrev pub WorldRows : Type 0
 WorldRows =

@@ -91,17 +91,11 @@ topInImageOf w = leb 32768 (gyOf w) && leb (gyOf w) (223 + 32768)
 abbrev pub stripRestOf : List ℕ → ℕ
 stripRestOf w = 8 - gyOf w % 8
 
--- 000's "minimum height .. is 8 pixels, even if H is in the range of 0 to 6"; no rows where H is negative, which 000
--- leaves open
-abbrev pub atLeastEight : ℕ → ℕ
-atLeastEight height = pick (eqb height 0) 0 (max height 8)
-
--- the rows of a world: an affine world has H + 1; a normal or H-bias world at least those to the end of GY's strip,
--- and where no strip of the image holds GY at least 8
+-- the rows of a world: H + 1; a normal or H-bias world whose GY a strip of the image holds has at least those to the
+-- end of that strip
 unfoldable pub rowsOf : List ℕ → ℕ
 rowsOf w =
-    pick (eqb (bgmOf w) 2) (heightOf w)
-    (pick (topInImageOf w) (max (heightOf w) (stripRestOf w)) (atLeastEight (heightOf w)))
+    pick (not (eqb (bgmOf w) 2) && topInImageOf w) (max (heightOf w) (stripRestOf w)) (heightOf w)
 
 -- the window's left edge for an eye, plus 1,024: GX - GP left, GX + GP right
 unfoldable pub windowLeftOf : List ℕ → ℕ → ℕ

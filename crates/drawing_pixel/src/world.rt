@@ -56,7 +56,8 @@ pub fn height(w: &[u16; 11]) -> usize
     biased + 1 - 32768
 }
 
-// The rows of a world. GY is signed: as a halfword it is below 224 exactly where it is from 0 to 223.
+// The rows of a world. GY is signed: as a halfword it is below 224 exactly where it is from 0 to 223, so that a strip
+// of the image holds it.
 pub fn rows(w: &[u16; 11]) -> usize
     ensures { λ r. ⌜ (r ≡ rowsOf (now (w .entry))) × (r ≤ 32768) ⌝ }
 {
@@ -69,10 +70,7 @@ pub fn rows(w: &[u16; 11]) -> usize
     if top < 224 {
         return greatest(stored, 8 - top % 8);
     }
-    if stored == 0 {
-        return 0;
-    }
-    greatest(stored, 8)
+    stored
 }
 
 // The left edge of a world's window for an eye, plus 1,024.

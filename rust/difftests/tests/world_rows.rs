@@ -1,9 +1,10 @@
 //! The height of worlds (W3): every GY around the image and every small H, for
-//! each kind of background world, and demand 3's list in the rows that the
-//! least height adds.
+//! each kind of background world, and demand 3's list: in the rows that W3
+//! adds, and where no strip holds GY, so that W3 adds none.
 
 #![cfg(feature = "drawing")]
 
+use difftests::machine::to_library;
 use difftests::random::Random;
 use difftests::scene::{
     draw_by_library, expect_same_drawing, random_world, Draw, Scene, WorldHalves, AFFINE, H_BIAS,
@@ -12,13 +13,14 @@ use difftests::scene::{
 use model::answers::{answers, Answers, Covered};
 use model::drawing::pixel;
 use model::world::Eye;
+use vbsys::{pixel_bytes, Listed};
 
 const KINDS: [u16; 3] = [NORMAL, H_BIAS, AFFINE];
 /// Pixels of added rows looked at.
 const PIXELS: u64 = 400;
 
 /// H from -3 to 17, and both extremes: 23 heights.
-fn heights() -> Vec<i32> {
+fn small_and_extreme() -> Vec<i32> {
     (-3..=17).chain([-32_768, 32_767]).collect()
 }
 
@@ -35,7 +37,7 @@ fn parameter_base(random: &mut Random) -> i32 {
 /// parameters are random, so that each row has its own.
 fn side_by_side(random: &mut Random, kind: u16, gy: i32) -> Scene {
     let mut scene = Scene::random(random);
-    for (n, h) in heights().into_iter().enumerate() {
+    for (n, h) in small_and_extreme().into_iter().enumerate() {
         let world = WorldHalves {
             flags: 0xC000 | kind << 12 | random.half() & 0x0F8F,
             gx: 16 * n as i32,
@@ -158,6 +160,77 @@ fn everything_to_the_end_of_the_strip() {
     }
 }
 
+/// GY in the 16 rows above the image and in the 16 below it: no strip holds it.
+fn gy_outside() -> impl Iterator<Item = i32> {
+    (-16..0).chain(224..240)
+}
+
+/// Where no strip holds GY, the library lights rows GY to GY + H of the image and
+/// no other, whatever the kind. Names every GY and H that differ.
+#[test]
+fn where_no_strip_holds_gy_rows_end_at_gy_plus_h() {
+    let mut wrong = Vec::new();
+    for kind in KINDS {
+        let mut scene = opaque(kind, 0, 0);
+        for gy in gy_outside() {
+            for (n, h) in (-3..=17).enumerate() {
+                let (flags, gx) = (0xC000 | kind << 12, 16 * n as i32);
+                let world = WorldHalves { flags, gx, gy, w: 15, h, ..WorldHalves::default() };
+                scene.put_world(31 - n, &world);
+            }
+            let frame = Draw::Frame { frame: 1 };
+            assert_eq!(draw_by_library(frame, &mut scene.vram, &scene.drawing), 0);
+            for (n, h) in (-3..=17).enumerate() {
+                let due = |y: i32| gy <= y && y <= gy + h;
+                let lit = |eye, x, y: i32| pixel(&scene.vram, 1, eye, x, y as u32) == 3;
+                let columns = 16 * n as u32..16 * (n as u32 + 1);
+                let differs =
+                    |eye| columns.clone().any(|x| (0..224).any(|y| lit(eye, x, y) != due(y)));
+                if Eye::BOTH.into_iter().any(differs) {
+                    wrong.push(format!("kind {kind}, GY {gy}, H {h}"));
+                }
+            }
+        }
+    }
+    assert!(wrong.is_empty(), "{} of 2,016 worlds differ: {wrong:#?}", wrong.len());
+}
+
+/// Compares the library's list of a pixel's bytes with the model's. Gives the
+/// list's length.
+fn expect_same_list(scene: &Scene, pixel: (Eye, u32, u32), what: &dyn Fn() -> String) -> usize {
+    let (eye, x, y) = pixel;
+    let account = answers(&scene.vram, &scene.drawing, eye, x, y).unwrap();
+    let due: Vec<u32> = account.listed().iter().map(|&address| address as u32).collect();
+    let mut room = vec![0; due.len() + 16];
+    let registers = to_library(&scene.drawing);
+    let listed = pixel_bytes(&scene.vram, registers, eye.number(), x, y, &mut room);
+    let expected = Listed { refusal: 0, count: due.len() as u64 };
+    assert_eq!(listed, expected, "{eye:?} ({x}, {y}); {}", what());
+    assert_eq!(room[..due.len()], due, "{eye:?} ({x}, {y}); {}", what());
+    due.len()
+}
+
+/// Where no strip holds GY: the lists of pixels in the image's first and last
+/// strip, both eyes, at the columns where windows start and end.
+#[test]
+fn where_no_strip_holds_gy_byte_lists_agree() {
+    let (mut covered, mut uncovered) = (0, 0);
+    for (kind, gy) in KINDS.into_iter().flat_map(|kind| gy_outside().map(move |gy| (kind, gy))) {
+        let mut random = Random::new(0x3006_0000 + 1_000 * u64::from(kind) + (gy + 16) as u64);
+        let scene = side_by_side(&mut random, kind, gy);
+        let what = || format!("kind {kind}, GY {gy}");
+        for eye in Eye::BOTH {
+            for x in (0..384).filter(|x| [0, 1, 7, 14, 15].contains(&(x % 16))) {
+                for y in (0..8).chain(216..224) {
+                    let length = expect_same_list(&scene, (eye, x, y), &what);
+                    *(if length == 0 { &mut uncovered } else { &mut covered }) += 1;
+                }
+            }
+        }
+    }
+    assert!(covered > 10_000 && uncovered > 10_000, "{covered} covered, {uncovered} uncovered");
+}
+
 /// The 32 world and the 1,024 object records.
 fn in_tables(address: usize) -> bool {
     (0x3D800..0x3DC00).contains(&address) || (0x3E000..0x40000).contains(&address)
@@ -201,7 +274,7 @@ fn pixels_of_added_rows_answer_to_their_bytes() {
     for number in 0..PIXELS {
         let mut random = Random::new(0x3005_0000 + number);
         let kind = random.pick(&[NORMAL, H_BIAS]);
-        let gy = random.between(-6, 223);
+        let gy = random.between(0, 223);
         let scene = side_by_side(&mut random, kind, gy);
         let account = pixel_of_added_row(&mut random, &scene, gy);
         let before = drawn(&scene.vram, &scene, &account);

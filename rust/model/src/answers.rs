@@ -40,7 +40,7 @@ pub enum Covered {
         /// some H.
         stored_rows: i32,
         /// The height that is drawn. A pixel with j of `stored_rows` or more
-        /// lies in a row that the least height has added.
+        /// lies in a row that W3 adds: one of the strip that holds GY.
         rows: i32,
         /// The source position in the background, before it wraps.
         source: (i32, i32),

@@ -143,28 +143,26 @@ impl World {
         self.h + 1
     }
 
-    /// The height that is drawn: H + 1 for affine worlds, and for normal and
-    /// H-bias worlds at least [`World::least_rows`].
+    /// The height that is drawn. 01's H + 1 is the plain rule, which affine
+    /// worlds keep. A normal or H-bias world also covers the rest of the strip
+    /// that holds GY (W3).
     pub fn rows(&self) -> i32 {
-        let stored = self.stored_rows().max(0);
+        let plain = self.stored_rows().max(0);
         match self.kind {
-            WorldKind::Normal | WorldKind::HBias => stored.max(self.least_rows()),
-            WorldKind::Affine | WorldKind::Object => stored,
+            WorldKind::Normal | WorldKind::HBias => plain.max(self.rest_of_strip()),
+            WorldKind::Affine | WorldKind::Object => plain,
         }
     }
 
-    /// The least height of a normal or H-bias world. With GY on the image it is
-    /// W3's, by 001: "the entire portion of that strip below GY". Elsewhere it
-    /// is 000's "minimum height of normal and H-bias worlds is 8 pixels", which
-    /// says nothing of a negative H: 01 decides there, and H + 1 is no row (R5).
-    fn least_rows(&self) -> i32 {
-        let on_the_image = 0 <= self.gy && self.gy < HEIGHT;
-        if on_the_image {
+    /// The rows from GY to the end of the strip that holds it; 0 where no strip
+    /// does. 02: "at least everything from GY to the end of the strip holding
+    /// it", "for GY from 0 to 223". 001: "if GY is located within a given strip,
+    /// the entire portion of that strip below GY will be covered by the world".
+    fn rest_of_strip(&self) -> i32 {
+        if (0..HEIGHT).contains(&self.gy) {
             STRIP_ROWS - self.gy % STRIP_ROWS
-        } else if self.h < 0 {
-            0
         } else {
-            LEAST_ROWS
+            0
         }
     }
 
@@ -219,8 +217,6 @@ impl World {
     }
 }
 
-/// 000: "The minimum height of normal and H-bias worlds is 8 pixels".
-const LEAST_ROWS: i32 = 8;
 /// Rows of a strip.
 const STRIP_ROWS: i32 = 8;
 

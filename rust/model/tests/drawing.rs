@@ -95,6 +95,51 @@ fn added_rows_end_with_their_strip() {
     }
 }
 
+/// No strip holds GY above or below the image: no row is added to H + 1.
+#[test]
+fn where_no_strip_holds_gy_a_world_has_h_plus_1_rows() {
+    for gy in (-16..0).chain(224..240).chain([-32_768, 32_767]) {
+        for h in (-3..=17).chain([-32_768, 32_767]) {
+            for flags in [0xC000, 0xD000, 0xE000] {
+                let halves = [flags, 0, 0, gy as u16, 0, 0, 0, 0, h as u16, 0, 0];
+                let world = World::read(&one_world(&halves), 31);
+                assert_eq!(world.rows(), (h + 1).max(0), "{halves:X?}");
+                for y in 0..224 {
+                    let due = gy <= y && y <= gy + h;
+                    assert_eq!(world.visible_rows().contains(&y), due, "{halves:X?}, row {y}");
+                }
+            }
+        }
+    }
+}
+
+/// Worked rows of the image, and the accounts of their pixels.
+#[test]
+fn rows_of_the_image_that_a_short_world_lights() {
+    for (gy, h, due) in [
+        (-1, 0, vec![]),
+        (-3, 1, vec![]),
+        (-3, 5, vec![0, 1, 2]),
+        (-7, 6, vec![]),
+        (-7, 7, vec![0]),
+        (224, 0, vec![]),
+        (224, 32_767, vec![]),
+        (3, 1, vec![3, 4, 5, 6, 7]),
+    ] {
+        for flags in [0xC000, 0xD000] {
+            let mut vram = one_world(&[flags, 0, 0, gy as u16, 0, 0, 0, 383, h as u16, 0x9000, 0]);
+            draw_frame(&mut vram, &PLAIN, 0).unwrap();
+            for eye in Eye::BOTH {
+                assert_eq!(lit_rows(&vram, eye, 9), due, "{flags:X}, GY {gy}, H {h}, {eye:?}");
+                for y in 0..224 {
+                    let account = answers(&vram, &PLAIN, eye, 9, y).unwrap();
+                    assert_eq!(account.covering_worlds(), usize::from(due.contains(&y)));
+                }
+            }
+        }
+    }
+}
+
 /// The account of a pixel of an added row shows both heights.
 #[test]
 fn accounts_show_both_heights() {

@@ -71,7 +71,7 @@ pub const PROBES: [(usize, u32, Option<usize>); 19] = [
 
 /// W3: GY, H, the rows of a normal or an H-bias world, and of an affine one, those
 /// outside the image too.
-pub const HEIGHTS: [(i32, i32, i32, i32); 16] = [
+pub const HEIGHTS: [(i32, i32, i32, i32); 25] = [
     (3, 1, 5, 2),
     (3, 2, 5, 3),
     (3, 4, 5, 5),
@@ -83,11 +83,20 @@ pub const HEIGHTS: [(i32, i32, i32, i32); 16] = [
     (216, -32_768, 8, 0),
     (223, 0, 1, 1),
     (223, 32_767, 32_768, 32_768),
-    (-1, 0, 8, 1),
+    (-1, 0, 1, 1),
+    (-1, 1, 2, 2),
     (-1, -1, 0, 0),
-    (224, 0, 8, 1),
+    (-3, 1, 2, 2),
+    (-3, 5, 6, 6),
+    (-7, 6, 7, 7),
+    (-7, 7, 8, 8),
+    (-8, 7, 8, 8),
+    (-8, 8, 9, 9),
+    (-32_768, 32_767, 32_768, 32_768),
+    (224, 0, 1, 1),
     (224, -1, 0, 0),
     (224, 32_767, 32_768, 32_768),
+    (32_767, 0, 1, 1),
 ];
 
 /// W6: lines, count, reload and control before a tick and after it.

@@ -3,7 +3,7 @@ use borrow.Author.Needs.{needs}
 use Rattle.drawing_pixel.proofs.world.rows.Statement.{statement}
 use Rattle.drawing_pixel.proofs.world.rows.Tie as tie
 use native.Mathlib.Omega.{arith}
-use Rattle.drawing_pixel.proofs.Heights.{rows-affine, rows-in-image, rows-none, rows-eight}
+use Rattle.drawing_pixel.proofs.Heights.{rows-affine, rows-in-image, rows-outside}
 
 height-requires : tie.Need-height-requires
 height-requires c κs = search needs
@@ -30,14 +30,7 @@ returns-2 : tie.Need-returns-2
 returns-2 c = omega (arith, rows-in-image (c .before .before .before .before .before .before .before .args .w .now) (c .before .before .before .before .if1 .left) (omega arith))
 
 returns-3 : tie.Need-returns-3
-returns-3 c = omega (arith, rows-none (c .before .before .before .before .before .before .before .args .w .now) (c .before .before .before .before .if1 .left) (omega arith) (omega arith) (omega arith))
-
-greatest-requires-2 : tie.Need-greatest-requires-2
-greatest-requires-2 c κs = search needs
-
-returns-4 : tie.Need-returns-4
-returns-4 c =
-    omega (arith, rows-eight (c .before .before .before .before .before .before .before .before .args .w .now) (c .before .before .before .before .before .if1 .left) (omega arith) (omega arith) (λ e. omega arith))
+returns-3 c = omega (arith, rows-outside (c .before .before .before .before .before .before .args .w .now) (c .before .before .before .if1 .left) (omega arith) (omega arith))
 
 pub rows-spec : {M : Type 1} → statement M
 rows-spec =
@@ -51,6 +44,4 @@ rows-spec =
     sub-greatest
     greatest-requires
     returns-2
-    returns-3
-    greatest-requires-2
-    returns-4)
+    returns-3)
