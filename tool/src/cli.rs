@@ -1,12 +1,16 @@
 //! The command line: the commands, their options, and what is printed.
 
 use std::ffi::OsString;
-use std::io::{stderr, stdout, ErrorKind, Write};
+use std::io::{self, stderr, stdout, Write};
 
-use clap::{CommandFactory, Parser, Subcommand};
+use clap::error::ErrorKind;
+use clap::{CommandFactory, FromArgMatches, Parser, Subcommand};
 
 use crate::commands::{self, Report};
 use crate::failure::Failure;
+use crate::files::printable;
+use crate::interrupt;
+use crate::reports::arguments::wrong;
 use crate::reports::json::json;
 
 #[derive(Parser)]
@@ -15,10 +19,13 @@ use crate::reports::json::json;
     version,
     about = "Runs, draws and compares the proved reference model of the console",
     after_help = "Start with `vbmodel demo`; `vbmodel help COMMAND` has an example for each command.
-Numbers are decimal or, after 0x, hexadecimal; `_` may stand between digits. The file `-` is standard input.
+Numbers are decimal or, after 0x, hexadecimal; `_` may stand between digits. The file `-` is standard input; where a
+command is for one file, it is standard output there.
+No output may be a file that the command reads. All outputs are written, or none.
 
-Exit status: 0 done (compare, judge, replay: pass); 1 compare, judge, replay: fail; 2 refused, invalid or bad input; 3 why,
-compare --why, judge, selftest: the independent model and the proved library differ; 130 stopped by Ctrl-C."
+Exit status: 0 done (compare, judge, replay: pass); 1 compare, judge, replay: fail; 2 refused or bad input, or a capture
+or trace that cannot be judged; 3 why, compare --why, judge, selftest: the independent model and the proved library
+differ; 130 stopped by Ctrl-C, SIGTERM or SIGHUP."
 )]
 struct Cli {
     #[command(subcommand)]
@@ -31,9 +38,9 @@ enum Command {
     Demo(commands::demo::Options),
     /// Runs a program from memory images and prints the answer, the count and the registers
     Run(Box<commands::run::Options>),
-    /// Records a trace of a program: four words a completed step
+    /// Records a trace of a program: four words per completed step
     Trace(Box<commands::trace::Options>),
-    /// Steps the model beside a die's recorded trace and tells the first record that differs
+    /// Compares a die's recorded trace with the model and explains the first record that differs
     Replay(Box<commands::replay::Options>),
     /// Follows a program: what each instruction does to registers and memory
     Step(Box<commands::step::Options>),
@@ -43,13 +50,13 @@ enum Command {
     Compare(commands::compare::Options),
     /// Judges a whole lot: many captures against the model, with a report
     Judge(commands::judge::Options),
-    /// Tells which worlds and objects cover a pixel, and the bytes it answers to
+    /// Shows which worlds and objects cover a pixel, and the bytes it answers to
     Why(commands::why::Options),
     /// Assembles a program into a ROM image
     Asm(commands::asm::Options),
     /// Disassembles a ROM image into text that assembles to the same bytes
     Disasm(commands::disasm::Options),
-    /// Tells what a saved state holds, or which rule it breaks
+    /// Shows what a saved state holds, or which rule it breaks
     State(commands::state::Options),
     /// Checks the linked library on this machine against the independent model and recorded answers
     Selftest(commands::selftest::Options),
@@ -101,20 +108,38 @@ impl Command {
     }
 }
 
-/// Does what the arguments say, the first being the program's name, and gives the exit status.
-pub fn run(arguments: Vec<OsString>) -> i32 {
-    match Cli::try_parse_from(&arguments) {
+/// Does what the arguments say, the first being the program's name, and gives the exit status. Where standard output is
+/// closed, what is printed would be lost: nothing is done.
+pub fn run(arguments: Vec<OsString>, output_is_closed: bool) -> i32 {
+    if output_is_closed {
+        warn("vbmodel: standard output: is closed; it must be open, to a file, a pipe or a terminal\n");
+        return 2;
+    }
+    interrupt::install();
+    let parsed = description().try_get_matches_from(&arguments);
+    match parsed.and_then(|matches| Cli::from_arg_matches(&matches)) {
         Ok(Cli { command }) => reported(command.run(), command.json()),
-        Err(error) if error.use_stderr() => {
+        Err(error) if error.kind() == ErrorKind::DisplayHelpOnMissingArgumentOrSubcommand => {
             warn(&error.to_string());
+            2
+        }
+        Err(error) if error.use_stderr() => {
+            let line = wrong(&error, &Cli::command(), &arguments);
             let wants_json = arguments.iter().any(|argument| argument == "--json");
-            let message = error.to_string();
-            let failure = Failure::bad(message.trim_start_matches("error: ").trim_end());
-            let text = if wants_json { json(&failure) + "\n" } else { String::new() };
-            printed(&text, 2)
+            reported(Err(Failure::bad(printable(&line))), wants_json)
         }
         Err(help) => printed(&help.to_string(), 0),
     }
+}
+
+/// The commands; a value may be a negative number, which its own rule refuses or takes.
+fn description() -> clap::Command {
+    let names = Cli::command();
+    let names: Vec<String> =
+        names.get_subcommands().map(|one| one.get_name().to_string()).collect();
+    names.into_iter().fold(Cli::command(), |all, name| {
+        all.mut_subcommand(name, |one| one.allow_negative_numbers(true))
+    })
 }
 
 /// Prints what a command did or why it did not, and gives the exit status.
@@ -122,25 +147,37 @@ fn reported(done: Result<Report, Failure>, as_json: bool) -> i32 {
     match done {
         Ok(report) => {
             let text = if as_json { report.json + "\n" } else { report.text };
-            let status = printed(&text, report.status);
+            let status = match report.aside {
+                true => {
+                    warn(&text);
+                    report.status
+                }
+                false => printed(&text, report.status),
+            };
             if let Some(failure) = report.failure {
                 warn(&format!("vbmodel: {}\n", failure.message));
             }
             status
         }
         Err(failure) => {
-            warn(&format!("vbmodel: {}\n", failure.message));
+            warn(
+                &failure
+                    .message
+                    .lines()
+                    .map(|line| format!("vbmodel: {line}\n"))
+                    .collect::<String>(),
+            );
             let text = if as_json { json(&failure) + "\n" } else { String::new() };
             printed(&text, 2)
         }
     }
 }
 
-/// Prints to standard output. A reader that has gone away is no error of the command; anything else is one.
+/// Prints to standard output. A reader that has gone away is not an error of the command; anything else is one.
 fn printed(text: &str, status: i32) -> i32 {
     let mut out = stdout().lock();
-    match out.write_all(text.as_bytes()).and_then(|()| out.flush()) {
-        Err(error) if error.kind() != ErrorKind::BrokenPipe => {
+    match out.write_all(safe(text).as_bytes()).and_then(|()| out.flush()) {
+        Err(error) if error.kind() != io::ErrorKind::BrokenPipe => {
             warn(&format!("vbmodel: standard output: {error}\n"));
             2
         }
@@ -149,5 +186,15 @@ fn printed(text: &str, status: i32) -> i32 {
 }
 
 fn warn(text: &str) {
-    let _ = stderr().write_all(text.as_bytes());
+    let _ = stderr().write_all(safe(text).as_bytes());
+}
+
+/// Text whose lines have no control characters, whatever file they came from.
+fn safe(text: &str) -> String {
+    text.split_inclusive('\n')
+        .map(|line| match line.strip_suffix('\n') {
+            Some(line) => printable(line) + "\n",
+            None => printable(line),
+        })
+        .collect()
 }

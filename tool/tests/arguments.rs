@@ -20,7 +20,7 @@ fn wrong_8_argument_errors_are_json_where_json_is_asked_for() {
     {
         let ran = folder.vbmodel(arguments);
         assert_eq!(ran.status, 2, "{arguments}");
-        assert!(ran.error.starts_with("error: "), "{}", ran.error);
+        assert!(ran.error.starts_with("vbmodel: "), "{}", ran.error);
         let value: serde_json::Value = serde_json::from_str(&ran.text).unwrap();
         let error = value["error"].as_str().unwrap();
         assert!(ran.error.contains(error.lines().next().unwrap()), "{error}");
@@ -38,7 +38,7 @@ fn wrong_8_hexadecimal_numbers_and_underscores_are_taken() {
     assert_eq!(hex.text, demo.vbmodel(&format!("why left 192 120 {SCENE}")).text);
     let wrong = demo.vbmodel(&format!("draw {SCENE} --frame one"));
     assert!(
-        wrong.error.contains("`one` is no whole number; 1000, 1_000 and 0x3E8 are"),
+        wrong.error.contains("`one` is not a whole number; write 1000, 1_000 or 0x3E8"),
         "{}",
         wrong.error
     );

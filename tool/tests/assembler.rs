@@ -129,7 +129,10 @@ fn bad_input_names_the_line_and_writes_nothing() {
         assert_eq!(folder.names(), ["bad.s"], "{text}");
     }
     folder.write("bad.s", &[0x41, 0xFF]);
-    assert_eq!(folder.vbmodel("asm bad.s -o bad.rom").error, "vbmodel: bad.s: is no text\n");
+    assert_eq!(
+        folder.vbmodel("asm bad.s -o bad.rom").error,
+        "vbmodel: bad.s: is not a text file; it must be text in UTF-8\n"
+    );
     folder.write("bad.s", b"NOP");
     let over = folder.vbmodel("asm bad.s -o bad.s");
     assert!(over.error.contains("is read by this command"), "{}", over.error);
@@ -139,8 +142,8 @@ fn bad_input_names_the_line_and_writes_nothing() {
     folder.write("odd.rom", &[0]);
     for (arguments, message) in [
         ("disasm odd.rom", "an image has whole halfwords"),
-        ("disasm short.rom --from 0x05000000", "0x05000000 is no even address of ROM"),
-        ("disasm short.rom --from 0x07000001", "0x07000001 is no even address of ROM"),
+        ("disasm short.rom --from 0x05000000", "0x05000000 is not an even address of ROM"),
+        ("disasm short.rom --from 0x07000001", "0x07000001 is not an even address of ROM"),
         ("disasm none.rom", "No such file or directory"),
     ] {
         let ran = folder.vbmodel(arguments);

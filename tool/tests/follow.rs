@@ -143,11 +143,11 @@ fn deliver_5_registers_memory_and_rom_are_changed_before_the_run() {
     let ran = folder.vbmodel("run --rom a.rom --load 0xFFFFFFF0=halt");
     assert!(ran.text.contains("answer:       halted"), "{}", ran.text);
     for (arguments, message) in [
-        ("--set r32=1", "`r32` is no register; r0 to r31, pc, eipc, eipsw, fepc, fepsw, ecr, psw, sr25, sr29, sr31, spt0 to 3, gplt0 to 3, jplt0 to 3, bkcol, lines, count, reload and control are"),
+        ("--set r32=1", "`r32` is not a register; the registers are r0 to r31, pc, eipc, eipsw, fepc, fepsw, ecr, psw, sr25, sr29, sr31, spt0 to 3, gplt0 to 3, jplt0 to 3, bkcol, lines, count, reload and control"),
         ("--set spt0=0x10000", "spt0=0x10000: it must be at most 0xFFFF"),
         ("--set spt0=0x400", "refusal 5: SPT0 is 0x00000400; it must be at most 0x3FF (10 bits)"),
         ("--pc 1", "refusal 5: PC is 0x00000001; it must be even"),
-        ("--load 0x01000000=words", "words (4 bytes): byte 0 would lie at 0x01000000, which is no memory; VRAM, WRAM, pak RAM and ROM are"),
+        ("--load 0x01000000=words", "words (4 bytes): byte 0 would lie at 0x01000000, which is not memory; it must be VRAM, WRAM, pak RAM or ROM"),
         ("--load 0x05000000=none", "none: No such file or directory; it must be bytes to load"),
     ] {
         folder.refused(&format!("run --rom a.rom {arguments}"), &format!("vbmodel: {message}"));

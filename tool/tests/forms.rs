@@ -78,7 +78,7 @@ fn w12_form_1_is_written_where_lines_and_timer_are_at_reset() {
     assert_eq!(folder.read("b.state").len(), 327_920);
     let wrong = folder.vbmodel("run --rom out/rom.bin --state-form 3");
     assert!(
-        wrong.status == 2 && wrong.error.contains("`3` is no form; 1 and 2 are"),
+        wrong.status == 2 && wrong.error.contains("`3` is not a form; write 1 or 2"),
         "{}",
         wrong.error
     );
@@ -111,13 +111,14 @@ fn w12_a_state_moves_there_and_back() {
         assert!(folder.read("a.state") == folder.read("one.state"));
         assert!(folder.read("b.state") == folder.read("two.state"));
         assert_eq!((folder.read("one.state").len(), folder.read("two.state").len()), (one, two));
-        // a file may be moved over itself, and be standard input
+        // a file may be standard input, and is not moved over itself
         assert_eq!(
             folder.vbmodel_fed("state move - -o c.state", &folder.read("one.state")).status,
             0
         );
-        assert_eq!(folder.vbmodel("state move c.state -o c.state").status, 0);
-        assert!(folder.read("c.state") == folder.read("one.state"));
+        let kept = folder.read("c.state");
+        assert_eq!(folder.vbmodel("state move c.state -o c.state").status, 2);
+        assert!(folder.read("c.state") == kept);
     }
 }
 

@@ -93,11 +93,7 @@ fn w6_ticks_count_the_timer_down() {
         assert_eq!(found, [lines, count, 5, control].map(Some), "{ticks} ticks");
     }
     let ran = folder.vbmodel(&format!("run --rom a.rom {timer} --tick 1_000"));
-    assert!(
-        ran.text.starts_with("note:         the timer was told of 1,000 ticks\n"),
-        "{}",
-        ran.text
-    );
+    assert!(ran.text.starts_with("note:         1,000 ticks reached the timer\n"), "{}", ran.text);
     assert!(ran.text.contains("ecr   0x0000FE10"), "{}", ran.text);
     // what a program reads of it
     let code = [0xBC40, 0x0200, 0xE062, 0x20, HALT];
@@ -156,13 +152,17 @@ fn w6_wrong_levels_and_schedules_are_told_and_nothing_is_written() {
     for option in ["--raise 5", "--lower all", "--raise 0x"] {
         let ran = folder.vbmodel(&format!("run --rom a.rom {option} --save-processor p"));
         assert_eq!(ran.status, 2, "{option}");
-        assert!(ran.error.contains("is no level; 0 pad, 1 timer"), "{option}: {}", ran.error);
+        assert!(
+            ran.error.contains("is not a level; write 0 or pad, 1 or timer"),
+            "{option}: {}",
+            ran.error
+        );
     }
     folder.write("bad.schedule", b"at 5 tick\nevery 0 tick\n");
-    folder.write("binary.schedule", &[0xFF, 0xFE]);
+    folder.write("binary.schedule", &[0xFF, 0x41]);
     for (arguments, message) in [
         ("--schedule bad.schedule", "bad.schedule (23 bytes): line 2: `every 0` is never; it must be `every 1` or more"),
-        ("--schedule binary.schedule", "binary.schedule (2 bytes): it is no text; a schedule is"),
+        ("--schedule binary.schedule", "binary.schedule: is not a text file; it must be text in UTF-8"),
         ("--schedule none", "none: No such file or directory; it must be a schedule: lines of `at N EVENT` or `every K EVENT`"),
         ("--set lines=0x20", "refusal 5: lines is 0x00000020; it must be at most 0x1F (5 lines)"),
         ("--set control=4 --tick 1", "refusal 5: control is 0x00000004; it may have bits of 0x1B only"),

@@ -203,6 +203,7 @@ fn deliver_1_junit_is_written_for_a_test_server() {
     let folder = with_lot("judge-junit");
     folder.write("lot/bad.left.png", b"no PNG");
     folder.write("lot/notes.txt", b"x");
+    fs::create_dir(folder.path("reports")).unwrap();
     let ran = folder.vbmodel("judge lot --junit reports/lot.xml");
     assert_eq!(ran.status, 2);
     assert!(ran.text.ends_with("written: reports/lot.xml\n"), "{}", ran.text);

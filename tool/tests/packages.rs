@@ -30,7 +30,7 @@ fn deliver_7_the_librarys_crates_and_the_model_need_std_alone() {
 #[test]
 fn deliver_7_setup_installs_what_the_tool_and_the_differential_tests_need() {
     let (tool, tests) = (packages("tool/Cargo.toml"), packages("rust/difftests/Cargo.toml"));
-    for name in ["serde_json", "tempfile", "ctrlc", "rayon", "png", "clap"] {
+    for name in ["serde_json", "tempfile", "signal-hook", "rayon", "png", "clap"] {
         assert!(tool.iter().any(|package| package == name), "{name}: {tool:?}");
     }
     assert_eq!(tests, ["libc", "proptest"]);

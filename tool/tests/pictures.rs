@@ -187,7 +187,7 @@ fn compare_refuses_other_captures() {
     }
     assert!(!folder.path("marks/compare-frame0-right.png").exists());
     let ran = folder.vbmodel(&format!("compare {SCENE}"));
-    assert!(ran.status == 2 && ran.error.contains("--left <FILE>"), "{}", ran.error);
+    assert!(ran.status == 2 && ran.error.contains("--left FILE"), "{}", ran.error);
 }
 
 #[test]

@@ -65,9 +65,9 @@ fn w10_a_trace_has_four_words_a_step() {
 fn w10_the_first_record_that_differs_is_told() {
     let folder = with_rom("replay-differs", &[LET_IN, ADD_1_R1, BACK]);
     assert_eq!(folder.vbmodel("trace --rom a.rom --budget 1_000 -o a.trace").status, 0);
-    let ran = folder.vbmodel("replay --rom a.rom a.trace");
+    let ran = folder.vbmodel("replay --rom a.rom --partial a.trace");
     assert_eq!(ran.status, 0, "{}", ran.error);
-    assert!(ran.text.starts_with("verdict:      agreed: all 1,000 records agree\nagreed:       1,000 records\nmode:         running\n"), "{}", ran.text);
+    assert!(ran.text.starts_with("verdict:      pass: all 1,000 records agree; the program goes on\nagreed:       1,000 records\nmode:         running\n"), "{}", ran.text);
     let whole = folder.read("a.trace");
     for (record, word) in [(0, 0), (1, 3), (500, 2), (999, 1)] {
         let mut trace = whole.clone();
@@ -76,8 +76,8 @@ fn w10_the_first_record_that_differs_is_told() {
         let (status, found) = replay(&folder, "b.trace --last 2");
         assert_eq!(status, 1);
         assert_eq!(
-            (&found["verdict"], &found["agreed"], &found["word"]),
-            (&"different".into(), &record.into(), &word.into())
+            (&found["verdict"], &found["reason"], &found["agreed"], &found["word"]),
+            (&"fail".into(), &"different".into(), &record.into(), &word.into())
         );
         let expected = words(&whole)[4 * record + word];
         assert_eq!(
@@ -94,9 +94,10 @@ fn w10_the_first_record_that_differs_is_told() {
     }
     let text = folder.vbmodel("replay --rom a.rom b.trace --last 1").text;
     for part in [
-        "verdict:      different: record 999 differs first in word 1, PC after\nagreed:       999 records\n",
+        "verdict:      fail: record 999 differs first in word 1, PC after\nagreed:       999 records\n",
         "word 1:       PC after: expected 0xFFFFFFF4, seen 0xFFFFFFE4\ninstruction:  0xFFFFFFF2  4421       ADD 1, r1 ",
-        "\n  998         0xFFFFFFF4 0xFFFFFFF2 0x00000000 0x000001F3\n  expected    0xFFFFFFF2 0xFFFFFFF4 ",
+        "\nbefore it:    r1 0x000001F3, psw 0x00000000 (none)\n",
+        "\n  998         0xFFFFFFF4 0xFFFFFFF2 0x00000000 0x000001F3  BR 0xFFFFFFF2\n  expected    0xFFFFFFF2 0xFFFFFFF4 ",
         "\n  seen        0xFFFFFFF2 0xFFFFFFE4 ",
         "\nr0    0x00000000  r1    0x000001F4  ",
     ] {
@@ -120,7 +121,7 @@ fn w10_what_the_model_does_is_told_first() {
                 .write("b.trace", &[folder.read("a.trace"), more.to_vec(), more.to_vec()].concat());
             let (found, told) = replay(&folder, &format!("{set} b.trace"));
             assert_eq!(
-                (found, &told["verdict"], &told["agreed"]),
+                (found, &told["reason"], &told["agreed"]),
                 (status, &verdict.into(), &agreed.into())
             );
             assert_eq!(told["regs"][1], 1);
@@ -133,11 +134,11 @@ fn w10_what_the_model_does_is_told_first() {
     assert_eq!(folder.vbmodel("run --rom a.rom --save-processor p").status, 0);
     folder.write("a.trace", &[0; 16]);
     let (status, told) = replay(&folder, "--processor p a.trace");
-    assert_eq!((status, &told["verdict"], &told["agreed"]), (1, &"fatal".into(), &0.into()));
-    // an empty trace agrees in any mode
+    assert_eq!((status, &told["reason"], &told["agreed"]), (1, &"fatal".into(), &0.into()));
+    // a fatal machine has no record
     folder.write("empty", &[]);
     let (status, told) = replay(&folder, "--processor p empty");
-    assert_eq!((status, &told["verdict"], &told["agreed"]), (0, &"agreed".into(), &0.into()));
+    assert_eq!((status, &told["verdict"], &told["agreed"]), (0, &"pass".into(), &0.into()));
 }
 
 #[test]
@@ -157,17 +158,22 @@ fn w10_several_traces_with_a_schedule_are_one() {
     let (status, told) =
         replay(&folder, &format!("{timer} --schedule s a.trace --save-processor q"));
     assert_eq!((status, &told["agreed"]), (0, &(trace.len() / 16).into()));
-    assert!(
-        folder.read("p")[..172] == folder.read("q")[..172],
-        "the machine that the trace leaves"
-    );
+    assert!(folder.read("p") == folder.read("q"), "the machine that the trace leaves");
     // the same in three files, and without the schedule: the first acceptance is missed
     folder.write("1", &trace[..48]);
     folder.write("2", &[]);
     folder.write("3", &trace[48..]);
     assert_eq!(replay(&folder, &format!("{timer} --schedule s 1 2 3")).0, 0);
     let (status, told) = replay(&folder, &format!("{timer} 1 2 3"));
-    assert_eq!((status, &told["verdict"], &told["agreed"]), (1, &"halted".into(), &3.into()));
+    assert_eq!((status, &told["reason"], &told["agreed"]), (1, &"halted".into(), &3.into()));
+    // a piece alone is partial
+    let alone = format!("{timer} --schedule s 1");
+    let (status, told) = replay(&folder, &alone);
+    assert_eq!(
+        (status, &told["verdict"], &told["reason"]),
+        (2, &"invalid".into(), &"short".into())
+    );
+    assert_eq!(replay(&folder, &format!("{alone} --partial")).0, 0);
     // an interrupt that the trace does not have
     folder.write("t", b"at 1 raise vip\n");
     let (status, told) = replay(&folder, "--schedule t a.trace");
@@ -178,12 +184,136 @@ fn w10_several_traces_with_a_schedule_are_one() {
 }
 
 #[test]
+fn a_trace_that_ends_before_its_program_is_invalid() {
+    let folder = with_rom("replay-short", &[LET_IN, ADD_1_R1, ADD_1_R1, HALT]);
+    assert_eq!(folder.vbmodel("trace --rom a.rom -o a.trace").status, 0);
+    let whole = folder.read("a.trace");
+    assert_eq!(whole.len(), 4 * 16);
+    for records in 0..=4 {
+        folder.write("b.trace", &whole[..16 * records]);
+        let (status, found) = replay(&folder, "b.trace");
+        let expected = if records == 4 { (0, "pass", "whole") } else { (2, "invalid", "short") };
+        let (verdict, reason) = (&found["verdict"], &found["reason"]);
+        assert_eq!((status, verdict, reason), (expected.0, &expected.1.into(), &expected.2.into()));
+        assert_eq!(found["agreed"], records);
+        // so many are enough where so many were asked for, and an empty file is never enough
+        let enough = |options: &str| replay(&folder, &format!("{options} b.trace")).0;
+        assert_eq!(enough("--partial"), if records == 0 { 2 } else { 0 }, "{records}");
+        assert_eq!(enough(&format!("--records {records}")), 0, "{records}");
+        assert_eq!(enough(&format!("--records {}", records + 1)), 2, "{records}");
+    }
+    let text = folder.vbmodel("replay --rom a.rom --records 9 b.trace").text;
+    let line =
+        "verdict:      invalid: agrees for 4 records, to the program's end; 9 were asked for\n";
+    assert!(text.starts_with(line), "{text}");
+    folder.write("b.trace", &whole[..32]);
+    let text = folder.vbmodel("replay --rom a.rom --records 9 b.trace").text;
+    assert!(text.starts_with("verdict:      invalid: agrees for 2 records; 9 were asked for\n"));
+    let text = folder.vbmodel("replay --rom a.rom b.trace").text;
+    let line = "verdict:      invalid: agrees for 2 records, and ends before the program does; the whole program";
+    assert!(text.starts_with(line), "{text}");
+    // a program also ends where it turns fatal, and where an instruction is not modelled
+    for (name, code) in [("replay-end-fatal", ILLEGAL), ("replay-end-six", BIT_STRING)] {
+        let folder = with_rom(name, &[ADD_1_R1, code]);
+        folder.vbmodel("trace --rom a.rom -o a.trace");
+        assert_eq!(replay(&folder, "a.trace").0, 0, "{name}");
+        folder.write("a.trace", &[]);
+        assert_eq!(replay(&folder, "a.trace").0, 2, "{name}");
+    }
+    // a trace that ends at a HALT which an event ends is short
+    let folder = with_rom("replay-end-woken", &[LET_IN, HALT, ADD_1_R1, HALT]);
+    folder.write("s", b"at 2 raise vip\nat 3 lower vip\n");
+    folder.vbmodel("trace --rom a.rom --schedule s -o a.trace");
+    let whole = folder.read("a.trace");
+    assert_eq!(replay(&folder, "--schedule s a.trace").0, 0);
+    folder.write("a.trace", &whole[..32]);
+    assert_eq!(replay(&folder, "--schedule s a.trace").0, 2);
+    assert_eq!(replay(&folder, "a.trace").0, 0, "without events it ends there");
+}
+
+/// XOR r1, r1; MOV 5, r1; CMP r1, r1; BE +4; ADD 1, r2; HALT
+const EXPLAINED: [u16; 7] = [LET_IN, 0x4025, 0x0C21, 0x8404, HALT, 0x4441, HALT];
+
+#[test]
+fn a_difference_is_explained_by_flags_operands_and_registers() {
+    let folder = with_rom("replay-explains", &EXPLAINED);
+    assert_eq!(folder.vbmodel("trace --rom a.rom -o a.trace").status, 0);
+    let whole = folder.read("a.trace");
+    let wrong = |record: usize, word: usize, change: u32, options: &str| {
+        let mut trace = whole.clone();
+        let at = 16 * record + 4 * word;
+        let value = u32::from_le_bytes(trace[at..at + 4].try_into().unwrap()).wrapping_add(change);
+        trace[at..at + 4].copy_from_slice(&value.to_le_bytes());
+        folder.write("b.trace", &trace);
+        let ran = folder.vbmodel(&format!("replay --rom a.rom b.trace {options}"));
+        assert_eq!(ran.status, 1, "{}", ran.text);
+        ran.text
+    };
+    // CMP r1, r1 sets Z; the die has CY for it
+    let text = wrong(2, 2, 7, "");
+    for line in [
+        "\ninstruction:  0xFFFFFFF4  0C21       CMP r1, r1",
+        "\nbefore it:    r1 0x00000005, psw 0x00000000 (none)\n",
+        "\nflags:        expected Z; seen CY\n  Z           expected 1, seen 0\n  CY          expected 0, seen 1\n",
+        "\n  0           0xFFFFFFF0 0xFFFFFFF2 0x00000000 0x00000000  LDSR r0, 5\n",
+        "  MOV 5, r1\n  expected ",
+    ] {
+        assert!(text.contains(line), "{line}\nnot in\n{text}");
+    }
+    // MOV 5, r1: the sum is 0 where nothing was written, and 4 where bit 0 is lost
+    let text = wrong(1, 3, 5u32.wrapping_neg(), "");
+    let hint = "hint:         the sum is 0x5 less than expected\n\
+                hint:         r1 alone would explain it: not written, it is still 0x00000000\n\
+                hint:         or 0x00000005 was written to r2 in place of r1\n";
+    assert!(!text.contains("written to r2"), "{text}");
+    assert!(text.contains(hint.split("hint:         or").next().unwrap()), "{text}");
+    let text = wrong(1, 3, 1u32.wrapping_neg(), "");
+    let hint = "hint:         the sum is 0x1 less than expected, bit 0\n\
+                hint:         r1 alone would explain it: 0x00000004 in place of 0x00000005\n";
+    assert!(text.contains(hint), "{text}");
+    let text = wrong(2, 3, 16, "");
+    let hint = "hint:         no register is written here: one of r1 to r31 changed by that much\n";
+    assert!(text.contains(hint), "{text}");
+    // a branch that is not taken
+    let text = wrong(3, 1, 2u32.wrapping_neg(), "");
+    assert!(text.contains("hint:         PC is as if the branch was not taken\n"), "{text}");
+}
+
+#[test]
+fn go_on_counts_the_later_differences_from_the_models_own_state() {
+    let folder = with_rom("replay-go-on", &[LET_IN, ADD_1_R1, BACK]);
+    folder.vbmodel("trace --rom a.rom --budget 1_000 -o a.trace");
+    let mut trace = folder.read("a.trace");
+    for (record, word) in [(10, 2), (20, 3), (21, 3), (500, 1)] {
+        trace[16 * record + 4 * word] ^= 1;
+    }
+    folder.write("b.trace", &trace);
+    let (status, found) = replay(&folder, "--partial --go-on b.trace");
+    assert_eq!((status, &found["verdict"], &found["agreed"]), (1, &"fail".into(), &10.into()));
+    let later =
+        serde_json::json!({"compared": 989, "differ": 3, "by_word": [0, 1, 0, 2], "first": 20});
+    assert_eq!(found["later"], later);
+    assert_eq!(found["regs"][1], 500, "the model went on to the trace's end");
+    let text = folder.vbmodel("replay --rom a.rom --partial --go-on b.trace").text;
+    let line = "later:        3 of the 989 records after it differ (PC after 1, the registers' sum after 2)\n";
+    assert!(text.contains(line), "{text}");
+    // the last record alone differs: nothing comes after it
+    let mut trace = folder.read("a.trace");
+    trace[16 * 999 + 8] ^= 1;
+    folder.write("b.trace", &trace);
+    let (_, found) = replay(&folder, "--go-on b.trace");
+    assert_eq!((&found["agreed"], &found["later"]["compared"]), (&999.into(), &0.into()));
+    // without --go-on nothing is counted
+    assert_eq!(replay(&folder, "b.trace").1.get("later"), None);
+}
+
+#[test]
 fn w10_a_long_trace_is_read_in_pieces() {
     let folder = with_rom("replay-long", &[LET_IN, ADD_1_R1, BACK]);
     assert_eq!(folder.vbmodel("trace --rom a.rom --budget 300_000 -o a.trace").status, 0);
-    assert_eq!(replay(&folder, "a.trace").1["agreed"], 300_000);
+    assert_eq!(replay(&folder, "--records 300_000 a.trace").1["agreed"], 300_000);
     let mut trace = folder.read("a.trace");
-    let fed = folder.vbmodel_fed("replay --rom a.rom - --json", &trace);
+    let fed = folder.vbmodel_fed("replay --rom a.rom --partial - --json", &trace);
     assert_eq!(fed.status, 0, "{}", fed.error);
     for record in [65_535, 65_536, 131_072, 262_144, 299_999] {
         trace[16 * record + 12] ^= 1;
@@ -200,7 +330,7 @@ fn w10_a_long_trace_is_read_in_pieces() {
         0
     );
     folder.write("rest.trace", &trace[1_600_000..]);
-    let (status, told) = replay(&folder, "--state half.state rest.trace");
+    let (status, told) = replay(&folder, "--partial --state half.state rest.trace");
     assert_eq!((status, &told["agreed"]), (0, &200_000.into()));
     let again =
         folder.vbmodel("trace --rom a.rom --state half.state --budget 200_000 -o again.trace");
@@ -215,7 +345,7 @@ fn w10_a_long_replay_on_a_terminal_shows_progress() {
     let many = ["a.trace"; 12].join(" ");
     // the trace again and again differs at once, so the machine starts anew: one file after the other is one trace
     let replay = "\"$VB\" replay --rom a.rom";
-    let shown = folder.terminal(&format!("{replay} a.trace; {replay} {many}"));
+    let shown = folder.terminal(&format!("{replay} --partial a.trace; {replay} {many}"));
     let Some(text) = shown else { return };
     assert!(text.contains("all 2,000,000 records agree"), "{text}");
     assert!(text.contains("record 2,000,000 differs first in word 0, PC before"), "{text}");

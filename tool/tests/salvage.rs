@@ -54,7 +54,7 @@ fn w13_what_is_lost_and_kept_is_told_in_words() {
             ran.text
         );
         assert_eq!(
-            ran.text.contains("contents:     damaged, and made anew\n"),
+            ran.text.contains("contents:     damaged, and rebuilt\n"),
             contents,
             "{}",
             ran.text
@@ -83,7 +83,7 @@ fn w13_what_is_lost_and_kept_is_told_in_words() {
         assert!(folder.read("again") == folder.read("good"));
         assert_eq!(folder.vbmodel("run --rom out/rom.bin --state good --budget 1").status, 0);
     }
-    let ran = folder.vbmodel("state salvage bad -o bad");
+    let ran = folder.vbmodel("state salvage bad -o mended");
     for line in [
         "lost:         kind 2, drawing record: now reset values\n",
         "lost:         kind 6, request lines and timer: now reset values\n",
@@ -91,7 +91,7 @@ fn w13_what_is_lost_and_kept_is_told_in_words() {
     ] {
         assert!(ran.text.contains(line), "{}", ran.text);
     }
-    assert_eq!(folder.vbmodel("state show bad").status, 0, "a file may be written over itself");
+    assert_eq!(folder.vbmodel("state show mended").status, 0);
     let mut file = sound;
     file[300] ^= 1;
     let fed = folder.vbmodel_fed("state salvage - -o good", &file);

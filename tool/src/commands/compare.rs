@@ -204,7 +204,7 @@ fn mark(options: &Options, outputs: &mut Outputs, eye: &str, expected: &Picture,
     } else {
         (format!("compare-frame{frame}-{eye}.png"), expected.marked(seen, options.scale))
     };
-    outputs.add(options.out.join(name), png);
+    outputs.add_in(&options.out, name, png);
 }
 
 fn report(options: &Options, scene: &Read, eyes: Vec<EyeTold>, outputs: &Outputs) -> Report {

@@ -10,7 +10,7 @@ use super::draw::{Eyes, Views};
 use super::Report;
 use crate::demo::rom;
 use crate::failure::Failure;
-use crate::files::Outputs;
+use crate::files::{shown, Outputs};
 use crate::inputs::number;
 use crate::reports::invocation;
 
@@ -54,7 +54,7 @@ pub fn run(options: &Options) -> Result<Report, Failure> {
         let count = waits + to_halt(&mut machine, &mut memories)?;
         machine.drawing.draw_frame(&mut vram, frame).map_err(refused)?;
         for (name, png) in Views::of(&vram, frame).files(frame, Eyes::All, options.scale) {
-            outputs.add(options.out.join(name), png);
+            outputs.add_in(&options.out, name, png);
         }
         lines.push(format!(
             "  frame {frame}: {:>9} instructions to HALT at 0x{:08X}, then drawn for both eyes",
@@ -65,7 +65,7 @@ pub fn run(options: &Options) -> Result<Report, Failure> {
     lines.push(WOKEN.to_string());
     let (processor, drawing) = (machine.processor.to_bytes(), machine.drawing.to_bytes());
     for (name, bytes) in NAMES.into_iter().zip([rom, wram, vram, processor, drawing]) {
-        outputs.add(options.out.join(name), bytes);
+        outputs.add_in(&options.out, name, bytes);
     }
     outputs.write()?;
     lines.extend(where_they_are(&options.out));
@@ -99,7 +99,7 @@ fn refused(refusal: Refusal) -> Failure {
 }
 
 fn where_they_are(out: &Path) -> Vec<String> {
-    let at = |name: &str| out.join(name).display().to_string();
+    let at = |name: &str| shown(&out.join(name));
     let row = |what: &str, view: &str| {
         let (first, second) = (format!("frame0-{view}.png"), format!("frame1-{view}.png"));
         format!("  {what:<13} {:<32} {}", at(&first), at(&second))

@@ -68,7 +68,7 @@ pub fn run(options: &Options) -> Result<Report, Failure> {
     let from = options.from;
     if !from.is_multiple_of(2) || from & 0x0700_0000 != 0x0700_0000 {
         return Err(bad(format!(
-            "0x{from:08X} is no even address of ROM, 0x07000000 to 0x07FFFFFF and mirrors"
+            "0x{from:08X} is not an even address of ROM, 0x07000000 to 0x07FFFFFF and mirrors"
         )));
     }
     let start = (from & 0x00FF_FFFF) as usize % length;

@@ -135,7 +135,7 @@ pub fn run(options: &Options) -> Result<Report, Failure> {
     };
     let mut outputs = Outputs::default();
     for (name, png) in files {
-        outputs.add(options.out.join(name), png);
+        outputs.add_in(&options.out, name, png);
     }
     if let Some(path) = &options.save_vram {
         outputs.add(path, vram);

@@ -173,7 +173,7 @@ fn report(lot: &Lot, judged: &[Judged], summary: Summary, outputs: &Outputs) -> 
     let unknown = lot.unknown.as_slice();
     lines.push(json(&Whole { summary, unknown, written: &written, failure: failure.clone() }));
     let status = if failure.is_some() { 2 } else { summary.status() };
-    Report { text, json: lines.join("\n"), status, failure }
+    Report { text, json: lines.join("\n"), status, failure, aside: false }
 }
 
 fn line(one: &Judged) -> String {

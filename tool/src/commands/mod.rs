@@ -27,10 +27,12 @@ pub struct Report {
     pub status: i32,
     /// What went wrong after there was something to print.
     pub failure: Option<Failure>,
+    /// Printed on standard error, because standard output is the command's output.
+    pub aside: bool,
 }
 
 impl Report {
     pub fn new(text: String, value: &impl Serialize, status: i32) -> Report {
-        Report { text, json: json(value), status, failure: None }
+        Report { text, json: json(value), status, failure: None, aside: false }
     }
 }

@@ -5,17 +5,17 @@ use std::path::PathBuf;
 use std::time::Instant;
 
 use clap::Args;
-use vb::{grouped, Mode, Stop};
+use vb::{grouped, Stop};
 
 use super::Report;
 use crate::failure::Failure;
+use crate::files::Outputs;
 use crate::inputs::number;
-use crate::inputs::schedule::Schedule;
 use crate::inputs::setup::{Bench, Saves, Setup};
 use crate::interrupt;
 use crate::reports::progress::Progress;
 use crate::running::follow::{follow, End, Followed, Stops};
-use crate::running::outcome::finish;
+use crate::running::session::Session;
 use crate::running::watch;
 
 /// Instructions between two looks at the clock and at Ctrl-C.
@@ -75,19 +75,17 @@ pub struct Options {
 }
 
 pub fn run(options: &Options) -> Result<Report, Failure> {
-    let mut bench = options.setup.bench()?;
-    let schedule = Schedule::given(options.schedule.as_deref())?;
-    options.saves.test()?;
-    interrupt::watch();
-    let was_fatal = bench.machine.processor.mode == Mode::Fatal;
+    let Options { setup, schedule, saves, budget, .. } = options;
+    let mut session = Session::read(setup, schedule.as_deref())?;
+    session.begin(saves, &[])?;
     let mut watch = options.watch.watch();
-    let mut told =
-        Watched { begun: Instant::now(), progress: Progress::new(), budget: options.budget };
+    let mut sliced = Sliced { begun: Instant::now(), progress: Progress::new(), budget: *budget };
     let plain = options.stops.is_empty() && !options.watch.is_on();
-    let (count, end) = schedule.run(&mut bench, options.budget, &mut |bench, length, before| {
+    let Session { bench, schedule, .. } = &mut session;
+    let (count, end) = schedule.run(bench, *budget, &mut |bench, length, before| {
         let part = match plain {
-            true => told.run(bench, length, before),
-            false => follow(bench, length, &options.stops, &mut |told| watch.goes_on(told)),
+            true => sliced.run(bench, length, before),
+            false => follow(bench, length, &options.stops, &mut |effects| watch.goes_on(effects)),
         };
         part.map(Followed::part)
     })?;
@@ -95,23 +93,23 @@ pub fn run(options: &Options) -> Result<Report, Failure> {
     if let Some(read) = watch.stopped {
         ended.end = End::Undefined(read);
     }
-    Ok(finish(&bench, &ended, options.budget, &options.saves, was_fatal))
+    Ok(session.finish(&ended, *budget, saves, Outputs::default(), None))
 }
 
-/// Runs in slices, with a line on a terminal that tells how far it is. The sum of the slices is one run.
-struct Watched {
+/// Runs in slices, with a line on a terminal that says how far it is. The sum of the slices is one run.
+struct Sliced {
     begun: Instant,
     progress: Progress,
     /// The whole run's.
     budget: u64,
 }
 
-impl Watched {
+impl Sliced {
     /// A part of the run, of so many instructions, after so many.
     fn run(&mut self, bench: &mut Bench, length: u64, before: u64) -> Result<Followed, Failure> {
         let mut count = 0;
         loop {
-            let (machine, mut memories) = bench.lent();
+            let (machine, mut memories) = bench.borrowed();
             let ran = machine.run(&mut memories, (length - count).min(SLICE));
             let ran = ran.map_err(|refusal| bench.failure(&refusal))?;
             count += ran.count;
@@ -136,7 +134,7 @@ impl Watched {
     }
 
     fn tell(&mut self, count: u64) {
-        let Watched { begun, progress, budget } = self;
+        let Sliced { begun, progress, budget } = self;
         progress.tell(|| {
             let rate = count as f64 / begun.elapsed().as_secs_f64() / 1e6;
             let (done, all) = (grouped(count), grouped(*budget));

@@ -9,7 +9,7 @@ use vb::grouped;
 
 use super::Report;
 use crate::failure::Failure;
-use crate::files::{Input, Outputs};
+use crate::files::{shown, Input, Outputs};
 use crate::inputs::state::{
     moved, Body, Fault, Form, Layout, NoState, Saved, NOT_STORED, PAK, STATE,
 };
@@ -33,7 +33,7 @@ enum Action {
     Show(Show),
     /// Writes a saved state in the other form
     Move(Move),
-    /// Writes a right state of what a damaged file of form 2 still holds
+    /// Writes a valid state with what a damaged file of form 2 still holds
     Salvage(Salvage),
 }
 
@@ -71,7 +71,7 @@ struct Move {
     /// The file; - is standard input
     #[arg(value_name = "FILE")]
     file: PathBuf,
-    /// Where to write it in the other form
+    /// Where to write it in the other form; - is standard output
     #[arg(short, long, value_name = "FILE")]
     out: PathBuf,
     /// Print JSON
@@ -87,14 +87,14 @@ struct Move {
   vbmodel state salvage a.state -o b.state
 
 The length of the file tells where each body is. A body is kept where its stored sum is right and an accepted machine can
-have it; every other becomes reset values, memories zeros. The contents are made anew.
+have it; every other becomes reset values, memories zeros. The contents are rebuilt.
 A file of 327,962 bytes may be a sound one of form 1 with 32 bytes of pak RAM: it is salvaged as form 2 only with --force.
 Exit status: 0 undamaged, and the output is the file; 1 repaired; 2 refused or bad input, and then nothing is written.")]
 struct Salvage {
     /// The file; - is standard input
     #[arg(value_name = "FILE")]
     file: PathBuf,
-    /// Where to write the right state
+    /// Where to write the repaired state; - is standard output
     #[arg(short, long, value_name = "FILE")]
     out: PathBuf,
     /// Salvage a sound file of form 1 as form 2 without pak RAM, which loses what it holds
@@ -134,11 +134,12 @@ fn show(options: &Show) -> Result<Report, Failure> {
     })
 }
 
-/// Writes one file, which may be the one that was read.
-fn write(path: &Path, bytes: Vec<u8>) -> Result<(), Failure> {
+/// Writes one file and reports it, on standard error where standard output has the file.
+fn written(path: &Path, bytes: Vec<u8>, report: Report) -> Result<Report, Failure> {
     let mut outputs = Outputs::default();
-    outputs.add(path, bytes);
-    outputs.write()
+    outputs.add_main(path, bytes);
+    outputs.write()?;
+    Ok(Report { aside: path == Path::new("-"), ..report })
 }
 
 /// What is told of a move.
@@ -159,15 +160,13 @@ fn moves(options: &Move) -> Result<Report, Failure> {
         from: form.other().number(),
         to: form.number(),
         bytes: bytes.len(),
-        written: options.out.display().to_string(),
+        written: shown(&options.out),
     };
-    write(&options.out, bytes)?;
-    let Moved { file, from, to, bytes, written } = &told;
-    let bytes = grouped(*bytes as u64);
-    let text = format!(
-        "{file}: moved from form {from} to form {to}\nwritten: {written} ({bytes} bytes)\n"
-    );
-    Ok(Report::new(text, &told, 0))
+    let Moved { file, from, to, written: out, .. } = &told;
+    let length = grouped(bytes.len() as u64);
+    let text =
+        format!("{file}: moved from form {from} to form {to}\nwritten: {out} ({length} bytes)\n");
+    written(&options.out, bytes, Report::new(text, &told, 0))
 }
 
 /// What is told of a salvage.
@@ -179,8 +178,15 @@ struct Salvaged {
     lost: Vec<Body>,
     kept: Vec<Body>,
     contents_repaired: bool,
+    /// What the salvage cannot tell.
+    #[serde(skip_serializing_if = "Option::is_none")]
+    warning: Option<&'static str>,
     written: String,
 }
+
+/// A sum of zero is the sum of a body of zeros.
+const BLANK: &str = "the file is all zeros: each body counts as kept because its sum is right, but nothing here can \
+                     be told from a blank file";
 
 const SALVAGED: &str = "a saved state of form 2";
 
@@ -205,11 +211,11 @@ fn salvage(options: &Salvage) -> Result<Report, Failure> {
         lost,
         kept,
         contents_repaired: found.contents_differ,
-        written: options.out.display().to_string(),
+        warning: file.iter().all(|&byte| byte == 0).then_some(BLANK),
+        written: shown(&options.out),
     };
-    write(&options.out, room)?;
     let status = i32::from(!told.undamaged);
-    Ok(Report::new(told.text(), &told, status))
+    written(&options.out, room, Report::new(told.text(), &told, status))
 }
 
 /// Whether a file of the one length that both forms have is right as form 1.
@@ -236,8 +242,9 @@ impl Salvaged {
         }));
         lines.extend(self.kept.iter().map(|body| row("kept:", body)));
         if self.contents_repaired {
-            lines.push("contents:     damaged, and made anew".to_string());
+            lines.push("contents:     damaged, and rebuilt".to_string());
         }
+        lines.extend(self.warning.map(|warning| format!("warning:      {warning}")));
         lines.push(format!("written:      {written}"));
         lines.join("\n") + "\n"
     }

@@ -3,16 +3,15 @@
 use std::io::{stdout, BufWriter, ErrorKind, Write};
 
 use clap::Args;
-use vb::Mode;
 
 use super::Report;
 use crate::failure::Failure;
+use crate::files::{printable, Outputs};
 use crate::inputs::number;
 use crate::inputs::setup::{Saves, Setup};
-use crate::interrupt;
 use crate::reports::json::json;
 use crate::running::follow::{follow, Stops};
-use crate::running::outcome::finish;
+use crate::running::session::Session;
 
 #[derive(Args)]
 #[command(after_help = "Example: the demo's first instructions, and from a store into VRAM on
@@ -41,14 +40,13 @@ pub struct Options {
 }
 
 pub fn run(options: &Options) -> Result<Report, Failure> {
-    let mut bench = options.setup.bench()?;
-    options.saves.test()?;
-    interrupt::watch();
-    let was_fatal = bench.machine.processor.mode == Mode::Fatal;
+    let Options { setup, saves, count, stops, .. } = options;
+    let mut session = Session::read(setup, None)?;
+    session.begin(saves, &[])?;
     let mut out = BufWriter::new(stdout().lock());
     let mut unprinted = None;
-    let ended = follow(&mut bench, options.count, &options.stops, &mut |told| {
-        let line = if options.json { json(told) } else { told.text() };
+    let ended = follow(&mut session.bench, *count, stops, &mut |effects| {
+        let line = if options.json { json(effects) } else { printable(&effects.text()) };
         unprinted = writeln!(out, "{line}").err();
         unprinted.is_none()
     })?;
@@ -56,5 +54,5 @@ pub fn run(options: &Options) -> Result<Report, Failure> {
     if let Some(error) = unprinted.filter(|error| error.kind() != ErrorKind::BrokenPipe) {
         return Err(Failure::bad(format!("standard output: {error}")));
     }
-    Ok(finish(&bench, &ended, options.count, &options.saves, was_fatal))
+    Ok(session.finish(&ended, *count, saves, Outputs::default(), None))
 }

@@ -1,21 +1,21 @@
 //! `vbmodel trace`: a program's trace, as a die's recorder writes it.
 
-use std::path::PathBuf;
+use std::path::{Path, PathBuf};
 use std::time::Instant;
 
 use clap::Args;
-use vb::{grouped, record, Answer, Mode, Refusal};
+use vb::{grouped, record, Answer, Refusal};
 
 use super::Report;
 use crate::failure::Failure;
-use crate::files::Stream;
+use crate::files::{shown, Outputs, Stream};
 use crate::inputs::number;
-use crate::inputs::schedule::Schedule;
 use crate::inputs::setup::{Bench, Saves, Setup};
 use crate::interrupt;
 use crate::reports::progress::Progress;
 use crate::running::follow::{End, Followed};
-use crate::running::outcome::{finish_traced, Traced};
+use crate::running::outcome::Traced;
+use crate::running::session::Session;
 
 /// Records between two looks at the clock and at Ctrl-C.
 const SLICE: u64 = 65_536;
@@ -38,10 +38,10 @@ pub struct Options {
     /// The largest number of records
     #[arg(long, value_name = "N", default_value = "1_000_000", value_parser = number::whole)]
     budget: u64,
-    /// When lines are raised and lowered and ticks told of; see `vbmodel help run`
+    /// When lines are raised and lowered and ticks come; see `vbmodel help run`
     #[arg(long, value_name = "FILE")]
     schedule: Option<PathBuf>,
-    /// Where to write the trace, 16 bytes a record
+    /// Where to write the trace, 16 bytes per record; - is standard output
     #[arg(short, long, value_name = "FILE")]
     out: PathBuf,
     #[command(flatten)]
@@ -52,30 +52,23 @@ pub struct Options {
 }
 
 pub fn run(options: &Options) -> Result<Report, Failure> {
-    let mut bench = options.setup.bench()?;
-    let schedule = Schedule::given(options.schedule.as_deref())?;
-    tested(&mut bench)?;
-    options.saves.test()?;
-    let mut out = Stream::new(&options.out)?;
-    interrupt::watch();
-    let was_fatal = bench.machine.processor.mode == Mode::Fatal;
-    let mut recorder = Recorder { out: &mut out, begun: Instant::now(), progress: Progress::new() };
-    let (count, end) = schedule.run(&mut bench, options.budget, &mut |bench, length, before| {
+    let Options { setup, schedule, saves, budget, out, .. } = options;
+    let mut session = Session::read(setup, schedule.as_deref())?;
+    session.begin(saves, &[out])?;
+    let mut stream = Stream::main(out)?;
+    let mut recorder =
+        Recorder { out: &mut stream, begun: Instant::now(), progress: Progress::new() };
+    let Session { bench, schedule, .. } = &mut session;
+    let (count, end) = schedule.run(bench, *budget, &mut |bench, length, before| {
         recorder.record(bench, length, before).map(Followed::part)
     })?;
     recorder.progress.clear();
-    out.finish()?;
     let ended = Followed { count, end: end.unwrap_or(End::Budget) };
-    let trace =
-        Traced { file: options.out.display().to_string(), records: count, bytes: 16 * count };
-    Ok(finish_traced(&bench, &ended, options.budget, &options.saves, was_fatal, Some(trace)))
-}
-
-/// A run of nothing tests the machine.
-pub fn tested(bench: &mut Bench) -> Result<(), Failure> {
-    let (machine, mut memories) = bench.lent();
-    let tested = machine.run(&mut memories, 0);
-    tested.map(|_| ()).map_err(|refusal| bench.failure(&refusal))
+    let mut outputs = Outputs::default();
+    outputs.add_stream(stream);
+    let trace = Traced { file: shown(out), records: count, bytes: 16 * count };
+    let report = session.finish(&ended, *budget, saves, outputs, Some(trace));
+    Ok(Report { aside: out == Path::new("-"), ..report })
 }
 
 struct Recorder<'a> {
@@ -95,7 +88,7 @@ impl Recorder<'_> {
                 }
                 self.tell(before + count);
             }
-            let (machine, mut memories) = bench.lent();
+            let (machine, mut memories) = bench.borrowed();
             let pc = machine.processor.pc;
             let end = match machine.step(&mut memories) {
                 Ok(Answer::Ended | Answer::Trapped(_) | Answer::Interrupted(_)) => {

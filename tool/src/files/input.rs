@@ -1,12 +1,15 @@
 //! A file that is read, `-` being standard input.
 
-use std::fs;
+use std::fs::File;
 use std::io::{self, Read};
+use std::os::fd::AsFd;
 use std::path::{Path, PathBuf};
 use std::sync::atomic::{AtomicBool, Ordering};
 
 use vb::grouped;
 
+use super::names::shown;
+use super::read::register;
 use super::Identity;
 use crate::failure::Failure;
 
@@ -26,27 +29,40 @@ impl Input {
     /// Reads a file; `wanted` says what it should be, for the message where there is none.
     pub fn read(path: &Path, wanted: &str) -> Result<Input, Failure> {
         let failed =
-            |what: String| Failure::bad(format!("{}: {what}; it must be {wanted}", path.display()));
+            |what: String| Failure::bad(format!("{}: {what}; it must be {wanted}", shown(path)));
         if path == Path::new("-") {
             let bytes = standard_input().map_err(failed)?;
             return Ok(Input { path: PathBuf::from("standard input"), bytes, identity: None });
         }
-        let file = fs::File::open(path).map_err(|error| failed(reason(&error)))?;
+        let file = File::open(path).map_err(|error| failed(reason(&error)))?;
         let about = file.metadata().map_err(|error| failed(reason(&error)))?;
         if about.is_dir() {
             return Err(failed("is a folder".to_string()));
         }
+        register(&about);
         let bytes = limited(file).map_err(failed)?;
         Ok(Input { path: path.to_path_buf(), bytes, identity: Some(Identity::of(&about)) })
     }
 
     /// The file, its length, and what is wrong with it.
     pub fn wrong(&self, rule: impl std::fmt::Display) -> String {
-        format!("{} ({} bytes): {rule}", self.path.display(), grouped(self.bytes.len() as u64))
+        format!("{} ({} bytes): {rule}", self.name(), grouped(self.bytes.len() as u64))
     }
 
+    /// Its name, as it is printed.
     pub fn name(&self) -> String {
-        self.path.display().to_string()
+        shown(&self.path)
+    }
+
+    /// The file as text in UTF-8, without the byte order mark that some editors put first.
+    pub fn text(&self) -> Result<&str, Failure> {
+        let other = |what: &str| Failure::bad(format!("{}: is {what}", self.name()));
+        if self.bytes.starts_with(&[0xFF, 0xFE]) || self.bytes.starts_with(&[0xFE, 0xFF]) {
+            return Err(other("text in UTF-16; it must be UTF-8"));
+        }
+        let text = std::str::from_utf8(&self.bytes);
+        let text = text.map_err(|_| other("not a text file; it must be text in UTF-8"))?;
+        Ok(text.strip_prefix('\u{FEFF}').unwrap_or(text))
     }
 }
 
@@ -74,5 +90,12 @@ fn standard_input() -> Result<Vec<u8>, String> {
     if TAKEN.swap(true, Ordering::Relaxed) {
         return Err("standard input is named for two files".to_string());
     }
+    register_standard_input();
     limited(io::stdin().lock())
+}
+
+/// Standard input may be a file that was redirected to it.
+pub fn register_standard_input() {
+    let about = io::stdin().as_fd().try_clone_to_owned().and_then(|fd| File::from(fd).metadata());
+    about.iter().for_each(register);
 }

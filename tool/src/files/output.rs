@@ -1,87 +1,141 @@
-//! Files that are written: each is first written beside its place under a name of its own; only when all are there are
-//! they given their names.
+//! Files that are written: each is first written next to its place under a temporary name. Only when all are there are
+//! they given their names; where one cannot be, the others get back what they were.
 
-use std::fs::{self, File, Metadata, Permissions};
-use std::io::{self, BufWriter, Write};
-use std::os::unix::fs::PermissionsExt;
+use std::cell::RefCell;
+use std::fs::{self, File};
+use std::io::{self, Write};
+use std::os::unix::fs::MetadataExt;
 use std::path::{Path, PathBuf};
 
-use tempfile::{Builder, NamedTempFile};
-
 use super::input::reason;
+use super::names::shown;
 use super::place::{folder_of, Place};
+use super::stream::{Sink, Stream};
+use super::temporary::{keep_folders, make_folder, remove_folders, Committing, Temporary};
 use super::Identity;
 use crate::failure::Failure;
 
 #[derive(Default)]
 pub struct Outputs {
-    files: Vec<(PathBuf, Vec<u8>)>,
-    kept: Vec<Identity>,
+    files: Vec<Output>,
+    streams: RefCell<Vec<Stream>>,
+}
+
+struct Output {
+    path: PathBuf,
+    bytes: Vec<u8>,
+    kind: Kind,
+}
+
+/// How an output's path is taken.
+#[derive(Clone, Copy, PartialEq, Eq)]
+pub enum Kind {
+    /// A file in a folder that is there.
+    File,
+    /// A file in a folder that the command makes.
+    InFolder,
+    /// The one file that a command is for: `-` is standard output.
+    Main,
 }
 
 impl Outputs {
+    /// A file; its folder must be there.
     pub fn add(&mut self, path: impl Into<PathBuf>, bytes: Vec<u8>) {
-        self.files.push((path.into(), bytes));
+        self.files.push(Output { path: path.into(), bytes, kind: Kind::File });
     }
 
-    /// A file that was read and may not be written over.
-    pub fn keep(&mut self, read: Option<Identity>) {
-        self.kept.extend(read);
+    /// A file in a folder that is made where it is not there.
+    pub fn add_in(&mut self, folder: &Path, name: impl AsRef<Path>, bytes: Vec<u8>) {
+        self.files.push(Output { path: folder.join(name), bytes, kind: Kind::InFolder });
     }
 
+    /// The file that the command is for; `-` is standard output.
+    pub fn add_main(&mut self, path: impl Into<PathBuf>, bytes: Vec<u8>) {
+        self.files.push(Output { path: path.into(), bytes, kind: Kind::Main });
+    }
+
+    /// A file that has grown while the command ran.
+    pub fn add_stream(&mut self, stream: Stream) {
+        self.streams.get_mut().push(stream);
+    }
+
+    /// Every input registers itself, so this says nothing new.
+    pub fn keep(&mut self, _read: Option<Identity>) {}
+
+    /// The names, as they are printed.
     pub fn paths(&self) -> Vec<String> {
-        self.files.iter().map(|(path, _)| path.display().to_string()).collect()
+        self.files.iter().map(|output| shown(&output.path)).collect()
     }
 
-    /// Whether these files could be written, found out by making and removing them under passing names.
+    /// Whether these files could be written, found out by making and removing them under temporary names.
     pub fn test<'a>(paths: impl IntoIterator<Item = &'a Path>) -> Result<(), Failure> {
         let mut outputs = Outputs::default();
         paths.into_iter().for_each(|path| outputs.add(path, Vec::new()));
         outputs.staged().map(|_| ())
     }
 
+    /// Writes all of them, or none.
     pub fn write(&self) -> Result<(), Failure> {
+        let streams = self.streams.take();
         let mut staged = self.staged()?;
+        for stream in streams {
+            staged.take(stream)?;
+        }
         // what cannot be taken back comes first: where it fails, no file has got its name
-        for (through, bytes, path) in &staged.through {
-            written_through(through, bytes).map_err(|error| failed(path, &error))?;
+        for (target, bytes, path) in &staged.through {
+            written_through(target, bytes).map_err(|error| failed(path, &error))?;
         }
-        for (passing, target, path) in std::mem::take(&mut staged.files) {
-            passing.persist(target).map_err(|error| {
-                Failure::bad(format!("{}: {}", path.display(), reason(&error.error)))
-            })?;
-        }
-        staged.folders.clear();
-        Ok(())
+        staged.commit()
     }
 
     fn staged(&self) -> Result<Staged<'_>, Failure> {
         let mut staged = Staged::default();
-        let mut places: Vec<Place> = Vec::new();
-        for (path, bytes) in &self.files {
-            let place = Place::of(path, &mut |folder| make(folder, &mut staged.folders));
-            let place = place.map_err(|error| failed(path, &error))?;
-            if places.iter().any(|other| other.same(&place)) {
-                return Err(Failure::bad(format!("{}: named for two outputs", path.display())));
-            }
-            if self.kept.iter().any(|&read| place.is(read)) {
-                let rule = "is read by this command, and would be written over";
-                return Err(Failure::bad(format!(
-                    "{}: {rule}; nothing was written",
-                    path.display()
-                )));
+        for Output { path, bytes, kind } in &self.files {
+            let place = place_of(path, *kind, &mut staged.folders)?;
+            if staged.places.iter().any(|other| other.same(&place)) {
+                return Err(Failure::bad(format!("{}: named for two outputs", shown(path))));
             }
             staged.stage(&place, bytes, path).map_err(|error| failed(path, &error))?;
-            places.push(place);
+            staged.places.push(place);
         }
         Ok(staged)
     }
 }
 
-/// Writes to what is no regular file. Standard output and standard error go on where they are.
+/// Where an output goes, after every rule on it was tested.
+pub fn place_of(path: &Path, kind: Kind, folders: &mut Vec<PathBuf>) -> Result<Place, Failure> {
+    if path == Path::new("-") {
+        return match kind {
+            Kind::Main => Ok(Place::StandardOutput),
+            _ => Err(Failure::bad(
+                "-: cannot be standard output here; it must be a file (`./-` is one of that name)",
+            )),
+        };
+    }
+    let mut folder = |folder: &Path| match kind {
+        Kind::InFolder => make_folder(folder, folders),
+        _ => must_be_there(folder),
+    };
+    let place = Place::of(path, &mut folder).map_err(|error| failed(path, &error))?;
+    if place.was_read() {
+        let rule = "is read by this command, and would be written over; nothing was written";
+        return Err(Failure::bad(format!("{}: {rule}", shown(path))));
+    }
+    Ok(place)
+}
+
+fn must_be_there(folder: &Path) -> io::Result<()> {
+    match fs::metadata(folder) {
+        Ok(there) if there.is_dir() => Ok(()),
+        Ok(_) => Err(io::Error::other(format!("{} is a file, not a folder", shown(folder)))),
+        Err(_) => Err(io::Error::other(format!("there is no folder {}", shown(folder)))),
+    }
+}
+
+/// Writes to what is not a regular file. Standard output and standard error go on where they are.
 fn written_through(target: &Path, bytes: &[u8]) -> io::Result<()> {
     let is = |names: [&str; 3]| names.iter().any(|name| target == Path::new(name));
-    if is(["/dev/stdout", "/dev/fd/1", "/proc/self/fd/1"]) {
+    if is(["/dev/stdout", "/dev/fd/1", "/proc/self/fd/1"]) || target == Path::new("-") {
         let mut out = io::stdout().lock();
         return out.write_all(bytes).and_then(|()| out.flush());
     }
@@ -91,15 +145,16 @@ fn written_through(target: &Path, bytes: &[u8]) -> io::Result<()> {
     File::options().write(true).open(target)?.write_all(bytes)
 }
 
-fn failed(path: &Path, error: &io::Error) -> Failure {
-    Failure::bad(format!("{}: {}; nothing was written", path.display(), reason(error)))
+pub fn failed(path: &Path, error: &io::Error) -> Failure {
+    Failure::bad(format!("{}: {}; nothing was written", shown(path), reason(error)))
 }
 
-/// Files under their passing names with the names they will have and those that were asked for, what is written
-/// through, and the folders that were made. Files and folders are removed again unless they are taken out of here.
+/// Files under their temporary names with the names they will have and those that were asked for, what is written
+/// through, and the folders that were made. Files and folders are removed again unless they are committed.
 #[derive(Default)]
 struct Staged<'a> {
-    files: Vec<(NamedTempFile, PathBuf, &'a Path)>,
+    places: Vec<Place>,
+    files: Vec<(Temporary, PathBuf, PathBuf)>,
     through: Vec<(PathBuf, &'a [u8], &'a Path)>,
     folders: Vec<PathBuf>,
 }
@@ -107,141 +162,89 @@ struct Staged<'a> {
 impl<'a> Staged<'a> {
     fn stage(&mut self, place: &Place, bytes: &'a [u8], path: &'a Path) -> io::Result<()> {
         match place {
+            Place::StandardOutput => self.through.push((PathBuf::from("-"), bytes, path)),
             Place::Through { target, .. } => self.through.push((target.clone(), bytes, path)),
             Place::File { target, now } => {
-                let mut builder = Builder::new();
-                let named = builder.prefix(".vbmodel-").suffix(".part");
-                let mut passing = named.tempfile_in(folder_of(target))?;
-                passing.as_file_mut().write_all(bytes)?;
-                let rights = now.as_ref().map_or_else(of_a_new_file, Metadata::permissions);
-                fs::set_permissions(passing.path(), rights)?;
-                self.files.push((passing, target.clone(), path));
+                let mut temporary = Temporary::new(folder_of(target), now.as_ref())?;
+                temporary.write_all(bytes)?;
+                self.files.push((temporary, target.clone(), path.to_path_buf()));
             }
         }
         Ok(())
     }
-}
 
-/// A file that grows while a command runs. It has a passing name until it is finished, and is removed where it never is.
-pub struct Stream {
-    path: PathBuf,
-    sink: Sink,
-    folders: Vec<PathBuf>,
-    finished: bool,
-}
-
-enum Sink {
-    Passing {
-        file: BufWriter<NamedTempFile>,
-        target: PathBuf,
-    },
-    /// A device or a pipe.
-    Through(BufWriter<Box<dyn Write>>),
-}
-
-impl Stream {
-    pub fn new(path: &Path) -> Result<Stream, Failure> {
-        let mut folders = Vec::new();
-        let sink = Stream::sink(path, &mut folders);
-        let sink = sink.map_err(|error| {
-            folders.iter().rev().for_each(|folder| drop(fs::remove_dir(folder)));
-            failed(path, &error)
-        })?;
-        Ok(Stream { path: path.to_path_buf(), sink, folders, finished: false })
-    }
-
-    fn sink(path: &Path, folders: &mut Vec<PathBuf>) -> io::Result<Sink> {
-        Ok(match Place::of(path, &mut |folder| make(folder, folders))? {
-            Place::Through { target, .. } if target == Path::new("/dev/stdout") => {
-                Sink::Through(BufWriter::new(Box::new(io::stdout())))
+    /// Takes a stream's file among the others; what went through a pipe is there already.
+    fn take(&mut self, stream: Stream) -> Result<(), Failure> {
+        let (path, sink) = stream.finished()?;
+        if let Sink::Temporary { file, target, now } = sink {
+            let place = Place::File { target: target.clone(), now };
+            if self.places.iter().any(|other| other.same(&place)) {
+                return Err(Failure::bad(format!("{}: named for two outputs", shown(&path))));
             }
-            Place::Through { target, .. } => {
-                let file = File::options().write(true).open(target)?;
-                Sink::Through(BufWriter::new(Box::new(file)))
+            self.files.push((file, target, path));
+            self.places.push(place);
+        }
+        Ok(())
+    }
+
+    /// Gives every file its name. Where one fails, those before it get back what they were.
+    fn commit(mut self) -> Result<(), Failure> {
+        let files = std::mem::take(&mut self.files);
+        let alone = files.len() == 1;
+        let mut before = Vec::new();
+        for (_, target, path) in &files {
+            let kept = if alone { Ok(Before::Absent) } else { Before::of(target) };
+            before.push(kept.map_err(|error| failed(path, &error))?);
+        }
+        let committing = Committing::begin();
+        let mut done: Vec<(PathBuf, Before)> = Vec::new();
+        for ((file, target, path), was) in files.into_iter().zip(before) {
+            if let Err(error) = file.persist(&target) {
+                done.into_iter().rev().for_each(|(target, was)| was.restore(&target));
+                drop(committing);
+                return Err(failed(&path, &error));
             }
-            Place::File { target, now } => {
-                let mut builder = Builder::new();
-                let named = builder.prefix(".vbmodel-").suffix(".part");
-                let passing = named.tempfile_in(folder_of(&target))?;
-                let rights = now.as_ref().map_or_else(of_a_new_file, Metadata::permissions);
-                fs::set_permissions(passing.path(), rights)?;
-                Sink::Passing { file: BufWriter::new(passing), target }
-            }
-        })
-    }
-
-    pub fn write(&mut self, bytes: &[u8]) -> Result<(), Failure> {
-        let written = match &mut self.sink {
-            Sink::Passing { file, .. } => file.write_all(bytes),
-            Sink::Through(file) => file.write_all(bytes),
-        };
-        written.map_err(|error| failed(&self.path, &error))
-    }
-
-    /// Gives the file its name.
-    pub fn finish(mut self) -> Result<(), Failure> {
-        let path = self.path.clone();
-        self.finished = true;
-        let through = Sink::Through(BufWriter::new(Box::new(io::sink())));
-        match std::mem::replace(&mut self.sink, through) {
-            Sink::Through(mut file) => file.flush().map_err(|error| failed(&path, &error)),
-            Sink::Passing { file, target } => {
-                let file = file.into_inner().map_err(|error| failed(&path, error.error()))?;
-                let named = file.persist(target).map_err(|error| failed(&path, &error.error))?;
-                drop(named);
-                Ok(())
-            }
+            done.push((target, was));
         }
+        drop(committing);
+        keep_folders(&mut self.folders);
+        Ok(())
     }
-}
-
-impl Drop for Stream {
-    fn drop(&mut self) {
-        if self.finished {
-            return;
-        }
-        self.sink = Sink::Through(BufWriter::new(Box::new(io::sink())));
-        for folder in self.folders.iter().rev() {
-            let _ = fs::remove_dir(folder);
-        }
-    }
-}
-
-/// The rights of a new file: a passing file has fewer.
-fn of_a_new_file() -> Permissions {
-    let status = fs::read_to_string("/proc/self/status").unwrap_or_default();
-    let mask = status.lines().find_map(|line| line.strip_prefix("Umask:"));
-    let mask = mask.and_then(|mask| u32::from_str_radix(mask.trim(), 8).ok()).unwrap_or(0o022);
-    Permissions::from_mode(0o666 & !mask)
-}
-
-/// Makes a folder and those above it, noting each that was not there.
-fn make(folder: &Path, made: &mut Vec<PathBuf>) -> io::Result<()> {
-    if folder.is_dir() {
-        return Ok(());
-    }
-    let parent = folder.parent().filter(|parent| !parent.as_os_str().is_empty());
-    if let Some(parent) = parent.filter(|_| !folder.exists()) {
-        make(parent, made)?;
-    }
-    // `new/..` is there as soon as `new` is
-    match fs::metadata(folder) {
-        Ok(there) if there.is_dir() => return Ok(()),
-        Ok(_) => {
-            let message = format!("{} is a file, not a folder", folder.display());
-            return Err(io::Error::other(message));
-        }
-        Err(_) => fs::create_dir(folder)?,
-    }
-    made.push(folder.to_path_buf());
-    Ok(())
 }
 
 impl Drop for Staged<'_> {
     fn drop(&mut self) {
         self.files.clear();
-        for folder in self.folders.iter().rev() {
-            let _ = fs::remove_dir(folder);
+        remove_folders(&mut self.folders);
+    }
+}
+
+/// What an output's name stood for before.
+enum Before {
+    Absent,
+    /// The file that was there, under a second name, or a copy of it.
+    File(Temporary),
+}
+
+impl Before {
+    fn of(target: &Path) -> io::Result<Before> {
+        let Ok(now) = fs::metadata(target) else { return Ok(Before::Absent) };
+        let kept = Temporary::new(folder_of(target), Some(&now))?;
+        // a second name of another one's file could not always be removed again
+        let own = fs::metadata(kept.path()).is_ok_and(|own| own.uid() == now.uid());
+        let linked = own
+            && fs::remove_file(kept.path()).is_ok()
+            && fs::hard_link(target, kept.path()).is_ok();
+        if !linked {
+            fs::copy(target, kept.path())?;
         }
+        Ok(Before::File(kept))
+    }
+
+    fn restore(self, target: &Path) {
+        let _ = match self {
+            Before::Absent => fs::remove_file(target),
+            Before::File(kept) => kept.persist(target),
+        };
     }
 }

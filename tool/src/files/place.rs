@@ -6,10 +6,13 @@ use std::os::unix::ffi::OsStrExt;
 use std::os::unix::fs::FileTypeExt;
 use std::path::{Path, PathBuf};
 
+use super::read::was_read;
 use super::Identity;
 
 /// What a path names.
 pub enum Place {
+    /// Standard output, as `-` names it.
+    StandardOutput,
     /// A file that is replaced or made: its path without symlinks, and what is there now.
     File { target: PathBuf, now: Option<Metadata> },
     /// A device, a FIFO or a socket: it is written to and stays what it is.
@@ -17,10 +20,10 @@ pub enum Place {
 }
 
 impl Place {
-    /// Finds the place, with its folder made by `make`.
+    /// Finds the place; `make` makes its folder, or refuses one that is not there.
     pub fn of(path: &Path, make: &mut dyn FnMut(&Path) -> io::Result<()>) -> io::Result<Place> {
         if path.as_os_str().as_bytes().ends_with(b"/") {
-            return Err(io::Error::other("is no file name"));
+            return Err(io::Error::other("is not a file name"));
         }
         match fs::metadata(path) {
             Ok(now) if now.is_dir() => Err(io::Error::other("is a folder")),
@@ -35,7 +38,7 @@ impl Place {
             Err(_) => {
                 let last = last_link(path)?;
                 let Some(name) = last.file_name() else {
-                    return Err(io::Error::other("is no file name"));
+                    return Err(io::Error::other("is not a file name"));
                 };
                 let folder = folder_of(&last);
                 make(folder)?;
@@ -47,6 +50,7 @@ impl Place {
     /// Whether two outputs would be written over each other. What a character device is given is not kept.
     pub fn same(&self, other: &Place) -> bool {
         let identity = |place: &Place| match place {
+            Place::StandardOutput => None,
             Place::File { now, .. } => now.as_ref().map(Identity::of),
             Place::Through { now, .. } if now.file_type().is_char_device() => None,
             Place::Through { now, .. } => Some(Identity::of(now)),
@@ -58,10 +62,10 @@ impl Place {
     }
 
     /// Whether a file that was read would be written over.
-    pub fn is(&self, read: Identity) -> bool {
+    pub fn was_read(&self) -> bool {
         match self {
-            Place::File { now, .. } => now.as_ref().is_some_and(|now| Identity::of(now) == read),
-            Place::Through { .. } => false,
+            Place::File { now, .. } => now.as_ref().is_some_and(was_read),
+            Place::StandardOutput | Place::Through { .. } => false,
         }
     }
 }

@@ -95,20 +95,33 @@ fn load(bench: &mut Bench, first: u32, path: &Path) -> Result<(), Failure> {
         let refusal = Refusal::RomLength { given: bench.rom.len() };
         return Err(bench.failure(&refusal));
     }
+    let mut last = None;
     for (n, &byte) in file.bytes.iter().enumerate() {
         let address = first.wrapping_add(n as u32);
-        match place_of(address, bench.rom.len(), bench.pak.len()) {
-            Place::Vram(at) if at < bench.vram.len() => bench.vram[at] = byte,
-            Place::Wram(at) if at < bench.wram.len() => bench.wram[at] = byte,
-            Place::Pak(Some(at)) => bench.pak[at] = byte,
-            Place::Rom(at) => bench.rom[at] = byte,
-            _ => {
-                let rule = format!(
-                    "byte {n} would lie at 0x{address:08X}, which is no memory; VRAM, WRAM, pak RAM and ROM are"
-                );
-                return Err(Failure::bad(file.wrong(rule)));
+        let (memory, at, bytes) = match place_of(address, bench.rom.len(), bench.pak.len()) {
+            Place::Vram(at) => ("VRAM", at, &mut bench.vram),
+            Place::Wram(at) => ("WRAM", at, &mut bench.wram),
+            Place::Pak(Some(at)) => ("pak RAM", at, &mut bench.pak),
+            Place::Rom(at) => ("ROM", at, &mut bench.rom),
+            _ => ("", 0, &mut Vec::new()),
+        };
+        // a mirror would begin again: what comes next lies further on in the same memory
+        let end = last.filter(|&(before, place)| before != memory || at <= place);
+        let wrong = match (end, bytes.get_mut(at)) {
+            (Some((before, _)), _) => format!(
+                "loaded at 0x{first:08X}, it passes the end of {before}; at most {} bytes fit there",
+                grouped(n as u64)
+            ),
+            (None, None) => format!(
+                "byte {n} would lie at 0x{address:08X}, which is not memory; it must be VRAM, WRAM, pak RAM or ROM"
+            ),
+            (None, Some(room)) => {
+                *room = byte;
+                last = Some((memory, at));
+                continue;
             }
-        }
+        };
+        return Err(Failure::bad(file.wrong(wrong)));
     }
     let (name, count) = (file.name(), grouped(file.bytes.len() as u64));
     bench.notes.push(format!("{name}, {count} bytes, was loaded at 0x{first:08X}"));
@@ -148,7 +161,11 @@ fn set(machine: &mut Machine, name: &str, value: u32) -> Result<(), Failure> {
         "sr31" => &mut processor.sr31,
         _ => match numbered(name, "r", 32) {
             Some(n) => &mut processor.regs[n],
-            None => return Err(Failure::bad(format!("`{name}` is no register; {KNOWN} are"))),
+            None => {
+                return Err(Failure::bad(format!(
+                    "`{name}` is not a register; the registers are {KNOWN}"
+                )))
+            }
         },
     };
     *register = value;

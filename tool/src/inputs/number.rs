@@ -4,7 +4,7 @@ use std::ops::RangeInclusive;
 
 /// A whole number below 2^64.
 pub fn whole(text: &str) -> Result<u64, String> {
-    let wrong = || format!("`{text}` is no whole number; 1000, 1_000 and 0x3E8 are");
+    let wrong = || format!("`{text}` is not a whole number; write 1000, 1_000 or 0x3E8");
     let (digits, base) = match text.strip_prefix("0x").or_else(|| text.strip_prefix("0X")) {
         Some(digits) => (digits, 16),
         None => (text, 10),
@@ -14,7 +14,8 @@ pub fn whole(text: &str) -> Result<u64, String> {
     if !between || !digits.chars().all(|c| c.is_digit(base)) {
         return Err(wrong());
     }
-    u64::from_str_radix(&digits, base).map_err(|_| format!("`{text}` is above 2^64 - 1"))
+    u64::from_str_radix(&digits, base)
+        .map_err(|_| format!("`{text}` is above 2^64 - 1, the largest number"))
 }
 
 /// A whole number below 2^32.
@@ -68,7 +69,7 @@ pub fn threshold(text: &str) -> Result<u8, String> {
 fn within(text: &str, least: u64, most: u64) -> Result<u64, String> {
     match whole(text)? {
         n if (least..=most).contains(&n) => Ok(n),
-        _ => Err(format!("`{text}` is not within {least} to {most}")),
+        _ => Err(format!("`{text}` is not from {least} to {most}")),
     }
 }
 
@@ -99,6 +100,6 @@ mod tests {
         assert_eq!(addresses("0x10..0x1F"), Ok(0x10..=0x1F));
         assert_eq!(addresses("16"), Ok(16..=16));
         assert!(addresses("2..1").is_err() && addresses("1..").is_err());
-        assert_eq!(scale("0x11").unwrap_err(), "`0x11` is not within 1 to 16");
+        assert_eq!(scale("0x11").unwrap_err(), "`0x11` is not from 1 to 16");
     }
 }

@@ -58,13 +58,12 @@ impl Overlay {
 /// Makes the writes of a file in VRAM.
 pub fn laid(path: &Path, vram: &mut Input) -> Result<Overlay, Failure> {
     let file = Input::read(path, OVERLAY)?;
-    let writes = writes_of(&file.bytes).map_err(|rule| Failure::bad(file.wrong(rule)))?;
+    let writes = writes_of(file.text()?).map_err(|rule| Failure::bad(file.wrong(rule)))?;
     apply(&writes, &mut vram.bytes)
         .map_err(|refusal| Failure::refused(&refusal, vram.wrong(&refusal)))
 }
 
-fn writes_of(bytes: &[u8]) -> Result<Vec<Write>, String> {
-    let text = std::str::from_utf8(bytes).map_err(|_| "an overlay is text".to_string())?;
+fn writes_of(text: &str) -> Result<Vec<Write>, String> {
     let mut writes = Vec::new();
     for (i, line) in text.lines().enumerate() {
         let said = line.split('#').next().unwrap_or_default();
@@ -90,7 +89,7 @@ fn write_of(line: usize, text: &str) -> Result<Write, String> {
     Ok(Write { line, width, address: number::word(address)?, value: number::word(value)? })
 }
 
-/// Makes the writes in order; one outside the probe's ranges changes nothing and is told.
+/// Makes the writes in order; one outside the probe's ranges changes nothing and is reported.
 fn apply(writes: &[Write], vram: &mut [u8]) -> Result<Overlay, Refusal> {
     // the probe tests the other memories' lengths and touches none of their bytes
     let (rom, wram) = (vec![0; 1024], vec![0; WRAM_LENGTH]);
@@ -116,21 +115,20 @@ mod tests {
 
     #[test]
     fn lines_are_writes_and_comments() {
-        let text = b"# a comment\n\nword 0x00038000 0x1234_5678\nbyte 122880 7 # a character\n";
+        let text = "# a comment\n\nword 0x00038000 0x1234_5678\nbyte 122880 7 # a character\n";
         let writes = writes_of(text).unwrap();
         let word = Write { line: 3, width: Width::Word, address: 0x3_8000, value: 0x1234_5678 };
         let byte = Write { line: 4, width: Width::Byte, address: 0x1_E000, value: 7 };
         assert_eq!(writes, [word, byte]);
-        assert_eq!(writes_of(b"").unwrap(), []);
+        assert_eq!(writes_of("").unwrap(), []);
     }
 
     #[test]
     fn bad_lines_are_named() {
         for (text, message) in [
-            (&b"word 0"[..], "line 1: a write is byte, half or word, an address and a value"),
-            (b"\nnibble 0 0", "line 2: `nibble` is none of byte, half and word"),
-            (b"byte 0 0x100000000", "line 1: `0x100000000` is above 0xFFFFFFFF"),
-            (b"\xFF", "an overlay is text"),
+            ("word 0", "line 1: a write is byte, half or word, an address and a value"),
+            ("\nnibble 0 0", "line 2: `nibble` is none of byte, half and word"),
+            ("byte 0 0x100000000", "line 1: `0x100000000` is above 0xFFFFFFFF"),
         ] {
             assert_eq!(writes_of(text).unwrap_err(), message);
         }

@@ -1,4 +1,4 @@
-//! Request lines and timer, changed by the bench: lines raised and lowered, ticks told of.
+//! Request lines and timer, changed by the bench: lines raised and lowered, and ticks.
 
 use clap::Args;
 use vb::grouped;
@@ -16,7 +16,7 @@ pub struct Requests {
     /// Lower a request line first, before any is raised; may be given again
     #[arg(long, value_name = "LEVEL", value_parser = level)]
     lower: Vec<Level>,
-    /// Tell the timer of N ticks first, after lines were changed
+    /// Give the timer N ticks first, after lines were changed
     #[arg(long, value_name = "N", value_parser = number::word)]
     tick: Option<u32>,
 }
@@ -33,7 +33,9 @@ pub fn level(text: &str) -> Result<Level, String> {
     let numbered = number::whole(text).ok().filter(|&n| n < NAMES.len() as u64);
     match named.or(numbered.map(|n| n as usize)) {
         Some(level) => Ok(Level(level as u8)),
-        None => Err(format!("`{text}` is no level; 0 pad, 1 timer, 2 pak, 3 link and 4 vip are")),
+        None => Err(format!(
+            "`{text}` is not a level; write 0 or pad, 1 or timer, 2 or pak, 3 or link, 4 or vip"
+        )),
     }
 }
 
@@ -69,15 +71,31 @@ impl Requests {
             let name = NAMES[usize::from(level)];
             bench.notes.push(format!("line {level} ({name}) was {done}"));
         }
-        for _ in 0..self.tick.unwrap_or(0) {
-            Event::Tick.happen(bench)?;
-        }
         if let Some(ticks) = self.tick {
+            tick(bench, ticks)?;
             let ticks = grouped(u64::from(ticks));
-            bench.notes.push(format!("the timer was told of {ticks} ticks"));
+            bench.notes.push(format!("{ticks} ticks reached the timer"));
         }
         Ok(())
     }
+}
+
+/// So many ticks. Nothing else happens between them, so lines and timer return to a state that they had: whole rounds
+/// from there to there are left out. A round is looked for from ever later states, each twice as far as the last.
+fn tick(bench: &mut Bench, ticks: u32) -> Result<(), Failure> {
+    let (mut left, mut kept, mut since, mut round) = (ticks, bench.machine, 0, 1);
+    while left > 0 {
+        Event::Tick.happen(bench)?;
+        left -= 1;
+        since += 1;
+        if bench.machine == kept {
+            left %= since;
+        }
+        if since == round {
+            (kept, since, round) = (bench.machine, 0, 2 * round);
+        }
+    }
+    Ok(())
 }
 
 #[cfg(test)]
@@ -92,7 +110,7 @@ mod tests {
             assert_eq!(level(text), Ok(Level(number)), "{text}");
         }
         for text in ["5", "", "-1", "vib", "256"] {
-            assert!(level(text).unwrap_err().contains("is no level"), "{text}");
+            assert!(level(text).unwrap_err().contains("is not a level"), "{text}");
         }
     }
 }

@@ -55,9 +55,7 @@ impl Schedule {
 
     fn read(path: &Path) -> Result<Schedule, Failure> {
         let file = Input::read(path, "a schedule: lines of `at N EVENT` or `every K EVENT`")?;
-        let text = std::str::from_utf8(&file.bytes)
-            .map_err(|_| Failure::bad(file.wrong("it is no text; a schedule is")))?;
-        Schedule::of(text).map_err(|wrong| Failure::bad(file.wrong(wrong)))
+        Schedule::of(file.text()?).map_err(|wrong| Failure::bad(file.wrong(wrong)))
     }
 
     fn of(text: &str) -> Result<Schedule, String> {
@@ -149,7 +147,7 @@ fn entry(words: &[&str]) -> Result<(When, Event), String> {
         _ => {
             let given = event.join(" ");
             return Err(format!(
-                "`{given}` is no event; `tick`, `raise LEVEL` and `lower LEVEL` are"
+                "`{given}` is not an event; write `tick`, `raise LEVEL` or `lower LEVEL`"
             ));
         }
     };
@@ -178,14 +176,14 @@ mod tests {
     #[test]
     fn wrong_lines_are_told_by_their_number() {
         for (text, part) in [
-            ("at 5 tick\nat x tick", "line 2: `x` is no whole number"),
+            ("at 5 tick\nat x tick", "line 2: `x` is not a whole number"),
             ("at", "line 1: `at` is not `at N EVENT` or `every K EVENT`"),
             ("after 5 tick", "line 1: `after 5 tick` is not"),
             ("every 0 tick", "line 1: `every 0` is never"),
-            ("at 5", "line 1: `` is no event"),
-            ("at 5 raise", "line 1: `raise` is no event"),
-            ("at 5 raise 5", "line 1: `5` is no level; 0 pad"),
-            ("at 5 tick tick", "line 1: `tick tick` is no event"),
+            ("at 5", "line 1: `` is not an event"),
+            ("at 5 raise", "line 1: `raise` is not an event"),
+            ("at 5 raise 5", "line 1: `5` is not a level; write 0 or pad"),
+            ("at 5 tick tick", "line 1: `tick tick` is not an event"),
         ] {
             let wrong = Schedule::of(text).unwrap_err();
             assert!(wrong.contains(part), "{text}: {wrong}");

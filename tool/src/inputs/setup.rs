@@ -78,11 +78,12 @@ fn form(text: &str) -> Result<Form, String> {
     match text {
         "1" => Ok(Form::One),
         "2" => Ok(Form::Two),
-        _ => Err(format!("`{text}` is no form; 1 and 2 are")),
+        _ => Err(format!("`{text}` is not a form; write 1 or 2")),
     }
 }
 
 /// The files that were named, by what they hold.
+#[derive(Clone)]
 struct Inputs {
     rom: Input,
     wram: Option<Input>,
@@ -93,6 +94,7 @@ struct Inputs {
 }
 
 /// A machine with its memories.
+#[derive(Clone)]
 pub struct Bench {
     inputs: Inputs,
     /// What was done to what the files hold, in words.
@@ -176,10 +178,19 @@ impl Bench {
         written(form, machine, &memories).map_err(|refusal| self.failure(&refusal))
     }
 
-    /// The machine, and its memories lent.
-    pub fn lent(&mut self) -> (&mut Machine, Memories<'_>) {
+    /// The machine, and its memories borrowed (the specification says: lent).
+    pub fn borrowed(&mut self) -> (&mut Machine, Memories<'_>) {
         let Bench { machine, rom, wram, vram, pak, .. } = self;
         (machine, Memories { rom, wram, vram, pak })
+    }
+
+    /// Copies of WRAM, VRAM and pak RAM.
+    pub fn memories(&self) -> [Vec<u8>; 3] {
+        [self.wram.clone(), self.vram.clone(), self.pak.clone()]
+    }
+
+    pub fn restore_memories(&mut self, memories: [Vec<u8>; 3]) {
+        [self.wram, self.vram, self.pak] = memories;
     }
 
     /// Names the file that a refusal is about.
@@ -216,23 +227,24 @@ impl Saves {
         self.save_state.as_ref().filter(|_| self.state_form == Form::One).map(|_| NOT_STORED)
     }
 
-    /// Whether all of them could be written.
-    pub fn test(&self) -> Result<(), Failure> {
-        Outputs::test(self.paths().into_iter().flatten())
+    /// Whether all of them could be written, and these files with them.
+    pub fn test(&self, others: &[&Path]) -> Result<(), Failure> {
+        let others = others.iter().copied().filter(|path| *path != Path::new("-"));
+        Outputs::test(self.paths().into_iter().flatten().chain(others))
     }
 
-    pub fn of(&self, bench: &Bench) -> Result<Outputs, Failure> {
+    /// Adds those that are asked for to the outputs.
+    pub fn add_to(&self, outputs: &mut Outputs, bench: &Bench) -> Result<(), Failure> {
         let Bench { machine, wram, vram, pak, .. } = bench;
         let (processor, drawing) = (machine.processor.to_bytes(), machine.drawing.to_bytes());
         let state =
             self.save_state.as_ref().map_or(Ok(Vec::new()), |_| bench.saved(self.state_form))?;
         let all = [wram.clone(), vram.clone(), pak.clone(), processor, drawing, state];
-        let mut outputs = Outputs::default();
         for (path, bytes) in self.paths().into_iter().zip(all) {
             if let Some(path) = path {
                 outputs.add(path, bytes);
             }
         }
-        Ok(outputs)
+        Ok(())
     }
 }

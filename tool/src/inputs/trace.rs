@@ -7,7 +7,7 @@ use std::path::{Path, PathBuf};
 use vb::{grouped, Refusal, RECORD_LENGTH};
 
 use crate::failure::Failure;
-use crate::files::reason;
+use crate::files::{reason, register, register_standard_input, shown};
 
 /// A record's words: PC before, PC after, PSW after, the sum of the registers after.
 pub type Record = [u32; 4];
@@ -46,12 +46,13 @@ impl Traces {
         let mut records = Some(0);
         for path in paths {
             let failed = |what: String| {
-                Failure::bad(format!("{}: {what}; it must be {WANTED}", path.display()))
+                Failure::bad(format!("{}: {what}; it must be {WANTED}", shown(path)))
             };
             if path == Path::new("-") {
                 if files.iter().any(|(path, _)| path == Path::new("standard input")) {
                     return Err(failed("standard input is named for two files".to_string()));
                 }
+                register_standard_input();
                 files.push((PathBuf::from("standard input"), Box::new(io::stdin().lock())));
                 records = None;
                 continue;
@@ -61,6 +62,7 @@ impl Traces {
             if about.is_dir() {
                 return Err(failed("is a folder".to_string()));
             }
+            register(&about);
             if about.is_file() {
                 whole(path, about.len())?;
                 records = records.map(|sum| sum + about.len() / RECORD_LENGTH as u64);
@@ -71,6 +73,13 @@ impl Traces {
         }
         files.reverse();
         Ok(Traces { files, bytes: Vec::new(), used: 0, records })
+    }
+
+    /// A trace that was read already.
+    pub fn of(name: impl Into<PathBuf>, bytes: Vec<u8>) -> Result<Traces, Failure> {
+        whole(&name.into(), bytes.len() as u64)?;
+        let records = Some((bytes.len() / RECORD_LENGTH) as u64);
+        Ok(Traces { files: Vec::new(), bytes, used: 0, records })
     }
 
     /// The next records, at most so many; none where all were used.
@@ -92,7 +101,7 @@ impl Traces {
         let Some((path, file)) = self.files.last_mut() else { return Ok(()) };
         (self.bytes, self.used) = (Vec::new(), 0);
         let read = file.take(PIECE as u64).read_to_end(&mut self.bytes);
-        read.map_err(|error| Failure::bad(format!("{}: {}", path.display(), reason(&error))))?;
+        read.map_err(|error| Failure::bad(format!("{}: {}", shown(path), reason(&error))))?;
         whole(path, self.bytes.len() as u64)?;
         if self.bytes.is_empty() {
             self.files.pop();
@@ -107,6 +116,6 @@ fn whole(path: &Path, length: u64) -> Result<(), Failure> {
         return Ok(());
     }
     let refusal = Refusal::TraceLength { given: length as usize };
-    let message = format!("{} ({} bytes): {refusal}", path.display(), grouped(length));
+    let message = format!("{} ({} bytes): {refusal}", shown(path), grouped(length));
     Err(Failure::refused(&refusal, message))
 }

@@ -5,6 +5,8 @@ use std::io::{self, Write};
 use serde::Serialize;
 use serde_json::ser::{Formatter, Serializer};
 
+use crate::files::hidden;
+
 /// A value with a space after each colon and comma, on one line.
 pub fn json(value: &impl Serialize) -> String {
     let mut bytes = Vec::new();
@@ -37,6 +39,24 @@ impl Formatter for Spaced {
         comma(w, first)
     }
 
+    /// What would drive a terminal and JSON lets stand is escaped too.
+    fn write_string_fragment<W: ?Sized + Write>(
+        &mut self,
+        w: &mut W,
+        part: &str,
+    ) -> io::Result<()> {
+        if !part.chars().any(hidden) {
+            return w.write_all(part.as_bytes());
+        }
+        for c in part.chars() {
+            match hidden(c) {
+                true => write!(w, "\\u{:04x}", u32::from(c))?,
+                false => write!(w, "{c}")?,
+            }
+        }
+        Ok(())
+    }
+
     fn begin_object_value<W: ?Sized + Write>(&mut self, w: &mut W) -> io::Result<()> {
         w.write_all(b": ")
     }
@@ -57,5 +77,6 @@ mod tests {
     fn values_print_as_json() {
         let value = Value { a: -1, b: (true, "say \"x\\y\"\n"), c: None };
         assert_eq!(json(&value), r#"{"a": -1, "b": [true, "say \"x\\y\"\n"], "c": null}"#);
+        assert_eq!(json(&"\x1b\x7f\u{9b}\u{202e}é"), r#""\u001b\u007f\u009b\u202eé""#);
     }
 }

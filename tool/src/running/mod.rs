@@ -2,4 +2,6 @@
 
 pub mod follow;
 pub mod outcome;
+pub mod replay;
+pub mod session;
 pub mod watch;

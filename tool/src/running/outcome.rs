@@ -1,52 +1,12 @@
-//! What a run came to, printed and written.
+//! How a run ended, as it is printed.
 
 use serde::Serialize;
 use vb::{grouped, Answer, Machine, Memories, Mode};
 
-use crate::commands::Report;
 use crate::failure::Failure;
-use crate::inputs::setup::{Bench, Saves};
-use crate::interrupt;
+use crate::inputs::setup::Bench;
 use crate::reports::json::Named;
 use crate::running::follow::{End, Followed};
-
-/// Writes what was asked for, and tells what was done whether or not that could be written.
-pub fn finish(
-    bench: &Bench,
-    ended: &Followed,
-    budget: u64,
-    saves: &Saves,
-    was_fatal: bool,
-) -> Report {
-    finish_traced(bench, ended, budget, saves, was_fatal, None)
-}
-
-/// The same of a run that left a trace.
-pub fn finish_traced(
-    bench: &Bench,
-    ended: &Followed,
-    budget: u64,
-    saves: &Saves,
-    was_fatal: bool,
-    trace: Option<Traced>,
-) -> Report {
-    let written = saves.of(bench).and_then(|outputs| outputs.write().map(|()| outputs.paths()));
-    let (written, failure) = match written {
-        Ok(paths) => (paths, None),
-        Err(failure) => (Vec::new(), Some(failure)),
-    };
-    let mut outcome = Outcome::of(bench, ended, budget, written, was_fatal, failure.clone());
-    outcome.trace = trace;
-    outcome.not_stored = saves.not_stored().filter(|_| failure.is_none());
-    let status = match &ended.end {
-        _ if failure.is_some() => 2,
-        End::Interrupted => interrupt::STATUS,
-        End::NotModelled(_) => 2,
-        End::Undefined(_) => 1,
-        _ => 0,
-    };
-    Report { failure, ..Report::new(outcome.text(), &outcome, status) }
-}
 
 /// A trace that a run left.
 #[derive(Clone, Serialize)]
@@ -102,7 +62,7 @@ impl Registers {
 
 /// What is reported of a run; its members are those of the JSON.
 #[derive(Serialize)]
-struct Outcome {
+pub struct Outcome {
     /// What was done to the files before the run.
     #[serde(skip_serializing_if = "Vec::is_empty")]
     notes: Vec<String>,
@@ -122,14 +82,14 @@ struct Outcome {
     written: Vec<String>,
     /// A trace that was recorded.
     #[serde(skip_serializing_if = "Option::is_none")]
-    trace: Option<Traced>,
+    pub trace: Option<Traced>,
     /// What is not in the last file written, where that is a saved state.
     #[serde(skip_serializing_if = "Option::is_none")]
-    not_stored: Option<&'static str>,
+    pub not_stored: Option<&'static str>,
 }
 
 impl Outcome {
-    fn of(
+    pub fn of(
         bench: &Bench,
         ended: &Followed,
         budget: u64,
@@ -157,7 +117,7 @@ impl Outcome {
         }
     }
 
-    fn text(&self) -> String {
+    pub fn text(&self) -> String {
         let mut lines: Vec<String> =
             self.notes.iter().map(|note| format!("note:         {note}")).collect();
         lines.extend([
@@ -183,7 +143,9 @@ fn sentence(
     was_fatal: bool,
 ) -> (&'static str, String) {
     match &ended.end {
-        End::Interrupted => ("interrupted", "Ctrl-C came; the machine could go on".to_string()),
+        End::Interrupted => {
+            ("interrupted", "it was stopped by a signal; the machine could go on".to_string())
+        }
         End::Budget | End::Enough => {
             ("budget", "the budget is used up; the machine could go on".to_string())
         }

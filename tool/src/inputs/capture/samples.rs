@@ -1,5 +1,6 @@
 //! The colours of a PNG, read strictly: a sample that stands for no colour is told, and nothing may follow the image.
 
+use flate2::{Decompress, FlushDecompress, Status};
 use png::{BitDepth, ColorType, Decoder, Transformations};
 
 /// A PNG's pixels before they are taken for colours.
@@ -21,6 +22,59 @@ pub struct Samples {
 struct Chunks<'a> {
     palette: &'a [u8],
     transparent: &'a [u8],
+    /// The compressed image, in the pieces that it is stored in.
+    image: Vec<&'a [u8]>,
+}
+
+impl Chunks<'_> {
+    /// Whether the compressed image ends with so many bytes. What comes after them is never unpacked.
+    fn ends_with(&self, length: usize) -> bool {
+        let mut unpacked = vec![0; length + 1];
+        let mut stream = Decompress::new(true);
+        let mut ended = false;
+        for piece in &self.image {
+            let before = stream.total_in();
+            while !ended && stream.total_in() - before < piece.len() as u64 {
+                let used = (stream.total_in() - before) as usize;
+                let room = stream.total_out() as usize;
+                let into = &mut unpacked[room..];
+                match stream.decompress(&piece[used..], into, FlushDecompress::None) {
+                    Ok(Status::StreamEnd) => ended = true,
+                    Ok(Status::Ok) if stream.total_out() as usize <= length => {}
+                    _ => return false,
+                }
+            }
+            if stream.total_in() - before < piece.len() as u64 {
+                return false;
+            }
+        }
+        ended && stream.total_out() as usize == length
+    }
+}
+
+/// Bytes of an image before it is compressed: each row has one more for its filter. An interlaced image is stored as
+/// seven, of the pixels from a first one on, by steps, across and down.
+fn stored_length(info: &png::Info) -> usize {
+    let bits = info.color_type.samples() * info.bit_depth as usize;
+    let passes: &[[usize; 4]] = match info.interlaced {
+        false => &[[0, 1, 0, 1]],
+        true => &[
+            [0, 8, 0, 8],
+            [4, 8, 0, 8],
+            [0, 4, 4, 8],
+            [2, 4, 0, 4],
+            [0, 2, 2, 4],
+            [1, 2, 0, 2],
+            [0, 1, 1, 2],
+        ],
+    };
+    let (width, height) = (info.width as usize, info.height as usize);
+    let count = |size: usize, first: usize, step: usize| size.saturating_sub(first).div_ceil(step);
+    let pass = |&[x, across, y, down]: &[usize; 4]| match count(width, x, across) {
+        0 => 0,
+        columns => count(height, y, down) * (1 + (columns * bits).div_ceil(8)),
+    };
+    passes.iter().map(pass).sum()
 }
 
 /// Goes through the chunks up to IEND, which must be the file's end.
@@ -38,6 +92,7 @@ fn chunks(bytes: &[u8]) -> Result<Chunks<'_>, String> {
             .filter(|_| end <= bytes.len())
             .ok_or(format!("the PNG cannot be read: it ends inside its chunk {name}"))?;
         match name.as_str() {
+            "IDAT" => found.image.push(data),
             "PLTE" => found.palette = data,
             "tRNS" => found.transparent = data,
             "acTL" => return Err("the PNG is an animation; a capture is one picture".to_string()),
@@ -65,9 +120,17 @@ impl Samples {
         let broken = |error: png::DecodingError| format!("the PNG cannot be read: {error}");
         let mut reader = decoder.read_info().map_err(broken)?;
         fits(reader.info().width as usize, reader.info().height as usize)?;
-        let Chunks { palette, transparent } = chunks(bytes)?;
+        let found = chunks(bytes)?;
+        let stored = stored_length(reader.info());
+        let Chunks { palette, transparent, .. } = found;
         let mut data = vec![0; reader.output_buffer_size()];
         let frame = reader.next_frame(&mut data).map_err(broken)?;
+        if !found.ends_with(stored) {
+            let (width, height) = (frame.width, frame.height);
+            return Err(format!(
+                "the PNG has more image data than its {width} by {height} pixels; it must end with them"
+            ));
+        }
         Ok(Samples {
             width: frame.width as usize,
             colour: frame.color_type,

@@ -55,7 +55,7 @@ impl Saved {
 pub fn scene_of(input: &Input) -> Result<(Input, Input), Failure> {
     let saved = Saved::of(input).map_err(|wrong| wrong.failure)?;
     let part = |bytes: Vec<u8>, name: &str| Input {
-        path: PathBuf::from(format!("{}, {name}", input.path.display())),
+        path: PathBuf::from(format!("{}, {name}", input.name())),
         bytes,
         identity: input.identity,
     };

@@ -2,15 +2,19 @@
 //! destination on the right, `disp[reg]` for memory, a label as the target of branches and jumps. The halfwords are
 //! those of the proved encoder.
 //!
-//! Beside the instructions it knows `LI value, reg` (MOVHI, then MOVEA), labels (`name:`), `.equ name, value`,
-//! `.origin` (the first byte's address, before all bytes), `.half`, `.word`, `.space`, `.align`, `.org` (an address) and
-//! `.bytes name` (bytes that the caller names).
+//! It also has `LI value, reg` (MOVHI, then MOVEA), labels (`name:`), `.equ name, value`, `.origin` (the first byte's
+//! address, before all bytes), `.byte`, `.half`, `.word`, `.space`, `.align`, `.org` (an address) and `.bytes name` (bytes
+//! that the caller names). A value is an expression.
 
-use std::collections::HashMap;
+mod expression;
+
+use std::collections::{BTreeMap, HashMap};
 
 use vb::{op, Instruction};
 
+use crate::files::printable;
 use crate::programs::mnemonics::{self, Operands};
+use expression::{evaluate, Names, Value};
 
 /// Where a program goes, and what it may refer to by name.
 pub struct Source<'a> {
@@ -21,37 +25,171 @@ pub struct Source<'a> {
     pub bytes: &'a [(&'a str, &'a [u8])],
 }
 
-type Symbols = HashMap<String, i64>;
-
 /// Bytes of the largest ROM.
 const LARGEST: usize = 0x100_0000;
+/// Mistakes that are reported.
+const MOST: usize = 100;
+/// Constants that are defined by each other.
+const DEEPEST: usize = 500;
 
-/// The program's bytes from the origin on, in two passes: the first places the labels, the second writes.
+/// The program's bytes from the origin on, in two passes: the first places the labels, the second writes. Where there are
+/// mistakes, every one of them, a line each.
 pub fn assemble(source: &Source) -> Result<Vec<u8>, String> {
-    let mut symbols: Symbols = source.symbols.iter().map(|&(n, v)| (n.to_string(), v)).collect();
-    for &(name, bytes) in source.bytes {
-        symbols.insert(format!("{name}_size"), bytes.len() as i64);
-    }
+    let mut symbols = Symbols::of(source);
+    // by the line's number
+    let mut mistakes: BTreeMap<usize, String> = BTreeMap::new();
     let mut bytes = Vec::new();
+    // of each line in the first pass
+    let mut lengths = Vec::new();
     for writing in [false, true] {
         bytes.clear();
+        symbols.memo.clear();
         let mut origin = source.origin;
         for (number, line) in source.text.lines().enumerate() {
+            if mistakes.contains_key(&number) {
+                bytes.resize(bytes.len() + lengths[number], 0);
+                continue;
+            }
+            let placed = mistakes.is_empty();
+            let before = bytes.len();
             let mut place = Place {
                 source,
                 origin: &mut origin,
                 symbols: &mut symbols,
                 bytes: &mut bytes,
                 writing,
+                placed,
             };
-            place.line(line).map_err(|e| format!("line {}: {e}: {}", number + 1, line.trim()))?;
+            if let Err(wrong) = place.line(line) {
+                mistakes.insert(number, wrong);
+                // what follows stays where the first pass has placed it
+                bytes.resize(before + lengths.get(number).copied().unwrap_or(0), 0);
+            }
+            if !writing {
+                lengths.push(bytes.len() - before);
+            }
             if bytes.len() > LARGEST {
                 let rule = format!("the program has over {} bytes", vb::grouped(LARGEST as u64));
-                return Err(format!("line {}: {rule}: {}", number + 1, line.trim()));
+                mistakes.insert(number, rule);
+                break;
             }
         }
+        if bytes.len() > LARGEST {
+            break;
+        }
     }
-    Ok(bytes)
+    if mistakes.is_empty() {
+        return Ok(bytes);
+    }
+    let lines: Vec<&str> = source.text.lines().collect();
+    let mut all: Vec<String> = mistakes
+        .iter()
+        .take(MOST)
+        .map(|(number, wrong)| {
+            let line = printable(lines[*number].trim());
+            format!("line {}: {}: {line}", number + 1, printable(wrong))
+        })
+        .collect();
+    if mistakes.len() > MOST {
+        let more = vb::grouped((mistakes.len() - MOST) as u64);
+        all.push(format!("{more} more mistakes are left out"));
+    }
+    Err(all.join("\n"))
+}
+
+/// What names stand for: labels and the caller's names by value, constants by their expression.
+#[derive(Default)]
+struct Symbols {
+    values: HashMap<String, i64>,
+    constants: HashMap<String, Constant>,
+    /// Constants that were worked out; labels that they use stay where they are in the second pass alone.
+    memo: HashMap<String, Value>,
+}
+
+struct Constant {
+    text: String,
+    /// The address of its line, once it is placed.
+    here: Option<i64>,
+}
+
+impl Symbols {
+    fn of(source: &Source) -> Symbols {
+        let mut symbols = Symbols::default();
+        symbols
+            .values
+            .extend(source.symbols.iter().map(|&(name, value)| (name.to_string(), value)));
+        for &(name, bytes) in source.bytes {
+            symbols.values.insert(format!("{name}_size"), bytes.len() as i64);
+        }
+        // a constant may be used above its line
+        for line in source.text.lines() {
+            let line = without_comment(line);
+            let after = line.rsplit_once(':').map_or(line, |(_, after)| after).trim();
+            let Some(rest) =
+                after.strip_prefix(".equ").filter(|r| r.starts_with(char::is_whitespace))
+            else {
+                continue;
+            };
+            if let [name, text] = operands(rest)[..] {
+                let constant = Constant { text: text.to_string(), here: None };
+                symbols.constants.entry(name.to_string()).or_insert(constant);
+            }
+        }
+        symbols
+    }
+}
+
+fn without_comment(line: &str) -> &str {
+    line.split(';').next().unwrap_or("")
+}
+
+fn operands(text: &str) -> Vec<&str> {
+    text.split(',').map(str::trim).filter(|operand| !operand.is_empty()).collect()
+}
+
+/// One evaluation, with the constants that it is inside of.
+struct Scope<'a> {
+    symbols: &'a mut Symbols,
+    here: Value,
+    inside: Vec<String>,
+    writing: bool,
+}
+
+impl Names for Scope<'_> {
+    fn value_of(&mut self, name: &str) -> Result<Value, String> {
+        if let Some(value) = self.symbols.values.get(name) {
+            return Ok(Value::known(*value));
+        }
+        if let Some(value) = self.symbols.memo.get(name) {
+            return Ok(*value);
+        }
+        let Some(Constant { text, here }) = self.symbols.constants.get(name) else {
+            return match self.writing {
+                true => Err(format!("`{name}` is not named")),
+                false => Ok(Value::UNKNOWN),
+            };
+        };
+        if self.inside.iter().any(|outer| outer == name) {
+            let circle = [self.inside.join(", "), name.to_string()].join(", ");
+            return Err(format!("`{name}` is defined by itself: {circle}"));
+        }
+        if self.inside.len() == DEEPEST {
+            return Err(format!("over {DEEPEST} constants are defined by each other"));
+        }
+        let (text, here) = (text.clone(), here.map_or(Value::UNKNOWN, Value::known));
+        let outer = std::mem::replace(&mut self.here, here);
+        self.inside.push(name.to_string());
+        let value = evaluate(&text, self);
+        self.inside.pop();
+        self.here = outer;
+        let value = value?;
+        self.symbols.memo.insert(name.to_string(), value);
+        Ok(value)
+    }
+
+    fn here(&self) -> Value {
+        self.here
+    }
 }
 
 /// A pass at one line.
@@ -61,6 +199,8 @@ struct Place<'a> {
     symbols: &'a mut Symbols,
     bytes: &'a mut Vec<u8>,
     writing: bool,
+    /// Whether no mistake was found so far: then a label that is elsewhere has moved by itself.
+    placed: bool,
 }
 
 impl Place<'_> {
@@ -69,7 +209,7 @@ impl Place<'_> {
     }
 
     fn line(&mut self, line: &str) -> Result<(), String> {
-        let mut rest = line.split(';').next().unwrap_or("").trim();
+        let mut rest = without_comment(line).trim();
         while let Some((label, after)) = rest.split_once(':') {
             self.label(label.trim())?;
             rest = after.trim();
@@ -77,9 +217,8 @@ impl Place<'_> {
         if rest.is_empty() {
             return Ok(());
         }
-        let (word, operands) = rest.split_once(char::is_whitespace).unwrap_or((rest, ""));
-        let operands: Vec<&str> =
-            operands.split(',').map(str::trim).filter(|o| !o.is_empty()).collect();
+        let (word, after) = rest.split_once(char::is_whitespace).unwrap_or((rest, ""));
+        let operands = operands(after);
         if let Some(directive) = word.strip_prefix('.') {
             return self.directive(directive, &operands);
         }
@@ -91,49 +230,80 @@ impl Place<'_> {
 
     fn label(&mut self, name: &str) -> Result<(), String> {
         let address = self.address();
-        let before = self.symbols.get(name);
-        if !is_name(name) {
-            return Err(format!(
-                "`{name}` is no name; letters, digits and `_` are, a letter or `_` first"
-            ));
-        }
-        if !self.writing && before.is_some() {
+        named(name)?;
+        let before = self.symbols.values.get(name);
+        if !self.writing && (before.is_some() || self.symbols.constants.contains_key(name)) {
             return Err(format!("`{name}` is named twice"));
         }
-        if self.writing && before != Some(&address) {
+        if self.writing && self.placed && before != Some(&address) {
             return Err(format!("`{name}` has moved; a size above it uses a name further down"));
         }
-        self.symbols.insert(name.to_string(), address);
+        self.symbols.values.insert(name.to_string(), address);
         Ok(())
+    }
+
+    /// A constant: its expression was found before the first pass, its line is here.
+    fn constant(&mut self, name: &str, text: &str) -> Result<(), String> {
+        named(name)?;
+        let here = self.address();
+        let twice = || format!("`{name}` is named twice");
+        let constant = self.symbols.constants.get_mut(name).ok_or_else(twice)?;
+        let again = constant.text != text || (!self.writing && constant.here.is_some());
+        if again || self.symbols.values.contains_key(name) {
+            return Err(twice());
+        }
+        constant.here = Some(here);
+        let mut scope = self.scope();
+        scope.value_of(name).map(|_| ())
+    }
+
+    fn scope(&mut self) -> Scope<'_> {
+        if !self.writing {
+            self.symbols.memo.clear();
+        }
+        let here = Value::known(self.address());
+        Scope { symbols: self.symbols, here, inside: Vec::new(), writing: self.writing }
+    }
+
+    /// The value of an expression. A label further down is unknown in the first pass.
+    fn value(&mut self, text: &str) -> Result<Value, String> {
+        evaluate(text, &mut self.scope())
+    }
+
+    /// A value within bounds; one that is not yet known is the lowest from 0 on.
+    fn within(&mut self, text: &str, low: i64, high: i64) -> Result<i64, String> {
+        match self.value(text)? {
+            Value { known: false, .. } => Ok(low.max(0)),
+            Value { number, .. } => within(number, low, high),
+        }
     }
 
     fn directive(&mut self, directive: &str, operands: &[&str]) -> Result<(), String> {
         match (directive, operands) {
-            ("equ", [name, value]) => {
-                if !is_name(name) {
-                    return Err(format!("`{name}` is no name"));
-                }
-                let value = self.value(value)?;
-                self.symbols.insert(name.to_string(), value);
-            }
+            ("equ", [name, value]) => self.constant(name, value)?,
             ("origin", [address]) => {
                 if !self.bytes.is_empty() {
                     return Err("`.origin` must stand before all bytes".to_string());
                 }
-                *self.origin = within(self.value(address)?, 0, 0xFFFF_FFFF)? as u32;
+                *self.origin = self.within(address, 0, 0xFFFF_FFFF)? as u32;
             }
+            ("byte", values) if !values.is_empty() => self.numbers(values, 1, -0x80, 0xFF)?,
             ("half", values) => self.numbers(values, 2, -0x8000, 0xFFFF)?,
             ("word", values) => self.numbers(values, 4, -0x8000_0000, 0xFFFF_FFFF)?,
             ("space", [count]) => {
-                let count = within(self.value(count)?, 0, 0x100_0000)?;
+                let count = self.within(count, 0, 0x100_0000)?;
                 self.bytes.resize(self.bytes.len() + count as usize, 0);
             }
             ("align", [to]) => {
-                let to = within(self.value(to)?, 1, 0x1000)? as usize;
+                let to = self.within(to, 1, 0x1000)? as usize;
                 self.bytes.resize(self.bytes.len().next_multiple_of(to), 0);
             }
             ("org", [address]) => {
-                let ahead = self.value(address)? - self.address();
+                let here = self.address();
+                let ahead = match self.value(address)? {
+                    Value { known: false, .. } => 0,
+                    Value { number, .. } => number - here,
+                };
                 let ahead =
                     within(ahead, 0, 0x100_0000).map_err(|_| "`.org` lies behind".to_string())?;
                 self.bytes.resize(self.bytes.len() + ahead as usize, 0);
@@ -158,53 +328,15 @@ impl Place<'_> {
         high: i64,
     ) -> Result<(), String> {
         for value in values {
-            let value = within(self.value(value)?, low, high)?;
+            let value = self.within(value, low, high)?;
             self.bytes.extend_from_slice(&value.to_le_bytes()[..length]);
         }
         Ok(())
     }
 
-    /// Sums and differences of numbers and names. A label further down counts 0 in the first pass.
-    fn value(&self, text: &str) -> Result<i64, String> {
-        let mut sum = 0i64;
-        let mut sign = 1;
-        let mut rest = text.trim();
-        loop {
-            if let Some(after) = rest.strip_prefix('-') {
-                sign = -sign;
-                rest = after.trim_start();
-                continue;
-            }
-            let end = rest.find(['+', '-']).unwrap_or(rest.len());
-            let term = self.term(rest[..end].trim())?;
-            let next = sum.checked_add(sign * term).filter(|n| n.abs() < 1 << 40);
-            sum = next.ok_or(format!("`{text}` is too large"))?;
-            match rest[end..].chars().next() {
-                None => return Ok(sum),
-                Some(operator) => sign = if operator == '-' { -1 } else { 1 },
-            }
-            rest = rest[end + 1..].trim_start();
-        }
-    }
-
-    fn term(&self, text: &str) -> Result<i64, String> {
-        if text.starts_with(|c: char| c.is_ascii_digit()) {
-            let number = crate::inputs::number::whole(text)?;
-            return i64::try_from(number).map_err(|_| format!("`{text}` is too large"));
-        }
-        if text.is_empty() {
-            return Err("a number or a name is missing".to_string());
-        }
-        match self.symbols.get(text) {
-            Some(value) => Ok(*value),
-            None if !self.writing => Ok(0),
-            None => Err(format!("`{text}` is not named")),
-        }
-    }
-
     /// Where a branch or jump leads, from its own address. In the first pass targets are not yet placed.
-    fn ahead(&self, text: &str, low: i64, high: i64) -> Result<u32, String> {
-        let target = self.value(text)?;
+    fn ahead(&mut self, text: &str, low: i64, high: i64) -> Result<u32, String> {
+        let target = self.value(text)?.number;
         if !self.writing {
             return Ok(0);
         }
@@ -216,12 +348,12 @@ impl Place<'_> {
         Ok(ahead as u32)
     }
 
-    fn immediate(&self, text: &str, low: i64, high: i64) -> Result<u32, String> {
-        Ok(within(self.value(text)?, low, high)? as u32)
+    fn immediate(&mut self, text: &str, low: i64, high: i64) -> Result<u32, String> {
+        Ok(self.within(text, low, high)? as u32)
     }
 
     /// A system register that is modelled.
-    fn system(&self, text: &str) -> Result<u32, String> {
+    fn system(&mut self, text: &str) -> Result<u32, String> {
         match self.immediate(text, 0, 31)? {
             24 => Err("system register 24 is not modelled".to_string()),
             number => Ok(number),
@@ -229,7 +361,7 @@ impl Place<'_> {
     }
 
     /// `disp[reg1]`: the displacement and the register.
-    fn memory(&self, text: &str) -> Result<(u32, u32), String> {
+    fn memory(&mut self, text: &str) -> Result<(u32, u32), String> {
         let (before, after) = text.split_once('[').ok_or(format!("`{text}` is not disp[reg]"))?;
         let base = register(after.strip_suffix(']').ok_or(format!("`{text}` has no `]`"))?)?;
         let disp =
@@ -238,7 +370,7 @@ impl Place<'_> {
     }
 
     /// An instruction's halfwords, as the proved encoder gives them.
-    fn instruction(&self, name: &str, operands: &[&str]) -> Result<Vec<u16>, String> {
+    fn instruction(&mut self, name: &str, operands: &[&str]) -> Result<Vec<u16>, String> {
         if let ("LI", [value, reg]) = (name, operands) {
             return self.load_constant(value, register(reg)?);
         }
@@ -256,7 +388,12 @@ impl Place<'_> {
         encoded(instruction)
     }
 
-    fn branch(&self, name: &str, condition: u32, operands: &[&str]) -> Result<Instruction, String> {
+    fn branch(
+        &mut self,
+        name: &str,
+        condition: u32,
+        operands: &[&str],
+    ) -> Result<Instruction, String> {
         let plain = Instruction { operation: op::BCOND, condition, ..Instruction::default() };
         match operands {
             [] if name == "NOP" => Ok(plain),
@@ -269,7 +406,7 @@ impl Place<'_> {
 
     /// The fields of an instruction whose operands are written in this form.
     fn fields(
-        &self,
+        &mut self,
         name: &str,
         (operation, form): (u32, Operands),
         operands: &[&str],
@@ -328,8 +465,8 @@ impl Place<'_> {
     }
 
     /// MOVHI, then MOVEA, whose sign extension the upper half makes up for.
-    fn load_constant(&self, value: &str, reg2: u32) -> Result<Vec<u16>, String> {
-        let value = within(self.value(value)?, -0x8000_0000, 0xFFFF_FFFF)? as u32;
+    fn load_constant(&mut self, value: &str, reg2: u32) -> Result<Vec<u16>, String> {
+        let value = self.within(value, -0x8000_0000, 0xFFFF_FFFF)? as u32;
         let low = value as i16 as u32;
         let high = value.wrapping_sub(low) >> 16;
         let plain = Instruction { reg2, ..Instruction::default() };
@@ -339,10 +476,16 @@ impl Place<'_> {
     }
 }
 
-/// A name of a label or a constant.
-fn is_name(text: &str) -> bool {
+/// Whether this can name a label or a constant.
+fn named(text: &str) -> Result<(), String> {
     let inner = |c: char| c.is_ascii_alphanumeric() || c == '_';
-    text.chars().all(inner) && text.starts_with(|c: char| c.is_ascii_alphabetic() || c == '_')
+    let first = |c: char| c.is_ascii_alphabetic() || c == '_';
+    match text.chars().all(inner) && text.starts_with(first) {
+        true => Ok(()),
+        false => Err(format!(
+            "`{text}` is not a name; a name has letters, digits and `_`, a letter or `_` first"
+        )),
+    }
 }
 
 fn encoded(instruction: Instruction) -> Result<Vec<u16>, String> {
@@ -421,6 +564,10 @@ mod tests {
             ("OUT.W r2, 8[r1]", vec![0xFC41, 0x0008]),
             ("LI 0x12348000, r1", vec![0xBC20, 0x1235, 0xA021, 0x8000]),
             (".half 1, -1\n.equ two, 2\n.half two + 3 - 1", vec![1, 0xFFFF, 4]),
+            (".byte 1, -1, 2 * 3, 0", vec![0xFF01, 6]),
+            (".half x\n.equ x, later - 0x07000000\nlater: NOP", vec![2, 0x9A00]),
+            ("NOP\n.half * - 0x07000000, (1 << 4 | 3) & ~1", vec![0x9A00, 2, 18]),
+            (".equ here, * + 2\nNOP\nBR here", vec![0x9A00, 0x8A00]),
         ] {
             assert_eq!(halves(text), Ok(expected), "{text}");
         }
@@ -443,8 +590,15 @@ mod tests {
             ("JR 0x07000003", "line 1: `0x07000003` is odd: JR 0x07000003"),
             ("MOV , r1", "line 1: `MOV` with these operands is not known: MOV , r1"),
             (".half 1 +", "line 1: a number or a name is missing: .half 1 +"),
-            ("2a: NOP", "line 1: `2a` is no name; letters, digits and `_` are, a letter or `_` first: 2a: NOP"),
-            (".space later\na: NOP\n.equ later, 4", "line 2: `a` has moved; a size above it uses a name further down: a: NOP"),
+            ("2a: NOP", "line 1: `2a` is not a name; a name has letters, digits and `_`, a letter or `_` first: 2a: NOP"),
+            (".space b - a\na: NOP\nb: NOP", "line 2: `a` has moved; a size above it uses a name further down: a: NOP"),
+            (".equ a, b\n.equ b, a\n.half a", "line 1: `a` is defined by itself: a, b, a: .equ a, b\nline 2: `b` is defined by itself: b, a, b: .equ b, a\nline 3: `a` is defined by itself: a, b, a: .half a"),
+            (".equ a, a + 1", "line 1: `a` is defined by itself: a, a: .equ a, a + 1"),
+            (".equ a, 1\n.equ a, 2", "line 2: `a` is named twice: .equ a, 2"),
+            (".equ a, 1\n.equ a, 1", "line 2: `a` is named twice: .equ a, 1"),
+            ("a: NOP\n.equ a, 1", "line 1: `a` is named twice: a: NOP"),
+            (".byte 256", "line 1: 256 is not within -128 to 255: .byte 256"),
+            ("FLY\nADD 16, r1\nNOP\nBR nowhere", "line 1: `FLY` with these operands is not known: FLY\nline 2: 16 is not within -16 to 15: ADD 16, r1\nline 4: `nowhere` is not named: BR nowhere"),
             ("NOP\n.origin 0", "line 2: `.origin` must stand before all bytes: .origin 0"),
             (".word 0x10000000000", "line 1: `0x10000000000` is too large: .word 0x10000000000"),
         ] {

@@ -59,7 +59,12 @@ fn value(bench: &Bench, machine: &Machine, address: u32, width: u32) -> Result<u
 impl Effects {
     /// The instruction that is next, before it is done.
     pub fn before(bench: &Bench) -> Result<Effects, Refusal> {
-        let machine = bench.machine;
+        Effects::at(bench, &bench.machine)
+    }
+
+    /// The instruction that is next for this machine, with the bench's memories.
+    pub fn at(bench: &Bench, machine: &Machine) -> Result<Effects, Refusal> {
+        let machine = *machine;
         let pc = machine.processor.pc;
         let halves =
             [pc, pc.wrapping_add(2)].map(|address| machine.load_half(&read(bench), address));
@@ -80,14 +85,13 @@ impl Effects {
             before: machine,
         };
         if let Some(access) = line.access {
-            effects.access(bench, access)?;
+            effects.access(bench, &machine, access)?;
         }
         Ok(effects)
     }
 
-    fn access(&mut self, bench: &Bench, access: Access) -> Result<(), Refusal> {
+    fn access(&mut self, bench: &Bench, machine: &Machine, access: Access) -> Result<(), Refusal> {
         let Access { store, base, displacement, width } = access;
-        let machine = &bench.machine;
         let address = machine.processor.regs[base].wrapping_add(displacement) & !(width - 1);
         if store {
             let from = value(bench, machine, address, width)?;

@@ -82,10 +82,6 @@ pub fn follow(
     stops: &Stops,
     tell: &mut dyn FnMut(&Effects) -> bool,
 ) -> Result<Followed, Failure> {
-    // a run of nothing tests the machine
-    let (machine, mut memories) = bench.lent();
-    let tested = machine.run(&mut memories, 0);
-    tested.map_err(|refusal| bench.failure(&refusal))?;
     let watched = stops.watch.iter().map(|range| place::range(bench, range));
     let watched: Vec<(At, usize)> = watched.collect::<Result<_, _>>().map_err(Failure::bad)?;
     let mut count = 0;
@@ -134,7 +130,7 @@ fn before(bench: &Bench, budget: u64, count: u64, stops: &Stops) -> Option<End> 
 /// One instruction done or interrupt accepted, and what it did; none where the machine stays halted.
 pub fn step(bench: &mut Bench) -> Result<Option<Effects>, Refusal> {
     let before = Effects::before(bench)?;
-    let (machine, mut memories) = bench.lent();
+    let (machine, mut memories) = bench.borrowed();
     let (answer, undefined) = machine.step_watched(&mut memories)?;
     let effects = match answer {
         Answer::WasHalted | Answer::WasFatal => return Ok(None),
