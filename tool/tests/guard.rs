@@ -16,9 +16,10 @@ fn with_rom(name: &str) -> Folder {
     Folder::with_rom(name, &[HALT], &[])
 }
 
-/// Starts the tool with these arguments.
+/// Starts the tool with these arguments; no signal is ignored, even where the tests were started by nohup.
 fn started(folder: &Folder, arguments: &str) -> Child {
-    Command::new(env!("CARGO_BIN_EXE_vbmodel"))
+    Command::new("env")
+        .args(["--default-signal", env!("CARGO_BIN_EXE_vbmodel")])
         .args(arguments.split_whitespace())
         .current_dir(folder.path("."))
         .stdout(Stdio::piped())
@@ -239,7 +240,7 @@ fn a_byte_order_mark_is_taken_and_utf_16_is_named() {
     folder.write("a.s", &with_mark("NOP\n"));
     let ran = folder.vbmodel("asm a.s -o a.bin");
     assert_eq!((ran.status, ran.error.as_str()), (0, ""));
-    folder.write("a.overlay", &with_mark("byte 0 0\n"));
+    folder.write("a.overlay", &with_mark("word 0x00038000 0\n"));
     folder.write("v", &vec![0; 262_144]);
     folder.write("d", &[0; 26]);
     let ran = folder.vbmodel("draw --vram v --drawing d --overlay a.overlay");
@@ -445,7 +446,7 @@ fn surplus_image_data_in_a_png_is_refused() {
         let mut data = raw.clone();
         data.resize(raw.len() + surplus, 0);
         folder.write("a.png", &common::png_of(384, 224, &data, after));
-        let ran = folder.vbmodel(&format!("compare {scene} --left a.png"));
+        let ran = folder.vbmodel(&format!("compare {scene} --eyes left --left a.png"));
         if surplus + after == 0 {
             assert_eq!(ran.status, 0, "{} {}", ran.text, ran.error);
             continue;

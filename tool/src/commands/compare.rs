@@ -125,7 +125,7 @@ pub fn run(options: &Options) -> Result<Report, Failure> {
     compared(options).or_else(|failure| {
         let told = Invalid { verdict: Verdict::Invalid, failure: &failure };
         let json = json(&told);
-        Ok(Report { text: String::new(), json, status: 2, failure: Some(failure) })
+        Ok(Report { text: String::new(), json, status: 2, failure: Some(failure), aside: false })
     })
 }
 

@@ -177,7 +177,7 @@ impl<'a> Staged<'a> {
     fn take(&mut self, stream: Stream) -> Result<(), Failure> {
         let (path, sink) = stream.finished()?;
         if let Sink::Temporary { file, target, now } = sink {
-            let place = Place::File { target: target.clone(), now };
+            let place = Place::File { target: target.clone(), now: now.map(|now| *now) };
             if self.places.iter().any(|other| other.same(&place)) {
                 return Err(Failure::bad(format!("{}: named for two outputs", shown(&path))));
             }

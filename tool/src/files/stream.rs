@@ -19,7 +19,7 @@ pub enum Sink {
     Temporary {
         file: Temporary,
         target: PathBuf,
-        now: Option<Metadata>,
+        now: Option<Box<Metadata>>,
     },
     /// Standard output, a device or a pipe.
     Through(Box<dyn Write>),
@@ -48,7 +48,8 @@ impl Stream {
             }
             Place::File { target, now } => {
                 let file = Temporary::new(folder_of(&target), now.as_ref());
-                Sink::Temporary { file: file.map_err(|error| failed(path, &error))?, target, now }
+                let file = file.map_err(|error| failed(path, &error))?;
+                Sink::Temporary { file, target, now: now.map(Box::new) }
             }
         };
         Ok(Stream { path: path.to_path_buf(), sink: BufWriter::with_capacity(1 << 16, sink) })

@@ -70,7 +70,7 @@ pub fn floats(random: &mut Random) -> u64 {
     let operand = |random: &mut Random| match random.below(3) {
         0 => random.pick(&SPECIAL) ^ random.below(2) << 31,
         1 => biased_word(random),
-        _ => random.below(254) + 1 << 23 | random.word() & 0x807F_FFFF,
+        _ => ((random.below(254) + 1) << 23) | random.word() & 0x807F_FFFF,
     };
     let mut twin = twin(random);
     for number in 0..COUNT {
