@@ -1,7 +1,7 @@
 """Draws a frame from VRAM and a drawing record into a PNG, the left eye's picture and then the right one's.
 
     ./vbmodel demo
-    python/shared
+    make lib
     python3 python/draw.py out/vram.bin out/drawing.bin 1 frame.png
 """
 

@@ -1,28 +1,29 @@
-//! Links the model's static library: `libcapi.a` in the directory that
-//! VB_LIB_DIR names, else in target/staticlib of the repository, where it is
-//! made by `rt staticlib capi` if it is missing or older than its sources.
+//! Links libvb: `libvb.a` in the directory that VB_LIB_DIR names, else in
+//! target/vb/lib of the repository, where `guard/build` makes it if it is missing
+//! or older than its sources.
 
 use std::env;
 use std::fs;
-use std::io::ErrorKind;
 use std::path::{Path, PathBuf};
 use std::process::{self, Command};
 use std::time::SystemTime;
 
 fn main() {
     println!("cargo:rerun-if-env-changed=VB_LIB_DIR");
-    let directory = match env::var_os("VB_LIB_DIR") {
-        Some(named) => PathBuf::from(named),
-        None => made(&repository()),
+    let root = repository();
+    let (directory, proved) = match env::var_os("VB_LIB_DIR") {
+        Some(named) => (PathBuf::from(&named), PathBuf::from(named)),
+        None => (made(&root), root.join("target/staticlib")),
     };
-    let archive = directory.join("libcapi.a");
-    println!("cargo:rerun-if-changed={}", archive.display());
-    if !archive.is_file() {
-        stop(&format!("There is no static library at {}.", archive.display()));
+    let library = directory.join("libvb.a");
+    println!("cargo:rerun-if-changed={}", library.display());
+    if !library.is_file() {
+        stop(&format!("There is no static library at {}.", library.display()));
     }
-    println!("cargo:rustc-env=VB_ARCHIVE={}", archive.display());
+    println!("cargo:rustc-env=VB_LIBRARY={}", library.display());
+    println!("cargo:rustc-env=VB_PROVED={}", proved.join("libcapi.a").display());
     println!("cargo:rustc-link-search=native={}", directory.display());
-    println!("cargo:rustc-link-lib=static=capi");
+    println!("cargo:rustc-link-lib=static=vb");
 }
 
 fn repository() -> PathBuf {
@@ -32,22 +33,22 @@ fn repository() -> PathBuf {
 
 fn stop(why: &str) -> ! {
     eprintln!("{why}");
-    eprintln!("Build the library with `rt staticlib capi`, or name its directory in VB_LIB_DIR.");
+    eprintln!("Build the library with `make lib`, or name its directory in VB_LIB_DIR.");
     process::exit(1);
 }
 
 /// The directory of the repository's own library, which is made where it has to be.
 fn made(root: &Path) -> PathBuf {
-    let directory = root.join("target/staticlib");
-    let archive = directory.join("libcapi.a");
-    let sources = [root.join("crates"), root.join("crates.txt")];
+    let directory = root.join("target/vb/lib");
+    let sources = ["crates", "crates.txt", "guard", "include/vb.h"].map(|name| root.join(name));
     for source in &sources {
         println!("cargo:rerun-if-changed={}", source.display());
     }
     let newest = sources.iter().filter_map(|source| newest(source)).max();
-    let built = fs::metadata(&archive).and_then(|about| about.modified()).ok();
+    let library = fs::metadata(directory.join("libvb.a"));
+    let built = library.and_then(|about| about.modified()).ok();
     if built.is_none() || built < newest {
-        make(root, &archive);
+        make(root);
     }
     directory
 }
@@ -62,21 +63,15 @@ fn newest(path: &Path) -> Option<SystemTime> {
     entries.filter_map(|entry| newest(&entry.path())).max()
 }
 
-fn make(root: &Path, archive: &Path) {
-    match Command::new("rt").args(["staticlib", "capi"]).current_dir(root).output() {
-        Err(error) if error.kind() == ErrorKind::NotFound => stop(
-            "The static library has to be made, and `rt`, the Rattle toolchain's command, is not on the PATH.",
-        ),
-        Err(error) => stop(&format!("`rt staticlib capi` cannot be run: {error}.")),
+fn make(root: &Path) {
+    let script = root.join("guard/build");
+    match Command::new(&script).output() {
+        Err(error) => stop(&format!("{} cannot be run: {error}.", script.display())),
         Ok(done) if !done.status.success() => {
             eprintln!("{}", String::from_utf8_lossy(&done.stdout));
             eprintln!("{}", String::from_utf8_lossy(&done.stderr));
-            stop("`rt staticlib capi` failed.");
+            stop("`guard/build` failed.");
         }
         Ok(_) => {}
-    }
-    // an archive whose sources were only touched is left as it was: it is up to date as of now
-    if let Ok(file) = fs::File::options().append(true).open(archive) {
-        let _ = file.set_modified(SystemTime::now());
     }
 }

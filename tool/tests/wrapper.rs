@@ -26,7 +26,9 @@ fn script(folder: &Folder, name: &str, text: &str) {
 /// A repository without contents.
 fn repository(name: &str) -> Folder {
     let folder = Folder::new(name);
-    for inner in ["crates/word/src", "include", "rust", "tool/src", "bin", "elsewhere/tool"] {
+    for inner in
+        ["crates/word/src", "guard", "include", "rust", "tool/src", "bin", "elsewhere/tool"]
+    {
         fs::create_dir_all(folder.path(inner)).unwrap();
     }
     for source in ["crates.txt", "crates/word/src/lib.rt", "include/vb.h", "tool/src/main.rs"] {

@@ -20,7 +20,7 @@ fn from_c() {
         .args(["-std=c99", "-Wall", "-Wextra", "-Werror", "-I"])
         .arg(root().join("include"))
         .arg(root().join("rust/vb/examples/ten_lines.c"))
-        .arg(vbsys::ARCHIVE)
+        .arg(vbsys::LIBRARY)
         .arg("-o")
         .arg(&binary)
         .output()

@@ -1,6 +1,8 @@
 //! Safe wrappers over slices: each is lent with its own length, and the borrow
 //! checker keeps the lent buffers apart.
 
+use std::ffi::{c_char, CStr};
+
 use crate::raw::*;
 use crate::*;
 
@@ -82,6 +84,31 @@ probing! {
 pub fn tick(hardware: Hardware) -> Ticked {
     // SAFETY: nothing is lent.
     unsafe { vb_tick(hardware) }
+}
+
+/// `vb_version`: VB_VERSION of the linked library.
+pub fn version() -> u32 {
+    // SAFETY: nothing is lent.
+    unsafe { vb_version() }
+}
+
+/// A text of the library's.
+fn text(constant: *const c_char) -> &'static str {
+    // SAFETY: the library's texts are constants that end in 0, and never null.
+    let text = unsafe { CStr::from_ptr(constant) };
+    text.to_str().expect("the library's texts are ASCII")
+}
+
+/// `vb_version_text`
+pub fn version_text() -> &'static str {
+    // SAFETY: nothing is lent.
+    text(unsafe { vb_version_text() })
+}
+
+/// `vb_refusal_text`
+pub fn refusal_text(refusal: u32) -> &'static str {
+    // SAFETY: nothing is lent.
+    text(unsafe { vb_refusal_text(refusal) })
 }
 
 #[cfg(feature = "processor")]

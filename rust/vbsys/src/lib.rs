@@ -15,8 +15,10 @@ pub const VERSION: u32 = 3;
 /// `VB_MISUSE`: a mode above 2, or a pixel that no image has.
 pub const MISUSE: u32 = 255;
 
-/// The static library that is linked.
-pub const ARCHIVE: &str = env!("VB_ARCHIVE");
+/// The static library that is linked, libvb.a; libvb.so stands next to it.
+pub const LIBRARY: &str = env!("VB_LIBRARY");
+/// The proved archive that libvb is made of, where it is still there. The guard's tests alone link it.
+pub const PROVED: &str = env!("VB_PROVED");
 
 /// Values of [`Processor::mode`].
 pub const RUNNING: u32 = 0;

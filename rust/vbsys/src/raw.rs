@@ -1,6 +1,8 @@
 //! The foreign functions, each as include/vb.h declares it. A slice passes as
 //! pointer, then length.
 
+use std::ffi::c_char;
+
 use crate::*;
 
 /// Declares calls of vb.h that are lent the four memories, ROM to be read and the
@@ -47,6 +49,9 @@ on_memories! {
 
 extern "C" {
     pub fn vb_tick(hardware: Hardware) -> Ticked;
+    pub fn vb_version() -> u32;
+    pub fn vb_version_text() -> *const c_char;
+    pub fn vb_refusal_text(refusal: u32) -> *const c_char;
 }
 
 #[cfg(feature = "processor")]

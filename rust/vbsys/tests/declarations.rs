@@ -33,6 +33,7 @@ fn c_type(rust: &str) -> String {
         "*const u8" => "const uint8_t *".into(),
         "*mut u8" => "uint8_t *".into(),
         "*mut u32" => "uint32_t *".into(),
+        "*const c_char" => "const char *".into(),
         "usize" => "size_t".into(),
         "u8" => "uint8_t".into(),
         "u16" => "uint16_t".into(),
@@ -111,13 +112,13 @@ fn promised() -> Signatures {
         header.split(';').map(words).filter(|text| text.contains("(") && !text.contains('{'));
     let prototype = |text: String| {
         let (head, _) = text.split_once('(').expect("arguments");
-        let (answer, name) = head.rsplit_once(' ').expect("an answer and a name");
+        let (answer, name) = head.split_at(head.rfind([' ', '*']).expect("an answer") + 1);
         let arguments = block(&text, 0, '(', ')').split(',').map(str::trim);
         let arguments = arguments.filter(|text| *text != "void").map(|argument| {
             let at = argument.rfind([' ', '*']).expect("type and name") + 1;
             (argument[..at].trim().to_string(), argument[at..].to_string())
         });
-        (name.to_string(), (answer.to_string(), arguments.collect()))
+        (name.to_string(), (answer.trim().to_string(), arguments.collect()))
     };
     prototypes.map(prototype).collect()
 }
