@@ -1,5 +1,5 @@
-; Short worlds: windows of fewer than eight rows, which begin at every row of a strip. Normal worlds in the first column,
-; H-bias worlds in the second, affine ones in the third.
+; Short worlds: windows of fewer than eight rows, which begin at various rows of a strip, the first above the screen. Normal
+; worlds in the first column, H-bias worlds in the second, affine ones in the third.
 
     .equ cartridge, 0x3630
     .equ rom_end,   0x07004000
@@ -32,10 +32,10 @@ row:
     CMP r10, r8
     BNZ row
 
-; Ten heights by three kinds: GY is 17 * n + 3, H is n mod 7.
+; Ten heights by three kinds: n from 2 to 11, GY -3, 14, 31 and so on, H n mod 7. One of them is GY 99, H 1.
     LI world_table + 992, r7
-    MOV 0, r8                      ; n
-    MOV 3, r12                     ; GY
+    MOV 2, r8                      ; n
+    MOV -3, r12                    ; GY
 height:
     MOV 0, r9                      ; BGM
 kind:
@@ -64,7 +64,7 @@ kind:
     BNZ kind
     ADDI 17, r12, r12
     ADD 1, r8
-    CMP 10, r8
+    CMP 12, r8
     BNZ height
     MOVEA 0x40, r0, r10
     ST.H r10, 0[r7]
