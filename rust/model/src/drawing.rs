@@ -1,6 +1,8 @@
 //! The strip call and the frame call: 01 "Drawing"; 000 "Drawing Procedure"
 //! and "Frame Buffer".
 
+use std::ops::Range;
+
 use crate::background::background_dot;
 use crate::bus::DrawingRegisters;
 use crate::character::shade;
@@ -44,7 +46,7 @@ impl Canvas {
         Canvas { top: ROWS * strip as i32, pixels: vec![bkcol as u8; (WIDTH * ROWS) as usize] }
     }
 
-    fn rows(&self) -> std::ops::Range<i32> {
+    fn rows(&self) -> Range<i32> {
         self.top..self.top + ROWS
     }
 
@@ -60,64 +62,36 @@ impl Canvas {
     }
 }
 
-/// Draws one background world into one eye's strip.
-fn paint_background(
+/// What paints a pixel.
+#[derive(Clone, Copy, Debug, PartialEq, Eq, PartialOrd, Ord)]
+pub enum Source {
+    Background { world: u32 },
+    Object { world: u32, object: u32 },
+}
+
+/// A part of one eye's picture.
+#[derive(Clone, Debug)]
+pub struct Area {
+    pub eye: Eye,
+    pub columns: Range<i32>,
+    pub rows: Range<i32>,
+}
+
+/// The numbers that two ranges share.
+fn common(a: &Range<i32>, b: &Range<i32>) -> Range<i32> {
+    a.start.max(b.start)..a.end.min(b.end)
+}
+
+/// Each pixel of the area that is painted, with what paints it and its shade,
+/// in drawing order: "worlds run from 31 to 0, later over earlier, as 000's
+/// loop: END stops; LON and RON both clear skips and leaves the object counter;
+/// BGM 3 draws the counter's group".
+pub fn paint(
     vram: &[u8],
     drawing: &DrawingRegisters,
-    world: &World,
-    eye: Eye,
-    canvas: &mut Canvas,
+    area: &Area,
+    painted: &mut impl FnMut(Source, i32, i32, u8),
 ) {
-    let (columns, rows) = (world.visible_columns(eye), world.visible_rows());
-    for y in canvas.rows().filter(|y| rows.contains(y)) {
-        let source = world.source_row(vram, eye, y - world.gy);
-        for x in columns.clone() {
-            let position = source.at(x - world.start(eye));
-            let dot = background_dot(vram, world, position).dot;
-            if let Some(shade) = shade(drawing.gplt[dot.palette], dot.value) {
-                canvas.paint(x, y, shade);
-            }
-        }
-    }
-}
-
-/// Draws one object into one eye's strip.
-fn paint_object(
-    vram: &[u8],
-    drawing: &DrawingRegisters,
-    object: &Object,
-    eye: Eye,
-    canvas: &mut Canvas,
-) {
-    let start = object.start(eye);
-    for y in canvas.rows() {
-        let Some(row) = object.row(y) else { continue };
-        for x in start.max(0)..(start + 8).min(WIDTH) {
-            let dot = object.dot(vram, (x - start) as u32, row);
-            if let Some(shade) = shade(drawing.jplt[dot.palette], dot.value) {
-                canvas.paint(x, y, shade);
-            }
-        }
-    }
-}
-
-/// Draws a group's objects into both eyes' strips.
-fn paint_group(vram: &[u8], drawing: &DrawingRegisters, group: usize, canvases: &mut [Canvas; 2]) {
-    for number in group_objects(drawing, group) {
-        let object = Object::read(vram, number);
-        for (eye, canvas) in Eye::BOTH.into_iter().zip(canvases.iter_mut()) {
-            if object.shown_to(eye) {
-                paint_object(vram, drawing, &object, eye, canvas);
-            }
-        }
-    }
-}
-
-/// A strip worked out whole for both eyes: "worlds run from 31 to 0, later
-/// over earlier, as 000's loop: END stops; LON and RON both clear skips and
-/// leaves the object counter; BGM 3 draws the counter's group".
-fn work_out_strip(vram: &[u8], drawing: &DrawingRegisters, strip: u32) -> [Canvas; 2] {
-    let mut canvases = [(); 2].map(|()| Canvas::new(strip, drawing.bkcol));
     let mut counter = GroupCounter::start();
     for number in (0..WORLDS).rev() {
         let world = World::read(vram, number);
@@ -128,16 +102,71 @@ fn work_out_strip(vram: &[u8], drawing: &DrawingRegisters, strip: u32) -> [Canva
             continue;
         }
         if world.kind == WorldKind::Object {
-            paint_group(vram, drawing, counter.take(), &mut canvases);
-            continue;
+            for object in group_objects(drawing, counter.take()) {
+                let object = Object::read(vram, object);
+                paint_object(vram, drawing, number, &object, area, painted);
+            }
+        } else if world.shown_to(area.eye) {
+            paint_background(vram, drawing, &world, area, painted);
         }
-        for (eye, canvas) in Eye::BOTH.into_iter().zip(canvases.iter_mut()) {
-            if world.shown_to(eye) {
-                paint_background(vram, drawing, &world, eye, canvas);
+    }
+}
+
+/// The pixels that one background world paints.
+fn paint_background(
+    vram: &[u8],
+    drawing: &DrawingRegisters,
+    world: &World,
+    area: &Area,
+    painted: &mut impl FnMut(Source, i32, i32, u8),
+) {
+    let by = Source::Background { world: world.number };
+    let columns = common(&area.columns, &world.visible_columns(area.eye));
+    for y in common(&area.rows, &world.visible_rows()) {
+        let source = world.source_row(vram, area.eye, y - world.gy);
+        for x in columns.clone() {
+            let position = source.at(x - world.start(area.eye));
+            let dot = background_dot(vram, world, position).dot;
+            if let Some(shade) = shade(drawing.gplt[dot.palette], dot.value) {
+                painted(by, x, y, shade);
             }
         }
     }
-    canvases
+}
+
+/// The pixels that one object of a world paints.
+fn paint_object(
+    vram: &[u8],
+    drawing: &DrawingRegisters,
+    world: u32,
+    object: &Object,
+    area: &Area,
+    painted: &mut impl FnMut(Source, i32, i32, u8),
+) {
+    if !object.shown_to(area.eye) {
+        return;
+    }
+    let by = Source::Object { world, object: object.number };
+    let start = object.start(area.eye);
+    for y in area.rows.clone() {
+        let Some(row) = object.row(y) else { continue };
+        for x in common(&area.columns, &(start..start + 8)) {
+            let dot = object.dot(vram, (x - start) as u32, row);
+            if let Some(shade) = shade(drawing.jplt[dot.palette], dot.value) {
+                painted(by, x, y, shade);
+            }
+        }
+    }
+}
+
+/// A strip worked out whole for both eyes.
+fn work_out_strip(vram: &[u8], drawing: &DrawingRegisters, strip: u32) -> [Canvas; 2] {
+    Eye::BOTH.map(|eye| {
+        let mut canvas = Canvas::new(strip, drawing.bkcol);
+        let area = Area { eye, columns: 0..WIDTH, rows: canvas.rows() };
+        paint(vram, drawing, &area, &mut |_, x, y, shade| canvas.paint(x, y, shade));
+        canvas
+    })
 }
 
 /// Refusals 3, 5 and 7 of a strip or a frame.

@@ -26,13 +26,19 @@ pub enum Answer {
 /// Why an instruction raised an exception.
 #[derive(Clone, Copy, Debug, PartialEq, Eq)]
 pub enum Cause {
+    /// A division by 0.
     ZeroDivisor,
+    /// An invalid opcode.
     Illegal,
     /// TRAP with its vector, 0 to 31.
     Trap(u8),
+    /// A floating operand that is a reserved one.
     FloatReserved,
+    /// A floating operation that is invalid.
     FloatInvalid,
+    /// A floating division by 0.
     FloatZeroDivide,
+    /// A floating result that is too large.
     FloatOverflow,
 }
 
@@ -69,6 +75,7 @@ impl Cause {
 pub struct Ran {
     /// How many instructions ended and interrupts were accepted.
     pub count: u64,
+    /// Why it made no more.
     pub stop: Stop,
 }
 
@@ -77,7 +84,9 @@ pub struct Ran {
 pub enum Stop {
     /// The budget is used up, and the machine could go on.
     Budget,
+    /// The processor is halted and accepts no interrupt.
     Halted,
+    /// The processor is fatal.
     Fatal,
     /// The next instruction is not modelled (refusal 6): records and memories are as after the counted ones.
     NotModelled(Refusal),

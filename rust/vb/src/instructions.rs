@@ -6,12 +6,14 @@ pub use vbsys::{op, Instruction};
 /// The halfwords of an instruction, unused bits clear.
 #[derive(Clone, Copy, Debug, PartialEq, Eq)]
 pub struct Halfwords {
+    /// The first halfword.
     pub first: u16,
     /// Where the instruction has two.
     pub second: Option<u16>,
 }
 
 impl Halfwords {
+    /// The one or two halfwords, in order.
     pub fn iter(self) -> impl Iterator<Item = u16> {
         std::iter::once(self.first).chain(self.second)
     }
@@ -20,12 +22,16 @@ impl Halfwords {
 /// What a first and a second halfword mean; `halfwords` of them count.
 #[derive(Clone, Copy, Debug, PartialEq, Eq)]
 pub enum Decoded {
+    /// An instruction.
     Instruction {
+        /// Its fields.
         instruction: Instruction,
+        /// How many halfwords it has.
         halfwords: u32,
     },
     /// An invalid opcode or sub-opcode.
     Illegal {
+        /// How many halfwords it has.
         halfwords: u32,
     },
     /// Refusal 6.

@@ -15,6 +15,7 @@
 //! assert_eq!(refused.to_string(), "refusal 7: frame 2 was asked for; frames are 0 and 1");
 //! ```
 #![forbid(unsafe_code)]
+#![warn(missing_docs)]
 
 mod brightness;
 mod calls;

@@ -12,7 +12,14 @@ pub enum NoList {
     /// A refusal of the papers: 3 or 5.
     Refused(Refusal),
     /// No image has the pixel, which the papers have no number for.
-    Outside { eye: u32, x: u32, y: u32 },
+    Outside {
+        /// The eye that was asked for.
+        eye: u32,
+        /// The column.
+        x: u32,
+        /// The row.
+        y: u32,
+    },
 }
 
 impl fmt::Display for NoList {

@@ -7,8 +7,11 @@ use crate::refusal::Refusal;
 /// How many bytes a write has.
 #[derive(Clone, Copy, Debug, PartialEq, Eq)]
 pub enum Width {
+    /// One byte.
     Byte,
+    /// Two bytes.
     Half,
+    /// Four bytes.
     Word,
 }
 

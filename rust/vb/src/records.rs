@@ -7,8 +7,11 @@ use crate::{DRAWING_LENGTH, PROCESSOR_LENGTH, PROCESSOR_WORDS_LENGTH};
 /// What the processor is doing.
 #[derive(Clone, Copy, Debug, PartialEq, Eq, Hash)]
 pub enum Mode {
+    /// It does instructions.
     Running,
+    /// HALT was done; an interrupt that is accepted ends it.
     Halted,
+    /// An exception came while NP was set; nothing ends it.
     Fatal,
 }
 
@@ -23,6 +26,7 @@ impl Mode {
         }
     }
 
+    /// vb.h's number of the mode.
     pub fn number(self) -> u32 {
         match self {
             Mode::Running => vbsys::RUNNING,
@@ -47,7 +51,9 @@ impl fmt::Display for Mode {
 pub struct Hardware {
     /// Bit n is the line of level n: 0 pad, 1 timer, 2 game pak, 3 link, 4 VIP.
     pub lines: u16,
+    /// The timer's count.
     pub count: u16,
+    /// The count that the timer starts again with.
     pub reload: u16,
     /// The timer's control bits at their places in TCR, those of 0x1B.
     pub control: u16,
@@ -56,19 +62,31 @@ pub struct Hardware {
 /// The processor's registers and mode, the request lines and the timer.
 #[derive(Clone, Copy, Debug, PartialEq, Eq)]
 pub struct Processor {
+    /// The general registers; r0 is 0.
     pub regs: [u32; 32],
+    /// The address of the next instruction.
     pub pc: u32,
+    /// System register 0: the PC to return to from an exception.
     pub eipc: u32,
+    /// System register 1: the PSW to return to.
     pub eipsw: u32,
+    /// System register 2: the PC to return to from a duplexed exception.
     pub fepc: u32,
+    /// System register 3: the PSW to return to from it.
     pub fepsw: u32,
+    /// System register 4: the codes of both exceptions.
     pub ecr: u32,
+    /// System register 5: flags and interrupt level.
     pub psw: u32,
     /// System register 25, ADTRE.
     pub sr25: u32,
+    /// System register 29.
     pub sr29: u32,
+    /// System register 31.
     pub sr31: u32,
+    /// What it is doing.
     pub mode: Mode,
+    /// The request lines and the timer.
     pub hardware: Hardware,
 }
 
@@ -88,15 +106,27 @@ pub struct Drawing {
 /// The whole state that goes by value.
 #[derive(Clone, Copy, Debug, PartialEq, Eq)]
 pub struct Machine {
+    /// The processor, with request lines and timer.
     pub processor: Processor,
+    /// The drawing registers.
     pub drawing: Drawing,
 }
 
-/// Why bytes are no record.
+/// Why bytes are not a record.
 #[derive(Clone, Copy, Debug, PartialEq, Eq)]
 pub enum RecordError {
-    Length { given: usize, wanted: usize },
-    Mode { given: u32 },
+    /// The length is not a record's.
+    Length {
+        /// The length in bytes.
+        given: usize,
+        /// A record's length.
+        wanted: usize,
+    },
+    /// The mode is not one of 0, 1 and 2.
+    Mode {
+        /// The mode's number.
+        given: u32,
+    },
 }
 
 impl fmt::Display for RecordError {
@@ -142,6 +172,7 @@ impl Processor {
         })
     }
 
+    /// The record as a file holds it, words before halfwords, lowest byte first.
     pub fn to_bytes(&self) -> Vec<u8> {
         let mut words = self.regs.to_vec();
         words.extend(self.system().map(|(_, value)| value));
@@ -204,6 +235,7 @@ impl Drawing {
         })
     }
 
+    /// The record as a file holds it, 13 halfwords, lowest byte first.
     pub fn to_bytes(&self) -> Vec<u8> {
         self.registers().iter().flat_map(|(_, value, _)| value.to_le_bytes()).collect()
     }

@@ -5,57 +5,132 @@ use std::fmt;
 use crate::instructions::{left_out, Instruction};
 use crate::records::{Drawing, Hardware, Processor};
 
-/// Why a call did nothing: the papers' numbers, 8, 11 and 15 told apart by their subject.
+/// Why a call did nothing: the specification's refusals by their numbers, with what was given. 8, 9, 11 and 15 have a variant for
+/// each subject.
 #[derive(Clone, Debug, PartialEq, Eq)]
 pub enum Refusal {
-    /// 1
-    RomLength { given: usize },
-    /// 2
-    WramLength { given: usize },
-    /// 3
-    VramLength { given: usize },
-    /// 4
-    PakLength { given: usize },
-    /// 5: a register holds what it cannot hold.
-    State { register: &'static str, given: u32, allowed: &'static str },
-    /// 6: the halfwords at PC; the second counts only where the instruction has two.
-    NotModelled { pc: u32, first: u16, second: u16 },
-    /// 7
-    Frame { given: u32 },
-    /// 8
-    Strip { given: u32 },
-    /// 8
-    Character { given: u32 },
-    /// 9
-    FileLength { given: usize, due: usize },
-    /// 10
+    /// Refusal 1: the length of ROM is not a power of two from 1,024 to 16,777,216.
+    RomLength {
+        /// The length in bytes.
+        given: usize,
+    },
+    /// Refusal 2: the length of WRAM is not 65,536.
+    WramLength {
+        /// The length in bytes.
+        given: usize,
+    },
+    /// Refusal 3: the length of VRAM is not 262,144.
+    VramLength {
+        /// The length in bytes.
+        given: usize,
+    },
+    /// Refusal 4: the length of pak RAM is neither 0 nor a power of two up to 16,777,216.
+    PakLength {
+        /// The length in bytes.
+        given: usize,
+    },
+    /// Refusal 5: a register holds what it cannot hold.
+    State {
+        /// The register's name.
+        register: &'static str,
+        /// What it holds.
+        given: u32,
+        /// What it can hold, in words.
+        allowed: &'static str,
+    },
+    /// Refusal 6: the instruction at PC is not modelled.
+    NotModelled {
+        /// Where it is.
+        pc: u32,
+        /// Its first halfword.
+        first: u16,
+        /// The halfword after it, which belongs to it only where the instruction has two.
+        second: u16,
+    },
+    /// Refusal 7: the frame is neither 0 nor 1.
+    Frame {
+        /// The frame.
+        given: u32,
+    },
+    /// Refusal 8: the strip is not 0 to 27.
+    Strip {
+        /// The strip.
+        given: u32,
+    },
+    /// Refusal 8: the character is not 0 to 2,047.
+    Character {
+        /// The character.
+        given: u32,
+    },
+    /// Refusal 9: the length of a saved state, or of the output buffer for it, is not the layout's.
+    FileLength {
+        /// The length in bytes.
+        given: usize,
+        /// The layout's length with pak RAM of this size.
+        due: usize,
+    },
+    /// Refusal 9 of a move: the length of the file or of the output buffer is not that of its form.
+    MoveLength {
+        /// The file's length.
+        file: usize,
+        /// The output buffer's length.
+        room: usize,
+    },
+    /// Refusal 10: the bytes are not a saved state.
     FileBytes,
-    /// 12: fields that are those of no instruction.
-    Encoding { instruction: Instruction },
-    /// 15
-    Eye { given: u32 },
-    /// 15
-    Start { given: u32 },
-    /// 15
-    Room { given: usize },
-    /// 13: the address that a probe's write was given.
-    ProbeTarget { address: u32 },
-    /// 11
-    TooManyAccesses { given: usize },
-    /// 11: the first access whose size is none.
-    AccessSize { index: usize, given: u32 },
-    /// 14
-    TraceLength { given: usize },
-    /// 9 of a move.
-    MoveLength { file: usize, room: usize },
-    /// 16: form 1 does not hold request lines and timer.
+    /// Refusal 11: a list has over 256 accesses.
+    TooManyAccesses {
+        /// How many it has.
+        given: usize,
+    },
+    /// Refusal 11: an access has a size other than 1, 2 and 4.
+    AccessSize {
+        /// The first such access.
+        index: usize,
+        /// Its size.
+        given: u32,
+    },
+    /// Refusal 12: the fields are not those of an instruction.
+    Encoding {
+        /// The fields.
+        instruction: Instruction,
+    },
+    /// Refusal 13: a probe's write is outside its ranges.
+    ProbeTarget {
+        /// The address.
+        address: u32,
+    },
+    /// Refusal 14: the length of a trace is not a multiple of 16.
+    TraceLength {
+        /// The length in bytes.
+        given: usize,
+    },
+    /// Refusal 15: the eye is neither 0 nor 1.
+    Eye {
+        /// The eye.
+        given: u32,
+    },
+    /// Refusal 15: the column table's start is not one of VRAM's.
+    Start {
+        /// The start.
+        given: u32,
+    },
+    /// Refusal 15: the output buffer of a display does not have a byte for each pixel.
+    Room {
+        /// Its length in bytes.
+        given: usize,
+    },
+    /// Refusal 16: request lines and timer are not at reset, and form 1 does not hold them.
     NotAtReset,
-    /// 17
-    NoLayout { given: usize },
+    /// Refusal 17: the length is not one that a saved state of form 2 has.
+    NoLayout {
+        /// The length in bytes.
+        given: usize,
+    },
 }
 
 impl Refusal {
-    /// Paper 01's number.
+    /// The specification's number.
     pub fn number(&self) -> u32 {
         match self {
             Refusal::RomLength { .. } => 1,
@@ -66,14 +141,13 @@ impl Refusal {
             Refusal::NotModelled { .. } => 6,
             Refusal::Frame { .. } => 7,
             Refusal::Strip { .. } | Refusal::Character { .. } => 8,
-            Refusal::FileLength { .. } => 9,
+            Refusal::FileLength { .. } | Refusal::MoveLength { .. } => 9,
             Refusal::FileBytes => 10,
-            Refusal::Encoding { .. } => 12,
-            Refusal::Eye { .. } | Refusal::Start { .. } | Refusal::Room { .. } => 15,
-            Refusal::ProbeTarget { .. } => 13,
             Refusal::TooManyAccesses { .. } | Refusal::AccessSize { .. } => 11,
+            Refusal::Encoding { .. } => 12,
+            Refusal::ProbeTarget { .. } => 13,
             Refusal::TraceLength { .. } => 14,
-            Refusal::MoveLength { .. } => 9,
+            Refusal::Eye { .. } | Refusal::Start { .. } | Refusal::Room { .. } => 15,
             Refusal::NotAtReset => 16,
             Refusal::NoLayout { .. } => 17,
         }

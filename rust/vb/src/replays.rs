@@ -11,8 +11,11 @@ pub const RECORD_LENGTH: usize = 16;
 /// A word of a trace's record, in the record's order.
 #[derive(Clone, Copy, Debug, PartialEq, Eq)]
 pub enum Word {
+    /// PC before the step.
     PcBefore,
+    /// PC after the step.
     PcAfter,
+    /// PSW after the step.
     PswAfter,
     /// The sum of the 32 general registers after the step, mod 2^32.
     Sum,
@@ -23,17 +26,22 @@ pub enum Word {
 pub struct Replayed {
     /// How many records agreed; below the trace's number of records it is the index of the record told of.
     pub agreed: u64,
+    /// How it ended.
     pub end: End,
 }
 
 /// How a replay ended.
 #[derive(Clone, Debug, PartialEq, Eq)]
 pub enum End {
+    /// Every record agreed.
     Agreed,
     /// The record differs first in this word; the step stays made.
     Differed(Word),
+    /// The model is halted and accepts no interrupt where the trace has a record.
     WasHalted,
+    /// The model is fatal where the trace has a record.
     WasFatal,
+    /// The model turned fatal where the trace has a record.
     TurnedFatal,
     /// The next instruction is not modelled (refusal 6).
     NotModelled(Refusal),

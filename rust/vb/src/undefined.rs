@@ -12,6 +12,7 @@ impl Mask {
         Mask(bits)
     }
 
+    /// Bit k is byte k, counted from the aligned address.
     pub fn bits(self) -> u32 {
         self.0
     }
@@ -30,7 +31,9 @@ impl Mask {
 /// A value that was read, and which of its bytes are undefined.
 #[derive(Clone, Copy, Debug, PartialEq, Eq)]
 pub struct Read<T> {
+    /// The value that was read.
     pub value: T,
+    /// Its undefined bytes.
     pub undefined: Mask,
 }
 
@@ -38,8 +41,11 @@ pub struct Read<T> {
 /// as defined.
 #[derive(Clone, Copy, Debug, Default, PartialEq, Eq)]
 pub struct Undefined {
+    /// Of the first halfword.
     pub first: Mask,
+    /// Of the second halfword.
     pub second: Mask,
+    /// Of what the instruction loaded.
     pub load: Mask,
 }
 

@@ -8,10 +8,11 @@ use super::Report;
 use crate::failure::Failure;
 use crate::files::Outputs;
 use crate::inputs::number;
-use crate::inputs::setup::{Saves, Setup};
-use crate::inputs::trace::Traces;
+use crate::inputs::setup::{Bench, Saves, Setup};
+use crate::inputs::trace::{Record, Traces};
 use crate::running::replay::{replay, Wish};
 use crate::running::session::Session;
+use crate::running::waves::Waves;
 
 #[derive(Args)]
 #[command(after_help = "Example: the demo's trace to its HALT, and a piece of it
@@ -52,6 +53,10 @@ pub struct Options {
     /// How many of the records before the first wrong one to print
     #[arg(long, value_name = "N", default_value = "4", value_parser = number::few)]
     last: usize,
+    /// Where to write each step as a Value Change Dump, for GTKWave: the model's PC, mode, PSW's fields and registers, and
+    /// the die's record
+    #[arg(long, value_name = "FILE")]
+    vcd: Option<PathBuf>,
     #[command(flatten)]
     saves: Saves,
     /// Print JSON
@@ -60,15 +65,25 @@ pub struct Options {
 }
 
 pub fn run(options: &Options) -> Result<Report, Failure> {
-    let Options { setup, schedule, saves, records, partial, go_on, last, .. } = options;
+    let Options { setup, schedule, saves, records, partial, go_on, last, vcd, .. } = options;
     let mut session = Session::read(setup, schedule.as_deref())?;
     let traces = Traces::open(&options.traces)?;
-    session.begin(saves, &[])?;
+    session.begin(saves, vcd.as_deref().as_slice())?;
     let Session { bench, schedule, .. } = &mut session;
     let wish =
         Wish { records: *records, partial: *partial, last: *last, go_on: *go_on, progress: true };
-    let mut found = replay(bench, schedule, traces, &wish, None)?;
     let mut outputs = Outputs::default();
+    let mut found = match vcd {
+        None => replay(bench, schedule, traces, &wish, None)?,
+        Some(path) => {
+            let mut waves = Waves::new(path, &bench.machine, true)?;
+            let mut seen =
+                |pc, bench: &Bench, record: &Record| waves.compared(pc, &bench.machine, record);
+            let found = replay(bench, schedule, traces, &wish, Some(&mut seen))?;
+            outputs.add_stream(waves.finished());
+            found
+        }
+    };
     saves.add_to(&mut outputs, bench)?;
     outputs.write()?;
     found.written = outputs.paths();

@@ -16,6 +16,7 @@ use crate::reports::progress::Progress;
 use crate::running::follow::{End, Followed};
 use crate::running::outcome::Traced;
 use crate::running::session::Session;
+use crate::running::waves::Waves;
 
 /// Records between two looks at the clock and at Ctrl-C.
 const SLICE: u64 = 65_536;
@@ -44,6 +45,9 @@ pub struct Options {
     /// Where to write the trace, 16 bytes per record; - is standard output
     #[arg(short, long, value_name = "FILE")]
     out: PathBuf,
+    /// Where to write each step as a Value Change Dump, for GTKWave: PC, mode, PSW's fields and the registers
+    #[arg(long, value_name = "FILE")]
+    vcd: Option<PathBuf>,
     #[command(flatten)]
     saves: Saves,
     /// Print JSON
@@ -52,20 +56,23 @@ pub struct Options {
 }
 
 pub fn run(options: &Options) -> Result<Report, Failure> {
-    let Options { setup, schedule, saves, budget, out, .. } = options;
+    let Options { setup, schedule, saves, budget, out, vcd, .. } = options;
     let mut session = Session::read(setup, schedule.as_deref())?;
-    session.begin(saves, &[out])?;
-    let mut stream = Stream::main(out)?;
-    let mut recorder =
-        Recorder { out: &mut stream, begun: Instant::now(), progress: Progress::new() };
+    session.begin(saves, &[&[out.as_path()][..], vcd.as_deref().as_slice()].concat())?;
     let Session { bench, schedule, .. } = &mut session;
+    let mut stream = Stream::main(out)?;
+    let waves = vcd.as_ref().map(|path| Waves::new(path, &bench.machine, false)).transpose()?;
+    let (begun, progress) = (Instant::now(), Progress::new());
+    let mut recorder = Recorder { out: &mut stream, waves, begun, progress };
     let (count, end) = schedule.run(bench, *budget, &mut |bench, length, before| {
         recorder.record(bench, length, before).map(Followed::part)
     })?;
     recorder.progress.clear();
+    let waves = recorder.waves;
     let ended = Followed { count, end: end.unwrap_or(End::Budget) };
     let mut outputs = Outputs::default();
     outputs.add_stream(stream);
+    waves.into_iter().for_each(|waves| outputs.add_stream(waves.finished()));
     let trace = Traced { file: shown(out), records: count, bytes: 16 * count };
     let report = session.finish(&ended, *budget, saves, outputs, Some(trace));
     Ok(Report { aside: out == Path::new("-"), ..report })
@@ -73,6 +80,7 @@ pub fn run(options: &Options) -> Result<Report, Failure> {
 
 struct Recorder<'a> {
     out: &'a mut Stream,
+    waves: Option<Waves>,
     begun: Instant,
     progress: Progress,
 }
@@ -93,6 +101,7 @@ impl Recorder<'_> {
             let end = match machine.step(&mut memories) {
                 Ok(Answer::Ended | Answer::Trapped(_) | Answer::Interrupted(_)) => {
                     self.out.write(&record(pc, &machine.processor))?;
+                    self.waves.iter_mut().try_for_each(|waves| waves.step(machine))?;
                     count += 1;
                     continue;
                 }

@@ -19,6 +19,8 @@ use crate::failure::Failure;
 pub struct Outputs {
     files: Vec<Output>,
     streams: RefCell<Vec<Stream>>,
+    /// The names of the streams that are reported with the others.
+    grown: Vec<String>,
 }
 
 struct Output {
@@ -56,6 +58,7 @@ impl Outputs {
 
     /// A file that has grown while the command ran.
     pub fn add_stream(&mut self, stream: Stream) {
+        self.grown.extend(stream.named());
         self.streams.get_mut().push(stream);
     }
 
@@ -64,7 +67,8 @@ impl Outputs {
 
     /// The names, as they are printed.
     pub fn paths(&self) -> Vec<String> {
-        self.files.iter().map(|output| shown(&output.path)).collect()
+        let files = self.files.iter().map(|output| shown(&output.path));
+        self.grown.iter().cloned().chain(files).collect()
     }
 
     /// Whether these files could be written, found out by making and removing them under temporary names.

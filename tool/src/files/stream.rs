@@ -4,6 +4,7 @@ use std::fs::{File, Metadata};
 use std::io::{self, BufWriter, Write};
 use std::path::{Path, PathBuf};
 
+use super::names::shown;
 use super::output::{failed, place_of, Kind};
 use super::place::{folder_of, Place};
 use super::temporary::Temporary;
@@ -12,6 +13,7 @@ use crate::failure::Failure;
 /// It has a temporary name until `Outputs` gives it its own, and is removed where that never comes.
 pub struct Stream {
     path: PathBuf,
+    kind: Kind,
     sink: BufWriter<Sink>,
 }
 
@@ -52,7 +54,13 @@ impl Stream {
                 Sink::Temporary { file, target, now: now.map(Box::new) }
             }
         };
-        Ok(Stream { path: path.to_path_buf(), sink: BufWriter::with_capacity(1 << 16, sink) })
+        let sink = BufWriter::with_capacity(1 << 16, sink);
+        Ok(Stream { path: path.to_path_buf(), kind, sink })
+    }
+
+    /// Its name as it is printed; the file that the command is for is reported by the command itself.
+    pub(super) fn named(&self) -> Option<String> {
+        (self.kind == Kind::File).then(|| shown(&self.path))
     }
 
     pub fn write(&mut self, bytes: &[u8]) -> Result<(), Failure> {

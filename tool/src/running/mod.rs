@@ -5,3 +5,4 @@ pub mod outcome;
 pub mod replay;
 pub mod session;
 pub mod watch;
+pub mod waves;

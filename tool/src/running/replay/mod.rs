@@ -9,7 +9,7 @@ use std::time::Instant;
 
 use vb::{grouped, Answer, Mode, Refusal, Replayed, Word};
 
-pub use explanation::Explanation;
+pub use explanation::{field, Explanation, FIELDS};
 pub use found::{Found, Verdict};
 
 use crate::failure::Failure;
