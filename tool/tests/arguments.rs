@@ -13,7 +13,7 @@ fn with_loop(name: &str) -> Folder {
 }
 
 #[test]
-fn wrong_8_argument_errors_are_json_where_json_is_asked_for() {
+fn argument_errors_are_json_where_json_is_asked_for() {
     let folder = Folder::new("arguments-json");
     for arguments in
         ["run --json", "why left --json", "draw --scale 0 --json", "compare --fly --json"]
@@ -29,7 +29,7 @@ fn wrong_8_argument_errors_are_json_where_json_is_asked_for() {
 }
 
 #[test]
-fn wrong_8_hexadecimal_numbers_and_underscores_are_taken() {
+fn hexadecimal_numbers_and_underscores_are_taken() {
     let folder = with_loop("arguments-numbers");
     let ran = folder.vbmodel("run --rom a.rom --budget 0x1_0000");
     assert!(ran.text.contains("instructions: 65,536 of at most 65,536\n"), "{}", ran.text);
@@ -45,7 +45,7 @@ fn wrong_8_hexadecimal_numbers_and_underscores_are_taken() {
 }
 
 #[test]
-fn wrong_8_a_dash_is_standard_input() {
+fn a_dash_is_standard_input() {
     let folder = Folder::with_demo("arguments-dash");
     let vram = folder.read("out/vram.bin");
     let plain = folder.vbmodel(&format!("why left 192 120 {SCENE}"));
@@ -60,7 +60,7 @@ fn wrong_8_a_dash_is_standard_input() {
 }
 
 #[test]
-fn wrong_8_the_demos_next_command_runs_as_printed() {
+fn the_demos_next_command_runs_as_printed() {
     let folder = Folder::new("arguments-next");
     for out in ["out", "'my lot'"] {
         let demo = folder.shell(&format!("\"$VB\" demo --scale 1 --out {out}"));
@@ -73,7 +73,7 @@ fn wrong_8_the_demos_next_command_runs_as_printed() {
 }
 
 #[test]
-fn wrong_8_ctrl_c_prints_and_writes_what_was_done() {
+fn ctrl_c_prints_and_writes_what_was_done() {
     let folder = with_loop("arguments-interrupt");
     let child = Command::new(env!("CARGO_BIN_EXE_vbmodel"))
         .args([
@@ -102,7 +102,7 @@ fn wrong_8_ctrl_c_prints_and_writes_what_was_done() {
 
 /// On a terminal of 30 columns.
 #[test]
-fn wrong_8_the_progress_line_fits_its_terminal() {
+fn the_progress_line_fits_its_terminal() {
     let folder = with_loop("arguments-progress");
     let line = |budget| {
         format!("stty cols 30 rows 20; \"$VB\" run --rom a.rom --budget {budget} >/dev/null")

@@ -7,7 +7,7 @@ use common::{pixel, Folder, Rgb, HEIGHT, WIDTH};
 const SCENE: &str = "--vram out/vram.bin --drawing out/drawing.bin";
 
 #[test]
-fn deliver_2_a_whole_vram_dump_is_taken_for_both_eyes() {
+fn a_whole_vram_dump_is_taken_for_both_eyes() {
     let folder = Folder::with_demo("captures-dump");
     let equal =
         "left eye, frame 1: pass, 86,016 pixels are equal\nright eye, frame 1: pass, 86,016 pixels are equal\n";
@@ -56,7 +56,7 @@ fn analogue(folder: &Folder, by: usize, scale: usize) -> Vec<u8> {
 }
 
 #[test]
-fn deliver_2_a_threshold_takes_analogue_captures_and_prints_its_levels() {
+fn a_threshold_takes_analogue_captures_and_prints_its_levels() {
     let folder = Folder::with_demo("captures-threshold");
     folder.write("a.png", &analogue(&folder, 12, 1));
     folder.write("b.png", &analogue(&folder, 12, 2));
@@ -81,7 +81,7 @@ fn deliver_2_a_threshold_takes_analogue_captures_and_prints_its_levels() {
 }
 
 #[test]
-fn deliver_2_a_frame_buffer_is_shown_without_drawing() {
+fn a_frame_buffer_is_shown_without_drawing() {
     let folder = Folder::with_demo("captures-as-is");
     let mut vram = folder.read("out/vram.bin");
     (0..24_576).for_each(|at| vram[0x8000 + at] = (at * 31 % 251) as u8);

@@ -27,7 +27,7 @@ fn with_program(name: &str) -> Folder {
 }
 
 #[test]
-fn deliver_5_step_prints_pc_instruction_registers_memory_and_undefined_reads() {
+fn step_prints_pc_instruction_registers_memory_and_undefined_reads() {
     let folder = with_program("follow-step");
     let ran = folder.vbmodel("step --rom a.rom --pc 0x0700_0000");
     assert_eq!((ran.status, ran.error.as_str()), (0, ""));
@@ -55,7 +55,7 @@ fn deliver_5_step_prints_pc_instruction_registers_memory_and_undefined_reads() {
 }
 
 #[test]
-fn deliver_5_exceptions_and_jumps_are_told() {
+fn step_reports_exceptions_and_jumps() {
     let folder = with_program("follow-traps");
     // at reset NP is set: an illegal instruction is fatal
     let mut rom = vec![0; 1024];
@@ -77,7 +77,7 @@ fn deliver_5_exceptions_and_jumps_are_told() {
 }
 
 #[test]
-fn deliver_5_a_run_stops_where_it_is_told() {
+fn a_run_stops_where_it_was_asked_to() {
     let folder = with_program("follow-stops");
     for (stop, answer, count) in [
         ("--until 0x0700000A", "reached: the next instruction is at 0x0700000A, as asked", 3),
@@ -110,7 +110,7 @@ fn deliver_5_a_run_stops_where_it_is_told() {
 }
 
 #[test]
-fn deliver_5_followed_and_run_machines_end_alike() {
+fn followed_and_run_machines_end_alike() {
     let folder = Folder::with_demo("follow-alike");
     let run = "run --rom out/rom.bin --budget 100_000";
     let fast = folder.vbmodel(&format!("{run} --save-vram a.vram --save-processor a.processor"));
@@ -123,7 +123,7 @@ fn deliver_5_followed_and_run_machines_end_alike() {
 }
 
 #[test]
-fn deliver_5_registers_memory_and_rom_are_changed_before_the_run() {
+fn registers_memory_and_rom_are_changed_before_the_run() {
     let folder = with_program("follow-changes");
     folder.write("words", &[1, 2, 3, 4]);
     let ran = folder.vbmodel(
@@ -158,7 +158,7 @@ fn deliver_5_registers_memory_and_rom_are_changed_before_the_run() {
 }
 
 #[test]
-fn deliver_5_a_rom_is_padded_where_that_is_asked_for_and_said() {
+fn a_rom_is_padded_where_that_is_asked_for_and_said() {
     let folder = with_program("follow-pad");
     folder.refused(
         "run --rom short.rom",

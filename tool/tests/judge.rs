@@ -29,7 +29,7 @@ fn json_lines(text: &str) -> Vec<Value> {
 }
 
 #[test]
-fn deliver_1_a_folder_is_judged_by_its_names() {
+fn a_folder_is_judged_by_its_names() {
     let folder = with_lot("judge-folder");
     let ran = folder.vbmodel("judge lot");
     assert_eq!((ran.status, ran.error.as_str()), (1, ""));
@@ -88,7 +88,7 @@ fn saved_state(folder: &Folder) -> Vec<u8> {
 }
 
 #[test]
-fn deliver_1_a_saved_state_is_a_scene() {
+fn a_saved_state_is_a_scene() {
     let folder = with_lot("judge-state");
     folder.write("lot/saved.state", &saved_state(&folder));
     fs::copy(folder.path("out/frame1-left.png"), folder.path("lot/saved.left.png")).unwrap();
@@ -134,7 +134,7 @@ none, out/vram.bin, out/drawing.bin, 1, out/none.png, , left
 ";
 
 #[test]
-fn deliver_1_manifests_in_toml_and_csv_are_judged() {
+fn manifests_in_toml_and_csv_are_judged() {
     let folder = Folder::with_demo("judge-manifests");
     fs::create_dir(folder.path("lots")).unwrap();
     folder.write("lots/a.toml", TOML.as_bytes());
@@ -181,7 +181,7 @@ fn a_manifest_may_come_from_a_spreadsheet() {
 }
 
 #[test]
-fn deliver_1_json_has_a_line_for_each_part_and_one_for_all() {
+fn json_has_a_line_for_each_part_and_one_for_all() {
     let folder = with_lot("judge-json");
     let ran = folder.vbmodel("judge lot --json --first 2");
     assert_eq!(ran.status, 1);
@@ -199,7 +199,7 @@ fn deliver_1_json_has_a_line_for_each_part_and_one_for_all() {
 }
 
 #[test]
-fn deliver_1_junit_is_written_for_a_test_server() {
+fn junit_is_written_for_a_test_server() {
     let folder = with_lot("judge-junit");
     folder.write("lot/bad.left.png", b"no PNG");
     folder.write("lot/notes.txt", b"x");
@@ -227,7 +227,7 @@ fn deliver_1_junit_is_written_for_a_test_server() {
 }
 
 #[test]
-fn deliver_1_the_page_needs_nothing_else_and_explains_a_failed_part() {
+fn the_page_needs_nothing_else_and_explains_a_failed_part() {
     let folder = with_lot("judge-html");
     assert_eq!(folder.vbmodel("judge lot --html report.html").status, 1);
     let page = String::from_utf8(folder.read("report.html")).unwrap();
@@ -351,7 +351,7 @@ fn a_lot_is_stopped_by_ctrl_c_with_what_was_judged() {
 /// The parts wait for a FIFO each, so that the lot
 /// takes long enough.
 #[test]
-fn deliver_1_a_lot_on_a_terminal_shows_progress() {
+fn a_lot_on_a_terminal_shows_progress() {
     let folder = Folder::with_demo("judge-progress");
     lot_of(&folder, 3);
     for i in 0..3 {

@@ -17,7 +17,7 @@ fn with_rom(name: &str) -> Folder {
 }
 
 #[test]
-fn wrong_2_two_spellings_of_one_file_are_refused() {
+fn two_spellings_of_one_file_are_refused() {
     let folder = with_rom("outputs-spellings");
     fs::create_dir(folder.path("x")).unwrap();
     folder.write("there", b"before");
@@ -48,7 +48,7 @@ fn wrong_2_two_spellings_of_one_file_are_refused() {
 }
 
 #[test]
-fn wrong_2_names_that_are_no_utf_8_are_told_apart() {
+fn names_that_are_not_utf_8_are_kept_apart() {
     let folder = with_rom("outputs-bytes");
     let ran = folder.shell(
         "\"$VB\" run --rom a.rom --save-wram \"$(printf 'a\\377')\" --save-processor \"$(printf 'a\\376')\"",
@@ -65,7 +65,7 @@ fn wrong_2_names_that_are_no_utf_8_are_told_apart() {
 }
 
 #[test]
-fn wrong_3_a_fifo_and_a_device_are_written_through() {
+fn a_fifo_and_a_device_are_written_through() {
     let folder = with_rom("outputs-through");
     let ran = folder.shell(
         "mkfifo pipe && { cat pipe >got & } && \"$VB\" run --rom a.rom --save-processor pipe --save-wram /dev/null \
@@ -86,7 +86,7 @@ fn wrong_3_a_fifo_and_a_device_are_written_through() {
 }
 
 #[test]
-fn wrong_3_a_symlink_is_followed() {
+fn a_symlink_is_followed() {
     let folder = with_rom("outputs-links");
     fs::create_dir(folder.path("real")).unwrap();
     folder.write("real/file", b"before");
@@ -101,7 +101,7 @@ fn wrong_3_a_symlink_is_followed() {
 }
 
 #[test]
-fn wrong_3_a_file_that_may_not_be_written_is_left() {
+fn a_file_that_may_not_be_written_is_left() {
     let folder = with_rom("outputs-readonly");
     folder.write("kept", b"before");
     fs::set_permissions(folder.path("kept"), fs::Permissions::from_mode(0o444)).unwrap();
@@ -121,7 +121,7 @@ fn wrong_3_a_file_that_may_not_be_written_is_left() {
 }
 
 #[test]
-fn wrong_4_standard_output_that_cannot_be_written_is_an_error() {
+fn standard_output_that_cannot_be_written_is_an_error() {
     let folder = with_rom("outputs-full");
     for arguments in ["run --rom a.rom", "run --rom a.rom --json", "--help", "--version"] {
         let ran = folder.shell(&format!("\"$VB\" {arguments} >/dev/full"));
@@ -135,7 +135,7 @@ fn wrong_4_standard_output_that_cannot_be_written_is_an_error() {
 }
 
 #[test]
-fn wrong_5_a_run_tests_its_outputs_first() {
+fn a_run_tests_its_outputs_first() {
     let folder = Folder::with_rom("outputs-first", &[BRANCH_TO_ITSELF], &[]);
     // this would take days; it is refused at once
     folder.refused(
@@ -145,7 +145,7 @@ fn wrong_5_a_run_tests_its_outputs_first() {
 }
 
 #[test]
-fn wrong_5_the_answer_is_printed_whatever_happens_to_a_file() {
+fn the_answer_is_printed_whatever_happens_to_a_file() {
     let folder = with_rom("outputs-answer");
     let ran = folder.vbmodel("run --rom a.rom --save-wram new --save-vram /dev/full");
     assert_eq!(ran.status, 2);
@@ -162,7 +162,7 @@ fn wrong_5_the_answer_is_printed_whatever_happens_to_a_file() {
 }
 
 #[test]
-fn wrong_7_compare_does_not_write_over_its_own_capture() {
+fn compare_does_not_write_over_its_own_capture() {
     let folder = Folder::with_demo("outputs-capture");
     let scene = "--vram out/vram.bin --drawing out/drawing.bin --frame 1";
     fs::copy(folder.path("out/frame0-left.png"), folder.path("out/compare-frame1-left.png"))

@@ -21,14 +21,14 @@ fn packages(manifest: &str) -> Vec<String> {
 }
 
 #[test]
-fn deliver_7_the_librarys_crates_and_the_model_need_std_alone() {
+fn the_librarys_crates_and_the_model_need_std_alone() {
     for name in ["model", "vb", "vbsys"] {
         assert_eq!(packages(&format!("rust/{name}/Cargo.toml")), [""; 0], "{name}");
     }
 }
 
 #[test]
-fn deliver_7_setup_installs_what_the_tool_and_the_differential_tests_need() {
+fn setup_installs_what_the_tool_and_the_differential_tests_need() {
     let (tool, tests) = (packages("tool/Cargo.toml"), packages("rust/difftests/Cargo.toml"));
     for name in ["serde_json", "tempfile", "signal-hook", "rayon", "png", "clap"] {
         assert!(tool.iter().any(|package| package == name), "{name}: {tool:?}");

@@ -5,7 +5,7 @@ mod common;
 use common::Folder;
 
 #[test]
-fn deliver_8_completions_know_every_command() {
+fn completions_know_every_command() {
     let folder = Folder::new("pages-completions");
     let commands = folder.commands();
     for shell in ["bash", "zsh", "fish"] {
@@ -26,7 +26,7 @@ fn deliver_8_completions_know_every_command() {
 }
 
 #[test]
-fn deliver_8_the_manual_page_has_every_command_and_option() {
+fn the_manual_page_has_every_command_and_option() {
     let folder = Folder::new("pages-man");
     let page = folder.vbmodel("man");
     assert_eq!((page.status, page.error.as_str()), (0, ""));

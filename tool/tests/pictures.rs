@@ -79,7 +79,7 @@ fn draw_and_compare_refuse_bad_input() {
 }
 
 #[test]
-fn wrong_7_compare_writes_no_picture_where_nothing_differs() {
+fn compare_writes_no_picture_where_nothing_differs() {
     let folder = Folder::with_demo("compare-equal");
     folder.write("left.raw", &image(&folder.read("out/vram.bin"), 1, 0));
     assert_eq!(folder.vbmodel(&format!("draw {SCENE} --frame 1 --scale 4 --out large")).status, 0);
@@ -106,7 +106,7 @@ fn wrong_7_compare_writes_no_picture_where_nothing_differs() {
 }
 
 #[test]
-fn wrong_8_compare_json_names_capture_and_memory() {
+fn compare_json_names_capture_and_memory() {
     let folder = Folder::with_demo("compare-different");
     let vram = folder.read("out/vram.bin");
     let mut raw = image(&vram, 1, 1);

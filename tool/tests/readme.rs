@@ -50,7 +50,7 @@ fn repository(name: &str) -> Folder {
 }
 
 #[test]
-fn done_when_readme_leads_from_a_folder_of_captures_to_a_report() {
+fn readme_leads_from_a_folder_of_captures_to_a_report() {
     let folder = repository("readme-judge");
     follow(&folder, "Judging a lot");
     let page = String::from_utf8(folder.read("report.html")).unwrap();
@@ -58,7 +58,7 @@ fn done_when_readme_leads_from_a_folder_of_captures_to_a_report() {
 }
 
 #[test]
-fn done_when_readme_compares_and_follows_as_it_shows() {
+fn readme_compares_and_follows_as_it_shows() {
     let folder = repository("readme-compare");
     assert_eq!(folder.shell("./vbmodel demo").status, 0);
     follow(&folder, "Comparing a capture");

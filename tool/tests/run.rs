@@ -88,7 +88,7 @@ fn pak_ram_is_read_and_written() {
 }
 
 #[test]
-fn wrong_7_a_fatal_exception_says_which_it_was() {
+fn a_fatal_exception_says_which_it_was() {
     let folder = with_rom("run-fatal", &[ADD_1_R1, ILLEGAL]);
     let ran = folder.vbmodel("run --rom a.rom");
     assert_eq!(ran.status, 0);

@@ -18,7 +18,7 @@ fn numbers(value: &Value, into: &mut Vec<i64>) {
 }
 
 #[test]
-fn deliver_3_records_are_decoded_with_their_names() {
+fn records_are_decoded_with_their_names() {
     let folder = Folder::with_demo("why-records");
     let ran = folder.vbmodel(&format!("why left 192 120 {SCENE}"));
     assert_eq!(ran.status, 0, "{}", ran.error);
@@ -57,7 +57,7 @@ fn deliver_3_records_are_decoded_with_their_names() {
 }
 
 #[test]
-fn deliver_3_the_json_has_all_that_the_text_has() {
+fn the_json_has_all_that_the_text_has() {
     let folder = Folder::with_demo("why-json");
     for pixel in ["left 192 120", "right 150 218", "left 75 120"] {
         let text = folder.vbmodel(&format!("why {pixel} {SCENE} --objects")).text;
@@ -93,7 +93,7 @@ fn deliver_3_the_json_has_all_that_the_text_has() {
 }
 
 #[test]
-fn deliver_3_compare_groups_differing_pixels_by_what_wins_there() {
+fn compare_groups_differing_pixels_by_what_wins_there() {
     let folder = Folder::with_demo("why-compare");
     let compare =
         format!("compare {SCENE} --frame 1 --eyes left --left out/frame0-left.png --first 1 --why");
@@ -135,7 +135,7 @@ fn deliver_3_compare_groups_differing_pixels_by_what_wins_there() {
 }
 
 #[test]
-fn deliver_4_the_list_is_the_proved_librarys_and_the_models_is_the_same() {
+fn the_list_is_the_proved_librarys_and_the_models_is_the_same() {
     let folder = Folder::with_demo("why-list");
     for pixel in ["left 192 120", "right 150 218", "left 75 120", "right 383 223"] {
         let ran = folder.vbmodel(&format!("why {pixel} {SCENE}"));

@@ -63,7 +63,7 @@ fn builds(folder: &Folder) -> usize {
 }
 
 #[test]
-fn wrong_6_the_wrapper_works_through_a_symlink_and_with_cdpath() {
+fn the_wrapper_works_through_a_symlink_and_with_cdpath() {
     let folder = repository("wrapper-links");
     assert_eq!(call(&folder, "./vbmodel", "."), "./vbmodel: why left\n");
     assert_eq!(call(&folder, "../vbmodel", "rust"), "../vbmodel: why left\n");
@@ -122,7 +122,7 @@ fn copy_names(from: &Path, to: &Path) -> usize {
 }
 
 #[test]
-fn wrong_6_the_wrapper_builds_again_for_a_source_alone() {
+fn the_wrapper_builds_again_for_a_source_alone() {
     let folder = repository("wrapper-times");
     let age = |name: &str, time: SystemTime| {
         fs::File::options()

@@ -92,7 +92,7 @@ proptest! {
     #![proptest_config(config(400))]
 
     #[test]
-    fn deliver_7_programs_agree_or_shrink(
+    fn programs_agree_or_shrink(
         seed in any::<u64>(),
         program in vec(one_instruction(), 1..40),
     ) {
@@ -106,7 +106,7 @@ proptest! {
     #![proptest_config(config(150))]
 
     #[test]
-    fn deliver_7_scenes_agree_or_shrink(
+    fn scenes_agree_or_shrink(
         seed in any::<u64>(),
         worlds in vec(world(), 0..8),
         objects in vec(object(), 0..30),
@@ -119,7 +119,7 @@ proptest! {
 
 /// A mistake that only MUL shows is told by a program of one instruction.
 #[test]
-fn deliver_7_a_failing_program_shrinks_to_the_instruction_that_fails() {
+fn a_failing_program_shrinks_to_the_instruction_that_fails() {
     let mut runner = TestRunner::new(config(2_000));
     let programs = vec(one_instruction(), 1..40);
     let found = runner.run(&programs, |program| {
@@ -134,7 +134,7 @@ fn deliver_7_a_failing_program_shrinks_to_the_instruction_that_fails() {
 
 /// A mistake in wide affine worlds is told by one world with the least width.
 #[test]
-fn deliver_7_a_failing_scene_shrinks_to_the_world_that_fails() {
+fn a_failing_scene_shrinks_to_the_world_that_fails() {
     let mut runner = TestRunner::new(config(2_000));
     let found = runner.run(&vec(world(), 0..8), |worlds| {
         let wrong = worlds.iter().any(|(_, one)| one.flags >> 12 & 3 == 2 && one.w > 100);

@@ -83,7 +83,7 @@ mod tests {
     use super::*;
 
     #[test]
-    fn wrong_7_a_disagreement_of_model_and_library_has_its_own_status() {
+    fn a_disagreement_of_model_and_library_has_its_own_status() {
         let (vram, drawing) = (vec![0; vb::VRAM_LENGTH], vb::Drawing::default());
         for (library_value, status) in [(0, 0), (1, 3)] {
             let (vram, drawing, eye) = (vram.as_slice(), &drawing, Eye::Left);

@@ -78,7 +78,7 @@ mod tests {
     use super::*;
 
     #[test]
-    fn wrong_8_numbers_take_hex_and_underscores() {
+    fn numbers_take_hex_and_underscores() {
         for (text, value) in [
             ("0", 0),
             ("20_000_000", 20_000_000),

@@ -174,7 +174,7 @@ mod tests {
     }
 
     #[test]
-    fn wrong_lines_are_told_by_their_number() {
+    fn lines_that_are_not_events_are_reported_by_their_number() {
         for (text, part) in [
             ("at 5 tick\nat x tick", "line 2: `x` is not a whole number"),
             ("at", "line 1: `at` is not `at N EVENT` or `every K EVENT`"),

@@ -59,7 +59,7 @@ mod tests {
     use super::cut;
 
     #[test]
-    fn wrong_8_a_line_is_never_wider_than_the_terminal() {
+    fn a_line_is_never_wider_than_the_terminal() {
         assert_eq!(cut("1,000 of at most 2,000", 80), "1,000 of at most 2,000");
         assert_eq!(cut("1,000 of at most 2,000", 9), "1,000 of");
         assert_eq!(cut("1,000", 0), "");

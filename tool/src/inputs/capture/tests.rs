@@ -54,14 +54,14 @@ fn a_png_reads_back_as_its_picture() {
 }
 
 #[test]
-fn wrong_1_a_palette_index_beyond_plte_is_refused() {
+fn a_palette_index_beyond_plte_is_refused() {
     let data = changed(&[3], 0, 4);
     let bytes = png(ColorType::Indexed, BitDepth::Eight, &data, &[]);
     refused_pixel(&bytes, "has the palette index 4; PLTE has 4 colours");
 }
 
 #[test]
-fn wrong_1_any_alpha_is_refused() {
+fn any_alpha_is_refused() {
     let opaque = png(ColorType::Rgba, BitDepth::Eight, &changed(&[0x55, 0, 0, 0xFF], 0, 0xAA), &[]);
     assert!(read(&opaque).is_ok());
     let rgba = changed(&[0xFF, 0, 0, 0xFF], 3, 0);
@@ -79,7 +79,7 @@ fn wrong_1_any_alpha_is_refused() {
 }
 
 #[test]
-fn wrong_1_samples_of_16_bits_between_the_levels_are_refused() {
+fn samples_of_16_bits_between_the_levels_are_refused() {
     let right = png(ColorType::Grayscale, BitDepth::Sixteen, &[0xAA; 2 * PIXELS], &[]);
     assert!(read(&right) == Ok(Picture::of_values(vec![2; PIXELS])));
     for (n, value, told) in [(1, 0xFE, "00FE"), (0, 0x55, "5500")] {
@@ -95,7 +95,7 @@ fn wrong_1_samples_of_16_bits_between_the_levels_are_refused() {
 }
 
 #[test]
-fn wrong_1_bytes_after_iend_are_refused() {
+fn bytes_after_iend_are_refused() {
     let one = pattern().png(1);
     for more in [vec![0], one.clone()] {
         let told = vb::grouped(more.len() as u64);

@@ -5,7 +5,7 @@ fn question<'a>(vram: &'a [u8], drawing: &'a Drawing, library_value: u8) -> Ques
 }
 
 #[test]
-fn wrong_7_a_disagreement_of_model_and_library_is_said_in_its_own_words() {
+fn a_disagreement_of_model_and_library_is_said_in_its_own_words() {
     let vram = vec![0; vb::VRAM_LENGTH];
     let drawing = Drawing { bkcol: 2, ..Drawing::default() };
     let same = explain(&question(&vram, &drawing, 2)).unwrap();
@@ -17,7 +17,7 @@ fn wrong_7_a_disagreement_of_model_and_library_is_said_in_its_own_words() {
 }
 
 #[test]
-fn deliver_4_lists_that_differ_are_told() {
+fn lists_that_differ_are_reported() {
     let of = |library: &[u32]| Lists { model: vec![1, 2], library: library.to_vec() };
     assert!(of(&[1, 2]).head().ends_with("2, proved; the independent model's are the same:"));
     for other in [&[1][..], &[1, 3], &[2, 1], &[1, 2, 2]] {
