@@ -7,12 +7,8 @@ pub mod broken;
 #[cfg(target_os = "linux")]
 pub mod fence;
 pub mod machine;
-#[cfg(feature = "processor")]
 pub mod program;
 pub mod random;
-#[cfg(feature = "drawing")]
 pub mod scene;
-#[cfg(feature = "processor")]
 pub mod state;
-#[cfg(feature = "processor")]
 pub mod twin;

@@ -1,8 +1,6 @@
 //! A list of accesses in one call (W7): against the library's own single calls and
 //! against the model, over dense addresses; the limits of refusal 11.
 
-#![cfg(feature = "processor")]
-
 use difftests::access::{biased_address, biased_value, by_library, timer_address, Call};
 use difftests::broken::Broken;
 use difftests::machine::{

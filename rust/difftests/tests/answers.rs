@@ -2,8 +2,6 @@
 //! lies in no table is changed at random, and the library draws the pixel as
 //! before; by the frame call or the strip call on either side.
 
-#![cfg(feature = "drawing")]
-
 use difftests::random::Random;
 use difftests::scene::{crowded, draw_by_library, put_objects, visible_world, Draw, Scene};
 use model::answers::{answers, Answers, Covered};

@@ -3,8 +3,6 @@
 //! objects. Each image is compared with the model's, and each pixel with the two
 //! bits that document 01 names.
 
-#![cfg(feature = "drawing")]
-
 use difftests::random::Random;
 use difftests::scene::{
     expect_same_drawing, Draw, Scene, WorldHalves, AFFINE, H_BIAS, NORMAL, OBJECT,

@@ -1,8 +1,6 @@
 //! The display unit (W11): brightness of whole images and the recommended
 //! column table, the library against the model.
 
-#![cfg(feature = "drawing")]
-
 use difftests::machine::expect_same_bytes;
 use difftests::random::Random;
 use model::display::{display, load_column_table, ROOM_LENGTH};

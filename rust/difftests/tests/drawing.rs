@@ -1,8 +1,6 @@
 //! Strips and frames of the library against the model's, byte by byte over the
 //! whole of VRAM.
 
-#![cfg(feature = "drawing")]
-
 use difftests::random::Random;
 use difftests::scene::{
     crowded, expect_same_drawing, put_objects, random_groups, random_world, visible_world, Draw,

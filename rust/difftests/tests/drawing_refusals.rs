@@ -2,8 +2,6 @@
 //! both sides of each limit, every combination of broken conditions, and the
 //! character lookup itself.
 
-#![cfg(feature = "drawing")]
-
 use difftests::machine::{drawings_about_limits, register, VRAM_LENGTHS};
 use difftests::random::Random;
 use difftests::scene::{crowded, draw_by_library, draw_by_model, Draw};

@@ -1,8 +1,6 @@
 //! The encoder (W8): halfwords to fields and back, the library against the
 //! model and against the bits that each opcode keeps.
 
-#![cfg(feature = "processor")]
-
 use model::encoding::{decode, encode, Fields, Halfwords};
 use vbsys::{op, Decoded, Encoded, Instruction};
 

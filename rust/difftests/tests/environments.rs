@@ -1,7 +1,7 @@
 //! The floating instructions in every floating-point environment of the caller, against the model, which works them out
 //! in whole numbers; afterwards the caller's environment is as it was.
 
-#![cfg(all(feature = "processor", target_arch = "x86_64"))]
+#![cfg(target_arch = "x86_64")]
 
 use std::arch::asm;
 

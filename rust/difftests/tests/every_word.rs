@@ -8,8 +8,6 @@
 //! the exception's code and the PSW it saves; for every run, how many instructions
 //! it took and that it halted; for every step, its answer, EIPC and PC.
 
-#![cfg(feature = "processor")]
-
 use std::io::Write;
 use std::sync::atomic::{AtomicU32, AtomicU64, Ordering};
 use std::time::Instant;

@@ -4,7 +4,6 @@
 #![cfg(target_os = "linux")]
 
 use difftests::access::{biased_address, biased_value};
-#[cfg(feature = "drawing")]
 use difftests::fence::Fenced;
 use difftests::fence::{Lent, Side};
 use difftests::machine::{
@@ -94,7 +93,6 @@ fn refused_lengths() {
     }
 }
 
-#[cfg(feature = "processor")]
 #[test]
 fn runs() {
     use difftests::program::load_program;
@@ -122,7 +120,6 @@ fn runs() {
     }
 }
 
-#[cfg(feature = "drawing")]
 #[test]
 fn drawings() {
     use difftests::scene::{crowded, draw_by_library, draw_by_model, Draw};
@@ -146,7 +143,6 @@ fn drawings() {
     }
 }
 
-#[cfg(feature = "drawing")]
 #[test]
 fn pixel_lists() {
     use difftests::scene::crowded;

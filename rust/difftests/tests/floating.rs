@@ -2,8 +2,6 @@
 //! them out in whole numbers: the request's rows, pairs of operands drawn by
 //! class, conversions, every sub-opcode, and traps in each state.
 
-#![cfg(feature = "processor")]
-
 use difftests::machine::Buffers;
 use difftests::program::{biased_psw, half, random_processor, FLOATING, SUB_OPCODES};
 use difftests::random::Random;

@@ -2,8 +2,6 @@
 //! ticks; the timer's registers on the bus; programs that halt, mask and lower
 //! their lines; refusal 5 with the new fields.
 
-#![cfg(feature = "processor")]
-
 use difftests::access::{by_library, by_model, timer_address, Call, CALLS, LOADS, STORES};
 use difftests::broken::Broken;
 use difftests::machine::{

@@ -2,8 +2,6 @@
 //! against the independent model's list, with rooms of every kind of length,
 //! and every refusal on both sides of its limit.
 
-#![cfg(feature = "drawing")]
-
 use difftests::machine::{drawings_about_limits, to_library, VRAM_LENGTHS};
 use difftests::random::Random;
 use difftests::scene::{crowded, put_objects, visible_world, Scene};

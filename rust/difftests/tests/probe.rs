@@ -1,8 +1,6 @@
 //! The probe (W9): every address of the VIP by each width and mirror, the other
 //! regions, refusals, and pictures that the probe must leave alone.
 
-#![cfg(feature = "drawing")]
-
 use difftests::machine::Buffers;
 use difftests::random::Random;
 use difftests::scene::{

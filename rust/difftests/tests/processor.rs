@@ -1,7 +1,5 @@
 //! Steps and runs of the library against the model's.
 
-#![cfg(feature = "processor")]
-
 use difftests::machine::{random_drawing, Buffers};
 use difftests::program::{
     aim_pointers, biased_register, code_address, half, instruction, load_program, program,

@@ -2,8 +2,6 @@
 //! sides of each limit, and every combination of broken conditions, where the
 //! lowest number must win; and a mode that only the C boundary can express.
 
-#![cfg(feature = "processor")]
-
 use difftests::machine::Buffers;
 use difftests::program::{random_processor, BIT_STRING, NOP};
 use difftests::random::Random;

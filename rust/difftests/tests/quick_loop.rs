@@ -2,8 +2,6 @@
 //! model's runs: at every kind of instruction, at the ends of ROM and WRAM,
 //! and at every length of ROM.
 
-#![cfg(feature = "processor")]
-
 use difftests::machine::{random_drawing, Buffers};
 use difftests::program::{
     aim_pointers, biased_register, half, instruction, program, put_handlers, random_processor, CLI,

@@ -2,8 +2,6 @@
 //! programs, whole, cut, with changed words, and past the point where the machine
 //! stops; refusals before and at a record.
 
-#![cfg(feature = "processor")]
-
 use difftests::broken::Broken;
 use difftests::machine::{random_hardware, to_library, Buffers};
 use difftests::program::{

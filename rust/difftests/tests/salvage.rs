@@ -1,8 +1,6 @@
 //! Salvage of a saved state (W13): damaged files of form 2, by single bytes and
 //! whole; which bodies are kept, what is told, and that the output is right.
 
-#![cfg(feature = "processor")]
-
 use difftests::machine::expect_same_bytes;
 use difftests::random::Random;
 use difftests::state::{bodies, field_values, filled, is_untouched, pak_lengths, sum, Body, State};

@@ -1,8 +1,6 @@
 //! Saved states (W1): files written and read by the library and the model, at
 //! every length of pak RAM; every condition of refusals 9 and 10.
 
-#![cfg(feature = "processor")]
-
 use difftests::broken::Broken;
 use difftests::machine::{random_hardware, to_library};
 use difftests::random::Random;

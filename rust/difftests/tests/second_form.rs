@@ -1,8 +1,6 @@
 //! The second saved form (W12): files written, read and moved by the library and
 //! the model, at every length of pak RAM; every condition of 9, 10 and 16.
 
-#![cfg(feature = "processor")]
-
 use difftests::broken::Broken;
 use difftests::machine::{expect_same_bytes, to_library, Buffers};
 use difftests::random::Random;

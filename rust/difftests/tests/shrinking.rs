@@ -1,8 +1,6 @@
 //! Programs and scenes whose failures shrink: where the library and the model
 //! differ, the fewest instructions, worlds and objects that show it are printed.
 
-#![cfg(all(feature = "processor", feature = "drawing"))]
-
 use difftests::machine::{random_drawing, Buffers};
 use difftests::program::{aim_pointers, instruction, put_handlers, random_processor};
 use difftests::random::Random;

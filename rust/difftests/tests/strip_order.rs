@@ -2,8 +2,6 @@
 //! what the frame call leaves, refused calls counting as absent; and drawings of
 //! frames 0 and 1 may be swapped.
 
-#![cfg(feature = "drawing")]
-
 use difftests::machine::expect_same_bytes;
 use difftests::random::Random;
 use difftests::scene::{crowded, draw_by_library, draw_by_model, random_groups, Draw, Scene};

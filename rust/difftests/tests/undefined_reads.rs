@@ -8,7 +8,6 @@ use difftests::random::Random;
 use model::DrawingRegisters;
 
 /// Where the bytes of the VIP turn defined or undefined, by the papers.
-#[cfg(feature = "processor")]
 const BORDERS: [u32; 14] = [
     0x40000, 0x5F800, 0x5F806, 0x5F820, 0x5F82C, 0x5F82E, 0x5F832, 0x5F840, 0x5F846, 0x5F848,
     0x5F850, 0x5F860, 0x5F872, 0x78000,
@@ -115,7 +114,6 @@ fn refused_loads() {
     }
 }
 
-#[cfg(feature = "processor")]
 mod steps {
     use super::{BORDERS, MIRRORS};
     use difftests::machine::{random_drawing, to_library, Buffers};

@@ -2,8 +2,6 @@
 //! each kind of background world, and demand 3's list: in the rows that W3
 //! adds, and where no strip holds GY, so that W3 adds none.
 
-#![cfg(feature = "drawing")]
-
 use difftests::machine::to_library;
 use difftests::random::Random;
 use difftests::scene::{

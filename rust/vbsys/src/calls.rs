@@ -111,7 +111,6 @@ pub fn refusal_text(refusal: u32) -> &'static str {
     text(unsafe { vb_refusal_text(refusal) })
 }
 
-#[cfg(feature = "processor")]
 mod processor {
     use crate::raw::*;
     use crate::*;
@@ -242,10 +241,8 @@ mod processor {
     }
 }
 
-#[cfg(feature = "processor")]
 pub use processor::*;
 
-#[cfg(feature = "drawing")]
 mod drawing {
     use crate::raw::*;
     use crate::*;
@@ -312,5 +309,4 @@ mod drawing {
     }
 }
 
-#[cfg(feature = "drawing")]
 pub use drawing::*;

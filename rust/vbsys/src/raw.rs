@@ -54,7 +54,6 @@ extern "C" {
     pub fn vb_refusal_text(refusal: u32) -> *const c_char;
 }
 
-#[cfg(feature = "processor")]
 mod processor {
     use crate::*;
 
@@ -92,10 +91,8 @@ mod processor {
     }
 }
 
-#[cfg(feature = "processor")]
 pub use processor::*;
 
-#[cfg(feature = "drawing")]
 mod drawing {
     use crate::*;
 
@@ -135,5 +132,4 @@ mod drawing {
     }
 }
 
-#[cfg(feature = "drawing")]
 pub use drawing::*;

@@ -76,7 +76,6 @@ fn null_memories_of_length_0_are_refused() {
     assert_eq!(load(memories, 0), Loaded { refusal: 2, value: 0, undefined: 0 });
 }
 
-#[cfg(feature = "drawing")]
 #[test]
 fn null_vram_of_length_0_is_refused() {
     // SAFETY: null is passed with length 0.
@@ -87,7 +86,6 @@ fn null_vram_of_length_0_is_refused() {
     assert_eq!((part.refusal, part.length), (3, 0));
 }
 
-#[cfg(feature = "drawing")]
 #[test]
 fn a_null_room_of_length_0_takes_no_address() {
     let vram = vec![0xFFu8; 262_144];
@@ -103,7 +101,6 @@ fn a_null_room_of_length_0_takes_no_address() {
     assert_eq!(listed, vbsys::Listed { refusal: 0, count: 0 });
 }
 
-#[cfg(feature = "drawing")]
 #[test]
 fn null_buffers_of_the_display_unit_are_refused() {
     let vram = vec![9u8; 262_144];

@@ -1,7 +1,5 @@
 //! Where a call is refused or misused its masks are 0, as every other answer.
 
-#![cfg(feature = "processor")]
-
 use vbsys::{Drawing, Hardware, Memories, Processor, ReadMemories, Undefined};
 
 const UNMAPPED: u32 = 0x0004_0000;
