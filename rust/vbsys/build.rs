@@ -40,7 +40,8 @@ fn stop(why: &str) -> ! {
 /// The directory of the repository's own library, which is made where it has to be.
 fn made(root: &Path) -> PathBuf {
     let directory = root.join("target/vb/lib");
-    let sources = ["crates", "crates.txt", "guard", "include/vb.h"].map(|name| root.join(name));
+    let sources = ["crates", "crates.txt", "guard", "include/vb.h", "rust/Cargo.toml"];
+    let sources = sources.map(|name| root.join(name));
     for source in &sources {
         println!("cargo:rerun-if-changed={}", source.display());
     }

@@ -17,6 +17,7 @@ use crate::reports::json::json;
 #[command(
     name = "vbmodel",
     version,
+    long_version = crate::version::text(),
     about = "Runs, draws and compares the proved reference model of the console",
     after_help = "Start with `vbmodel demo`; `vbmodel help COMMAND` has an example for each command.
 Numbers are decimal or, after 0x, hexadecimal; `_` may stand between digits. The file `-` is standard input; where a

@@ -14,3 +14,4 @@ pub mod programs;
 pub mod reports;
 pub mod running;
 pub mod selftest;
+pub mod version;

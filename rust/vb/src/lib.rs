@@ -40,6 +40,7 @@ pub use refusal::{grouped, Refusal};
 pub use replays::{record, End, Replayed, Word, RECORD_LENGTH};
 pub use states::{move_state, salvage_state, Salvaged};
 pub use undefined::{Mask, Read, Undefined};
+pub use vbsys::{refusal_text, version, version_text};
 pub use vbsys::{state_2_bytes, state_bytes, Access, Memories, ProbeMemories, ReadMemories};
 
 /// Bytes of WRAM.
