@@ -1,5 +1,6 @@
 ; Windows over every edge and corner of the screen, with parallax that takes one eye's window further out; windows of one
-; column, windows that only one eye sees, and windows that lie outside. All are eight rows high or more.
+; column, windows that only one eye sees, and windows that lie outside. All are eight rows high or more. By 000 the console
+; applies the new BKCOL only after the first eight rows of the first picture.
 
     .equ cartridge, 0x3530
     .equ rom_end,   0x07004000
