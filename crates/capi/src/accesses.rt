@@ -1,73 +1,16 @@
 // Loads and stores.
-use crate::hardware::VbHardware;
-use crate::hardware::hardware_given;
-use crate::hardware::hardware_out;
-use bus::Drawing;
-use bus_calls::Load;
-use bus_calls::Stored;
-use refusal::number;
-use refusal::verdict_number;
+use capi_bus::accesses::VbDrawing;
+use capi_bus::accesses::VbLoaded;
+use capi_bus::accesses::VbStored;
+use capi_bus::hardware::VbHardware;
 ghost use mathlib.Core.Path.{_≡_};
 ghost use Rattle.refusal.specs.Number.{verdictNumber};
 ghost use Rattle.bus.specs.Memory.{verdictOf, storeOf};
 ghost use Rattle.bus.specs.Lent.{enteringWith, leavingWith};
 ghost use Rattle.bus.specs.Registers.{deviceOf};
 ghost use Rattle.bus_calls.specs.Access.{checkedLoadOf, checkedStoreOf};
-ghost use Rattle.capi.specs.Hardware.{hardwareGiven};
-ghost use Rattle.capi.specs.Answers.{loadOut, storeOut};
-
-// The drawing registers: SPT0 to SPT3, GPLT0 to GPLT3, JPLT0 to JPLT3, BKCOL.
-#[repr(C)]
-pub struct VbDrawing {
-    pub regs: bus::DrawingRegisters,
-}
-
-// Bit k of `undefined` is set where byte k, counted from the aligned address, was read and is undefined.
-#[repr(C)]
-pub struct VbLoaded {
-    pub refusal: u32,
-    pub value: u32,
-    pub undefined: u32,
-}
-
-#[repr(C)]
-pub struct VbStored {
-    pub refusal: u32,
-    pub drawing: VbDrawing,
-    pub hardware: VbHardware,
-}
-
-// A load's answer at the boundary.
-fn loaded(answer: Load) -> VbLoaded
-    ensures { λ r. ⌜ r ≡ loadOut answer ⌝ }
-{
-    match answer {
-        Load::Value(l) => VbLoaded {
-            refusal: 0,
-            value: l.value,
-            undefined: l.undefined,
-        },
-        Load::Refused(refusal) => VbLoaded {
-            refusal: number(refusal),
-            value: 0,
-            undefined: 0,
-        },
-    }
-}
-
-// A store's answer at the boundary.
-fn stored(answer: Stored) -> VbStored
-    ensures { λ r. ⌜ r ≡ storeOut answer ⌝ }
-{
-    let verdict = answer.verdict;
-    let after = answer.drawing.regs;
-    let timer = answer.hardware;
-    VbStored {
-        refusal: verdict_number(verdict),
-        drawing: VbDrawing { regs: after },
-        hardware: hardware_out(timer),
-    }
-}
+ghost use Rattle.capi_bus.specs.Hardware.{hardwareGiven};
+ghost use Rattle.capi_bus.specs.Answers.{loadOut};
 
 #[no_mangle]
 pub extern "C" fn vb_load_byte(
@@ -84,9 +27,7 @@ pub extern "C" fn vb_load_byte(
         (checkedLoadOf (enteringWith rom wram vram pak (deviceOf (drawing .regs) (hardwareGiven hardware))) 1 address)
         ⌝ }
 {
-    let regs = drawing.regs;
-    let given = hardware_given(hardware);
-    loaded(bus_calls::load_byte(rom, wram, vram, pak, Drawing { regs }, given, address))
+    capi_bus::accesses::load_byte(rom, wram, vram, pak, drawing, hardware, address)
 }
 
 #[no_mangle]
@@ -104,9 +45,7 @@ pub extern "C" fn vb_load_half(
         (checkedLoadOf (enteringWith rom wram vram pak (deviceOf (drawing .regs) (hardwareGiven hardware))) 2 address)
         ⌝ }
 {
-    let regs = drawing.regs;
-    let given = hardware_given(hardware);
-    loaded(bus_calls::load_half(rom, wram, vram, pak, Drawing { regs }, given, address))
+    capi_bus::accesses::load_half(rom, wram, vram, pak, drawing, hardware, address)
 }
 
 #[no_mangle]
@@ -124,9 +63,7 @@ pub extern "C" fn vb_load_word(
         (checkedLoadOf (enteringWith rom wram vram pak (deviceOf (drawing .regs) (hardwareGiven hardware))) 4 address)
         ⌝ }
 {
-    let regs = drawing.regs;
-    let given = hardware_given(hardware);
-    loaded(bus_calls::load_word(rom, wram, vram, pak, Drawing { regs }, given, address))
+    capi_bus::accesses::load_word(rom, wram, vram, pak, drawing, hardware, address)
 }
 
 #[no_mangle]
@@ -150,18 +87,7 @@ pub extern "C" fn vb_store_byte(
         ≡ checkedStoreOf m (storeOf m 1 address value))
         ⌝ }
 {
-    let regs = drawing.regs;
-    let given = hardware_given(hardware);
-    stored(bus_calls::store_byte(
-        rom,
-        wram,
-        vram,
-        pak,
-        Drawing { regs },
-        given,
-        address,
-        value,
-    ))
+    capi_bus::accesses::store_byte(rom, wram, vram, pak, drawing, hardware, address, value)
 }
 
 #[no_mangle]
@@ -185,18 +111,7 @@ pub extern "C" fn vb_store_half(
         ≡ checkedStoreOf m (storeOf m 2 address value))
         ⌝ }
 {
-    let regs = drawing.regs;
-    let given = hardware_given(hardware);
-    stored(bus_calls::store_half(
-        rom,
-        wram,
-        vram,
-        pak,
-        Drawing { regs },
-        given,
-        address,
-        value,
-    ))
+    capi_bus::accesses::store_half(rom, wram, vram, pak, drawing, hardware, address, value)
 }
 
 #[no_mangle]
@@ -220,16 +135,5 @@ pub extern "C" fn vb_store_word(
         ≡ checkedStoreOf m (storeOf m 4 address value))
         ⌝ }
 {
-    let regs = drawing.regs;
-    let given = hardware_given(hardware);
-    stored(bus_calls::store_word(
-        rom,
-        wram,
-        vram,
-        pak,
-        Drawing { regs },
-        given,
-        address,
-        value,
-    ))
+    capi_bus::accesses::store_word(rom, wram, vram, pak, drawing, hardware, address, value)
 }

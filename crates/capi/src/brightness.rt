@@ -1,6 +1,4 @@
 // The display unit.
-use display::Durations;
-use display::View;
 ghost use mathlib.Core.Path.{_≡_};
 ghost use Rattle.refusal.specs.Number.{verdictNumber};
 ghost use Rattle.display.specs.Brightness.{viewOf, durationsOf};
@@ -25,9 +23,7 @@ pub extern "C" fn vb_display(
         (durationsOf brta brtb brtc) (now (room .entry))
         ⌝ }
 {
-    let view = View { frame, eye, start };
-    let durations = Durations { brta, brtb, brtc };
-    refusal::verdict_number(display::display(vram, view, durations, room))
+    capi_drawing::brightness::display(vram, frame, eye, start, brta, brtb, brtc, room)
 }
 
 #[no_mangle]
@@ -35,5 +31,5 @@ pub extern "C" fn vb_load_column_table(vram: &mut [u8]) -> u32
     ensures refusal { λ r. ⌜ r ≡ verdictNumber (loadTableVerdictOf (now (vram .entry))) ⌝ }
     ensures memory { λ _. ⌜ now (vram .exit) ≡ loadTableOf (now (vram .entry)) ⌝ }
 {
-    refusal::verdict_number(display::load_column_table(vram))
+    capi_drawing::brightness::load_column_table(vram)
 }

@@ -2,7 +2,6 @@
 pub mod accesses;
 pub mod brightness;
 pub mod execution;
-pub mod hardware;
 pub mod instructions;
 pub mod lists;
 pub mod pictures;

@@ -1,17 +1,11 @@
 // A list of accesses in one call.
-use crate::accesses::VbDrawing;
-use crate::accesses::VbStored;
-use crate::execution::misuse_number;
-use crate::hardware::VbHardware;
-use crate::hardware::hardware_given;
-use crate::hardware::hardware_out;
-use bus::Drawing;
-use bus::refusals;
-use refusal::verdict_number;
+use capi_bus::accesses::VbDrawing;
+use capi_bus::accesses::VbStored;
+use capi_bus::hardware::VbHardware;
 ghost use mathlib.Core.Path.{_≡_};
 ghost use Rattle.access_list.specs.List.{madeOf};
-ghost use Rattle.capi.specs.Hardware.{hardwareGiven};
-ghost use Rattle.capi.specs.Lists.{listNumberAt, listLeftAt};
+ghost use Rattle.capi_bus.specs.Hardware.{hardwareGiven};
+ghost use Rattle.capi_bus.specs.Lists.{listNumberAt, listLeftAt};
 ghost use Rattle.bus.specs.Lent.{enteringWith, leavingWith};
 ghost use Rattle.bus.specs.Registers.{deviceOf};
 
@@ -36,23 +30,5 @@ pub extern "C" fn vb_access_list(
         (now (list .entry))
         ⌝ }
 {
-    let regs = drawing.regs;
-    let given = hardware_given(hardware);
-    if list.len() % 20 != 0 {
-        let v = refusals::call_verdict(rom.len(), wram.len(), vram.len(), pak.len(), &regs, given);
-        return VbStored {
-            refusal: misuse_number(v),
-            drawing,
-            hardware,
-        };
-    }
-    let stored = access_list::access_list(rom, wram, vram, pak, Drawing { regs }, given, list);
-    let verdict = stored.verdict;
-    let after = stored.drawing.regs;
-    let timer = stored.hardware;
-    VbStored {
-        refusal: verdict_number(verdict),
-        drawing: VbDrawing { regs: after },
-        hardware: hardware_out(timer),
-    }
+    capi_bus::lists::access_list(rom, wram, vram, pak, drawing, hardware, list)
 }

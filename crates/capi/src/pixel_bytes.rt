@@ -1,18 +1,9 @@
 // The bytes that a pixel answers to.
-use crate::accesses::VbDrawing;
-use bus::Drawing;
-use drawing_bytes::Listed;
-use refusal::number;
+use capi_bus::accesses::VbDrawing;
+use capi_drawing::pixel_bytes::VbListed;
 ghost use mathlib.Core.Path.{_≡_};
 ghost use Rattle.drawing_bytes.specs.Calls.{listedOf, roomOf};
-ghost use Rattle.capi.specs.PixelBytes.{listedAt};
-
-// How many addresses the list has.
-#[repr(C)]
-pub struct VbListed {
-    pub refusal: u32,
-    pub count: u64,
-}
+ghost use Rattle.capi_drawing.specs.PixelBytes.{listedAt};
 
 #[no_mangle]
 pub extern "C" fn vb_pixel_bytes(
@@ -26,20 +17,5 @@ pub extern "C" fn vb_pixel_bytes(
     ensures answer { λ r. ⌜ r ≡ listedAt (listedOf (now (vram .entry)) (drawing .regs) eye x y) ⌝ }
     ensures room { λ _. ⌜ now (room .exit) ≡ roomOf (now (vram .entry)) (drawing .regs) eye x y (now (room .entry)) ⌝ }
 {
-    let regs = drawing.regs;
-    let listed = drawing_bytes::pixel_bytes(vram, Drawing { regs }, eye, x, y, room);
-    match listed {
-        Listed::Count(count) => VbListed {
-            refusal: 0,
-            count: count as u64,
-        },
-        Listed::Refused(refusal) => VbListed {
-            refusal: number(refusal),
-            count: 0,
-        },
-        Listed::Outside => VbListed {
-            refusal: 255,
-            count: 0,
-        },
-    }
+    capi_drawing::pixel_bytes::pixel_bytes(vram, drawing, eye, x, y, room)
 }

@@ -1,8 +1,4 @@
 // Writes of the bench's overlay painter into VRAM.
-use probe::probe_byte;
-use probe::probe_half;
-use probe::probe_word;
-use refusal::verdict_number;
 ghost use mathlib.Core.Path.{_≡_};
 ghost use Rattle.refusal.specs.Number.{verdictNumber};
 ghost use Rattle.probe.specs.Lent.{lentVerdictOf, vramOf};
@@ -19,7 +15,7 @@ pub extern "C" fn vb_probe_byte(
     ensures refusal { λ r. ⌜ r ≡ verdictNumber (lentVerdictOf 1 rom wram vram pak address) ⌝ }
     ensures memory { λ _. ⌜ now (vram .exit) ≡ vramOf 1 rom wram vram pak address value ⌝ }
 {
-    verdict_number(probe_byte(rom, wram, vram, pak, address, value))
+    capi_bus::probes::probe_byte(rom, wram, vram, pak, address, value)
 }
 
 #[no_mangle]
@@ -34,7 +30,7 @@ pub extern "C" fn vb_probe_half(
     ensures refusal { λ r. ⌜ r ≡ verdictNumber (lentVerdictOf 2 rom wram vram pak address) ⌝ }
     ensures memory { λ _. ⌜ now (vram .exit) ≡ vramOf 2 rom wram vram pak address value ⌝ }
 {
-    verdict_number(probe_half(rom, wram, vram, pak, address, value))
+    capi_bus::probes::probe_half(rom, wram, vram, pak, address, value)
 }
 
 #[no_mangle]
@@ -49,5 +45,5 @@ pub extern "C" fn vb_probe_word(
     ensures refusal { λ r. ⌜ r ≡ verdictNumber (lentVerdictOf 4 rom wram vram pak address) ⌝ }
     ensures memory { λ _. ⌜ now (vram .exit) ≡ vramOf 4 rom wram vram pak address value ⌝ }
 {
-    verdict_number(probe_word(rom, wram, vram, pak, address, value))
+    capi_bus::probes::probe_word(rom, wram, vram, pak, address, value)
 }

@@ -1,64 +1,10 @@
 // Replay of a recorded trace.
-use crate::accesses::VbDrawing;
-use crate::execution::VbProcessor;
-use crate::execution::misuse_number;
-use crate::execution::processor_in;
-use crate::execution::processor_out;
-use bus::Drawing;
-use refusal::number;
-use replay::End;
+use capi_bus::accesses::VbDrawing;
+use capi_processor::record::VbProcessor;
+use capi_processor::replays::VbReplayed;
 ghost use mathlib.Core.Path.{_≡_};
 ghost use Rattle.bus.specs.Lent.{enteringWith, leavingWith};
-ghost use Rattle.capi.specs.Replays.{endRefusal, endNumber, endWord, replayGives, replayAt};
-
-#[repr(C)]
-pub struct VbReplayed {
-    pub refusal: u32,
-    pub answer: u32,
-    pub agreed: u64,
-    pub word: u32,
-    pub processor: VbProcessor,
-    pub drawing: VbDrawing,
-}
-
-fn end_refusal(end: End) -> u32
-    ensures { λ r. ⌜ r ≡ endRefusal end ⌝ }
-{
-    match end {
-        End::Refused(n) => number(n),
-        End::Agreed => 0,
-        End::Differed(_) => 0,
-        End::WasHalted => 0,
-        End::WasFatal => 0,
-        End::TurnedFatal => 0,
-    }
-}
-
-fn end_number(end: End) -> u32
-    ensures { λ r. ⌜ r ≡ endNumber end ⌝ }
-{
-    match end {
-        End::Refused(_) => 0,
-        End::Agreed => 1,
-        End::Differed(_) => 2,
-        End::WasHalted => 3,
-        End::WasFatal => 4,
-        End::TurnedFatal => 5,
-    }
-}
-
-fn end_word(end: End) -> u32
-    ensures { λ r. ⌜ r ≡ endWord end ⌝ }
-{
-    match end {
-        End::Refused(_) => 0,
-        End::Agreed => 0,
-        End::Differed(word) => word,
-        End::WasHalted => 0,
-        End::WasFatal => 0,
-        End::TurnedFatal => 0,
-    }
-}
+ghost use Rattle.capi_processor.specs.Replays.{replayGives, replayAt};
 
 #[no_mangle]
 pub extern "C" fn vb_replay(
@@ -76,30 +22,5 @@ pub extern "C" fn vb_replay(
         ≡ replayAt processor (enteringWith rom wram vram pak (drawing .regs)) (now (trace .entry))
         ⌝ }
 {
-    let regs = drawing.regs;
-    let p = processor_in(processor);
-    let mode = processor.mode;
-    if 2 < mode {
-        let v = processor::calls::verdict(rom, wram, vram, pak, p, Drawing { regs });
-        return VbReplayed {
-            refusal: misuse_number(v),
-            answer: 0,
-            agreed: 0,
-            word: 0,
-            processor,
-            drawing,
-        };
-    }
-    let s = replay::calls::replay(rom, wram, vram, pak, p, Drawing { regs }, trace);
-    let end = s.end;
-    let after = s.processor;
-    let device = s.drawing.regs;
-    VbReplayed {
-        refusal: end_refusal(end),
-        answer: end_number(end),
-        agreed: s.agreed,
-        word: end_word(end),
-        processor: processor_out(after),
-        drawing: VbDrawing { regs: device },
-    }
+    capi_processor::replays::replay(rom, wram, vram, pak, processor, drawing, trace)
 }

@@ -1,33 +1,15 @@
 // Saved states.
-use crate::accesses::VbDrawing;
-use crate::execution::VbProcessor;
-use crate::execution::misuse_number;
-use crate::execution::processor_in;
-use crate::execution::processor_out;
-use bus::Drawing;
-use saved_salvage::Salvaged;
+use capi_bus::accesses::VbDrawing;
+use capi_processor::record::VbProcessor;
+use capi_saved::states::VbRestored;
+use capi_saved::states::VbSalvaged;
 ghost use mathlib.Core.Path.{_≡_};
 ghost use Rattle.bus.specs.Lent.{enteringWith, leavingWith};
 ghost use Rattle.refusal.specs.Number.{verdictNumber};
 ghost use Rattle.saved_layout.specs.declared.Form.the-variants.{One, Two};
 ghost use Rattle.saved_move.specs.Move.{moveVerdictOf, movedOf};
 ghost use Rattle.saved_salvage.specs.Salvage.{salvageOf, salvagedRoomOf};
-ghost use Rattle.capi.specs.States.{writeNumberAt, writtenAt, restoredGives, readAt, salvagedAt};
-
-#[repr(C)]
-pub struct VbRestored {
-    pub refusal: u32,
-    pub processor: VbProcessor,
-    pub drawing: VbDrawing,
-}
-
-#[repr(C)]
-pub struct VbSalvaged {
-    pub refusal: u32,
-    pub replaced: u32,
-    pub kinds: [u32; 6],
-    pub contents_differ: u32,
-}
+ghost use Rattle.capi_saved.specs.States.{writeNumberAt, writtenAt, restoredGives, readAt, salvagedAt};
 
 #[no_mangle]
 pub extern "C" fn vb_write_state(
@@ -46,14 +28,7 @@ pub extern "C" fn vb_write_state(
         now (room .exit) ≡ writtenAt One processor (enteringWith rom wram vram pak (drawing .regs)) (now (room .entry))
         ⌝ }
 {
-    let regs = drawing.regs;
-    let p = processor_in(processor);
-    let mode = processor.mode;
-    if 2 < mode {
-        let v = processor::calls::verdict(rom, wram, vram, pak, p, Drawing { regs });
-        return misuse_number(v);
-    }
-    refusal::verdict_number(saved::write(rom, wram, vram, pak, p, Drawing { regs }, room))
+    capi_saved::states::write_state(rom, wram, vram, pak, processor, drawing, room)
 }
 
 #[no_mangle]
@@ -73,14 +48,7 @@ pub extern "C" fn vb_write_state_2(
         now (room .exit) ≡ writtenAt Two processor (enteringWith rom wram vram pak (drawing .regs)) (now (room .entry))
         ⌝ }
 {
-    let regs = drawing.regs;
-    let p = processor_in(processor);
-    let mode = processor.mode;
-    if 2 < mode {
-        let v = processor::calls::verdict(rom, wram, vram, pak, p, Drawing { regs });
-        return misuse_number(v);
-    }
-    refusal::verdict_number(saved::write_2(rom, wram, vram, pak, p, Drawing { regs }, room))
+    capi_saved::states::write_state_2(rom, wram, vram, pak, processor, drawing, room)
 }
 
 #[no_mangle]
@@ -98,26 +66,7 @@ pub extern "C" fn vb_read_state(
         ≡ readAt processor (enteringWith rom wram vram pak (drawing .regs)) (now (file .entry))
         ⌝ }
 {
-    let regs = drawing.regs;
-    let p = processor_in(processor);
-    let mode = processor.mode;
-    if 2 < mode {
-        let v = processor::calls::verdict(rom, wram, vram, pak, p, Drawing { regs });
-        return VbRestored {
-            refusal: misuse_number(v),
-            processor,
-            drawing,
-        };
-    }
-    let s = saved::read(rom, wram, vram, pak, p, Drawing { regs }, file);
-    let verdict = s.verdict;
-    let after = s.processor;
-    let device = s.drawing.regs;
-    VbRestored {
-        refusal: refusal::verdict_number(verdict),
-        processor: processor_out(after),
-        drawing: VbDrawing { regs: device },
-    }
+    capi_saved::states::read_state(rom, wram, vram, pak, processor, drawing, file)
 }
 
 #[no_mangle]
@@ -125,31 +74,7 @@ pub extern "C" fn vb_move_state(file: &[u8], room: &mut [u8]) -> u32
     ensures refusal { λ r. ⌜ r ≡ verdictNumber (moveVerdictOf (now (file .entry)) (now (room .entry))) ⌝ }
     ensures room { λ _. ⌜ now (room .exit) ≡ movedOf (now (file .entry)) (now (room .entry)) ⌝ }
 {
-    refusal::verdict_number(saved_move::move_state(file, room))
-}
-
-// What a salvage told, as the boundary has it.
-fn salvaged(told: Salvaged) -> VbSalvaged
-    ensures { λ r. ⌜ r ≡ salvagedAt told ⌝ }
-{
-    let verdict = told.verdict;
-    let list = told.list;
-    let kinds = list.kinds;
-    let refusal = refusal::verdict_number(verdict);
-    if told.differ {
-        return VbSalvaged {
-            refusal,
-            replaced: list.count,
-            kinds,
-            contents_differ: 1,
-        };
-    }
-    VbSalvaged {
-        refusal,
-        replaced: list.count,
-        kinds,
-        contents_differ: 0,
-    }
+    capi_saved::states::move_state(file, room)
 }
 
 #[no_mangle]
@@ -157,5 +82,5 @@ pub extern "C" fn vb_salvage_state(file: &[u8], room: &mut [u8]) -> VbSalvaged
     ensures told { λ r. ⌜ r ≡ salvagedAt (salvageOf (now (file .entry)) (now (room .entry))) ⌝ }
     ensures room { λ _. ⌜ now (room .exit) ≡ salvagedRoomOf (now (file .entry)) (now (room .entry)) ⌝ }
 {
-    salvaged(saved_salvage::salvage_state(file, room))
+    capi_saved::states::salvage_state(file, room)
 }

@@ -1,28 +1,14 @@
 // A tick of the timer.
-use crate::hardware::VbHardware;
-use crate::hardware::hardware_given;
-use crate::hardware::hardware_out;
-use refusal::verdict_number;
+use capi_bus::hardware::VbHardware;
+use capi_bus::ticks::VbTicked;
 ghost use mathlib.Core.Path.{_≡_};
 ghost use Rattle.bus_tick.specs.Tick.{checkedTickOf};
-ghost use Rattle.capi.specs.Hardware.{hardwareGiven};
-ghost use Rattle.capi.specs.Answers.{tickOut};
-
-#[repr(C)]
-pub struct VbTicked {
-    pub refusal: u32,
-    pub hardware: VbHardware,
-}
+ghost use Rattle.capi_bus.specs.Hardware.{hardwareGiven};
+ghost use Rattle.capi_bus.specs.Answers.{tickOut};
 
 #[no_mangle]
 pub extern "C" fn vb_tick(hardware: VbHardware) -> VbTicked
     ensures { λ r. ⌜ r ≡ tickOut (checkedTickOf (hardwareGiven hardware)) ⌝ }
 {
-    let ticked = bus_tick::tick(hardware_given(hardware));
-    let verdict = ticked.verdict;
-    let after = ticked.hardware;
-    VbTicked {
-        refusal: verdict_number(verdict),
-        hardware: hardware_out(after),
-    }
+    capi_bus::ticks::tick(hardware)
 }

@@ -1,4 +1,0 @@
-mod Boundary
-mod Saving
-mod Replaying
-mod Listing

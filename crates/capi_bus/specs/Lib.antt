@@ -1,0 +1,4 @@
+pub mod Answers
+pub mod Hardware
+pub mod Lists
+pub mod Misuse

@@ -1,0 +1,2 @@
+// The C boundary of the instructions: encoding and decoding.
+pub mod instructions;

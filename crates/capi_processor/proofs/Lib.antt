@@ -1,0 +1,2 @@
+mod Boundary
+pub mod Misused

@@ -1,0 +1,4 @@
+pub mod Execution
+pub mod Misuse
+pub mod Record
+pub mod Replays

@@ -1,0 +1,55 @@
+-- The processor's record at the C boundary (include/vb.h, `vb_processor`): the same words, the mode as a number.
+use Prim.Native.Nat.{ℕ}
+use lib.Dec.{eqb}
+use Rattle.word.specs.Choose.{pick}
+use Rattle.processor_machine.specs.declared.Mode.{Mode}
+use Rattle.processor_machine.specs.declared.Mode.the-variants.{Running, Halted, Fatal}
+use Rattle.processor.specs.declared.Processor.{Processor}
+use Rattle.capi_bus.specs.Hardware.{hardwareGiven, hardwareOut}
+use Rattle.capi_processor.specs.declared.record.VbProcessor.{VbProcessor}
+
+-- VB_RUNNING, VB_HALTED and VB_FATAL
+abbrev pub modeNumber : Mode → ℕ
+modeNumber Running = 0
+modeNumber Halted = 1
+modeNumber Fatal = 2
+
+abbrev pub modeIn : ℕ → Mode
+modeIn n = pick (eqb n 0) Running (pick (eqb n 1) Halted Fatal)
+
+-- the record that a boundary record stands for, and back
+unfoldable pub processorIn : VbProcessor → Processor
+processorIn p =
+    record {
+      regs = p .regs;
+      pc = p .pc;
+      eipc = p .eipc;
+      eipsw = p .eipsw;
+      fepc = p .fepc;
+      fepsw = p .fepsw;
+      ecr = p .ecr;
+      psw = p .psw;
+      sr25 = p .sr25;
+      sr29 = p .sr29;
+      sr31 = p .sr31;
+      mode = modeIn (p .mode);
+      hardware = hardwareGiven (p .hardware);
+    }
+
+unfoldable pub processorOut : Processor → VbProcessor
+processorOut p =
+    record {
+      regs = p .regs;
+      pc = p .pc;
+      eipc = p .eipc;
+      eipsw = p .eipsw;
+      fepc = p .fepc;
+      fepsw = p .fepsw;
+      ecr = p .ecr;
+      psw = p .psw;
+      sr25 = p .sr25;
+      sr29 = p .sr29;
+      sr31 = p .sr31;
+      mode = modeNumber (p .mode);
+      hardware = hardwareOut (p .hardware);
+    }

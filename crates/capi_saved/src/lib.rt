@@ -1,0 +1,2 @@
+// The C boundary of saved states.
+pub mod states;
