@@ -49,8 +49,14 @@ enum Command {
     Draw(commands::draw::Options),
     /// Compares the model's frame with a die's capture of it
     Compare(commands::compare::Options),
-    /// Judges a whole lot: many captures against the model, with a report
-    Judge(commands::judge::Options),
+    /// Judges a whole lot by its captures, or by a test plan, with a report
+    Judge(Box<commands::judge::Options>),
+    /// Writes what the model expects of a test plan: frames and traces
+    Expect(commands::expect::Options),
+    /// Reads a report's files again and judges its lot again
+    Verify(commands::verify::Options),
+    /// Joins the reports of a lot's shards
+    Merge(commands::merge::Options),
     /// Shows which worlds and objects cover a pixel, and the bytes it answers to
     Why(commands::why::Options),
     /// Assembles a program into a ROM image
@@ -78,6 +84,9 @@ impl Command {
             Command::Draw(options) => options.json,
             Command::Compare(options) => options.json,
             Command::Judge(options) => options.json,
+            Command::Expect(options) => options.json,
+            Command::Verify(options) => options.json,
+            Command::Merge(options) => options.json,
             Command::Why(options) => options.json,
             Command::Asm(options) => options.json,
             Command::Disasm(options) => options.json,
@@ -96,6 +105,9 @@ impl Command {
             Command::Draw(options) => commands::draw::run(options),
             Command::Compare(options) => commands::compare::run(options),
             Command::Judge(options) => commands::judge::run(options),
+            Command::Expect(options) => commands::expect::run(options),
+            Command::Verify(options) => commands::verify::run(options),
+            Command::Merge(options) => commands::merge::run(options),
             Command::Why(options) => commands::why::run(options),
             Command::Asm(options) => commands::asm::run(options),
             Command::Disasm(options) => commands::disasm::run(options),

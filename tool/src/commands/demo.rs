@@ -29,6 +29,10 @@ const WOKEN: &str =
 #[command(after_help = "Example: the pictures in a folder of your choice, three times as large
   vbmodel demo --out pictures --scale 3
 
+Example: a wafer of 24 dies to judge by a test plan
+  vbmodel demo --lot demo-lot
+  vbmodel judge --plan demo-lot/plan.toml demo-lot/parts --html report.html
+
 Exit status: 0 drawn and written; 2 where the folder cannot be written.")]
 pub struct Options {
     /// The folder for pictures, memories and records
@@ -37,9 +41,36 @@ pub struct Options {
     /// PNG pixels to a pixel's side, 1 to 16
     #[arg(long, value_name = "N", default_value = "2", value_parser = number::scale)]
     scale: usize,
+    /// Write a test plan and captures and traces of 24 dies on a wafer to this folder instead
+    #[arg(long, value_name = "FOLDER", conflicts_with_all = ["out", "scale"])]
+    lot: Option<PathBuf>,
 }
 
 pub fn run(options: &Options) -> Result<Report, Failure> {
+    match &options.lot {
+        Some(folder) => lot(folder),
+        None => pictures(options),
+    }
+}
+
+/// A lot to try a plan on.
+fn lot(folder: &Path) -> Result<Report, Failure> {
+    let (plan, parts) = crate::demo::lot::write(folder)?;
+    let [plan, parts] = [&plan, &parts].map(|path| path.display().to_string());
+    let lines = [
+        format!("a test plan: {plan}"),
+        format!("captures and traces of 24 dies on a wafer: {parts}"),
+        format!(
+            "next: {} judge --plan {} {} --html report.html",
+            invocation::name(),
+            invocation::quoted(&plan),
+            invocation::quoted(&parts)
+        ),
+    ];
+    Ok(Report::new(lines.join("\n") + "\n", &(), 0))
+}
+
+fn pictures(options: &Options) -> Result<Report, Failure> {
     let begun = Instant::now();
     let rom = rom().map_err(Failure::bad)?;
     let (mut wram, mut vram) = (vec![0; WRAM_LENGTH], vec![0; VRAM_LENGTH]);

@@ -14,7 +14,12 @@ use crate::failure::Failure;
 use crate::files::Outputs;
 use crate::inputs::number;
 use crate::interrupt;
-use crate::judge::{judge, junit, page, plain, Eyes, Judged, Lot, Part, Summary, Wish};
+use crate::judge::{
+    judge, judge_lot, junit, model_of, page, plain, Asked, Eyes, Judged, Lot, Model, Part, Summary,
+    Wish,
+};
+use crate::plan::Plan;
+use crate::report::{shard, Forms, Shard};
 use crate::reports::json::json;
 use crate::reports::progress::Progress;
 
@@ -47,6 +52,13 @@ The names are name, state, vram, drawing, frame, left, right, capture (a whole V
 left or right). A manifest in CSV has them as its first line, and a line for each part. Files are named from the
 manifest's folder.
 
+With --plan the parts are judged by what programs come to: the model runs each test of the plan once, draws its frames and
+keeps its records, and every part's captures and traces are compared with those. The lot is a folder with a folder for each
+part (die-17/pier.frame0.left.png, die-17/pier.trace) or with flat names (die-17.pier.frame0.left.png); die-17@2 is the
+part's second test, and the last one decides; parts.csv (part, wafer, x, y, others) is a list of the parts. `vbmodel demo
+--lot demo-lot` writes one to try:
+  vbmodel judge --plan demo-lot/plan.toml demo-lot/parts --html report.html
+
 A part passes when both eyes have a capture and both are equal. It fails when one differs. It is invalid when something
 could not be judged: a capture is missing or broken, there are two of one eye or two scenes, or a name differs only in
 case. An invalid part does not stop the others.
@@ -54,8 +66,14 @@ case. An invalid part does not stop the others.
 Exit status: 0 all pass; 1 some fail; 2 some are invalid, an unknown file is in the folder, or nothing could be judged;
 3 the independent model and the proved library differ; 130 stopped by Ctrl-C.")]
 pub struct Options {
-    /// A folder, or a manifest whose name ends in .toml or .csv
+    /// A folder, or a manifest whose name ends in .toml or .csv; with --plan a folder of parts
     lot: PathBuf,
+    /// A test plan: each part must show what the plan's programs come to
+    #[arg(long, value_name = "FILE", conflicts_with_all = ["vram", "drawing", "state", "threshold", "eyes"])]
+    plan: Option<PathBuf>,
+    /// With --plan: judge every N-th part, from the K-th on
+    #[arg(long, value_name = "K/N", requires = "plan", value_parser = shard)]
+    shard: Option<Shard>,
     /// VRAM of the parts that have none
     #[arg(long, value_name = "FILE")]
     vram: Option<PathBuf>,
@@ -77,12 +95,8 @@ pub struct Options {
     /// How many differing pixels to explain for each eye
     #[arg(long, value_name = "N", default_value = "3", value_parser = number::word)]
     first: u32,
-    /// Where to write the report, one HTML page with its pictures
-    #[arg(long, value_name = "FILE")]
-    html: Option<PathBuf>,
-    /// Where to write the verdicts as JUnit XML
-    #[arg(long, value_name = "FILE")]
-    junit: Option<PathBuf>,
+    #[command(flatten)]
+    forms: Forms,
     /// Print JSON, a line for each part and one for all
     #[arg(long)]
     pub json: bool,
@@ -99,7 +113,41 @@ struct Whole<'a> {
 }
 
 pub fn run(options: &Options) -> Result<Report, Failure> {
+    if let Some(plan) = &options.plan {
+        return by_plan(options, plan);
+    }
+    let Forms { report, csv, stdf, .. } = &options.forms;
+    if let Some(path) = report.as_ref().or(csv.as_ref()).or(stdf.as_ref()) {
+        let name = plain(&path.to_string_lossy());
+        return Err(Failure::bad(format!("{name}: --report, --csv and --stdf need --plan")));
+    }
+    by_captures(options)
+}
+
+/// A lot whose parts are judged by a test plan.
+fn by_plan(options: &Options, plan: &Path) -> Result<Report, Failure> {
     let begun = Instant::now();
+    let plan = Plan::read(plan)?;
+    options.forms.test()?;
+    interrupt::watch();
+    let expected = match model_of(&plan) {
+        Err(failure) if interrupt::asked() => {
+            let (text, json) = (String::new(), json(&failure));
+            return Ok(Report { text, json, status: interrupt::STATUS, failure: Some(failure) });
+        }
+        expected => expected?,
+    };
+    let model = Model { plan: &plan, expected: &expected };
+    let pictures = options.forms.has_pictures().then_some(options.first as usize);
+    let asked = Asked { allow_extra: options.allow_extra, shard: options.shard, pictures };
+    let report = judge_lot(model, &options.lot, &asked)?;
+    options.forms.written(&report, begun.elapsed().as_secs_f64())
+}
+
+/// A lot whose parts have scenes and captures.
+fn by_captures(options: &Options) -> Result<Report, Failure> {
+    let begun = Instant::now();
+    let (html, xml) = (&options.forms.html, &options.forms.junit);
     let defaults = Part {
         vram: options.vram.clone(),
         drawing: options.drawing.clone(),
@@ -109,21 +157,21 @@ pub fn run(options: &Options) -> Result<Report, Failure> {
         ..Part::default()
     };
     let lot = Lot::read(&options.lot, &defaults)?;
-    let files = [&options.html, &options.junit].into_iter().flatten().map(PathBuf::as_path);
+    let files = [html, xml].into_iter().flatten().map(PathBuf::as_path);
     Outputs::test(files)?;
     interrupt::watch();
-    let wish = Wish { first: options.first as usize, pictures: options.html.is_some() };
+    let wish = Wish { first: options.first as usize, pictures: html.is_some() };
     let judged = all(&lot, wish);
     let unknown = if options.allow_extra { 0 } else { lot.unknown.len() };
     let summary = Summary::of(&judged, lot.entries.len(), unknown);
 
     let mut outputs = Outputs::default();
     judged.iter().flat_map(|one| &one.read).for_each(|read| outputs.keep(Some(*read)));
-    if let Some(path) = &options.html {
+    if let Some(path) = html {
         let title = format!("{} judged", name(&options.lot));
         outputs.add(path, page(&title, &judged, &summary, &lot.unknown).into_bytes());
     }
-    if let Some(path) = &options.junit {
+    if let Some(path) = xml {
         let seconds = begun.elapsed().as_secs_f64();
         outputs.add(path, junit(&judged, &summary, &lot.unknown, seconds).into_bytes());
     }

@@ -5,7 +5,9 @@ pub mod compare;
 pub mod demo;
 pub mod disasm;
 pub mod draw;
+pub mod expect;
 pub mod judge;
+pub mod merge;
 pub mod pages;
 pub mod replay;
 pub mod run;
@@ -13,6 +15,7 @@ pub mod selftest;
 pub mod state;
 pub mod step;
 pub mod trace;
+pub mod verify;
 pub mod why;
 
 use serde::Serialize;

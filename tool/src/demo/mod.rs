@@ -3,6 +3,7 @@
 mod art;
 mod characters;
 mod letters;
+pub mod lot;
 
 use crate::programs::assembler::{assemble, Source};
 use characters::{Characters, Picture};

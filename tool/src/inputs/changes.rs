@@ -18,21 +18,21 @@ const LENGTHS: (usize, usize) = (1_024, 1 << 24);
 pub struct Changes {
     /// The address of the first instruction
     #[arg(long, value_name = "ADDR", value_parser = number::word)]
-    pc: Option<u32>,
+    pub pc: Option<u32>,
     /// A register's value: r0 to r31, psw, eipc and so on, spt0, gplt0, jplt0, bkcol, lines, count, reload, control; may
     /// be given again
     #[arg(long, value_name = "NAME=VALUE", value_parser = assignment)]
-    set: Vec<(String, u32)>,
+    pub set: Vec<(String, u32)>,
     /// A file's bytes in memory from an address on, ROM too; may be given again
     #[arg(long, value_name = "ADDR=FILE", value_parser = placed)]
-    load: Vec<(u32, PathBuf)>,
+    pub load: Vec<(u32, PathBuf)>,
     /// Make the ROM's length a power of two with zeros, after its bytes or before them
     #[arg(long, value_name = "SIDE", num_args = 0..=1, require_equals = true, default_missing_value = "end")]
-    pad: Option<Side>,
+    pub pad: Option<Side>,
 }
 
 #[derive(Clone, Copy, PartialEq, Eq, ValueEnum)]
-enum Side {
+pub enum Side {
     /// The ROM's bytes keep their addresses from 0x07000000 on
     End,
     /// The ROM's bytes keep their addresses up to 0xFFFFFFFF, where a reset begins
@@ -40,13 +40,13 @@ enum Side {
 }
 
 /// `r1=0x10`
-fn assignment(text: &str) -> Result<(String, u32), String> {
+pub fn assignment(text: &str) -> Result<(String, u32), String> {
     let (name, value) = text.split_once('=').ok_or(format!("`{text}` is not NAME=VALUE"))?;
     Ok((name.to_lowercase(), number::register(value)?))
 }
 
 /// `0x05000000=file`
-fn placed(text: &str) -> Result<(u32, PathBuf), String> {
+pub fn placed(text: &str) -> Result<(u32, PathBuf), String> {
     let (address, file) = text.split_once('=').ok_or(format!("`{text}` is not ADDR=FILE"))?;
     Ok((number::word(address)?, PathBuf::from(file)))
 }

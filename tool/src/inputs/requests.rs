@@ -8,7 +8,7 @@ use crate::inputs::number;
 use crate::inputs::setup::Bench;
 
 /// What the bench does to lines and timer before a run; between runs, where the next one goes on from files.
-#[derive(Args)]
+#[derive(Args, Default)]
 pub struct Requests {
     /// Raise a request line first: 0 pad, 1 timer, 2 pak, 3 link, 4 vip, by number or name; may be given again
     #[arg(long, value_name = "LEVEL", value_parser = level)]

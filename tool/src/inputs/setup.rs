@@ -21,30 +21,30 @@ const PROCESSOR: &str = "a processor record of 180 bytes, or of its first 172";
 pub struct Setup {
     /// ROM, a power of two from 1,024 to 16,777,216 bytes; - is standard input
     #[arg(long, value_name = "FILE")]
-    rom: PathBuf,
+    pub rom: PathBuf,
     /// WRAM, 65,536 bytes [default: zeros]
     #[arg(long, value_name = "FILE")]
-    wram: Option<PathBuf>,
+    pub wram: Option<PathBuf>,
     /// VRAM, 262,144 bytes [default: zeros]
     #[arg(long, value_name = "FILE")]
-    vram: Option<PathBuf>,
+    pub vram: Option<PathBuf>,
     /// Pak RAM, a power of two up to 16,777,216 bytes [default: none]
     #[arg(long, value_name = "FILE")]
-    pak: Option<PathBuf>,
+    pub pak: Option<PathBuf>,
     /// The processor record, 180 bytes: 43 little-endian words and four halfwords in vb.h's order, or the words alone,
     /// with request lines and timer at reset [default: reset]
     #[arg(long, value_name = "FILE")]
-    processor: Option<PathBuf>,
+    pub processor: Option<PathBuf>,
     /// The drawing record, 26 bytes: 13 little-endian halfwords in vb.h's order [default: reset]
     #[arg(long, value_name = "FILE")]
-    drawing: Option<PathBuf>,
+    pub drawing: Option<PathBuf>,
     /// A saved state in place of these five, of form 1, where request lines and timer come back at reset, or form 2
     #[arg(long, value_name = "FILE", conflicts_with_all = ["wram", "vram", "pak", "processor", "drawing"])]
-    state: Option<PathBuf>,
+    pub state: Option<PathBuf>,
     #[command(flatten)]
-    changes: Changes,
+    pub changes: Changes,
     #[command(flatten)]
-    requests: Requests,
+    pub requests: Requests,
 }
 
 /// Where to write what a command leaves.

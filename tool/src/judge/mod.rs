@@ -1,13 +1,19 @@
 //! A lot judged: many parts, each a scene and the captures of it, compared with the model.
 
+mod attempt;
+mod by_plan;
+mod explained;
 mod folder;
 mod html;
 mod junit;
 mod lot;
 mod manifest;
 mod summary;
+mod trace;
 mod verdict;
 
+pub use attempt::Model;
+pub use by_plan::{judge_lot, model_of, Asked};
 pub use html::page;
 pub use junit::junit;
 pub use lot::Lot;

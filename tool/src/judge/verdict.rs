@@ -1,7 +1,7 @@
 //! One part judged.
 
 use model::world::Eye;
-use serde::Serialize;
+use serde::{Deserialize, Serialize};
 use vb::{grouped, COLUMNS, ROWS, VRAM_LENGTH};
 
 use super::{Entry, Eyes, Part};
@@ -16,7 +16,7 @@ use crate::pictures::explain::{explain, eye_name, registers, Question};
 use crate::pictures::picture::Picture;
 use crate::pictures::sources::{Share, Sources};
 
-#[derive(Clone, Copy, Debug, PartialEq, Eq, Serialize)]
+#[derive(Clone, Copy, Debug, Deserialize, PartialEq, Eq, Serialize)]
 #[serde(rename_all = "lowercase")]
 pub enum Verdict {
     /// Every capture that was asked for is there, valid and equal.

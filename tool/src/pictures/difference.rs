@@ -1,12 +1,12 @@
 //! Where a capture differs from the model's picture.
 
-use serde::Serialize;
+use serde::{Deserialize, Serialize};
 use vb::{COLUMNS, ROWS};
 
 use crate::pictures::picture::Picture;
 
 /// A pixel that differs.
-#[derive(Clone, Copy, Debug, PartialEq, Eq, Serialize)]
+#[derive(Clone, Copy, Debug, Deserialize, PartialEq, Eq, Serialize)]
 pub struct Difference {
     #[serde(rename = "column")]
     pub x: usize,
@@ -17,7 +17,7 @@ pub struct Difference {
 }
 
 /// The smallest part of the picture that holds all that differs.
-#[derive(Clone, Copy, Debug, PartialEq, Eq, Serialize)]
+#[derive(Clone, Copy, Debug, Deserialize, PartialEq, Eq, Serialize)]
 pub struct Bounds {
     pub left: usize,
     pub top: usize,

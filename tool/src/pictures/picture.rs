@@ -44,6 +44,12 @@ impl Picture {
         Sheet::new(COLUMNS, reds(), |x, y| self.value(x, y)).png(scale)
     }
 
+    /// A piece of it, so many columns and rows from a column and row on.
+    pub fn piece(&self, at: (usize, usize), size: (usize, usize), scale: usize) -> Vec<u8> {
+        let value = |x: usize, y: usize| self.value(at.0 + x, at.1 + y);
+        Sheet::sized(size, reds(), value).png(scale)
+    }
+
     /// The left eye's picture, then the right one's.
     pub fn side_by_side(&self, right: &Picture, scale: usize) -> Vec<u8> {
         let at = |x: usize, y: usize| match x {
@@ -86,7 +92,15 @@ pub struct Sheet {
 
 impl Sheet {
     pub fn new(width: usize, palette: Vec<u8>, at: impl Fn(usize, usize) -> u8) -> Sheet {
-        let indices = (0..width * ROWS).map(|i| at(i % width, i / width)).collect();
+        Sheet::sized((width, ROWS), palette, at)
+    }
+
+    fn sized(
+        (width, height): (usize, usize),
+        palette: Vec<u8>,
+        at: impl Fn(usize, usize) -> u8,
+    ) -> Sheet {
+        let indices = (0..width * height).map(|i| at(i % width, i / width)).collect();
         Sheet { width, palette, indices }
     }
 
@@ -98,8 +112,9 @@ impl Sheet {
             (0..scale).for_each(|_| pixels.extend_from_slice(&wide));
         }
         let mut bytes = Vec::new();
+        let height = self.indices.len() / self.width;
         let mut encoder =
-            Encoder::new(&mut bytes, (self.width * scale) as u32, (ROWS * scale) as u32);
+            Encoder::new(&mut bytes, (self.width * scale) as u32, (height * scale) as u32);
         encoder.set_color(ColorType::Indexed);
         encoder.set_depth(BitDepth::Eight);
         encoder.set_palette(self.palette.as_slice());

@@ -5,13 +5,13 @@ use std::ops::Range;
 use model::drawing::{paint, Area, Source};
 use model::world::{Eye, World};
 use model::DrawingRegisters;
-use serde::Serialize;
+use serde::{Deserialize, Serialize};
 
 use crate::pictures::difference::{Bounds, Difference};
 use crate::pictures::explain::kind_text;
 
 /// How many differing pixels one source accounts for.
-#[derive(Clone, Debug, PartialEq, Eq, Serialize)]
+#[derive(Clone, Debug, Deserialize, PartialEq, Eq, Serialize)]
 pub struct Share {
     /// In words, such as `world 28, H-bias`.
     pub what: String,

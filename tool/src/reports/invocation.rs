@@ -8,6 +8,12 @@ pub fn name() -> String {
     quoted(&typed.unwrap_or_else(|| "vbmodel".to_string()))
 }
 
+/// The whole command, as a shell takes it.
+pub fn command() -> String {
+    let words = env::args_os().skip(1).map(|word| quoted(&word.to_string_lossy()));
+    std::iter::once(name()).chain(words).collect::<Vec<String>>().join(" ")
+}
+
 /// A word as a shell takes it for one.
 pub fn quoted(word: &str) -> String {
     let plain = |c: char| c.is_ascii_alphanumeric() || "_-./=:,+@%".contains(c);

@@ -1,0 +1,92 @@
+//! `parts.csv`: where each part lies on its wafer, and what else is known of it.
+
+use std::collections::HashMap;
+use std::path::Path;
+
+use crate::failure::Failure;
+use crate::files::Input;
+use crate::judge::{plain, plain_path};
+
+const WANTED: &str =
+    "a list of parts: CSV whose first line names the columns part, wafer, x, y and others";
+
+/// A part's line.
+#[derive(Clone, Debug, Default)]
+pub struct Listed {
+    pub wafer: Option<String>,
+    pub x: Option<i16>,
+    pub y: Option<i16>,
+    /// Further columns by name.
+    pub columns: Vec<(String, String)>,
+}
+
+/// What was found on which line, to find it twice.
+type Lines<K> = HashMap<K, (u64, String)>;
+
+pub fn read(path: &Path) -> Result<Vec<(String, Listed)>, Failure> {
+    let input = Input::read(path, WANTED)?;
+    let text = String::from_utf8(input.bytes.clone())
+        .map_err(|_| Failure::bad(input.wrong("not a text file")))?;
+    let text = text.trim_start_matches('\u{FEFF}');
+    let first = text.lines().next().unwrap_or_default();
+    let between = if first.contains(';') && !first.contains(',') { b';' } else { b',' };
+    let mut reader = csv::ReaderBuilder::new();
+    let mut reader = reader.trim(csv::Trim::All).delimiter(between).from_reader(text.as_bytes());
+    let wrong = |line: u64, rule: String| {
+        Failure::bad(format!("{}: line {line}: {}", plain_path(path), plain(&rule)))
+    };
+    let heads = reader.headers().map_err(|error| wrong(1, error.to_string()))?.clone();
+    if !heads.iter().any(|head| head == "part") {
+        return Err(wrong(1, format!("the columns are `{first}`; one must be `part`")));
+    }
+    let (mut names, mut places) = (Lines::new(), Lines::new());
+    let mut all = Vec::new();
+    for record in reader.records() {
+        let record = record.map_err(|error| {
+            wrong(error.position().map_or(1, |position| position.line()), error.to_string())
+        })?;
+        let line = record.position().map_or(0, |position| position.line());
+        let (name, listed) = listed(&heads, &record).map_err(|rule| wrong(line, rule))?;
+        if let Some((other, _)) = names.insert(name.clone(), (line, name.clone())) {
+            return Err(wrong(line, format!("part {name} is on line {other} too")));
+        }
+        if let (Some(x), Some(y)) = (listed.x, listed.y) {
+            let place = (listed.wafer.clone(), x, y);
+            if let Some((_, other)) = places.insert(place, (line, name.clone())) {
+                return Err(wrong(
+                    line,
+                    format!("part {name} lies where part {other} lies, x {x}, y {y}"),
+                ));
+            }
+        }
+        all.push((name, listed));
+    }
+    Ok(all)
+}
+
+fn listed(
+    heads: &csv::StringRecord,
+    record: &csv::StringRecord,
+) -> Result<(String, Listed), String> {
+    let (mut name, mut listed) = (String::new(), Listed::default());
+    for (head, value) in heads.iter().zip(record).filter(|(_, value)| !value.is_empty()) {
+        let coordinate = || -> Result<Option<i16>, String> {
+            let number = value.parse();
+            number.map(Some).map_err(|_| {
+                format!("{head} is `{value}`; it must be a whole number from -32,768 to 32,767")
+            })
+        };
+        match head {
+            "part" => name = value.to_string(),
+            "wafer" => listed.wafer = Some(value.to_string()),
+            "x" => listed.x = coordinate()?,
+            "y" => listed.y = coordinate()?,
+            _ => listed.columns.push((head.to_string(), value.to_string())),
+        }
+    }
+    match (name.is_empty(), listed.x.is_some() == listed.y.is_some()) {
+        (true, _) => Err("part is empty; it must be a part's name".to_string()),
+        (_, false) => Err("x or y is empty; a part has both or none".to_string()),
+        _ => Ok((name, listed)),
+    }
+}

@@ -1,0 +1,150 @@
+//! What stands at the head of every form of a report: what was judged, by which model, and when.
+
+use std::time::SystemTime;
+
+use serde::{Deserialize, Serialize};
+
+use super::FileRead;
+use crate::failure::Failure;
+use crate::plan::{Expected, Plan, Records};
+use crate::reports::invocation;
+
+#[derive(Clone, Debug, Deserialize, PartialEq, Serialize)]
+pub struct Header {
+    pub plan: String,
+    pub plan_file: String,
+    pub lot: String,
+    pub model: Identity,
+    pub command: String,
+    pub date: String,
+    pub pass_bin: u16,
+    pub invalid_bin: u16,
+    pub tests: Vec<TestHeader>,
+    pub allow_extra: bool,
+    #[serde(default, skip_serializing_if = "Option::is_none")]
+    pub shard: Option<Shard>,
+    /// Parts of the whole lot.
+    pub parts: usize,
+    /// Files of the lot that no rule takes.
+    pub unknown: Vec<String>,
+    /// The plan's files, and the list of parts.
+    pub files: Vec<FileRead>,
+}
+
+/// Which model it was.
+#[derive(Clone, Debug, Deserialize, PartialEq, Eq, Serialize)]
+pub struct Identity {
+    pub version: String,
+    pub commit: String,
+    pub vb_version: u32,
+    /// SHA-256 of the library.
+    pub library: String,
+    pub kit: String,
+}
+
+#[derive(Clone, Debug, Deserialize, PartialEq, Eq, Serialize)]
+pub struct TestHeader {
+    pub name: String,
+    pub bin: u16,
+    pub frames: usize,
+    /// Records that a part's trace must have.
+    pub records: Option<u64>,
+    /// Instructions that the model's program took.
+    pub instructions: u64,
+}
+
+/// Part K of N of a lot.
+#[derive(Clone, Copy, Debug, Deserialize, PartialEq, Eq, Serialize)]
+pub struct Shard {
+    pub number: usize,
+    pub of: usize,
+}
+
+/// `3/8`
+pub fn shard(text: &str) -> Result<Shard, String> {
+    let wrong = || format!("`{text}` is not a shard; write K/N, K from 1 to N, such as 3/8");
+    let (number, of) = text.split_once('/').ok_or_else(wrong)?;
+    let parse = |text: &str| text.parse::<usize>().map_err(|_| wrong());
+    let shard = Shard { number: parse(number)?, of: parse(of)? };
+    (1..=shard.of).contains(&shard.number).then_some(shard).ok_or_else(wrong)
+}
+
+impl Shard {
+    /// Whether the n-th part of the lot is this shard's.
+    pub fn has(&self, n: usize) -> bool {
+        n % self.of == self.number - 1
+    }
+}
+
+impl Identity {
+    pub fn now() -> Identity {
+        let unknown = || "not recorded".to_string();
+        Identity {
+            version: env!("CARGO_PKG_VERSION").to_string(),
+            commit: unknown(),
+            vb_version: vbsys::VERSION,
+            library: unknown(),
+            kit: unknown(),
+        }
+    }
+
+    pub fn text(&self) -> String {
+        let Identity { version, commit, vb_version, library, kit } = self;
+        format!("vbmodel {version}, commit {commit}, VB_VERSION {vb_version}, library {library}, kit {kit}")
+    }
+}
+
+impl Header {
+    pub fn of(plan: &Plan, expected: &[Expected], lot: &str) -> Header {
+        let test = |(test, expected): (&crate::plan::Test, &Expected)| TestHeader {
+            name: test.name.clone(),
+            bin: test.bin,
+            frames: test.frames.len(),
+            records: expected.records.as_ref().map(Records::count),
+            instructions: expected.count,
+        };
+        Header {
+            plan: plan.name.clone(),
+            plan_file: plan.file.to_string_lossy().into_owned(),
+            lot: lot.to_string(),
+            model: Identity::now(),
+            command: invocation::command(),
+            date: humantime::format_rfc3339_seconds(SystemTime::now()).to_string(),
+            pass_bin: plan.pass_bin,
+            invalid_bin: plan.invalid_bin,
+            tests: plan.tests.iter().zip(expected).map(test).collect(),
+            allow_extra: false,
+            shard: None,
+            parts: 0,
+            unknown: Vec::new(),
+            files: Vec::new(),
+        }
+    }
+
+    /// Whether another report is one of the same plan, lot and model.
+    pub fn joins(&self, other: &Header) -> Result<(), Failure> {
+        let differs = |what: &str, one: &str, two: &str| {
+            Err(Failure::bad(format!("{what} is `{two}`; the first report has `{one}`")))
+        };
+        let plain = |header: &Header| Header {
+            command: String::new(),
+            date: String::new(),
+            shard: None,
+            ..header.clone()
+        };
+        match (plain(self), plain(other)) {
+            (one, two) if one == two => Ok(()),
+            (one, two) if one.plan != two.plan => differs("the plan", &one.plan, &two.plan),
+            (one, two) if one.lot != two.lot => differs("the lot", &one.lot, &two.lot),
+            (one, two) if one.model != two.model => {
+                differs("the model", &one.model.text(), &two.model.text())
+            }
+            (one, two) if one.files != two.files => {
+                let file = two.files.iter().find(|file| !one.files.contains(file));
+                let file = file.map_or("one less", |file| file.path.as_str()).to_string();
+                Err(Failure::bad(format!("a file of plan or lot is another: {file}")))
+            }
+            _ => Err(Failure::bad("tests, parts or options of the lot are others")),
+        }
+    }
+}

@@ -1,0 +1,258 @@
+//! Reports of a plan: hashes of what was read, a page, shards that are put together, and a report that is tried again.
+
+mod common;
+
+use std::fs;
+use std::process::Command;
+
+use common::Folder;
+use serde_json::Value;
+
+fn with_lot(name: &str) -> Folder {
+    let folder = Folder::new(name);
+    assert_eq!(folder.vbmodel("demo --lot lot").status, 0);
+    folder
+}
+
+const JUDGE: &str = "judge --plan lot/plan.toml lot/parts";
+
+fn json_lines(text: &str) -> Vec<Value> {
+    text.lines().map(|line| serde_json::from_str(line).unwrap()).collect()
+}
+
+fn report(folder: &Folder, name: &str) -> Vec<Value> {
+    json_lines(&String::from_utf8(folder.read(name)).unwrap())
+}
+
+#[test]
+fn the_header_names_model_command_and_every_file_with_its_hash() {
+    let folder = with_lot("reports-header");
+    let json = json_lines(&folder.vbmodel(&format!("{JUDGE} --json")).text);
+    let header = &json[0]["header"];
+    assert_eq!((&header["plan"], &header["lot"]), (&"demo".into(), &"lot/parts".into()));
+    assert_eq!(header["model"]["vb_version"], vbsys::VERSION);
+    assert!(header["command"].as_str().unwrap().ends_with(&format!("{JUDGE} --json")), "{header}");
+    assert!(header["date"].as_str().unwrap().ends_with('Z'));
+    let files = json[1..json.len() - 1].iter().flat_map(|part| part["files"].as_array().unwrap());
+    let files: Vec<&Value> = header["files"].as_array().unwrap().iter().chain(files).collect();
+    assert_eq!(files.len(), 126);
+    let list: String = files
+        .iter()
+        .map(|file| {
+            format!("{}  {}\n", file["sha256"].as_str().unwrap(), file["path"].as_str().unwrap())
+        })
+        .collect();
+    folder.write("list", list.as_bytes());
+    let checked = folder.shell("sha256sum --check --quiet list");
+    assert_eq!((checked.status, checked.text.as_str()), (0, ""), "{}", checked.error);
+    for file in files {
+        let path = folder.path(file["path"].as_str().unwrap());
+        assert_eq!(file["bytes"].as_u64().unwrap(), fs::metadata(path).unwrap().len());
+    }
+}
+
+#[test]
+fn a_trace_that_differs_is_explained() {
+    let folder = with_lot("reports-trace");
+    let json = json_lines(&folder.vbmodel(&format!("{JUDGE} --json")).text);
+    let part = json.iter().find(|one| one["part"] == "die-14").unwrap();
+    let trace = &part["tests"][1]["trace"];
+    assert_eq!(
+        (&trace["record"], &trace["word"], &trace["later"]),
+        (&12_345.into(), &2.into(), &0.into())
+    );
+    let explained = &trace["explained"];
+    assert_eq!(explained["instruction"], "BNE 0x07000018");
+    assert_eq!(
+        (&explained["flags_expected"], &explained["flags_seen"]),
+        (&"CY level 0".into(), &"Z CY level 0".into())
+    );
+    let before = explained["before"].as_array().unwrap();
+    assert_eq!(before.len(), 8);
+    assert!(before[7].as_str().unwrap().starts_with("12,344  0x0700001E  "), "{before:?}");
+    let totals = &json.last().unwrap()["totals"];
+    assert_eq!(totals["instructions"][0]["what"], "steps: BNE");
+    assert_eq!(totals["tests"][0], serde_json::json!({"what": "picture", "parts": 4}));
+}
+
+#[test]
+fn the_page_has_maps_failures_first_and_needs_nothing_else() {
+    let folder = with_lot("reports-page");
+    fs::write(folder.path("lot/parts/<b> & x.txt"), b"").unwrap();
+    assert_eq!(folder.vbmodel(&format!("{JUDGE} --html r.html")).status, 2);
+    let page = String::from_utf8(folder.read("r.html")).unwrap();
+    for part in [
+        "24 parts: 19 pass, 3 fail, 2 invalid, 1 unknown file; yield 79.2 %",
+        "&lt;b&gt; &amp; x.txt",
+        "<figcaption>wafer W1: 19 of 24 parts pass</figcaption>",
+        "<title>die-14: fail, bin 4</title>",
+        "<h3>die-04: fail, bin 3</h3>",
+        "\u{2717} fail",
+        "? invalid",
+        "before it PSW is 0x",
+        "Worlds and objects that fail most",
+        "Instructions that fail most",
+    ] {
+        assert!(page.contains(part), "{part}");
+    }
+    let at = |text: &str| page.find(text).unwrap_or_else(|| panic!("{text}"));
+    assert!(
+        at("<h2 id=\"failed\">") < at("<h3>die-04") && at("<h3>die-20") < at("Parts that passed")
+    );
+    // model, capture, difference and two enlarged pieces for each eye that differs: 2 + 4 + 4
+    assert_eq!(page.matches("src=\"data:image/png;base64,").count(), 50);
+    for outside in ["http://", "https://", "src=\"/", "<link", "url("] {
+        assert!(!page.contains(outside), "{outside}");
+    }
+}
+
+#[test]
+fn shards_put_together_are_the_report_of_the_whole_lot() {
+    let folder = with_lot("reports-shards");
+    assert_eq!(folder.vbmodel(&format!("{JUDGE} --report whole.json")).status, 2);
+    for shard in 1..=3 {
+        folder.vbmodel(&format!("{JUDGE} --shard {shard}/3 --report {shard}.json"));
+    }
+    let merged = folder.vbmodel("merge 2.json 3.json 1.json --report merged.json --html r.html");
+    assert_eq!(merged.status, 2, "{}", merged.error);
+    assert!(
+        merged.text.contains("24 parts: 19 pass, 3 fail, 2 invalid; yield 79.2 %\n"),
+        "{}",
+        merged.text
+    );
+    let (whole, merged) = (report(&folder, "whole.json"), report(&folder, "merged.json"));
+    assert!(whole[1..] == merged[1..], "parts and totals are the same");
+    let page = String::from_utf8(folder.read("r.html")).unwrap();
+    assert_eq!(page.matches("src=\"data:image/png;base64,").count(), 50);
+    for (arguments, message) in [
+        ("1.json 2.json", "shard 3 of 3 is missing"),
+        ("1.json 2.json 2.json", "2.json: is shard 2 of 3, as is 2.json"),
+        ("whole.json", "whole.json: is not the report of a shard"),
+        ("none.json", "none.json: No such file or directory; it must be a report of `judge --report`"),
+        ("lot/plan.toml", "lot/plan.toml: line 1: expected value at line 1 column 1; it must be a report of `judge --report`"),
+    ] {
+        folder.refused(&format!("merge {arguments} --html m.html"), &format!("vbmodel: {message}"));
+    }
+    folder.vbmodel(&format!("{JUDGE} --shard 1/2 --report other.json"));
+    folder.refused(
+        "merge 1.json other.json",
+        "vbmodel: other.json: is a shard of 2; the first report is one of 3",
+    );
+    let plan = String::from_utf8(folder.read("lot/plan.toml")).unwrap();
+    folder.write("lot/plan.toml", plan.replace("bin = 4", "bin = 5").as_bytes());
+    folder.vbmodel(&format!("{JUDGE} --shard 2/3 --report other.json"));
+    let message = "vbmodel: other.json: a file of plan or lot is another: lot/plan.toml";
+    folder.refused("merge 1.json other.json 3.json", message);
+    for shard in ["0/3", "4/3", "3", "1/0", "a/b"] {
+        let ran = folder.vbmodel(&format!("{JUDGE} --shard {shard}"));
+        assert!(
+            ran.status == 2 && ran.error.contains("is not a shard; write K/N"),
+            "{}",
+            ran.error
+        );
+    }
+}
+
+#[test]
+fn a_report_is_tried_again_and_what_changed_is_said() {
+    let folder = with_lot("reports-verify");
+    assert_eq!(folder.vbmodel(&format!("{JUDGE} --report r.json")).status, 2);
+    let same = folder.vbmodel("verify r.json");
+    let text =
+        "files:    126 read again, all as they were\nverdicts: the same for 25 tests of parts\n";
+    assert_eq!((same.status, same.text.as_str()), (0, text));
+    // another picture, and a file that is gone
+    fs::copy(
+        folder.path("lot/parts/die-09/picture.frame0.left.png"),
+        folder.path("lot/parts/die-01/picture.frame0.left.png"),
+    )
+    .unwrap();
+    fs::remove_file(folder.path("lot/parts/die-02/steps.trace")).unwrap();
+    let other = folder.vbmodel("verify r.json");
+    assert_eq!(other.status, 1);
+    for line in [
+        "files:    126 read again, 2 are not as they were\n  lot/parts/die-01/picture.frame0.left.png: has ",
+        "  lot/parts/die-02/steps.trace: No such file or directory\nverdicts: 2 are not the same\n",
+        "  die-01: was pass, bin 1; is fail, bin 3\n  die-02: was pass, bin 1; is invalid, bin 0\n",
+    ] {
+        assert!(other.text.contains(line), "{line}\nnot in\n{}", other.text);
+    }
+    let json = folder.vbmodel("verify r.json --json");
+    assert_eq!(json_lines(&json.text)[0]["verdicts"][0]["is"], "fail, bin 3");
+    fs::remove_file(folder.path("lot/demo.rom")).unwrap();
+    let gone = folder.vbmodel("verify r.json");
+    assert!(
+        gone.status == 2 && gone.error.contains("lot/demo.rom: No such file"),
+        "{}",
+        gone.error
+    );
+    let whole = folder.read("r.json");
+    folder.write("cut.json", &whole[..whole.len() / 2]);
+    let message = "the report is not whole; it must be a report of `judge --report`";
+    let ran = folder.vbmodel("verify cut.json");
+    assert!(ran.status == 2 && ran.error.contains(message), "{}", ran.error);
+}
+
+/// The parts that were judged when Ctrl-C came are reported; the others are counted.
+#[test]
+fn ctrl_c_leaves_a_report_that_is_marked_as_incomplete() {
+    let folder = with_lot("reports-stopped");
+    // enough parts to be stopped among them
+    let copies = "cd lot/parts && rm parts.csv && for i in $(seq 1 120); do cp -rl die-01 a$i; cp -rl die-03 b$i; done";
+    assert_eq!(folder.shell(copies).status, 0);
+    let stopped = |delay: u64| {
+        let child = Command::new(env!("CARGO_BIN_EXE_vbmodel"))
+            .args(JUDGE.split(' ').chain(["--html", "r.html", "--report", "r.json"]))
+            .env("RAYON_NUM_THREADS", "1")
+            .current_dir(folder.path("."))
+            .stdout(std::process::Stdio::piped())
+            .spawn()
+            .unwrap();
+        std::thread::sleep(std::time::Duration::from_millis(delay));
+        common::interrupt(child.id());
+        child.wait_with_output().unwrap()
+    };
+    // the signal may come before the first part or after the last one: then it is tried later or earlier
+    let (mut least, mut most) = (0, 4_000);
+    for _ in 0..12 {
+        let delay = (least + most) / 2;
+        let _ = fs::remove_file(folder.path("r.json"));
+        let output = stopped(delay);
+        let text = String::from_utf8(output.stdout).unwrap();
+        if output.status.code() != Some(130) {
+            most = delay;
+            continue;
+        }
+        let judged = fs::read_to_string(folder.path("r.json")).unwrap_or_default().lines().count();
+        if judged <= 2 {
+            least = delay;
+            continue;
+        }
+        assert!(text.contains(" not judged"), "{text}");
+        let lines = report(&folder, "r.json");
+        let totals = &lines.last().unwrap()["totals"];
+        assert_eq!((&totals["complete"], &totals["parts"]), (&false.into(), &264.into()));
+        assert!(totals["not_judged"].as_u64().unwrap() > 0);
+        let page = String::from_utf8(folder.read("r.html")).unwrap();
+        assert!(page.contains("<strong>Incomplete:</strong> "));
+        return;
+    }
+}
+
+/// The aim is 6 s on two idle cores. It writes 1.7 GB and is run on demand.
+#[test]
+#[ignore = "timed; 1.7 GB of files"]
+fn speed_a_thousand_parts_with_traces() {
+    let folder = with_lot("reports-speed");
+    let plan = "name = 's'\n[[test]]\nname = 'a'\nrom = 'demo.rom'\nschedule = 'frame.schedule'\nframes = ['halt', 'halt']\ntrace = 100_000\n";
+    folder.write("lot/s.toml", plan.as_bytes());
+    assert_eq!(folder.vbmodel("expect --plan lot/s.toml --out parts/0000").status, 0);
+    let copies = "rm parts/0000/*.vram parts/0000/*.drawing; for i in $(seq -w 1 999); do cp -r parts/0000 parts/0$i; done";
+    assert_eq!(folder.shell(copies).status, 0);
+    for _ in 0..2 {
+        let begun = std::time::Instant::now();
+        let ran = folder.vbmodel("judge --plan lot/s.toml parts --html r.html");
+        println!("1,000 parts, two frames, both eyes, 100,000 records each: {:?}", begun.elapsed());
+        assert_eq!(ran.status, 0, "{}", ran.text);
+    }
+}
