@@ -36,7 +36,7 @@ const JUDGE: &str = "judge --plan plan.toml parts";
 fn judged(folder: &Folder, arguments: &str, status: i32) -> Vec<String> {
     let ran = folder.vbmodel(arguments);
     assert_eq!(ran.status, status, "{}{}", ran.text, ran.error);
-    ran.text.lines().skip(3).map(str::to_string).collect()
+    ran.text.lines().take_while(|line| !line.starts_with("plan   ")).map(str::to_string).collect()
 }
 
 fn json_lines(text: &str) -> Vec<Value> {

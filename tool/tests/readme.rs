@@ -30,13 +30,13 @@ fn blocks(title: &str) -> Vec<(Vec<String>, String)> {
     all
 }
 
-/// Runs a section's commands in a folder where `./vbmodel` is the tool.
-fn follow(folder: &Folder, title: &str) {
+/// Runs a section's commands in a folder where `./vbmodel` is the tool; none may end with a status above `worst`.
+fn follow(folder: &Folder, title: &str, worst: i32) {
     for (commands, shown) in blocks(title) {
         let mut last = String::new();
         for command in &commands {
             let ran = folder.shell(command);
-            assert!(ran.status < 2, "{command}: {}", ran.error);
+            assert!(ran.status <= worst, "{command}: {}", ran.error);
             last = ran.text;
         }
         assert!(last.starts_with(&shown), "{commands:?} prints\n{last}\nand README shows\n{shown}");
@@ -49,10 +49,19 @@ fn repository(name: &str) -> Folder {
     folder
 }
 
+/// Two parts of the demo's wafer are invalid, so the status is 2.
+#[test]
+fn readme_leads_from_a_plan_and_a_lot_to_a_report_in_one_command() {
+    let folder = repository("readme-wafer");
+    follow(&folder, "Judging a wafer", 2);
+    let page = String::from_utf8(folder.read("report.html")).unwrap();
+    assert!(page.contains("<h3>die-14: fail, bin 4</h3>"));
+}
+
 #[test]
 fn readme_leads_from_a_folder_of_captures_to_a_report() {
     let folder = repository("readme-judge");
-    follow(&folder, "Judging a lot");
+    follow(&folder, "Judging a lot", 1);
     let page = String::from_utf8(folder.read("report.html")).unwrap();
     assert!(page.contains("<h2>die-2: fail</h2>"));
 }
@@ -61,6 +70,6 @@ fn readme_leads_from_a_folder_of_captures_to_a_report() {
 fn readme_compares_and_follows_as_it_shows() {
     let folder = repository("readme-compare");
     assert_eq!(folder.shell("./vbmodel demo").status, 0);
-    follow(&folder, "Comparing a capture");
-    follow(&folder, "Following a program");
+    follow(&folder, "Comparing a capture", 1);
+    follow(&folder, "Following a program", 1);
 }

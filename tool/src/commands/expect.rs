@@ -8,13 +8,10 @@ use vb::grouped;
 
 use super::Report;
 use crate::failure::Failure;
-use crate::files::{Outputs, Stream};
+use crate::files::Outputs;
 use crate::interrupt;
 use crate::judge::model_of;
 use crate::plan::{Expected, Plan, Records, Test};
-
-/// Records that are written at a time.
-const PIECE: usize = 65_536;
 
 #[derive(Args)]
 #[command(after_help = "Example: what the demo's lot should show
@@ -57,19 +54,14 @@ pub fn run(options: &Options) -> Result<Report, Failure> {
     interrupt::watch();
     let expected = model_of(&plan)?;
     let mut outputs = Outputs::default();
-    let mut traces = Vec::new();
     for (test, expected) in plan.tests.iter().zip(&expected) {
         frames(options, test, expected, &mut outputs);
         if let Some(records) = &expected.records {
-            traces.push(trace(options, test, records)?);
+            outputs.add_in(&options.out, format!("{}.trace", test.name), bytes(records)?);
         }
     }
     outputs.write()?;
-    let mut written = outputs.paths();
-    for (path, stream) in traces {
-        stream.finish()?;
-        written.push(path.display().to_string());
-    }
+    let written = outputs.paths();
     let told = |(test, expected): (&Test, &Expected)| TestTold {
         name: test.name.clone(),
         instructions: expected.count,
@@ -84,7 +76,7 @@ pub fn run(options: &Options) -> Result<Report, Failure> {
 fn frames(options: &Options, test: &Test, expected: &Expected, outputs: &mut Outputs) {
     for (number, frame) in expected.frames.iter().enumerate() {
         let mut add = |end: &str, bytes: Vec<u8>| {
-            outputs.add(options.out.join(format!("{}.frame{number}.{end}", test.name)), bytes);
+            outputs.add_in(&options.out, format!("{}.frame{number}.{end}", test.name), bytes);
         };
         add("left.png", frame.views.left.png(1));
         add("right.png", frame.views.right.png(1));
@@ -93,19 +85,13 @@ fn frames(options: &Options, test: &Test, expected: &Expected, outputs: &mut Out
     }
 }
 
-fn trace(options: &Options, test: &Test, records: &Records) -> Result<(PathBuf, Stream), Failure> {
-    let path = options.out.join(format!("{}.trace", test.name));
-    let mut stream = Stream::new(&path)?;
-    let (mut offset, mut piece) = (0, Vec::new());
-    loop {
-        let read = records.bytes(offset, PIECE * vb::RECORD_LENGTH, &mut piece);
-        read.map_err(|error| Failure::bad(format!("the model's records: {error}")))?;
-        if piece.is_empty() {
-            return Ok((path, stream));
-        }
-        stream.write(&piece)?;
-        offset += piece.len() as u64;
-    }
+/// The records as a trace has them.
+fn bytes(records: &Records) -> Result<Vec<u8>, Failure> {
+    let mut bytes = Vec::new();
+    let length = records.count() as usize * vb::RECORD_LENGTH;
+    let read = records.bytes(0, length, &mut bytes);
+    read.map_err(|error| Failure::bad(format!("the model's records: {error}")))?;
+    Ok(bytes)
 }
 
 impl Told {

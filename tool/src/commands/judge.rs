@@ -133,7 +133,8 @@ fn by_plan(options: &Options, plan: &Path) -> Result<Report, Failure> {
     let expected = match model_of(&plan) {
         Err(failure) if interrupt::asked() => {
             let (text, json) = (String::new(), json(&failure));
-            return Ok(Report { text, json, status: interrupt::STATUS, failure: Some(failure) });
+            let status = interrupt::STATUS;
+            return Ok(Report { text, json, status, failure: Some(failure), aside: false });
         }
         expected => expected?,
     };

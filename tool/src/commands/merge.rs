@@ -1,6 +1,7 @@
 //! `vbmodel merge`: the reports of a lot's shards as one.
 
 use std::collections::BTreeMap;
+use std::fs;
 use std::path::{Path, PathBuf};
 use std::time::Instant;
 
@@ -8,7 +9,7 @@ use clap::Args;
 
 use super::Report;
 use crate::failure::Failure;
-use crate::files::reason;
+use crate::files::{reason, register};
 use crate::judge::plain_path;
 use crate::report::{self, read_lines, Forms};
 
@@ -64,10 +65,12 @@ pub fn run(options: &Options) -> Result<Report, Failure> {
 }
 
 pub fn read(path: &Path) -> Result<report::Report, Failure> {
-    let text = std::fs::read(path).map_err(|error| {
+    let wrong = |error: std::io::Error| {
         let wanted = "it must be a report of `judge --report`";
         Failure::bad(format!("{}: {}; {wanted}", plain_path(path), reason(&error)))
-    })?;
+    };
+    register(&fs::metadata(path).map_err(wrong)?);
+    let text = fs::read(path).map_err(wrong)?;
     let text = String::from_utf8(text)
         .map_err(|_| Failure::bad(format!("{}: not a text file", plain_path(path))))?;
     read_lines(path, &text)

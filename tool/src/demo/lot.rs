@@ -69,9 +69,9 @@ fn fault(die: usize) -> Fault {
 pub fn write(folder: &Path) -> Result<(PathBuf, PathBuf), Failure> {
     let (plan, parts) = (folder.join("plan.toml"), folder.join("parts"));
     let mut outputs = Outputs::default();
-    outputs.add(&plan, PLAN.as_bytes().to_vec());
-    outputs.add(folder.join("frame.schedule"), SCHEDULE.as_bytes().to_vec());
-    outputs.add(folder.join("demo.rom"), rom().map_err(Failure::bad)?);
+    outputs.add_in(folder, "plan.toml", PLAN.as_bytes().to_vec());
+    outputs.add_in(folder, "frame.schedule", SCHEDULE.as_bytes().to_vec());
+    outputs.add_in(folder, "demo.rom", rom().map_err(Failure::bad)?);
     outputs.write()?;
     let expected = model_of(&Plan::read(&plan)?)?;
     let mut outputs = Outputs::default();
@@ -82,14 +82,14 @@ pub fn write(folder: &Path) -> Result<(PathBuf, PathBuf), Failure> {
         list += &format!("die-{die:02},W1,{x},{y},A{}\n", 1 + die % 2);
         let name = parts.join(format!("die-{die:02}"));
         captures(&mut outputs, &name, &expected[0], fault(die));
-        outputs.add(name.join("steps.trace"), trace(&expected[1], fault(die))?);
+        outputs.add_in(&name, "steps.trace", trace(&expected[1], fault(die))?);
         if fault(die) == Fault::Dust {
             let again = parts.join(format!("die-{die:02}@2"));
             captures(&mut outputs, &again, &expected[0], Fault::None);
-            outputs.add(again.join("steps.trace"), trace(&expected[1], Fault::None)?);
+            outputs.add_in(&again, "steps.trace", trace(&expected[1], Fault::None)?);
         }
     }
-    outputs.add(parts.join("parts.csv"), list.into_bytes());
+    outputs.add_in(&parts, "parts.csv", list.into_bytes());
     outputs.write()?;
     Ok((plan, parts))
 }
@@ -101,7 +101,7 @@ fn captures(outputs: &mut Outputs, folder: &Path, expected: &Expected, fault: Fa
                 || (fault == Fault::MissingCapture && number == 1 && eye == "right");
             if !missing {
                 let seen = seen(picture, fault, eye);
-                outputs.add(folder.join(format!("picture.frame{number}.{eye}.png")), seen.png(1));
+                outputs.add_in(folder, format!("picture.frame{number}.{eye}.png"), seen.png(1));
             }
         }
     }

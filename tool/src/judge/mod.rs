@@ -12,6 +12,7 @@ mod summary;
 mod trace;
 mod verdict;
 
+pub use crate::files::{printable as plain, shown as plain_path};
 pub use attempt::Model;
 pub use by_plan::{judge_lot, model_of, Asked};
 pub use html::page;
@@ -20,7 +21,7 @@ pub use lot::Lot;
 pub use summary::Summary;
 pub use verdict::{judge, missing, Judged, Verdict, Wish};
 
-use std::path::{Path, PathBuf};
+use std::path::PathBuf;
 
 use clap::ValueEnum;
 use serde::{Deserialize, Serialize};
@@ -76,18 +77,4 @@ impl Eyes {
 pub struct Entry {
     pub name: String,
     pub part: Result<Part, Failure>,
-}
-
-/// A name as a terminal may show it: control characters are escaped.
-pub fn plain(text: &str) -> String {
-    let shown = |c: char| match c.is_control() {
-        true => c.escape_default().to_string(),
-        false => c.to_string(),
-    };
-    text.chars().map(shown).collect()
-}
-
-/// A path as a terminal may show it.
-pub fn plain_path(path: &Path) -> String {
-    plain(&path.to_string_lossy())
 }

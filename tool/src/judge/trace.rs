@@ -9,7 +9,7 @@ use vb::{grouped, Refusal, RECORD_LENGTH};
 
 use super::plain_path;
 use crate::failure::Failure;
-use crate::files::reason;
+use crate::files::{reason, register};
 use crate::inputs::trace::{records, Record};
 use crate::plan::{Asked, Ended, Expected, Records, Test};
 use crate::report::{FileRead, Hash, TraceFound};
@@ -35,6 +35,7 @@ pub fn judge(
         let what = if about.is_dir() { "is a folder" } else { "is a device or a pipe" };
         return Err(wrong(what.to_string()));
     }
+    register(&about);
     let file = File::open(path).map_err(|error| wrong(reason(&error)))?;
     let mut compared = Compared::default();
     compared.read(file, records).map_err(|error| wrong(reason(&error)))?;

@@ -263,7 +263,7 @@ impl Run<'_> {
         if recording {
             return self.record(bench, most);
         }
-        let (machine, mut memories) = bench.lent();
+        let (machine, mut memories) = bench.borrowed();
         let ran = machine.run(&mut memories, most);
         ran.map(|ran| (ran.count, ran.stop)).map_err(|refusal| bench.failure(&refusal))
     }
@@ -272,7 +272,7 @@ impl Run<'_> {
         let Some(records) = &mut self.records else { return Ok((0, Stop::Budget)) };
         let mut count = 0;
         while count < most {
-            let (machine, mut memories) = bench.lent();
+            let (machine, mut memories) = bench.borrowed();
             let pc = machine.processor.pc;
             let stop = match machine.step(&mut memories) {
                 Ok(Answer::Ended | Answer::Trapped(_) | Answer::Interrupted(_)) => {

@@ -1,6 +1,5 @@
 //! The forms in which a report is written, as options of the commands that make one.
 
-use std::fs;
 use std::path::{Path, PathBuf};
 
 use clap::Args;
@@ -8,7 +7,7 @@ use clap::Args;
 use super::{csv, html, json_lines, junit, stdf, text, Report, Totals};
 use crate::commands;
 use crate::failure::Failure;
-use crate::files::{Identity, Outputs};
+use crate::files::Outputs;
 
 #[derive(Args)]
 pub struct Forms {
@@ -29,11 +28,6 @@ pub struct Forms {
     pub stdf: Option<PathBuf>,
 }
 
-/// What a file that was read is, so that no output is written over it.
-fn identity(path: &str) -> Option<Identity> {
-    fs::metadata(path).ok().map(|about| Identity::of(&about))
-}
-
 impl Forms {
     fn paths(&self) -> impl Iterator<Item = &Path> {
         let Forms { html, junit, report, csv, stdf } = self;
@@ -52,9 +46,6 @@ impl Forms {
 
     fn outputs(&self, report: &Report, totals: &Totals, seconds: f64) -> Result<Outputs, Failure> {
         let mut outputs = Outputs::default();
-        if self.paths().any(Path::exists) {
-            report.files().for_each(|file| outputs.keep(identity(&file.path)));
-        }
         if let Some(path) = &self.html {
             outputs.add(path, html::page(report, totals)?.into_bytes());
         }
@@ -83,6 +74,6 @@ impl Forms {
         text.extend(written.iter().map(|path| format!("written: {path}\n")));
         let json = json_lines(report, &totals, false).trim_end().to_string();
         let status = if failure.is_some() { 2 } else { totals.status() };
-        Ok(commands::Report { text, json, status, failure })
+        Ok(commands::Report { text, json, status, failure, aside: false })
     }
 }

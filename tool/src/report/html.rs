@@ -12,7 +12,7 @@ use crate::failure::Failure;
 use crate::judge::{plain, Verdict};
 
 /// Rows of a table of what fails most.
-const LISTED: usize = 20;
+const LISTED: usize = 10;
 
 #[derive(Serialize)]
 struct Page {

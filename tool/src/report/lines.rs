@@ -76,14 +76,9 @@ pub fn read_lines(path: &Path, text: &str) -> Result<Report, Failure> {
     Ok(report)
 }
 
-/// The header in short, the parts that did not pass, the bins and the sum.
+/// The parts that did not pass, the bins and the sum, and the header in short.
 pub fn text(report: &Report, totals: &Totals) -> String {
-    let Header { plan, plan_file, model, date, .. } = &report.header;
-    let mut lines = vec![
-        format!("plan   {} ({}), {date}", plain(plan), plain(plan_file)),
-        format!("model  {}", model.text()),
-        format!("read   {}", read(report)),
-    ];
+    let mut lines: Vec<String> = Vec::new();
     let wrong = |verdict: Verdict| report.parts.iter().filter(move |part| part.verdict == verdict);
     let all = [Verdict::Fault, Verdict::Fail, Verdict::Invalid].into_iter().flat_map(wrong);
     let all: Vec<&Part> = all.collect();
@@ -106,6 +101,12 @@ pub fn text(report: &Report, totals: &Totals) -> String {
     lines.push(bins.join(", "));
     let shown = totals.percent().map_or(String::new(), |percent| format!("; yield {percent:.1} %"));
     lines.push(totals.text() + &shown);
+    let Header { plan, plan_file, model, date, .. } = &report.header;
+    lines.extend([
+        format!("plan   {} ({}), {date}", plain(plan), plain(plan_file)),
+        format!("model  {}", model.text()),
+        format!("read   {}", read(report)),
+    ]);
     lines.into_iter().filter(|line| !line.is_empty()).map(|line| line + "\n").collect()
 }
 

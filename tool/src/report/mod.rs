@@ -184,7 +184,12 @@ impl Part {
 impl Tested {
     pub fn line(&self) -> String {
         let mut all = self.problems.clone();
-        all.extend(self.eyes.iter().map(EyeFound::line));
+        let more = match self.eyes.len() {
+            0 | 1 => String::new(),
+            2 => ", and 1 more capture".to_string(),
+            count => format!(", and {} more captures", count - 1),
+        };
+        all.extend(self.eyes.first().map(|eye| eye.line() + &more));
         all.extend(self.trace.iter().map(TraceFound::line));
         all.join("; ")
     }
