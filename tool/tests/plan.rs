@@ -351,8 +351,7 @@ fn stdf_is_read_by_a_reader_that_was_written_apart() {
         (&of("MIR")[0]["LOT_ID"], &of("MIR")[0]["JOB_NAM"]),
         (&"parts".into(), &"demo".into())
     );
-    let prr =
-        |part: &str| of("PRR").into_iter().filter(|one| one["PART_ID"] == part).last().unwrap();
+    let prr = |part: &str| of("PRR").into_iter().rfind(|one| one["PART_ID"] == part).unwrap();
     let facts = |part: &str| {
         ["PART_FLG", "HARD_BIN", "SOFT_BIN", "X_COORD", "Y_COORD"]
             .map(|name| prr(part)[name].as_i64().unwrap())

@@ -8,6 +8,7 @@ use super::FileRead;
 use crate::failure::Failure;
 use crate::plan::{Expected, Plan, Records};
 use crate::reports::invocation;
+use crate::version::{version, Version};
 
 #[derive(Clone, Debug, Deserialize, PartialEq, Serialize)]
 pub struct Header {
@@ -37,9 +38,11 @@ pub struct Identity {
     pub version: String,
     pub commit: String,
     pub vb_version: u32,
-    /// SHA-256 of the library.
     pub library: String,
-    pub kit: String,
+    /// SHA-256 of the proved archive in the library.
+    pub archive: String,
+    /// Whether the archive was proved in this build, and by which kit.
+    pub proved: String,
 }
 
 #[derive(Clone, Debug, Deserialize, PartialEq, Eq, Serialize)]
@@ -78,19 +81,16 @@ impl Shard {
 
 impl Identity {
     pub fn now() -> Identity {
-        let unknown = || "not recorded".to_string();
-        Identity {
-            version: env!("CARGO_PKG_VERSION").to_string(),
-            commit: unknown(),
-            vb_version: vbsys::VERSION,
-            library: unknown(),
-            kit: unknown(),
-        }
+        let Version { version, commit, vb_version, library, archive, proved } = version();
+        let (version, commit) = (version.to_string(), commit.to_string());
+        Identity { version, commit, vb_version, library, archive, proved }
     }
 
     pub fn text(&self) -> String {
-        let Identity { version, commit, vb_version, library, kit } = self;
-        format!("vbmodel {version}, commit {commit}, VB_VERSION {vb_version}, library {library}, kit {kit}")
+        let Identity { version, commit, vb_version, library, archive, proved } = self;
+        format!(
+            "vbmodel {version}, {commit}, VB_VERSION {vb_version}, {library}, proved archive SHA-256 {archive}, {proved}"
+        )
     }
 }
 
