@@ -234,6 +234,8 @@ pub fn interrupt(process: u32) {
     while !catches() && begun.elapsed().as_secs() < 20 {
         std::thread::sleep(std::time::Duration::from_millis(20));
     }
+    // the signal is taken before the command is ready to stop by it
+    std::thread::sleep(std::time::Duration::from_millis(300));
     let sent = Command::new("kill").args(["-INT", &process.to_string()]).status().unwrap();
     assert!(sent.success());
 }
