@@ -1,5 +1,6 @@
 """The Python module against the library: every call of vb.h, layouts as C has them, refusals and buffers."""
 
+import ast
 import ctypes
 import os
 import pathlib
@@ -192,6 +193,24 @@ class Module(unittest.TestCase):
         self.assertEqual(bytes(decoded.instruction), bytes(jump))
         self.assertEqual(vb.vb_encode(vb.vb_instruction(operation=vb.VB_OP_ILLEGAL)).refusal, 12)
         self.assertEqual(vb.vb_decode(0x7C00, 0).refusal, 6)
+
+    def test_the_stub_file_names_everything(self):
+        stub = (pathlib.Path(vb.__file__).parent / "__init__.pyi").read_text()
+        tree = ast.parse(stub)
+        classes = {node.name: node for node in tree.body if isinstance(node, ast.ClassDef)}
+        functions = {node.name: node for node in tree.body if isinstance(node, ast.FunctionDef)}
+        numbers = {node.target.id: node.value.value for node in tree.body if isinstance(node, ast.AnnAssign) and node.value}
+        for record in vb.RECORDS:
+            fields = [node.target.id for node in classes[record.__name__].body if isinstance(node, ast.AnnAssign)]
+            self.assertEqual(fields, [field[0] for field in record._fields_], record.__name__)
+        for name in vb.CALLS:
+            self.assertEqual([a.arg for a in functions[name].args.posonlyargs], getattr(vb, name).names, name)
+        for name, value in vars(vb).items():
+            if name.startswith("VB_"):
+                self.assertEqual(numbers.get(name), value, name)
+        methods = {node.name for node in classes["Machine"].body if isinstance(node, ast.FunctionDef)}
+        public = {name for name in vars(vb.Machine) if not name.startswith("_") and callable(getattr(vb.Machine, name))}
+        self.assertEqual(methods - {"__init__"}, public)
 
     def test_the_library_says_its_version_and_its_refusals(self):
         self.assertEqual(vb.vb_version(), vb.VB_VERSION)
