@@ -17,7 +17,7 @@ const PICTURES: &str = include_str!("golden/cartridges.txt");
 const TICK: u64 = 400;
 
 /// More than any cartridge needs for a frame.
-const MOST: u64 = 3_000_000;
+const MOST: u64 = 20_000_000;
 
 fn sources() -> PathBuf {
     Path::new(env!("CARGO_MANIFEST_DIR")).join("../examples/cartridges")
