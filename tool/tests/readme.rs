@@ -1,4 +1,4 @@
-//! README as a new user follows it: its commands are run as they are printed, and they print what it shows.
+//! README and the manual as a new user follows them: their commands are run as they are printed, and print what is shown.
 
 mod common;
 
@@ -8,11 +8,14 @@ use std::path::Path;
 
 use common::Folder;
 
-/// A section's commands, and what it shows of the last one before each block of text.
+/// The commands of a section of README or of the manual, and what it shows of the last one before each block of text.
 fn blocks(title: &str) -> Vec<(Vec<String>, String)> {
-    let readme = Path::new(env!("CARGO_MANIFEST_DIR")).join("../README.md");
-    let readme = fs::read_to_string(readme).unwrap();
-    let section = readme.split(&format!("\n## {title}\n")).nth(1).expect("a section of README");
+    let page = |name: &str| {
+        let path = Path::new(env!("CARGO_MANIFEST_DIR")).join("..").join(name);
+        fs::read_to_string(path).unwrap()
+    };
+    let pages = page("README.md") + &page("docs/TOOL.md");
+    let section = pages.split(&format!("\n## {title}\n")).nth(1).expect("a section of the pages");
     let section = section.split("\n## ").next().unwrap();
     let (mut all, mut commands, mut shown) = (Vec::new(), Vec::new(), None::<String>);
     for line in section.lines() {
@@ -39,7 +42,10 @@ fn follow(folder: &Folder, title: &str, worst: i32) {
             assert!(ran.status <= worst, "{command}: {}", ran.error);
             last = ran.text;
         }
-        assert!(last.starts_with(&shown), "{commands:?} prints\n{last}\nand README shows\n{shown}");
+        assert!(
+            last.starts_with(&shown),
+            "{commands:?} prints\n{last}\nand the page shows\n{shown}"
+        );
     }
 }
 
@@ -59,7 +65,7 @@ fn readme_leads_from_a_plan_and_a_lot_to_a_report_in_one_command() {
 }
 
 #[test]
-fn readme_leads_from_a_folder_of_captures_to_a_report() {
+fn the_manual_leads_from_a_folder_of_captures_to_a_report() {
     let folder = repository("readme-judge");
     follow(&folder, "Judging a lot", 1);
     let page = String::from_utf8(folder.read("report.html")).unwrap();
@@ -67,7 +73,7 @@ fn readme_leads_from_a_folder_of_captures_to_a_report() {
 }
 
 #[test]
-fn readme_compares_and_follows_as_it_shows() {
+fn the_manual_compares_and_follows_as_it_shows() {
     let folder = repository("readme-compare");
     assert_eq!(folder.shell("./vbmodel demo").status, 0);
     follow(&folder, "Comparing a capture", 1);
