@@ -27,14 +27,14 @@ fn declared() -> BTreeSet<&'static str> {
     names.map(|(name, _)| name).filter(|name| !name.is_empty()).collect()
 }
 
-/// guard/environments.c, linked with this archive and run.
-fn environments(archive: &str, name: &str) -> Output {
+/// A program of guard/, linked with this archive and run.
+fn run(source: &str, archive: &str, name: &str) -> Output {
     let binary = Path::new(env!("CARGO_TARGET_TMPDIR")).join(name);
     let compiler = std::env::var("CC").unwrap_or_else(|_| "cc".into());
     let compiled = Command::new(compiler)
-        .args(["-std=c11", "-D_POSIX_C_SOURCE=200809L", "-O2", "-Wall", "-Wextra", "-Werror", "-I"])
+        .args(["-std=gnu11", "-O2", "-Wall", "-Wextra", "-Werror", "-I"])
         .arg(root().join("include"))
-        .arg(root().join("guard/environments.c"))
+        .arg(root().join("guard").join(source))
         .args([archive, "-o"])
         .arg(&binary)
         .output()
@@ -45,7 +45,7 @@ fn environments(archive: &str, name: &str) -> Output {
 
 #[test]
 fn c_programs_get_the_default_environments_answers_in_every_environment() {
-    let ran = environments(vbsys::LIBRARY, "environments");
+    let ran = run("environments.c", vbsys::LIBRARY, "environments");
     let text = String::from_utf8_lossy(&ran.stdout).into_owned();
     assert!(ran.status.success(), "{text}");
     assert!(
@@ -56,12 +56,20 @@ fn c_programs_get_the_default_environments_answers_in_every_environment() {
 
 /// So the test above sees what it is for. Where the proved archive is not there, nothing is shown.
 #[test]
-fn without_the_guard_the_same_program_fails() {
+fn without_the_guard_the_same_programs_fail() {
     if !Path::new(vbsys::PROVED).is_file() {
         return;
     }
-    let ran = environments(vbsys::PROVED, "environments-bare");
-    assert_eq!(ran.status.code(), Some(1), "{}", String::from_utf8_lossy(&ran.stdout));
+    for (source, name) in [("environments.c", "environments-bare"), ("nested.c", "nested-bare")] {
+        let ran = run(source, vbsys::PROVED, name);
+        assert_eq!(ran.status.code(), Some(1), "{}", String::from_utf8_lossy(&ran.stdout));
+    }
+}
+
+#[test]
+fn a_signal_handler_may_call_within_a_call() {
+    let ran = run("nested.c", vbsys::LIBRARY, "nested");
+    assert!(ran.status.success(), "{}", String::from_utf8_lossy(&ran.stdout));
 }
 
 #[test]
