@@ -211,9 +211,9 @@ fn junit_is_written_for_a_test_server() {
     for part in [
         "<testsuite name=\"vbmodel judge\" tests=\"4\" failures=\"1\" errors=\"2\" skipped=\"0\" time=\"",
         "<testcase classname=\"vbmodel.judge\" name=\"good\"/>",
-        "name=\"worn &amp; &lt;old&gt;\"><failure message=\"frame 0, left eye: 11,715 of 86,016 pixels",
-        "name=\"bad\"><error message=\"lot/bad.left.png (6 bytes): a capture is a raw frame buffer",
-        "name=\"unknown files\"><error message=\"notes.txt\"/>",
+        "name=\"worn &amp; &lt;old&gt;\">\n    <failure message=\"frame 0, left eye: 11,715 of 86,016 pixels",
+        "name=\"bad\">\n    <error message=\"lot/bad.left.png (6 bytes): a capture is a raw frame buffer",
+        "name=\"unknown files\">\n    <error message=\"notes.txt\"/>",
     ] {
         assert!(xml.contains(part), "{part}: {xml}");
     }

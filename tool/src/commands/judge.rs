@@ -170,11 +170,11 @@ fn by_captures(options: &Options) -> Result<Report, Failure> {
     judged.iter().flat_map(|one| &one.read).for_each(|read| outputs.keep(Some(*read)));
     if let Some(path) = html {
         let title = format!("{} judged", name(&options.lot));
-        outputs.add(path, page(&title, &judged, &summary, &lot.unknown).into_bytes());
+        outputs.add(path, page(&title, &judged, &summary, &lot.unknown)?.into_bytes());
     }
     if let Some(path) = xml {
         let seconds = begun.elapsed().as_secs_f64();
-        outputs.add(path, junit(&judged, &summary, &lot.unknown, seconds).into_bytes());
+        outputs.add(path, junit(&judged, &summary, &lot.unknown, seconds)?);
     }
     Ok(report(&lot, &judged, summary, &outputs))
 }

@@ -1,163 +1,194 @@
-//! The report as one page that needs nothing else: style, script and pictures are in it, and it may load nothing.
+//! The report of a lot of captures as one page that needs nothing else: style, script and pictures are in it, and it may load
+//! nothing.
 
+use serde::Serialize;
+use tinytemplate::TinyTemplate;
 use vb::grouped;
 
-use super::junit::escaped;
 use super::verdict::{Explained, EyeJudged, Pictures};
-use super::{Judged, Summary, Verdict};
+use super::{plain, Judged, Summary, Verdict};
+use crate::failure::Failure;
+use crate::inputs::capture::Level;
 use crate::pictures::difference::Bounds;
+use crate::pictures::explain::FAULT;
 use crate::pictures::sources::Share;
 
-const STYLE: &str = include_str!("page.css");
-const SCRIPT: &str = include_str!("page.js");
 /// How many worlds and objects are listed at once.
 const LISTED: usize = 10;
-/// Nothing may be loaded but what stands in the page.
-const POLICY: &str =
-    "default-src 'none'; img-src data:; style-src 'unsafe-inline'; script-src 'unsafe-inline'";
 
-pub fn page(title: &str, judged: &[Judged], summary: &Summary, unknown: &[String]) -> String {
-    let title = escaped(title);
-    let mut out = format!(
-        "<!DOCTYPE html>\n<html lang=\"en\">\n<head>\n<meta charset=\"utf-8\">\n\
-         <meta http-equiv=\"Content-Security-Policy\" content=\"{POLICY}\">\n\
-         <meta name=\"viewport\" content=\"width=device-width\">\n<title>{title}: {}</title>\n\
-         <style>\n{STYLE}</style>\n</head>\n<body>\n<h1>{title}</h1>\n<p id=\"summary\">{}</p>\n",
-        escaped(&summary.text()),
-        escaped(&summary.text())
-    );
-    if !unknown.is_empty() {
-        let names = escaped(&unknown.join(", "));
-        out += &format!("<p>Unknown files in the lot's folder: {names}</p>\n");
-    }
-    out += "<p><label>Find a part <input id=\"find\" type=\"search\" placeholder=\"name or verdict\"></label></p>\n";
-    out += "<table id=\"parts\">\n<tr><th>Part</th><th>Verdict</th><th>What</th></tr>\n";
-    for (number, one) in judged.iter().enumerate() {
-        out += &row(number, one);
-    }
-    out += "</table>\n";
-    for (number, one) in judged.iter().enumerate() {
-        if matches!(one.verdict, Verdict::Fail | Verdict::Fault) {
-            out += &section(number, one);
-        }
-    }
-    out + &format!("<script>\n{SCRIPT}</script>\n</body>\n</html>\n")
+#[derive(Serialize)]
+struct Page {
+    title: String,
+    css: &'static str,
+    js: &'static str,
+    summary: String,
+    unknown: String,
+    rows: Vec<Row>,
+    parts: Vec<Section>,
 }
 
-fn row(number: usize, one: &Judged) -> String {
-    let (name, verdict, line) = (escaped(&one.name), one.verdict.word(), escaped(&one.line()));
-    let name = match one.verdict {
-        Verdict::Fail | Verdict::Fault => format!("<a href=\"#part-{number}\">{name}</a>"),
-        _ => name,
+#[derive(Serialize)]
+struct Row {
+    name: String,
+    verdict: &'static str,
+    line: String,
+    /// The section about it, if there is one.
+    link: String,
+}
+
+#[derive(Serialize)]
+struct Section {
+    id: String,
+    name: String,
+    verdict: &'static str,
+    about: String,
+    fault: &'static str,
+    eyes: Vec<Eye>,
+}
+
+#[derive(Serialize)]
+struct Eye {
+    title: String,
+    about: String,
+    figures: Vec<Figure>,
+    tables: Vec<Table>,
+    pixels: Vec<Pixel>,
+}
+
+#[derive(Serialize)]
+struct Figure {
+    name: String,
+    what: &'static str,
+    png: String,
+    /// The frame around what differs, one or none.
+    frames: Vec<Frame>,
+}
+
+#[derive(Serialize)]
+struct Frame {
+    x: f64,
+    y: f64,
+    width: usize,
+    height: usize,
+}
+
+/// Sources of differing pixels; those beyond the tenth on demand.
+#[derive(Serialize)]
+struct Table {
+    more: String,
+    rows: Vec<Share>,
+}
+
+#[derive(Serialize)]
+struct Pixel {
+    line: String,
+    text: String,
+}
+
+pub fn page(
+    title: &str,
+    judged: &[Judged],
+    summary: &Summary,
+    unknown: &[String],
+) -> Result<String, Failure> {
+    let failed = |one: &Judged| matches!(one.verdict, Verdict::Fail | Verdict::Fault);
+    let row = |(number, one): (usize, &Judged)| Row {
+        name: plain(&one.name),
+        verdict: one.verdict.word(),
+        line: plain(&one.line()),
+        link: if failed(one) { format!("part-{number}") } else { String::new() },
     };
-    format!("<tr class=\"{verdict}\"><td>{name}</td><td>{verdict}</td><td>{line}</td></tr>\n")
+    let numbered = || judged.iter().enumerate();
+    let view = Page {
+        title: plain(title),
+        css: include_str!("page.css"),
+        js: include_str!("page.js"),
+        summary: summary.text(),
+        unknown: unknown.join(", "),
+        rows: numbered().map(row).collect(),
+        parts: numbered().filter(|(_, one)| failed(one)).map(|(n, one)| section(n, one)).collect(),
+    };
+    let mut templates = TinyTemplate::new();
+    let added = templates.add_template("lot", include_str!("lot.html"));
+    let rendered = added.and_then(|()| templates.render("lot", &view));
+    rendered.map_err(|error| Failure::bad(format!("the page: {error}")))
 }
 
-fn section(number: usize, one: &Judged) -> String {
-    let (name, verdict) = (escaped(&one.name), one.verdict.word());
+fn section(number: usize, one: &Judged) -> Section {
     let source = |what: &str, file: &Option<String>| {
-        file.as_ref().map_or(String::new(), |file| format!("{what} {}", escaped(file)))
+        file.as_ref().map_or(String::new(), |file| format!(", {what} {}", plain(file)))
     };
-    let mut out = format!(
-        "<section id=\"part-{number}\" data-name=\"{name}\">\n<h2>{name}: {verdict}</h2>\n<p>frame {}, {}, {}</p>\n",
-        one.frame,
-        source("VRAM", &one.vram),
-        source("drawing record", &one.drawing)
-    );
-    if one.verdict == Verdict::Fault {
-        out += &format!(
-            "<p class=\"fault\">The independent model has other values: {}</p>\n",
-            crate::pictures::explain::FAULT
-        );
+    let (vram, drawing) = (source("VRAM", &one.vram), source("drawing record", &one.drawing));
+    Section {
+        id: format!("part-{number}"),
+        name: plain(&one.name),
+        verdict: one.verdict.word(),
+        about: format!("frame {}{vram}{drawing}", one.frame),
+        fault: if one.verdict == Verdict::Fault { FAULT } else { "" },
+        eyes: one.eyes.iter().map(eye).collect(),
     }
-    out.extend(one.eyes.iter().map(eye));
-    out + "</section>\n"
 }
 
-fn eye(one: &EyeJudged) -> String {
-    let mut out = format!("<h3>{} eye: ", one.eye);
-    let Some(bounds) = &one.bounds else {
-        out += &format!("equal</h3>\n<p>capture {}</p>\n", escaped(&one.capture));
-        return out + &one.pictures.as_ref().map_or(String::new(), |all| shown(one.eye, all, None));
-    };
-    let count = grouped(one.different as u64);
-    out += &format!("{count} of 86,016 pixels differ, in {}</h3>\n", bounds.text());
-    out += &format!("<p>capture {}", escaped(&one.capture));
-    if let Some(levels) = &one.levels {
-        let told: Vec<String> = levels.iter().map(crate::inputs::capture::Level::text).collect();
-        out += &format!("; levels taken: {}", escaped(&told.join(", ")));
+fn eye(one: &EyeJudged) -> Eye {
+    let levels =
+        one.levels.as_ref().filter(|_| one.bounds.is_some()).map_or(String::new(), |all| {
+            let levels: Vec<String> = all.iter().map(Level::text).collect();
+            format!("; levels taken: {}", levels.join(", "))
+        });
+    let found = one.bounds.map_or("equal".to_string(), |bounds| {
+        let count = grouped(one.different as u64);
+        format!("{count} of 86,016 pixels differ, in {}", bounds.text())
+    });
+    let figures = one.pictures.as_ref();
+    Eye {
+        title: format!("{} eye: {found}", one.eye),
+        about: format!("capture {}{levels}", plain(&one.capture)),
+        figures: figures.map_or_else(Vec::new, |all| shown(one.eye, all, one.bounds.as_ref())),
+        tables: tables(&one.shares),
+        pixels: one.first.iter().map(pixel).collect(),
     }
-    out += "</p>\n";
-    if let Some(pictures) = &one.pictures {
-        out += &shown(one.eye, pictures, Some(bounds));
-    }
-    out += &shares(&one.shares);
-    out.extend(one.first.iter().map(explanation));
-    out
 }
 
-/// The sources of the differing pixels; those beyond the tenth on demand.
-fn shares(all: &[Share]) -> String {
-    let table = |some: &[Share]| {
-        let head = "<tr><th>Pixels</th><th>What the model shows there</th><th>First at</th></tr>";
-        let row = |share: &Share| {
-            let (pixels, what) = (grouped(share.pixels as u64), escaped(&share.what));
-            let (column, row) = (share.column, share.row);
-            format!(
-                "<tr><td>{pixels}</td><td>{what}</td><td>column {column}, row {row}</td></tr>\n"
-            )
-        };
-        let rows: String = some.iter().map(row).collect();
-        format!("<table class=\"shares\">\n{head}\n{rows}</table>\n")
-    };
-    if all.len() <= LISTED {
-        return table(all);
-    }
-    let (first, more) = all.split_at(LISTED);
-    let count = more.len();
-    format!("{}<details><summary>{count} more</summary>\n{}</details>\n", table(first), table(more))
+fn tables(all: &[Share]) -> Vec<Table> {
+    let (first, more) = all.split_at(all.len().min(LISTED));
+    let both = [(String::new(), first), (format!("{} more", more.len()), more)];
+    let filled = both.into_iter().filter(|(_, rows)| !rows.is_empty());
+    filled.map(|(more, rows)| Table { more, rows: rows.to_vec() }).collect()
 }
 
 /// The model's picture and, where the capture differs, that one and the differences with a frame around them.
-fn shown(eye: &str, pictures: &Pictures, bounds: Option<&Bounds>) -> String {
-    let figure = |png: &[u8], what: &str, over: &str| {
-        let data = base64::encode(png);
-        format!(
-            "<figure><div><img loading=\"lazy\" width=\"384\" height=\"224\" alt=\"{eye} eye, {what}\" \
-             src=\"data:image/png;base64,{data}\">{over}</div><figcaption>{what}</figcaption></figure>\n"
-        )
+fn shown(eye: &str, pictures: &Pictures, bounds: Option<&Bounds>) -> Vec<Figure> {
+    let figure = |png: &[u8], what: &'static str, frames: Vec<Frame>| Figure {
+        name: format!("{eye} eye, {what}"),
+        what,
+        png: base64::encode(png),
+        frames,
     };
-    let figures = match &pictures.differing {
-        None => figure(&pictures.expected, "the model and the capture", ""),
-        Some((seen, marked)) => {
-            let frame = bounds.map_or(String::new(), frame);
-            figure(&pictures.expected, "the model", "")
-                + &figure(seen, "the capture", "")
-                + &figure(marked, "differences: yellow brighter, cyan darker", &frame)
-        }
+    let Some((seen, marked)) = &pictures.differing else {
+        return vec![figure(&pictures.expected, "the model and the capture", Vec::new())];
     };
-    format!("<div class=\"pictures\">\n{figures}</div>\n")
+    let frames = bounds.map(frame).into_iter().collect();
+    vec![
+        figure(&pictures.expected, "the model", Vec::new()),
+        figure(seen, "the capture", Vec::new()),
+        figure(marked, "differences: yellow brighter, cyan darker", frames),
+    ]
 }
 
-/// A frame around what differs, to lie over a picture.
-fn frame(bounds: &Bounds) -> String {
-    let Bounds { left, top, right, bottom } = bounds;
-    format!(
-        "<svg viewBox=\"0 0 384 224\"><rect x=\"{left}\" y=\"{top}\" width=\"{}\" height=\"{}\"/></svg>",
-        right - left + 1,
-        bottom - top + 1
-    )
+/// A frame around what differs, which covers none of it.
+fn frame(bounds: &Bounds) -> Frame {
+    let Bounds { left, top, right, bottom } = *bounds;
+    let (x, y) = (left as f64 - 1.5, top as f64 - 1.5);
+    Frame { x, y, width: right - left + 4, height: bottom - top + 4 }
 }
 
-fn explanation(one: &Explained) -> String {
-    let pixel = &one.pixel;
-    format!(
-        "<details><summary>column {}, row {}: expected {}, seen {}; {}</summary>\n<pre>{}</pre></details>\n",
-        pixel.x,
-        pixel.y,
-        pixel.expected,
-        pixel.seen,
-        escaped(&one.because),
-        escaped(&one.text)
-    )
+fn pixel(one: &Explained) -> Pixel {
+    let found = &one.pixel;
+    Pixel {
+        line: format!(
+            "column {}, row {}: expected {}, seen {}; {}",
+            found.x, found.y, found.expected, found.seen, one.because
+        ),
+        text: one.text.clone(),
+    }
 }

@@ -11,12 +11,14 @@ mod section;
 mod stdf;
 mod totals;
 mod wafers;
+mod xml;
 
 pub use forms::Forms;
 pub use hash::{read_hashed, FileRead, Hash};
 pub use header::{shard, Header, Shard, TestHeader};
 pub use lines::{json_lines, read_lines, text};
 pub use totals::{Count, Totals};
+pub use xml::{Case, Suite, Wrong};
 
 use std::collections::BTreeMap;
 
