@@ -55,7 +55,8 @@ fn a_dash_is_standard_input() {
     let message = "vbmodel: standard input (262,143 bytes): refusal 3: VRAM has 262,143 bytes; it must have 262,144\n";
     assert_eq!((short.status, short.error.as_str()), (2, message));
     let twice = folder.vbmodel_fed("why left 0 0 --vram - --drawing -", &vram);
-    let message = "vbmodel: -: standard input is named for two files; it must be a drawing record of 26 bytes\n";
+    let message =
+        "vbmodel: -: only one input can be `-`; it must be a drawing record of 26 bytes\n";
     assert_eq!((twice.status, twice.error.as_str()), (2, message));
 }
 

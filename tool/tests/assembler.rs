@@ -34,7 +34,7 @@ fn a_program_is_assembled_and_run() {
 #[test]
 fn the_help_has_an_example_that_runs() {
     let folder = Folder::with_demo("assembler-examples");
-    for command in ["asm", "disasm"] {
+    for command in ["asm", "disasm", "trace", "replay"] {
         let help = folder.vbmodel(&format!("{command} --help")).text;
         let (_, after) = help.split_once("Example: ").unwrap();
         let (example, _) = after.split_once("\n\n").unwrap();

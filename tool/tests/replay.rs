@@ -359,8 +359,8 @@ fn w10_bad_traces_are_told_and_nothing_is_written() {
     std::fs::create_dir(folder.path("folder")).unwrap();
     for (arguments, message) in [
         ("replay --rom a.rom a.trace odd.trace", "odd.trace (31 bytes): refusal 14: the trace has 31 bytes; its length must be a multiple of 16, a record's"),
-        ("replay --rom a.rom none", "none: No such file or directory; it must be a trace, 16 bytes a record"),
-        ("replay --rom a.rom folder", "folder: is a folder; it must be a trace, 16 bytes a record"),
+        ("replay --rom a.rom none", "none: No such file or directory; it must be a trace, 16 bytes per record"),
+        ("replay --rom a.rom folder", "folder: is a folder; it must be a trace, 16 bytes per record"),
         ("replay --rom a.rom --set pc=1 odd.trace a.trace", "refusal 5: PC is 0x00000001; it must be even"),
         ("replay --rom a.rom --set pc=1 a.trace", "refusal 5: PC is 0x00000001; it must be even"),
         ("trace --rom a.rom --set pc=1 -o x", "refusal 5: PC is 0x00000001; it must be even"),

@@ -38,7 +38,7 @@ pub struct Options {
     /// The folder for pictures, memories and records
     #[arg(long, value_name = "FOLDER", default_value = "out")]
     out: PathBuf,
-    /// PNG pixels to a pixel's side, 1 to 16
+    /// Enlarge each pixel N times, 1 to 16
     #[arg(long, value_name = "N", default_value = "2", value_parser = number::scale)]
     scale: usize,
     /// Write a test plan and captures and traces of 24 dies on a wafer to this folder instead

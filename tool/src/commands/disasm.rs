@@ -45,7 +45,7 @@ struct Row {
     address: u32,
     halfwords: Vec<u16>,
     text: String,
-    /// What halfwords are that are told as data.
+    /// What halfwords are that are printed as data.
     note: Option<String>,
     /// Where a branch or jump leads.
     target: Option<u32>,

@@ -21,7 +21,7 @@ use crate::pictures::picture::Picture;
   vbmodel demo
   vbmodel draw --vram out/vram.bin --drawing out/drawing.bin --frame 1 --eye anaglyph --scale 3
 
-An overlay is a text file of probe writes, `#` beginning a comment; a write outside the probe's ranges is told:
+An overlay is a text file of probe writes, `#` beginning a comment; a write outside the probe's ranges is reported:
   word 0x00038000 0x05FF05FF
 With --as-is the frame buffer is shown as it is in VRAM, and no drawing record is needed.
 A PNG has red 00, 55, AA and FF for the pixel values 0 to 3; `vbmodel compare` reads it back.
@@ -52,7 +52,7 @@ pub struct Options {
     /// Which pictures to write
     #[arg(long, value_enum, default_value_t = Eyes::Both)]
     eye: Eyes,
-    /// PNG pixels to a pixel's side, 1 to 16
+    /// Enlarge each pixel N times, 1 to 16
     #[arg(long, value_name = "N", default_value = "1", value_parser = number::scale)]
     scale: usize,
     /// The folder for the pictures

@@ -27,11 +27,11 @@ const SLICE: u64 = 2_000_000;
   vbmodel demo
   vbmodel run --rom out/rom.bin --budget 1_000
 
-Example: save where it stops, and go on from there; `vbmodel state show a.state` tells what was saved:
+Example: save where it stops, and go on from there; `vbmodel state show a.state` shows what was saved:
   vbmodel run --rom out/rom.bin --budget 1_000 --save-state a.state
   vbmodel run --rom out/rom.bin --state a.state --budget 1_000 --save-state b.state
 
-A saved state holds WRAM, VRAM, pak RAM and both records, which may be files of their own instead (--wram, --save-wram
+A saved state holds WRAM, VRAM, pak RAM and both records, which may be separate files instead (--wram, --save-wram
 and so on). It does not hold ROM. Form 2 holds request lines and timer and a sum of each body; --state-form 1 leaves them
 out, and they come back at reset. Both forms are read.
 
@@ -47,9 +47,9 @@ Example: run to an address, then see what the next instructions do (`vbmodel hel
 Example: which instruction first reads a byte that has no meaning?
   vbmodel run --rom out/rom.bin --watch-undefined
 
-Exit status: 0 when the run ended by its budget, a HALT, a fatal exception or where it was told to stop; 1 when
+Exit status: 0 when the run ended by its budget, a HALT, a fatal exception or where it was asked to stop; 1 when
 --watch-undefined stopped it; 2 when it was refused or a file is bad,
-and then nothing is written; 130 when Ctrl-C stopped it, and then what it did so far is printed and written. A run that
+and then nothing is written; 130 when Ctrl-C, SIGTERM or SIGHUP stopped it, and then what it did so far is printed and written. A run that
 meets an instruction that is not modelled (refusal 6) also ends with 2, but it has an answer: the state after the
 counted instructions, which is printed and written where asked."
 )]
@@ -59,7 +59,7 @@ pub struct Options {
     /// The largest number of instructions
     #[arg(long, value_name = "N", default_value = "20_000_000", value_parser = number::whole)]
     budget: u64,
-    /// When lines are raised and lowered and ticks told of: lines of `at N EVENT` or `every K EVENT`, N and K in
+    /// When lines are raised and lowered and ticks come: lines of `at N EVENT` or `every K EVENT`, N and K in
     /// instructions; an event is `tick`, `raise LEVEL` or `lower LEVEL`
     #[arg(long, value_name = "FILE")]
     schedule: Option<PathBuf>,

@@ -29,7 +29,7 @@ pub struct Options {
 
 #[derive(Subcommand)]
 enum Action {
-    /// Tells what a saved state holds, or which rule a file breaks and at which byte
+    /// Shows what a saved state holds, or which rule a file breaks and at which byte
     Show(Show),
     /// Writes a saved state in the other form
     Move(Move),
@@ -44,7 +44,7 @@ enum Action {
   vbmodel state show a.state
 
 It prints the count of bodies, kind, offset and length of each, the mode, PC, PSW and the drawing registers. A file that
-is no saved state breaks one of these rules, and the first that is broken is told: its length (refusal 9); a byte before
+is not a saved state breaks one of these rules, and the first that is broken is reported: its length (refusal 9); a byte before
 the first body, with what it must be, a sum among them; a register that holds what it cannot hold, with its place
 (refusal 10). Of form 2 it prints the request lines and the timer; form 1 does not store them: they come back at reset.
 Exit status: 0 a saved state; 2 none, or bad input.")]
@@ -86,7 +86,7 @@ struct Move {
   printf 'x' | dd of=a.state bs=1 seek=300 conv=notrunc
   vbmodel state salvage a.state -o b.state
 
-The length of the file tells where each body is. A body is kept where its stored sum is right and an accepted machine can
+The length of the file says where each body is. A body is kept where its stored sum is right and an accepted machine can
 have it; every other becomes reset values, memories zeros. The contents are rebuilt.
 A file of 327,962 bytes may be a sound one of form 1 with 32 bytes of pak RAM: it is salvaged as form 2 only with --force.
 Exit status: 0 undamaged, and the output is the file; 1 repaired; 2 refused or bad input, and then nothing is written.")]
@@ -142,7 +142,7 @@ fn written(path: &Path, bytes: Vec<u8>, report: Report) -> Result<Report, Failur
     Ok(Report { aside: path == Path::new("-"), ..report })
 }
 
-/// What is told of a move.
+/// What is reported of a move.
 #[derive(Serialize)]
 struct Moved {
     file: String,
@@ -169,7 +169,7 @@ fn moves(options: &Move) -> Result<Report, Failure> {
     written(&options.out, bytes, Report::new(text, &told, 0))
 }
 
-/// What is told of a salvage.
+/// What is reported of a salvage.
 #[derive(Serialize)]
 struct Salvaged {
     file: String,
@@ -250,7 +250,7 @@ impl Salvaged {
     }
 }
 
-/// What is told of a saved state; its members are those of the JSON.
+/// What is reported of a saved state; its members are those of the JSON.
 #[derive(Serialize)]
 struct Reported {
     file: String,
@@ -320,7 +320,7 @@ impl Reported {
     }
 }
 
-/// What is told of a file that is no saved state.
+/// What is reported of a file that is not a saved state.
 #[derive(Serialize)]
 struct Refused {
     file: String,

@@ -22,7 +22,7 @@ use crate::running::session::Session;
 
 A line has the address, the halfwords, the instruction, and what it did: where it led, the registers that changed, what
 it wrote in memory, and bytes it read that are undefined. With --json a line is an object; the last one is the run's.
-Exit status: 0 when it ended by its count, a HALT, a fatal exception or where it was told to stop; 2 refused or bad
+Exit status: 0 when it ended by its count, a HALT, a fatal exception or where it was asked to stop; 2 refused or bad
 input; 130 stopped by Ctrl-C.")]
 pub struct Options {
     #[command(flatten)]

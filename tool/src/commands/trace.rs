@@ -22,17 +22,19 @@ use crate::running::waves::Waves;
 const SLICE: u64 = 65_536;
 
 #[derive(Args)]
-#[command(after_help = "Example: the demo's first thousand steps, and the model beside them
+#[command(
+    after_help = "Example: the demo's first thousand steps, compared with the model, and as waves
   vbmodel demo
-  vbmodel trace --rom out/rom.bin --budget 1_000 -o a.trace
-  vbmodel replay --rom out/rom.bin a.trace
+  vbmodel trace --rom out/rom.bin --budget 1_000 -o a.trace --vcd a.vcd
+  vbmodel replay --rom out/rom.bin --records 1_000 a.trace
 
-A trace has four little-endian words for each completed step: PC before, PC after, PSW after, and the sum of the 32
+A trace has four little-endian words per completed step: PC before, PC after, PSW after, and the sum of the 32
 registers after. An instruction that ended, a HALT, one that trapped and an accepted interrupt have one record each.
 Ticks and changed lines have none: they come from --schedule, for `trace` and `replay` alike.
 Exit status: 0 recorded, to the budget, a HALT or a fatal exception; 2 refused or bad input, and then nothing is written;
 a program that meets an instruction that is not modelled (refusal 6) also ends with 2, and its trace is written; 130
-stopped by Ctrl-C, with what was recorded so far.")]
+stopped by Ctrl-C, SIGTERM or SIGHUP, with what was recorded so far."
+)]
 pub struct Options {
     #[command(flatten)]
     setup: Setup,

@@ -88,7 +88,7 @@ fn limited(file: impl Read) -> Result<Vec<u8>, String> {
 fn standard_input() -> Result<Vec<u8>, String> {
     static TAKEN: AtomicBool = AtomicBool::new(false);
     if TAKEN.swap(true, Ordering::Relaxed) {
-        return Err("standard input is named for two files".to_string());
+        return Err("only one input can be `-`".to_string());
     }
     register_standard_input();
     limited(io::stdin().lock())

@@ -56,7 +56,7 @@ pub fn few(text: &str) -> Result<usize, String> {
     within(text, 0, 1_000).map(|n| n as usize)
 }
 
-/// PNG pixels to a pixel's side.
+/// How many times each pixel is enlarged.
 pub fn scale(text: &str) -> Result<usize, String> {
     within(text, 1, crate::pictures::picture::LARGEST_SCALE as u64).map(|n| n as usize)
 }

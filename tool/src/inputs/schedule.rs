@@ -1,4 +1,4 @@
-//! A schedule of a run: after which instructions the bench raises or lowers a request line or tells of a tick.
+//! A schedule of a run: after which instructions the bench raises or lowers a request line, or a tick comes.
 //!
 //! A line is `at N EVENT` or `every K EVENT`; an event is `tick`, `raise LEVEL` or `lower LEVEL`. Its clock counts the
 //! instructions that ended. A halted machine ends none: there the clock goes on to the next event at once.

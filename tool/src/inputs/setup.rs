@@ -38,7 +38,7 @@ pub struct Setup {
     /// The drawing record, 26 bytes: 13 little-endian halfwords in vb.h's order [default: reset]
     #[arg(long, value_name = "FILE")]
     pub drawing: Option<PathBuf>,
-    /// A saved state in place of these five, of form 1, where request lines and timer come back at reset, or form 2
+    /// A saved state instead of those five files. Form 1 resets lines and timer
     #[arg(long, value_name = "FILE", conflicts_with_all = ["wram", "vram", "pak", "processor", "drawing"])]
     pub state: Option<PathBuf>,
     #[command(flatten)]

@@ -1,4 +1,4 @@
-//! Recorded traces (paper 02, W10): four little-endian words a completed step, read in pieces.
+//! Recorded traces (paper 02, W10): four little-endian words per completed step, read in pieces.
 
 use std::fs::File;
 use std::io::{self, Read};
@@ -26,7 +26,7 @@ pub fn records(bytes: &[u8]) -> impl DoubleEndedIterator<Item = Record> + '_ {
 
 /// Bytes that are read at a time.
 const PIECE: usize = 1 << 20;
-const WANTED: &str = "a trace, 16 bytes a record";
+const WANTED: &str = "a trace, 16 bytes per record";
 
 /// Trace files, one after the other.
 pub struct Traces {
@@ -50,7 +50,7 @@ impl Traces {
             };
             if path == Path::new("-") {
                 if files.iter().any(|(path, _)| path == Path::new("standard input")) {
-                    return Err(failed("standard input is named for two files".to_string()));
+                    return Err(failed("only one input can be `-`".to_string()));
                 }
                 register_standard_input();
                 files.push((PathBuf::from("standard input"), Box::new(io::stdin().lock())));

@@ -1,4 +1,4 @@
-//! A line on the terminal that tells how far a command is. Where standard error is no terminal there is none.
+//! A line on the terminal that says how far a command is. Where standard error is not a terminal there is none.
 
 use std::io::{stderr, IsTerminal, Write};
 use std::os::fd::AsRawFd;

@@ -13,7 +13,7 @@ pub struct Options {
     /// a register address where there is no register
     #[arg(long)]
     watch_undefined: bool,
-    /// With --watch-undefined: go on, and tell each such instruction once, on standard error
+    /// With --watch-undefined: go on, and report each such instruction once, on standard error
     #[arg(long, requires = "watch_undefined")]
     warn: bool,
 }

@@ -1,4 +1,4 @@
-//! The colours of a PNG, read strictly: a sample that stands for no colour is told, and nothing may follow the image.
+//! The colours of a PNG, read strictly: a sample that stands for no colour is reported, and nothing may follow the image.
 
 use flate2::{Decompress, FlushDecompress, Status};
 use png::{BitDepth, ColorType, Decoder, Transformations};

@@ -90,7 +90,7 @@ impl Layout {
         Layout { form, bodies: bodies.collect() }
     }
 
-    /// The layout of a file: its first halfword tells the form, its length pak RAM's.
+    /// The layout of a file: its first halfword gives the form, its length pak RAM's.
     pub fn of_file(file: &[u8]) -> Option<Layout> {
         Layout::of_length(Form::of(file), file.len())
     }

@@ -46,7 +46,7 @@ fn the_length_that_both_forms_have_is_told_by_the_first_halfword() {
     }
 }
 
-/// Each byte of contents and records, each bit of it changed: the library refuses exactly where a rule is told.
+/// Each byte of contents and records, each bit of it changed: the library refuses exactly where a broken rule is reported.
 #[test]
 fn rules_are_told_exactly_where_the_library_refuses() {
     for pak in [0, 2] {

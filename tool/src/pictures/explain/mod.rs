@@ -1,5 +1,5 @@
 //! Why a pixel has its value: every world and object that has a part in it, decoded, by the independent model. The
-//! proved library's value of the pixel and its list of the pixel's bytes stand beside it. What is told as text has the
+//! proved library's value of the pixel and its list of the pixel's bytes stand next to it. What is printed as text has the
 //! same members as the JSON.
 
 mod covering;
@@ -19,7 +19,7 @@ pub use objects::Objects;
 pub use records::{kind_text, span_text, ObjectRecord, WorldRecord};
 pub use text::FAULT;
 
-/// Everything that is told about one pixel.
+/// Everything that is reported about one pixel.
 #[derive(Serialize)]
 pub struct Explanation {
     pub computed_by: &'static str,

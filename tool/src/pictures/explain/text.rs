@@ -40,7 +40,7 @@ impl Explanation {
 }
 
 impl Explanation {
-    /// A line that tells what gives the pixel its value.
+    /// A line that says what gives the pixel its value.
     pub fn winner(&self) -> String {
         match self.covering.iter().find(|one| one.wins) {
             Some(one) => one.line(),
