@@ -153,6 +153,42 @@ fn bad_input_names_the_line_and_writes_nothing() {
 }
 
 #[test]
+fn a_constant_that_is_defined_by_itself_is_refused() {
+    let folder = Folder::new("assembler-circle");
+    folder.write("a.s", b".equ a, b\n.equ b, a\n.half 1\n");
+    let ran = folder.vbmodel("asm a.s -o a.rom");
+    assert_eq!((ran.status, ran.text.as_str()), (2, ""));
+    let lines = "vbmodel: a.s: line 1: `a` is defined by itself: a, b, a: .equ a, b\n\
+                 vbmodel: a.s: line 2: `b` is defined by itself: b, a, b: .equ b, a\n";
+    assert_eq!(ran.error, lines);
+    assert_eq!(folder.names(), ["a.s"]);
+}
+
+#[test]
+fn every_mistake_of_a_file_is_reported_with_its_line() {
+    let folder = Folder::new("assembler-mistakes");
+    folder.write("a.s", b"FLY r1\nNOP\nADD 16, r1\n.byte 256\nBR nowhere\n");
+    let ran = folder.vbmodel("asm a.s -o a.rom");
+    let numbers: Vec<&str> =
+        ran.error.lines().map(|line| line.split(": ").nth(2).unwrap()).collect();
+    assert_eq!((ran.status, numbers), (2, vec!["line 1", "line 3", "line 4", "line 5"]));
+    folder.write("a.s", "FLY\n".repeat(1_000).as_bytes());
+    let ran = folder.vbmodel("asm a.s -o a.rom");
+    assert_eq!(ran.error.lines().count(), 101);
+    assert!(ran.error.ends_with("a.s: 900 more mistakes are left out\n"), "{}", ran.error);
+}
+
+#[test]
+fn bytes_and_expressions_are_assembled() {
+    let folder = Folder::new("assembler-expressions");
+    let text = "rows: .byte 1, 2 * 3, (1 << 7) | 1, end - rows\n.equ size, 4 * 2 / 3\n.space size\nend: .half * - rows\n";
+    folder.write("a.s", text.as_bytes());
+    let ran = folder.vbmodel("asm a.s -o a.rom");
+    assert_eq!((ran.status, ran.error.as_str()), (0, ""));
+    assert_eq!(folder.read("a.rom"), [1, 6, 129, 6, 0, 0, 6, 0]);
+}
+
+#[test]
 fn refusal_6_names_the_halfwords_and_the_mnemonic() {
     let folder = Folder::new("assembler-six");
     for (half, told) in [

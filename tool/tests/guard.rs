@@ -105,7 +105,8 @@ fn outputs_that_cannot_all_be_written_leave_every_file_as_it_was() {
          cp \"$VB\" ./tool && chmod 755 tool
          setpriv --reuid=65534 --clear-groups ./tool run --rom a.rom --save-wram w --save-vram sticky/v --save-pak p",
     );
-    if ran.status == 99 {
+    // the folder may lie where nobody may go
+    if [99, 126, 127].contains(&ran.status) {
         return;
     }
     assert!(
@@ -158,10 +159,11 @@ fn sigterm_and_sighup_do_what_ctrl_c_does() {
 #[test]
 fn a_second_signal_leaves_no_temporary_file() {
     let folder = Folder::with_rom("guard-second", &[BRANCH_TO_ITSELF], &[]);
-    // a reader that never reads holds the command up, so that it never comes to look for the first signal
+    // stopped for a moment, it finds two signals at once
     let child = folder.shell(
-        "mkfifo pipe; sleep 3 <>pipe & \"$VB\" trace --rom a.rom --budget 0xFFFF_FFFF -o a.trace --save-wram /dev/null & pid=$!
-         sleep 0.5; kill -STOP $pid; kill -TERM $pid; kill -TERM $pid; kill -INT $pid; kill -CONT $pid; wait $pid; echo $?",
+        "\"$VB\" trace --rom a.rom --budget 0xFFFF_FFFF -o a.trace & pid=$!
+         until ls .vbmodel-* >/dev/null 2>&1; do sleep 0.05; done
+         kill -STOP $pid; kill -TERM $pid; kill -INT $pid; kill -CONT $pid; wait $pid; echo $?",
     );
     assert_eq!(child.text.trim(), "130");
     assert!(
