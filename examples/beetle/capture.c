@@ -28,7 +28,7 @@ static const char usage[] =
     "  --wait N            the most dark frames before it; after them dark ones are written (default 500)\n"
     "  --brightness A,B,C  the cartridge's BRTA, BRTB and BRTC (default 32,64,32)\n"
     "  --seconds N         gives up after so long (default 60)\n"
-    "Exit status: 0 written; 1 the core failed or showed a brightness that is none of the four; 2 wrong arguments;\n"
+    "Exit status: 0 written; 1 the core failed, or a pixel's brightness matches none of the four values; 2 wrong arguments;\n"
     "3 written, but every frame was dark; 4 out of time.\n";
 
 /* Messages go here: standard error itself is closed to the core, which has much to say there. */
@@ -147,7 +147,7 @@ static uint8_t value_of(uint8_t seen, int eye, int at)
         if (fabs(seen - levels[value]) < fabs(seen - levels[nearest]))
             nearest = value;
     if (fabs(seen - levels[nearest]) > 8)
-        fail(1, "%s eye, column %d, row %d: brightness %d is none of the four values'", eye ? "right" : "left", at % WIDTH,
+        fail(1, "%s eye, column %d, row %d: brightness %d matches none of the four values", eye ? "right" : "left", at % WIDTH,
              at / WIDTH, seen);
     return (uint8_t)nearest;
 }
