@@ -74,10 +74,6 @@ source-repainted vram regs w q sx sy u v cell palette character h e f c =
     (shadeOf palette (pixelValueOf cell (halfAt vram (character + 2 * flippedOf (bitSet 12 cell) (sy % 8))) (sx % 8)))
     (sourcePixelOf vram regs w sx sy) h (λ p. rw (c .shades, c .begins, c .same, e, f))
 
--- a parameter's index wraps at 16 bits, however it is reduced before
-pub index-wraps : (b k : ℕ) → (b + k % 65536) % 65536 ≡ (b + k) % 65536
-index-wraps b k = omega arith
-
 -- the sum of an affine row: its bounds, and one step further
 module _ (m d n : ℕ) where
   pub sum-least : n < 65536 → 32768 ≤ affineSumOf m d n

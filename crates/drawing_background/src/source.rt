@@ -3,19 +3,26 @@ ghost use mathlib.Core.Path.{_≡_};
 ghost use Prim.Native.Nat.{_+_, _*_, _%_, _^_, _<_, _≤_};
 ghost use lib.ListN.{length};
 ghost use Rattle.bus.specs.Refusal.{vramBytes};
-ghost use Rattle.drawing_pixel.specs.Background.{parameterOf, plainLeftOf, normalYOf, biasIndexOf, affineShiftOf};
-ghost use Rattle.drawing_pixel.specs.Background.{affineFloorOf, affineParameterOf};
+ghost use Rattle.drawing_pixel.specs.Background.{parameterAddressOf, parameterOf, plainLeftOf, normalYOf, biasIndexOf};
+ghost use Rattle.drawing_pixel.specs.Background.{affineShiftOf, affineFloorOf, affineParameterOf};
 ghost use Rattle.drawing_background.specs.Row.{affineSumOf};
 use drawing_pixel::field::half;
 use drawing_pixel::field::wide;
 
-// Parameter k of a world; its index wraps at 16 bits.
+// Where parameter k of a world lies; its index wraps at 16 bits.
+pub fn parameter_address(w: &[u16; 11], k: usize) -> usize
+    ensures { λ r. ⌜ (r ≡ parameterAddressOf (now (w .entry)) k) × (r < 262143) ⌝ }
+{
+    let index = std::num::wrapping_add_u16(w[9], (k % 65536) as u16);
+    131072 + 2 * wide(index)
+}
+
+// Parameter k of a world.
 pub fn parameter(vram: &[u8], w: &[u16; 11], k: usize) -> usize
     requires { ⌜ length (now vram) ≡ vramBytes ⌝ }
     ensures { λ r. ⌜ (r ≡ parameterOf (now (vram .entry)) (now (w .entry)) k) × (r < 65536) ⌝ }
 {
-    let index = std::num::wrapping_add_u16(w[9], (k % 65536) as u16);
-    wide(half(vram, 131072 + 2 * wide(index)))
+    wide(half(vram, parameter_address(w, k)))
 }
 
 // MX less MP for the left eye, plus MP for the right one.

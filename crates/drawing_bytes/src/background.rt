@@ -4,7 +4,7 @@ ghost use Prim.Native.Nat.{_+_, _*_, _<_, _≤_};
 ghost use lib.ListN.{length};
 ghost use Rattle.bus.specs.Refusal.{vramBytes};
 ghost use Rattle.drawing_pixel.specs.World.{worldOf, worldCoversOf};
-ghost use Rattle.drawing_pixel.specs.Background.{parameterAddressOf, sourceXOf, sourceYOf};
+ghost use Rattle.drawing_pixel.specs.Background.{sourceXOf, sourceYOf};
 ghost use Rattle.drawing_laws.specs.PixelBytes.{affineBytesOf, parameterBytesOf};
 ghost use Rattle.drawing_laws.specs.SourceBytes.{cellBytesOf};
 ghost use Rattle.drawing_laws.specs.SourceBytes.{backgroundBytesOf, worldBytesOf, worldsBytesOf};
@@ -17,6 +17,7 @@ use drawing_background::source::affine_shift;
 use drawing_background::source::bias_index;
 use drawing_background::source::normal_y;
 use drawing_background::source::parameter;
+use drawing_background::source::parameter_address;
 use drawing_background::source::plain_left;
 use drawing_pixel::character::row_address;
 use drawing_pixel::field::flag;
@@ -26,13 +27,6 @@ use drawing_pixel::world::columns;
 use drawing_pixel::world::rows;
 use drawing_pixel::world::window_left;
 use drawing_pixel::world::world;
-
-// Where parameter k of a world lies; its index wraps at 16 bits.
-pub fn parameter_address(w: &[u16; 11], k: usize) -> usize
-    ensures { λ r. ⌜ (r ≡ parameterAddressOf (now (w .entry)) k) × (r < 262143) ⌝ }
-{
-    131072 + 2 * ((wide(w[9]) + k % 65536) % 65536)
-}
 
 // Whether a background world covers a pixel.
 pub fn covers(w: &[u16; 11], eye: usize, x: usize, y: usize) -> bool
