@@ -1,9 +1,10 @@
 -- What a frame call and a strip call leave: `pixel-drawn`, every drawn pixel is the pixel of memory before the call, and
--- `byte-kept` and `length-kept`, every other byte is as it was. Assumes nothing.
-use Prim.Native.Nat.{ℕ, zero, suc, _/_, _%_, _<_, _≤_}
+-- `byte-kept` and `length-kept`, every other byte is as it was; `column-bytes` and `other-bytes`, the bytes of a strip by 01's
+-- formula. Assumes nothing.
+use Prim.Native.Nat.{ℕ, zero, suc, _+_, _*_, _/_, _%_, _<_, _≤_}
 use mathlib.Core.Bool.{Bool, true, false, _&&_, and-false, and-assoc}
 use mathlib.Core.List.{List}
-use mathlib.Core.Path.{_≡_, refl, sym, _∙_}
+use mathlib.Core.Path.{_≡_, refl, sym, ap, _∙_}
 use native.Mathlib.Decide.{ℕ-discrete}
 use native.Mathlib.Omega.{arith}
 use lib.ListN.{length, getD}
@@ -11,19 +12,20 @@ use lib.Dec.{eqb, ltb}
 use borrow.Author.Tests.{ltb-true, eqb-true, lt-ltb}
 use Rattle.bus.specs.Registers.{drawingOk}
 use Rattle.drawing_pixel.specs.Pixel.{pixelOf}
-use Rattle.drawing_pixel.specs.Strip.{storedPixelOf, inStripOf, stripOf, stripsOf, frameOf}
+use Rattle.drawing_pixel.specs.Strip.{imageOf, pixelOffsetOf, storedPixelOf, inStripOf, stripOf, stripsOf, frameOf}
 use Rattle.bus.specs.Refusal.{vramOk}
+use Rattle.word.proofs.Choices.{and-left, and-right}
 use Rattle.refusal.specs.declared.Verdict.{Verdict}
 use Rattle.refusal.specs.declared.Verdict.the-variants.{Accepted, Refused}
 use Rattle.drawing.specs.Calls.{stripVerdictOf, drawStripOf, frameVerdictOf, drawFrameOf}
 use Rattle.refusal.specs.Number.{whenAccepted}
-use Rattle.drawing_laws.specs.Drawn.{frameCall, stripCall, drawsStripOf, drawnBy, inImagesOf, PixelDrawn, ByteKept, LengthKept}
+use Rattle.drawing_laws.specs.Drawn.{frameCall, stripCall, drawsStripOf, drawnBy, inImagesOf, PixelDrawn, ByteKept, LengthKept, ColumnBytes, OtherBytes}
 use Rattle.drawing_laws.proofs.Verdicts.{stripTest, accepted-given}
 use Rattle.drawing_laws.proofs.Registers.{bkcol-below}
 use Rattle.drawing_laws.proofs.Images.{pixel-outside-images}
 use Rattle.drawing_laws.proofs.PixelValue.{pixel-below}
 use Rattle.drawing_laws.proofs.StripBytes.{length-strip, strip-kept}
-use Rattle.drawing_laws.proofs.StripPixel.{pixel-of-strip, pixel-of-others}
+use Rattle.drawing_laws.proofs.StripPixel.{byte-drawn, pixel-of-strip, pixel-of-others}
 
 -- a strip's bytes are those of the images whose halfword in the column is the strip's
 pub in-strip-is : (frame s a : ℕ) → inStripOf frame s a ≡ (inImagesOf frame a && eqb (a % 64 / 2) s)
@@ -131,3 +133,43 @@ length-kept vram regs frame frameCall =
     kept-when length (frameVerdictOf vram regs frame) vram (stripsOf vram regs frame 28) (strips-length vram regs frame 28)
 length-kept vram regs frame (stripCall s) =
     kept-when length (stripVerdictOf vram regs frame s) vram (stripOf vram regs frame s) (length-strip vram regs frame s)
+
+pub column-bytes : ColumnBytes
+unfolding imageOf
+column-bytes vram regs frame strip eye x b l f s e c h =
+    let here : imageOf frame eye + pixelOffsetOf x (8 * strip) + b ≡ 0x8000 * frame + 0x10000 * eye + (64 * x + 2 * strip) + b = omega arith in
+    ap (λ a. getD (stripOf vram regs frame strip) a 0) here ∙ byte-drawn vram regs frame eye x strip l f e c s b h
+
+-- where a byte of a strip stands
+strip-place : (frame s a : ℕ) → inStripOf frame s a ≡ true
+    → (a < 0x20000) × (a / 0x8000 % 2 ≡ frame) × (a % 0x8000 < 0x6000) × (a % 64 / 2 ≡ s)
+unfolding inStripOf
+strip-place frame s a e =
+    let image = and-left (ltb a 0x20000 && eqb (a / 0x8000 % 2) frame) _ e in
+    let offset = and-right (ltb a 0x20000 && eqb (a / 0x8000 % 2) frame) _ e in (
+      ltb-true a 0x20000 (and-left (ltb a 0x20000) _ image),
+      eqb-true (a / 0x8000 % 2) frame (and-right (ltb a 0x20000) _ image),
+      ltb-true (a % 0x8000) 0x6000 (and-left (ltb (a % 0x8000) 0x6000) _ offset),
+      eqb-true (a % 64 / 2) s (and-right (ltb (a % 0x8000) 0x6000) _ offset),
+    )
+
+-- the address put together again
+strip-sum : (a q h r c l b f s : ℕ) → a ≡ 0x8000 * q + r → q ≡ 2 * h + f → r ≡ 64 * c + l → l ≡ 2 * s + b
+    → a ≡ 0x8000 * f + 0x10000 * h + (64 * c + 2 * (8 * s / 8)) + b
+strip-sum a q h r c l b f s i j k m = omega arith
+
+pub other-bytes : OtherBytes
+unfolding imageOf
+other-bytes vram regs frame strip a none = go (inStripOf frame strip a) refl
+  where
+    go : (t : Bool) → inStripOf frame strip a ≡ t → getD (stripOf vram regs frame strip) a 0 ≡ getD vram a 0
+    go false e = strip-kept vram regs frame strip a e
+    go true e =
+        let p = strip-place frame strip a e in
+        let images : a / 0x8000 ≡ 2 * (a / 0x10000) + a / 0x8000 % 2 = omega arith in
+        let columns : a % 0x8000 ≡ 64 * (a % 0x8000 / 64) + a % 64 = omega arith in
+        let bytes : a % 64 ≡ 2 * (a % 64 / 2) + a % 2 = omega arith in
+        let whole : a ≡ 0x8000 * (a / 0x8000) + a % 0x8000 = omega arith in
+        absurd (none (a / 0x10000) (a % 0x8000 / 64) (a % 2) (omega (arith, p .0)) (omega (arith, p .2)) (omega arith)
+        (strip-sum a _ _ _ _ _ _ frame strip whole (images ∙ ap (λ f. 2 * (a / 0x10000) + f) (p .1)) columns
+        (bytes ∙ ap (λ k. 2 * k + a % 2) (p .3))))

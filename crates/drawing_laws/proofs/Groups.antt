@@ -1,9 +1,10 @@
 -- Groups of objects: a group draws the objects that are of it (`among-in-group`, `in-group-among`), and the object counter
--- is the group's number as it is counted from above (`counter-step`). Assumes nothing.
+-- is the group's number as it is counted from above (`counter-step`); at the end the statements of specs/Groups. Assumes
+-- nothing.
 use Prim.Native.Nat.{ℕ, zero, suc, _+_, _-_, _%_, _<_, _≤_}
 use mathlib.Core.Bool.{Bool, true, false, _||_, false≢true}
 use mathlib.Core.List.{List}
-use mathlib.Core.Path.{_≡_, refl}
+use mathlib.Core.Path.{_≡_, refl, sym, ap, _∙_}
 use native.Mathlib.Omega.{arith}
 use lib.Dec.{eqb}
 use borrow.Author.Tests.{eqb-true, eqb-false, ltb-true, lt-ltb}
@@ -12,7 +13,11 @@ use Rattle.bus.specs.Registers.{sptOf}
 use Rattle.drawing_pixel.specs.World.{worldOf}
 use Rattle.drawing_pixel.specs.Object.{objectAfterOf, groupCountOf}
 use Rattle.drawing_pixel.specs.Pixel.{counterAfterOf, drawsObjectsOf, counterOf}
-use Rattle.drawing_laws.specs.Covers.{objectWorldsOf, inGroupOf}
+use Rattle.drawing_pixel.specs.ObjectFormulas.{drawnOf}
+use Rattle.drawing_pixel.proofs.ObjectFormulas.{group-end, group-no-earlier, group-zero-last}
+use Rattle.drawing_pixel.proofs.ObjectFormulas as Formulas
+use Rattle.drawing_laws.specs.Covers.{objectWorldsOf, groupOf, inGroupOf}
+use Rattle.drawing_laws.specs.Groups.{DrawnAt, GroupEnds, GroupEndsFirst, GroupEqual, GroupZeroCount, DrawnInGroup, InGroupDrawn, GroupFirst, GroupNext}
 use Rattle.drawing_laws.specs.PixelBytes.{amongOf}
 use Rattle.word.proofs.Choices.{or-cases}
 
@@ -68,3 +73,59 @@ counter-step w c m h e = go (drawsObjectsOf w)
     go : (b : Bool) → pick b (counterAfterOf c) c ≡ (35 - (pick b 1 0 + m)) % 4
     go true = rw (counter-after c (omega arith)) (omega arith)
     go false = omega arith
+
+pub group-ends : GroupEnds
+group-ends regs n upper lower = group-end regs n upper lower
+
+pub group-ends-first : GroupEndsFirst
+group-ends-first regs n i upper lower p h = group-no-earlier regs n upper lower i h p
+
+pub group-equal : GroupEqual
+group-equal regs n upper lower e = Formulas.group-equal regs n upper lower e
+
+pub group-zero-count : GroupZeroCount
+group-zero-count regs = group-zero-last regs
+
+-- how far below object k the one is that is drawn i objects after it
+drawn-place : (i k : ℕ) → k < 1024 → i < 1024 → (drawnOf i k < 1024) × ((k + 1024 - drawnOf i k) % 1024 ≡ i)
+unfolding drawnOf objectAfterOf
+drawn-place zero k h l = (omega arith, omega arith)
+drawn-place (suc i) k h l =
+    let p = drawn-place i k h (omega arith) in
+    (omega arith, omega (arith, p .0, p .1))
+
+count-at-most : (regs : List ℕ) (n : ℕ) → sptOf regs n < 1024 → groupCountOf regs n ≤ 1024
+unfolding groupCountOf
+count-at-most regs zero h = omega arith
+count-at-most regs (suc n) h = omega arith
+
+pub drawn-in-group : DrawnInGroup
+unfolding inGroupOf
+drawn-in-group regs n i h l =
+    let most = count-at-most regs n h in
+    let p = drawn-place i (sptOf regs n) h (omega arith) in
+    lt-ltb ((sptOf regs n + 1024 - drawnOf i (sptOf regs n)) % 1024) (groupCountOf regs n) (omega (arith, p .1))
+
+pub in-group-drawn : InGroupDrawn
+unfolding inGroupOf
+in-group-drawn regs n k h l e =
+    let within : (sptOf regs n + 1024 - k) % 1024 < groupCountOf regs n =
+    ltb-true ((sptOf regs n + 1024 - k) % 1024) (groupCountOf regs n) e in
+    let p = drawn-place ((sptOf regs n + 1024 - k) % 1024) (sptOf regs n) h (omega arith) in
+    record {
+      place = (sptOf regs n + 1024 - k) % 1024;
+      within = within;
+      drawn = omega (arith, p .0, p .1);
+    }
+
+pub group-first : GroupFirst
+unfolding groupOf objectWorldsOf
+group-first vram = refl
+
+pub group-next : GroupNext
+unfolding groupOf objectWorldsOf
+group-next vram n h =
+    let e : 31 - n ≡ suc (31 - suc n) = omega arith in
+    let below = object-worlds-below vram (suc (suc n)) (31 - suc n) in
+    ap (λ m. (35 - objectWorldsOf vram (suc n) m) % 4) e
+    ∙ sym (counter-step (worldOf vram (suc n)) _ (objectWorldsOf vram (suc (suc n)) (31 - suc n)) (omega arith) refl)

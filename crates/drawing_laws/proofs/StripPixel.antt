@@ -50,7 +50,7 @@ module _ (vram regs : List ℕ) (frame eye x s : ℕ) (l : length vram ≡ 26214
     (r : s < 28)
   where
     -- four pixels of a column, as they are drawn
-    byte-drawn : (b : ℕ) → b < 2
+    pub byte-drawn : (b : ℕ) → b < 2
         → getD (stripOf vram regs frame s) (addressOf frame eye x s + b) 0 ≡ fourPixelsOf vram regs eye x (8 * s + 4 * b)
     byte-drawn b h =
         let a : ℕ = addressOf frame eye x s + b in

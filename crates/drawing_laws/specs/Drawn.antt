@@ -1,7 +1,7 @@
 -- What the strip call and the frame call leave in VRAM (paper 01, "Drawing"): the statements. Their proofs are
--- `pixel-drawn`, `byte-kept` and `length-kept` in proofs/. VRAM after a call is the list that the call's contract
--- names.
-use Prim.Native.Nat.{ℕ, _/_, _%_, _<_}
+-- `pixel-drawn`, `byte-kept`, `length-kept`, `column-bytes` and `other-bytes` in proofs/. VRAM after a call is the list
+-- that the call's contract names.
+use Prim.Native.Nat.{ℕ, _+_, _*_, _/_, _%_, _<_}
 use mathlib.Core.Bool.{Bool, true, false, _&&_}
 use mathlib.Core.List.{List}
 use mathlib.Core.Path.{_≡_}
@@ -10,7 +10,8 @@ use lib.Dec.{eqb, ltb}
 use Rattle.refusal.specs.declared.Verdict.{Verdict}
 use Rattle.refusal.specs.declared.Verdict.the-variants.{Accepted}
 use Rattle.drawing_pixel.specs.Pixel.{pixelOf}
-use Rattle.drawing_pixel.specs.Strip.{storedPixelOf}
+use Rattle.bus.specs.Refusal.{vramBytes}
+use Rattle.drawing_pixel.specs.Strip.{imageOf, pixelOffsetOf, storedPixelOf, fourPixelsOf, stripOf}
 use Rattle.drawing.specs.Calls.{stripVerdictOf, frameVerdictOf, drawStripOf, drawFrameOf}
 
 -- a call that draws: the frame call, or the strip call with its strip number
@@ -57,3 +58,23 @@ ByteKept =
 abbrev pub LengthKept : Type 0
 LengthKept =
     (vram regs : List ℕ) (frame : ℕ) (call : Call) → length (drawnBy vram regs frame call) ≡ length vram
+
+-- a strip's bytes by 01's formula, "halfword at 64x + 2(y / 8)": the halfword of column x at the strip's first row has
+-- the strip's first four rows in its byte 0 and the other four in its byte 1
+abbrev pub ColumnBytes : Type 0
+ColumnBytes =
+    (vram regs : List ℕ) (frame strip eye x b : ℕ) → length vram ≡ vramBytes
+    → frame < 2
+    → strip < 28
+    → eye < 2
+    → x < 384
+    → b < 2
+    → getD (stripOf vram regs frame strip) (imageOf frame eye + pixelOffsetOf x (8 * strip) + b) 0
+    ≡ fourPixelsOf vram regs eye x (8 * strip + 4 * b)
+
+-- a byte that is none of these is kept: "stored into that part of VRAM alone"
+abbrev pub OtherBytes : Type 0
+OtherBytes =
+    (vram regs : List ℕ) (frame strip a : ℕ)
+    → ((eye x b : ℕ) → eye < 2 → x < 384 → b < 2 → a ≡ imageOf frame eye + pixelOffsetOf x (8 * strip) + b → ⊥)
+    → getD (stripOf vram regs frame strip) a 0 ≡ getD vram a 0

@@ -4,3 +4,4 @@ pub mod SourceBytes
 pub mod Drawn
 pub mod Demand3
 pub mod ShortWorlds
+pub mod Groups
