@@ -6,16 +6,16 @@ use mathlib.Core.Path.{_≡_, refl, sym, ap, _∙_}
 use native.Mathlib.Omega.{arith}
 use borrow.Author.Tests.{lt-ltb, ltb-true, eq-eqb, eqb-true}
 use lib.Arith.{mod-mul}
-use lib.Bits.{bitAnd, and-block, and-mask}
 use lib.Dec.{eqb, ltb}
-use lib.Pow.{split}
+use Rattle.word.specs.Bit.{bitAt, isSet, withoutBit, withBit}
 use Rattle.word.specs.Choose.{pick}
 use Rattle.bus_timer.specs.Record.{withCount}
-use Rattle.bus_timer.specs.Timer.{bitOfMask, hasBit, setBitOf, clearBitOf, tEnb, timZInt, tClkSel, zStat, zStatClr, startOf, tickedCountOf, reachedZeroOf, countedOf, tickOf}
+use Rattle.bus_timer.specs.Timer.{tEnb, timZInt, tClkSel, zStat, zStatClr, startOf, tickedCountOf, reachedZeroOf, countedOf, tickOf}
 use Rattle.bus_timer.specs.Ports.{tlr, thr, tcr, controlBitsOf, reloadWrittenOf, lowWrittenOf, highWrittenOf, controlWrittenOf, lineAfterControl, tcrWrittenOf, portWrittenOf, hardwareOk}
 use Rattle.bus_timer.specs.Accepted.{TickAccepted, WriteAccepted, Means, AcceptedMeans, MeansAccepted, Halfwords, TickHalfwords, WriteHalfwords}
 use Rattle.bus_timer.specs.declared.Hardware.{Hardware}
 use Rattle.bus_timer.proofs.Choices.{pick-each, pick-true}
+use Rattle.bus_timer.proofs.Mask.{control-sum}
 use Rattle.bus_timer.proofs.TimerLines.{tick-each, write-each}
 
 -- what refusal 5 asks, as facts on numbers
@@ -35,8 +35,7 @@ fits-ok h f = simp (lt-ltb _ _ (f .lines), eq-eqb _ _ (f .control))
 
 -- four bits at their places
 kept : (e z i t : ℕ) → e < 2 → z < 2 → i < 2 → t < 2 → controlBitsOf (e + i * 8 + t * 16 + z * 2) ≡ e + i * 8 + t * 16 + z * 2
-unfolding controlBitsOf
-kept e z i t he hz hi ht = omega arith
+kept e z i t he hz hi ht = control-sum _ ∙ omega arith
 
 two-bits : (x : ℕ) → x % 4 ≡ x % 2 + x / 2 % 2 * 2
 two-bits x =
@@ -47,28 +46,27 @@ sum : (c : ℕ) → c % 4 + c / 8 % 4 * 8 ≡ c → c % 4 ≡ c % 2 + c / 2 % 2 
     → c ≡ c % 2 + c / 2 % 2 * 2 + c / 8 % 2 * 8 + c / 8 / 2 % 2 * 16
 sum c e low high = omega arith
 
-set-digits : (c e z i t : ℕ) → c ≡ e + z * 2 + i * 8 + t * 16 → c / 2 % 2 ≡ z → setBitOf 2 c ≡ e + i * 8 + t * 16 + 1 * 2
+set-digits : (c e z i t : ℕ) → c ≡ e + z * 2 + i * 8 + t * 16 → c / 2 % 2 ≡ z → withBit 1 c ≡ e + i * 8 + t * 16 + 1 * 2
 set-digits c e z i t sum second = omega arith
 
 -- bit 1 of the control bits may be set
-set-control : (c : ℕ) → controlBitsOf c ≡ c → controlBitsOf (setBitOf 2 c) ≡ setBitOf 2 c
-unfolding controlBitsOf
+set-control : (c : ℕ) → controlBitsOf c ≡ c → controlBitsOf (withBit 1 c) ≡ withBit 1 c
 set-control c e =
-    let digits : setBitOf 2 c ≡ c % 2 + c / 8 % 2 * 8 + c / 8 / 2 % 2 * 16 + 1 * 2 = set-digits c (c % 2) (c / 2 % 2) (c / 8 % 2) (c / 8 / 2 % 2) (sum c e (two-bits c) (two-bits (c / 8))) refl in
+    let digits : withBit 1 c ≡ c % 2 + c / 8 % 2 * 8 + c / 8 / 2 % 2 * 16 + 1 * 2 = set-digits c (c % 2) (c / 2 % 2) (c / 8 % 2) (c / 8 / 2 % 2) (sum c (sym (control-sum c) ∙ e) (two-bits c) (two-bits (c / 8))) refl in
     rw digits (kept (c % 2) 1 (c / 8 % 2) (c / 8 / 2 % 2) (omega arith) (omega arith) (omega arith) (omega arith))
 
 written-control : (c v : ℕ) → controlBitsOf (controlWrittenOf c v) ≡ controlWrittenOf c v
 unfolding controlWrittenOf
 written-control c v =
-    pick-each (λ z. controlBitsOf (bitOfMask tEnb v + bitOfMask timZInt v * timZInt + bitOfMask tClkSel v * tClkSel + z) ≡ bitOfMask tEnb v + bitOfMask timZInt v * timZInt + bitOfMask tClkSel v * tClkSel + z) (hasBit zStatClr v) 0 (bitOfMask zStat c * zStat)
-    (kept (bitOfMask tEnb v) 0 (bitOfMask timZInt v) (bitOfMask tClkSel v) (omega arith) (omega arith) (omega arith) (omega arith))
-    (kept (bitOfMask tEnb v) (bitOfMask zStat c) (bitOfMask timZInt v) (bitOfMask tClkSel v) (omega arith) (omega arith) (omega arith) (omega arith))
+    pick-each (λ z. controlBitsOf (bitAt tEnb v + bitAt timZInt v * 2 ^ timZInt + bitAt tClkSel v * 2 ^ tClkSel + z) ≡ bitAt tEnb v + bitAt timZInt v * 2 ^ timZInt + bitAt tClkSel v * 2 ^ tClkSel + z) (isSet zStatClr v) 0 (bitAt zStat c * 2 ^ zStat)
+    (kept (bitAt tEnb v) 0 (bitAt timZInt v) (bitAt tClkSel v) (omega arith) (omega arith) (omega arith) (omega arith))
+    (kept (bitAt tEnb v) (bitAt zStat c) (bitAt timZInt v) (bitAt tClkSel v) (omega arith) (omega arith) (omega arith) (omega arith))
 
 -- what holds of the control bits as they were and with Z-Stat set holds after a tick
-tick-control-each : (P : ℕ → Type 0) (h : Hardware) → P (h .control) → P (setBitOf zStat (h .control)) → P (tickOf h .control)
+tick-control-each : (P : ℕ → Type 0) (h : Hardware) → P (h .control) → P (withBit zStat (h .control)) → P (tickOf h .control)
 unfolding tickOf countedOf reachedZeroOf
 tick-control-each P h same set =
-    pick-each (λ t. P (t .control)) (hasBit tEnb (h .control)) (countedOf h) h
+    pick-each (λ t. P (t .control)) (isSet tEnb (h .control)) (countedOf h) h
     (pick-each (λ t. P (t .control)) (eqb (tickedCountOf h) 0) (reachedZeroOf h)
     (withCount h (tickedCountOf h)) set same)
     same
@@ -86,7 +84,7 @@ write-record-each P h o v low high control same =
 pub tick-accepted : TickAccepted
 tick-accepted h ok =
     let f = ok-fits h ok in
-    let l : setBitOf 2 (h .lines) < 32 = omega (arith, f .lines) in
+    let l : withBit 1 (h .lines) < 32 = omega (arith, f .lines) in
     fits-ok (tickOf h)
     (record {
       lines = tick-each (λ x. x < 32) h (f .lines) l;
@@ -97,7 +95,7 @@ pub write-accepted : WriteAccepted
 unfolding tcrWrittenOf
 write-accepted h o v ok =
     let f = ok-fits h ok in
-    let l : clearBitOf 2 (h .lines) < 32 = omega (arith, f .lines) in
+    let l : withoutBit 1 (h .lines) < 32 = omega (arith, f .lines) in
     fits-ok (portWrittenOf h o v)
     (record {
       lines = write-each (λ x. x < 32) h (f .lines) o v l;
@@ -108,33 +106,21 @@ write-accepted h o v ok =
 
 -- control bits are below 32
 bits-small : (c : ℕ) → controlBitsOf c < 2 ^ 16
-unfolding controlBitsOf
-bits-small c = omega arith
+bits-small c = omega (arith, control-sum c)
 
 written-small : (c v : ℕ) → controlWrittenOf c v < 2 ^ 16
 written-small c v = rw (← written-control c v) (bits-small (controlWrittenOf c v))
 
--- the control bits are those of 0x1B: two low ones, and two from bit 3 on
-control-mask : (c : ℕ) → controlBitsOf c ≡ bitAnd c 0x1B
-unfolding controlBitsOf
-control-mask c =
-    let low : c % 2 ^ 3 < 2 ^ 3 = omega arith in
-    let sum : c % 4 + c / 8 % 4 * 8 ≡ c / 2 ^ 3 % 2 ^ 2 * 2 ^ 3 + c % 2 ^ 3 % 2 ^ 2 = omega arith in
-    sum
-    ∙ sym
-    (ap (λ (n : ℕ). bitAnd n 0x1B) (sym (split c 3))
-    ∙ and-block 3 (c / 2 ^ 3) 3 (c % 2 ^ 3) 3 low (omega arith)
-    ∙ ap (λ (n : ℕ). n * 2 ^ 3 + bitAnd (c % 2 ^ 3) 3) (and-mask (c / 2 ^ 3) 2)
-    ∙ ap (λ (n : ℕ). c / 2 ^ 3 % 2 ^ 2 * 2 ^ 3 + n) (and-mask (c % 2 ^ 3) 2))
-
 pub accepted-means : AcceptedMeans
+unfolding controlBitsOf
 accepted-means h ok =
     let f = ok-fits h ok in
-    record { five-lines = f .lines; control-bits = sym (control-mask (h .control)) ∙ f .control }
+    record { five-lines = f .lines; control-bits = f .control }
 
 pub means-accepted : MeansAccepted
+unfolding controlBitsOf
 means-accepted h m =
-    fits-ok h (record { lines = m .five-lines; control = control-mask (h .control) ∙ m .control-bits })
+    fits-ok h (record { lines = m .five-lines; control = m .control-bits })
 
 less-one : (n x : ℕ) → x < n → x - 1 < n
 less-one n x less = omega arith
@@ -144,7 +130,7 @@ tick-count : (n : ℕ) (h : Hardware) → 0 < n → h .count < n → h .reload <
 unfolding tickOf countedOf reachedZeroOf tickedCountOf startOf
 tick-count n h some count reload =
     let start : startOf h < n = pick-each (λ x. x < n) (eqb (h .count) 0) (h .reload) (h .count) reload count in
-    pick-each (λ t. t .count < n) (hasBit tEnb (h .control)) (countedOf h) h
+    pick-each (λ t. t .count < n) (isSet tEnb (h .control)) (countedOf h) h
     (pick-each (λ t. t .count < n) (eqb (tickedCountOf h) 0) (reachedZeroOf h)
     (withCount h (tickedCountOf h)) some (less-one n (startOf h) start))
     count
@@ -152,15 +138,15 @@ tick-count n h some count reload =
 tick-reload : (h : Hardware) → tickOf h .reload ≡ h .reload
 unfolding tickOf countedOf reachedZeroOf
 tick-reload h =
-    pick-each (λ t. t .reload ≡ h .reload) (hasBit tEnb (h .control)) (countedOf h) h
+    pick-each (λ t. t .reload ≡ h .reload) (isSet tEnb (h .control)) (countedOf h) h
     (pick-each (λ t. t .reload ≡ h .reload) (eqb (tickedCountOf h) 0) (reachedZeroOf h)
     (withCount h (tickedCountOf h)) refl refl)
     refl
 
 pub tick-halfwords : TickHalfwords
 tick-halfwords h w =
-    let l : setBitOf 2 (h .lines) < 2 ^ 16 = omega (arith, w .lines) in
-    let c : setBitOf 2 (h .control) < 2 ^ 16 = omega (arith, w .control) in
+    let l : withBit 1 (h .lines) < 2 ^ 16 = omega (arith, w .lines) in
+    let c : withBit 1 (h .control) < 2 ^ 16 = omega (arith, w .control) in
     record {
       lines = tick-each (λ x. x < 2 ^ 16) h (w .lines) l;
       count = tick-count (2 ^ 16) h (omega arith) (w .count) (w .reload);
@@ -171,7 +157,7 @@ tick-halfwords h w =
 pub write-halfwords : WriteHalfwords
 unfolding tcrWrittenOf
 write-halfwords h o v byte w =
-    let l : clearBitOf 2 (h .lines) < 2 ^ 16 = omega (arith, w .lines) in
+    let l : withoutBit 1 (h .lines) < 2 ^ 16 = omega (arith, w .lines) in
     let low : lowWrittenOf (h .reload) v < 2 ^ 16 = omega (arith, w .reload) in
     let high : highWrittenOf (h .reload) v < 2 ^ 16 = omega (arith, w .reload) in
     record {

@@ -1,5 +1,6 @@
 -- `Periods`, `TimerLines` and `Accepting` prove the statements of specs/.
 pub mod Choices
+pub mod Mask
 mod Digits
 pub mod Periods
 pub mod TimerLines

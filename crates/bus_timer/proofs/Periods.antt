@@ -7,14 +7,15 @@ use mathlib.Core.Path.{_≡_, refl, sym, ap, _∙_}
 use native.Mathlib.Omega.{arith}
 use borrow.Author.Tests.{eq-eqb, ne-eqb}
 use lib.Dec.{eqb, eqb·suc-zero}
+use Rattle.word.specs.Bit.{bitAt, isSet}
 use Rattle.word.specs.Choose.{pick}
 use Rattle.bus_timer.specs.Record.{withCount}
-use Rattle.bus_timer.specs.Timer.{bitOfMask, hasBit, setBitOf, clearBitOf, timerLine, tEnb, zStat, timZInt, tClkSel, startOf, tickedCountOf, reachedZeroOf, countedOf, tickOf}
+use Rattle.bus_timer.specs.Timer.{timerLine, tEnb, zStat, timZInt, tClkSel, startOf, tickedCountOf, reachedZeroOf, countedOf, tickOf}
 use Rattle.bus_timer.specs.Period.{ticksOf, FirstZero, Period, withClock, ClockSelection}
 use Rattle.bus_timer.specs.declared.Hardware.{Hardware}
 use Rattle.bus_timer.proofs.Digits.{set-second, set-first, clock-first, clock-eighth, clock-set}
 
-module _ (h : Hardware) (on : bitOfMask tEnb (h .control) ≡ 1) where
+module _ (h : Hardware) (on : bitAt tEnb (h .control) ≡ 1) where
   -- a tick that counts down from 1
   tick-last : startOf h ≡ 1 → tickOf h ≡ reachedZeroOf h
   unfolding tickOf countedOf tickedCountOf
@@ -29,8 +30,8 @@ module _ (h : Hardware) (on : bitOfMask tEnb (h .control) ≡ 1) where
       let more : startOf h - 1 ≡ suc n = omega arith in
       simp (eq-eqb _ _ on, more, eqb·suc-zero)
 
-  module _ (clear : bitOfMask zStat (h .control) ≡ 0) where
-    none-before : (k : ℕ) → k < 1 → bitOfMask zStat (ticksOf k h .control) ≡ 0
+  module _ (clear : bitAt zStat (h .control) ≡ 0) where
+    none-before : (k : ℕ) → k < 1 → bitAt zStat (ticksOf k h .control) ≡ 0
     unfolding ticksOf
     none-before k less = let e : k ≡ 0 = omega arith in rw e clear
 
@@ -59,9 +60,9 @@ unfolding ticksOf
 ticks-none h = refl
 
 -- what the ticks before the first zero leave, with one tick more in front
-earlier : (n : ℕ) (h t : Hardware) → tickOf h ≡ t → bitOfMask zStat (h .control) ≡ 0
-    → ((k : ℕ) → k < n → bitOfMask zStat (ticksOf k t .control) ≡ 0)
-    → (k : ℕ) → k < suc n → bitOfMask zStat (ticksOf k h .control) ≡ 0
+earlier : (n : ℕ) (h t : Hardware) → tickOf h ≡ t → bitAt zStat (h .control) ≡ 0
+    → ((k : ℕ) → k < n → bitAt zStat (ticksOf k t .control) ≡ 0)
+    → (k : ℕ) → k < suc n → bitAt zStat (ticksOf k h .control) ≡ 0
 earlier n h t e clear f zero less = rw (ticks-none h) clear
 earlier n h t e clear f (suc k) less = rw (ticks-more k h t e) (f k (omega arith))
 
@@ -73,7 +74,7 @@ same n h t e lines f (suc k) less = rw (ticks-more k h t e) (f k (omega arith) �
 
 -- one tick more before the first zero
 first-more : (n : ℕ) (h t : Hardware) → tickOf h ≡ t → t .lines ≡ h .lines → t .reload ≡ h .reload → t .control ≡ h .control
-    → bitOfMask zStat (h .control) ≡ 0
+    → bitAt zStat (h .control) ≡ 0
     → FirstZero n t
     → FirstZero (suc n) h
 first-more n h t e lines reload control clear f =
@@ -91,7 +92,7 @@ start-count : (n : ℕ) (h : Hardware) → h .count ≡ suc n → startOf h ≡ 
 unfolding startOf
 start-count n h e = rw e (simp eqb·suc-zero)
 
-first : (n : ℕ) (h : Hardware) → startOf h ≡ suc n → bitOfMask tEnb (h .control) ≡ 1 → bitOfMask zStat (h .control) ≡ 0
+first : (n : ℕ) (h : Hardware) → startOf h ≡ suc n → bitAt tEnb (h .control) ≡ 1 → bitAt zStat (h .control) ≡ 0
     → FirstZero (suc n) h
 first zero h e on clear = first-last h on clear e
 first (suc n) h e on clear =
@@ -122,7 +123,7 @@ module _ (b : ℕ) (h : Hardware) (less : b < 2) where
   clock-tick : tickOf (withClock b h) ≡ withClock b (tickOf h)
   unfolding tickOf
   clock-tick =
-      rw (clock-counted, clock-first (h .control) b less) (clock-pick b (hasBit tEnb (h .control)) (countedOf h) h)
+      rw (clock-counted, clock-first (h .control) b less) (clock-pick b (isSet tEnb (h .control)) (countedOf h) h)
 
 pub clock-selection : ClockSelection
 clock-selection b h less = clock-tick b h less

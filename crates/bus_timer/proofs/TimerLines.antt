@@ -6,9 +6,10 @@ use native.Mathlib.Nat.{div-div-eq-div-mul}
 use native.Mathlib.Omega.{arith}
 use lib.Dec.{eqb}
 use lib.Pow.{pow-add}
+use Rattle.word.specs.Bit.{bitAt, isSet, withoutBit, withBit}
 use Rattle.word.specs.Choose.{pick}
 use Rattle.bus_timer.specs.Record.{withCount}
-use Rattle.bus_timer.specs.Timer.{hasBit, bitOfMask, setBitOf, clearBitOf, timerLine, tEnb, timZInt, zStatClr, tickedCountOf, reachedZeroOf, countedOf, tickOf}
+use Rattle.bus_timer.specs.Timer.{timerLine, tEnb, timZInt, zStatClr, tickedCountOf, reachedZeroOf, countedOf, tickOf}
 use Rattle.bus_timer.specs.Ports.{tlr, thr, tcr, reloadWrittenOf, lowWrittenOf, highWrittenOf, lineAfterControl, tcrWrittenOf, portWrittenOf}
 use Rattle.bus_timer.specs.Lines.{hardwareLineOf, TickLines, TickKeepsLine, WriteLines, WriteKeepsDown}
 use Rattle.bus_timer.specs.declared.Hardware.{Hardware}
@@ -17,25 +18,25 @@ use Rattle.bus_timer.proofs.Digits.{set-second, set-first, set-above, c
 
 -- numbers that agree but for bit 1
 record Beside (y x : ℕ) : Type 0 where
-  first : bitOfMask 1 y ≡ bitOfMask 1 x
+  first : bitAt 0 y ≡ bitAt 0 x
   above : y / 4 ≡ x / 4
 
 beside-same : (x : ℕ) → Beside x x
 beside-same x = record { first = refl; above = refl }
 
-beside-set : (x : ℕ) → Beside (setBitOf 2 x) x
+beside-set : (x : ℕ) → Beside (withBit 1 x) x
 beside-set x = record { first = set-first x; above = set-above x }
 
-beside-clear : (x : ℕ) → Beside (clearBitOf 2 x) x
+beside-clear : (x : ℕ) → Beside (withoutBit 1 x) x
 beside-clear x = record { first = clear-first x; above = clear-above x }
 
 -- a bit above 1 is one of the rest
-rest-bit : (n x : ℕ) → bitOfMask (2 ^ suc (suc n)) x ≡ bitOfMask (2 ^ n) (x / 4)
+rest-bit : (n x : ℕ) → bitAt (suc (suc n)) x ≡ bitAt n (x / 4)
 rest-bit n x =
     let two : suc (suc n) ≡ 2 + n = omega arith in
     rw (two, pow-add 2 2 n, div-div-eq-div-mul x 4 (2 ^ n))
 
-beside-bit : (n y x : ℕ) → (n ≡ 1 → ⊥) → Beside y x → bitOfMask (2 ^ n) y ≡ bitOfMask (2 ^ n) x
+beside-bit : (n y x : ℕ) → (n ≡ 1 → ⊥) → Beside y x → bitAt n y ≡ bitAt n x
 beside-bit zero y x other b = b .first
 beside-bit (suc zero) y x other b = absurd (other refl)
 beside-bit (suc (suc n)) y x other b = rw (rest-bit n y, rest-bit n x, b .above)
@@ -45,25 +46,25 @@ module _ (P : ℕ → Type 0) (h : Hardware) (same : P (h .lines)) where
   abbrev pub Lined : Hardware → Type 0
   Lined t = P (t .lines)
 
-  zero-each : P (setBitOf timerLine (h .lines)) → Lined (reachedZeroOf h)
+  zero-each : P (withBit timerLine (h .lines)) → Lined (reachedZeroOf h)
   unfolding reachedZeroOf
-  zero-each raised = pick-each P (hasBit timZInt (h .control)) _ _ raised same
+  zero-each raised = pick-each P (isSet timZInt (h .control)) _ _ raised same
 
-  pub tick-each : P (setBitOf timerLine (h .lines)) → Lined (tickOf h)
+  pub tick-each : P (withBit timerLine (h .lines)) → Lined (tickOf h)
   unfolding tickOf countedOf
   tick-each raised =
-      pick-each Lined (hasBit tEnb (h .control)) (countedOf h) h
+      pick-each Lined (isSet tEnb (h .control)) (countedOf h) h
       (pick-each Lined (eqb (tickedCountOf h) 0) (reachedZeroOf h)
       (withCount h (tickedCountOf h)) (zero-each raised) same)
       same
 
   -- and with the timer's lowered, after a write
-  control-each : (v : ℕ) → P (clearBitOf timerLine (h .lines)) → P (lineAfterControl (h .lines) v)
+  control-each : (v : ℕ) → P (withoutBit timerLine (h .lines)) → P (lineAfterControl (h .lines) v)
   unfolding lineAfterControl
   control-each v lowered =
-      pick-each P (hasBit zStatClr v) _ _ lowered (pick-each P (hasBit timZInt v) _ _ same lowered)
+      pick-each P (isSet zStatClr v) _ _ lowered (pick-each P (isSet timZInt v) _ _ same lowered)
 
-  pub write-each : (o v : ℕ) → P (clearBitOf timerLine (h .lines)) → Lined (portWrittenOf h o v)
+  pub write-each : (o v : ℕ) → P (withoutBit timerLine (h .lines)) → Lined (portWrittenOf h o v)
   unfolding portWrittenOf tcrWrittenOf
   write-each o v lowered =
       pick-each Lined (eqb o tlr) (reloadWrittenOf (lowWrittenOf (h .reload) v) h) _ same
@@ -76,7 +77,7 @@ tick-lines n h other =
 
 pub tick-keeps-line : TickKeepsLine
 tick-keeps-line h =
-    tick-each (λ l. bitOfMask 2 (h .lines) ≤ bitOfMask 2 l) h (omega arith) (omega (arith, set-second (h .lines)))
+    tick-each (λ l. bitAt 1 (h .lines) ≤ bitAt 1 l) h (omega arith) (omega (arith, set-second (h .lines)))
 
 pub write-lines : WriteLines
 write-lines n h o v other =
@@ -85,4 +86,4 @@ write-lines n h o v other =
 
 pub write-keeps-down : WriteKeepsDown
 write-keeps-down h o v =
-    write-each (λ l. bitOfMask 2 l ≤ bitOfMask 2 (h .lines)) h (omega arith) o v (omega (arith, clear-second (h .lines)))
+    write-each (λ l. bitAt 1 l ≤ bitAt 1 (h .lines)) h (omega arith) o v (omega (arith, clear-second (h .lines)))

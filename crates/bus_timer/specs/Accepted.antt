@@ -6,7 +6,7 @@ use mathlib.Core.Bool.{true}
 use mathlib.Core.Path.{_≡_}
 use lib.Bits.{bitAnd}
 use Rattle.bus_timer.specs.Timer.{tickOf}
-use Rattle.bus_timer.specs.Ports.{portWrittenOf, hardwareOk}
+use Rattle.bus_timer.specs.Ports.{controlMask, portWrittenOf, hardwareOk}
 use Rattle.bus_timer.specs.declared.Hardware.{Hardware}
 
 abbrev pub TickAccepted : Type 0
@@ -15,10 +15,10 @@ TickAccepted = (h : Hardware) → hardwareOk h ≡ true → hardwareOk (tickOf h
 abbrev pub WriteAccepted : Type 0
 WriteAccepted = (h : Hardware) (o v : ℕ) → hardwareOk h ≡ true → hardwareOk (portWrittenOf h o v) ≡ true
 
--- five lines, and no control bit outside 0x1B
+-- five lines, and no control bit outside the mask
 pub record Means (h : Hardware) : Type 0 where
   pub five-lines : h .lines < 2 ^ 5
-  pub control-bits : bitAnd (h .control) 0x1B ≡ h .control
+  pub control-bits : bitAnd (h .control) controlMask ≡ h .control
 
 abbrev pub AcceptedMeans : Type 0
 AcceptedMeans = (h : Hardware) → hardwareOk h ≡ true → Means h

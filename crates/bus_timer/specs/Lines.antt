@@ -3,13 +3,14 @@
 -- `write-lines` and `write-keeps-down` in proofs/TimerLines.
 use Prim.Native.Nat.{ℕ, _≤_, _^_}
 use mathlib.Core.Path.{_≡_}
-use Rattle.bus_timer.specs.Timer.{bitOfMask, timerLine, tickOf}
+use Rattle.word.specs.Bit.{bitAt}
+use Rattle.bus_timer.specs.Timer.{timerLine, tickOf}
 use Rattle.bus_timer.specs.Ports.{portWrittenOf}
 use Rattle.bus_timer.specs.declared.Hardware.{Hardware}
 
 -- the line of level n
 abbrev pub hardwareLineOf : ℕ → Hardware → ℕ
-hardwareLineOf n h = bitOfMask (2 ^ n) (h .lines)
+hardwareLineOf n h = bitAt n (h .lines)
 
 -- a tick leaves every line but the timer's, and never lowers that
 abbrev pub TickLines : Type 0

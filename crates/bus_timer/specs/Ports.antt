@@ -2,10 +2,12 @@
 -- byte there reads 0 and ignores writes. What a write leaves is the project's own, as in Timer.
 use Prim.Native.Nat.{ℕ, _+_, _*_, _/_, _%_, _^_}
 use mathlib.Core.Bool.{Bool, false}
+use lib.Bits.{bitAnd}
 use lib.Dec.{eqb, ltb}
+use Rattle.word.specs.Bit.{bitAt, isSet, withoutBit}
 use Rattle.word.specs.Choose.{pick}
 use Rattle.bus_timer.specs.Record.{withLines, withCount, withReload, withControl}
-use Rattle.bus_timer.specs.Timer.{bitOfMask, hasBit, clearBitOf, timerLine, tEnb, zStat, zStatClr}
+use Rattle.bus_timer.specs.Timer.{timerLine, tEnb, zStat, zStatClr}
 use Rattle.bus_timer.specs.Timer.{timZInt, tClkSel}
 use Rattle.bus_timer.specs.declared.Hardware.{Hardware}
 
@@ -23,9 +25,12 @@ tcr = 0x20
 unfoldable pub hardwareOffsetOf : ℕ → ℕ
 hardwareOffsetOf a = a % 2 ^ 24
 
--- the control bits that are stored, those of 0x1B
+-- the control bits that are stored: T-Enb, Z-Stat, Tim-Z-Int and T-Clk-Sel
+abbrev pub controlMask : ℕ
+controlMask = 0x1B
+
 unfoldable pub controlBitsOf : ℕ → ℕ
-controlBitsOf c = c % 4 + c / 8 % 4 * 8
+controlBitsOf c = bitAnd c controlMask
 
 -- T2, T3: what the byte at an offset reads; bits 7 to 5 and bit 2 of TCR read 1
 unfoldable pub portByteOf : Hardware → ℕ → ℕ
@@ -47,13 +52,13 @@ highWrittenOf reload v = reload % 256 + 256 * v
 -- Z-Stat-Clr is set, which is never stored
 unfoldable pub controlWrittenOf : ℕ → ℕ → ℕ
 controlWrittenOf control v =
-    bitOfMask tEnb v + bitOfMask timZInt v * timZInt + bitOfMask tClkSel v * tClkSel
-    + pick (hasBit zStatClr v) 0 (bitOfMask zStat control * zStat)
+    bitAt tEnb v + bitAt timZInt v * 2 ^ timZInt + bitAt tClkSel v * 2 ^ tClkSel
+    + pick (isSet zStatClr v) 0 (bitAt zStat control * 2 ^ zStat)
 
 -- T7, T8: the lines after a byte written to TCR: the timer's is lowered if Z-Stat-Clr is set or Tim-Z-Int is clear
 unfoldable pub lineAfterControl : ℕ → ℕ → ℕ
 lineAfterControl lines v =
-    pick (hasBit zStatClr v) (clearBitOf timerLine lines) (pick (hasBit timZInt v) lines (clearBitOf timerLine lines))
+    pick (isSet zStatClr v) (withoutBit timerLine lines) (pick (isSet timZInt v) lines (withoutBit timerLine lines))
 
 -- TCR with the byte v written to it; count and reload stay
 unfoldable pub tcrWrittenOf : Hardware → ℕ → Hardware
@@ -66,6 +71,6 @@ portWrittenOf h o v =
     pick (eqb o tlr) (reloadWrittenOf (lowWrittenOf (h .reload) v) h)
     (pick (eqb o thr) (reloadWrittenOf (highWrittenOf (h .reload) v) h) (pick (eqb o tcr) (tcrWrittenOf h v) h))
 
--- 5, of the lines and the timer: five lines, and no control bit outside 0x1B
+-- 5, of the lines and the timer: five lines, and no control bit outside the mask
 unfoldable pub hardwareOk : Hardware → Bool
 hardwareOk h = pick (ltb (h .lines) 32) (eqb (controlBitsOf (h .control)) (h .control)) false

@@ -2,44 +2,31 @@
 -- write do is the project's own (docs/DECISIONS.md, T1 to T13), each choice in one definition here. From the papers:
 -- the timer's line is that of level 1, raised when "the timer counter reached zero" (000, "List of Exceptions"); the
 -- timer advances "only when the bench tells of a tick" (02).
-use Prim.Native.Nat.{ℕ, _+_, _-_, _*_, _/_, _%_}
-use mathlib.Core.Bool.{Bool}
+use Prim.Native.Nat.{ℕ, _-_}
 use lib.Dec.{eqb}
+use Rattle.word.specs.Bit.{isSet, withBit}
 use Rattle.word.specs.Choose.{pick}
 use Rattle.bus_timer.specs.Record.{withLines, withCount, withControl}
 use Rattle.bus_timer.specs.declared.Hardware.{Hardware}
 
--- the bit of weight w; whether it is set; the number with it cleared, and set
-abbrev pub bitOfMask : ℕ → ℕ → ℕ
-bitOfMask w x = x / w % 2
-
-abbrev pub hasBit : ℕ → ℕ → Bool
-hasBit w x = eqb (bitOfMask w x) 1
-
-abbrev pub clearBitOf : ℕ → ℕ → ℕ
-clearBitOf w x = x - bitOfMask w x * w
-
-abbrev pub setBitOf : ℕ → ℕ → ℕ
-setBitOf w x = clearBitOf w x + w
-
--- the weight of the timer's line, and of TCR's bits
+-- the place of the timer's line among the lines, and those of TCR's bits
 abbrev pub timerLine : ℕ
-timerLine = 0x02
+timerLine = 1
 
 abbrev pub tEnb : ℕ
-tEnb = 0x01
+tEnb = 0
 
 abbrev pub zStat : ℕ
-zStat = 0x02
+zStat = 1
 
 abbrev pub zStatClr : ℕ
-zStatClr = 0x04
+zStatClr = 2
 
 abbrev pub timZInt : ℕ
-timZInt = 0x08
+timZInt = 3
 
 abbrev pub tClkSel : ℕ
-tClkSel = 0x10
+tClkSel = 4
 
 -- T9: what a tick counts down from: "a count of 0 first becomes reload"
 unfoldable pub startOf : Hardware → ℕ
@@ -48,8 +35,8 @@ startOf h = pick (eqb (h .count) 0) (h .reload) (h .count)
 -- T9, T10: the count is 0: Z-Stat is set whether or not Tim-Z-Int is, and the line is raised if it is
 unfoldable pub reachedZeroOf : Hardware → Hardware
 reachedZeroOf h =
-    withLines (withCount (withControl h (setBitOf zStat (h .control))) 0)
-    (pick (hasBit timZInt (h .control)) (setBitOf timerLine (h .lines)) (h .lines))
+    withLines (withCount (withControl h (withBit zStat (h .control))) 0)
+    (pick (isSet timZInt (h .control)) (withBit timerLine (h .lines)) (h .lines))
 
 -- T9: the count after a tick: "a count that is not 0 becomes one less", and 0 - 1 is 0
 unfoldable pub tickedCountOf : Hardware → ℕ
@@ -61,4 +48,4 @@ countedOf h = pick (eqb (tickedCountOf h) 0) (reachedZeroOf h) (withCount h (tic
 
 -- T9: a tick; with T-Enb clear it does nothing
 unfoldable pub tickOf : Hardware → Hardware
-tickOf h = pick (hasBit tEnb (h .control)) (countedOf h) h
+tickOf h = pick (isSet tEnb (h .control)) (countedOf h) h

@@ -5,11 +5,12 @@ use Prim.Native.Nat.{ℕ, zero, suc, _+_, _-_, _*_, _/_, _%_, _^_}
 use mathlib.Core.List.{List, [], _∷_, map}
 use mathlib.Core.Path.{_≡_}
 use lib.ListN.{replicate}
+use Rattle.word.specs.Bit.{bitAt}
 use Rattle.word.specs.Choose.{pick}
 use Rattle.bus.specs.Registers.{deviceLength}
 use Rattle.bus.specs.Place.{Place, wramAt, vramAt, romAt, placeOf}
 use Rattle.bus.specs.Memory.{Memory, memoryOf, alignedOf}
-use Rattle.processor_arithmetic.specs.Flag.{flagOf}
+use Rattle.processor_arithmetic.specs.Flag.{zFlag, sFlag, ovFlag, cyFlag}
 use Rattle.processor_arithmetic.specs.Sum.{sumOf}
 use Rattle.processor_arithmetic.specs.Quotient.{divideOf}
 use Rattle.processor_machine.specs.State.{State, stateOf}
@@ -96,7 +97,7 @@ pcsFrom f psw (suc n) = pcAfter f psw ∷ pcsFrom f (suc psw) n
 
 -- the flags of a PSW
 unfoldable pub flagsIn : ℕ → Answer
-flagsIn psw = flags (flagOf 4 psw) (flagOf 2 psw) (flagOf 8 psw) (flagOf 1 psw)
+flagsIn psw = flags (bitAt ovFlag psw) (bitAt sFlag psw) (bitAt cyFlag psw) (bitAt zFlag psw)
 
 -- a question, answered by the definitions
 unfoldable pub answer : Question → Answer

@@ -7,8 +7,8 @@ use native.Mathlib.Decide.{decLt}
 use native.Mathlib.Nat.{mod-lt}
 use native.Mathlib.Omega.{arith}
 use lib.Pow.{shr-shr, field, mod-mod-pow, high, low, pow-pos}
+use Rattle.word.specs.Bit.{bitAt}
 use Rattle.processor_arithmetic.specs.Flag.{bitOf}
-use Rattle.processor_arithmetic.specs.Bit.{bitAt}
 
 pub bit-small : (b : Bool) → bitOf b < 2
 bit-small true = omega arith

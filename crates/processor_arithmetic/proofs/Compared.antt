@@ -3,10 +3,12 @@ use mathlib.Core.Path.{_≡_, sym, ap, _∙_}
 use mathlib.Core.Bool.{Bool, not, Bool·not-not}
 use lib.Dec.{ltb, leb}
 use lib.Signed.{ltZ, leZ}
+use Rattle.word.specs.Bit.{isSet}
+use Rattle.processor_arithmetic.specs.Flag.{zFlag, sFlag, ovFlag, cyFlag}
 use Rattle.word.proofs.Choices.{not-less, less-or-equal}
 use Rattle.word.proofs.Integers.{not-lessℤ}
 use Rattle.processor_arithmetic.specs.Sum.{compareOf}
-use Rattle.processor_arithmetic.specs.Condition.{conditionOf, isSet, _or_, _xor_}
+use Rattle.processor_arithmetic.specs.Condition.{conditionOf, _or_, _xor_}
 use Rattle.processor_arithmetic.specs.Integer.{signed}
 use Rattle.processor_arithmetic.proofs.Order.{carry-set, zero-set, less-set, less-equal-set}
 use Rattle.processor_arithmetic.specs.Compared.{Compared}
@@ -18,11 +20,11 @@ compared a b psw ha hb =
     let c = carry-set a b psw ha hb in
     let z = zero-set a b psw ha hb in
     let l = less-set a b psw ha hb in
-    let nh : _or_ (isSet 8 (compareOf a b psw .psw)) (isSet 1 (compareOf a b psw .psw)) ≡ leb a b =
-    ap (λ (t : Bool). _or_ t (isSet 1 p)) c ∙ ap (_or_ (ltb a b)) z ∙ less-or-equal a b
+    let nh : _or_ (isSet cyFlag (compareOf a b psw .psw)) (isSet zFlag (compareOf a b psw .psw)) ≡ leb a b =
+    ap (λ (t : Bool). _or_ t (isSet zFlag p)) c ∙ ap (_or_ (ltb a b)) z ∙ less-or-equal a b
     in
-    let le : _or_ (_xor_ (isSet 4 (compareOf a b psw .psw)) (isSet 2 (compareOf a b psw .psw))) (isSet 1 (compareOf a b psw .psw)) ≡ leZ (signed a) (signed b) =
-    ap (λ (t : Bool). _or_ t (isSet 1 p)) l ∙ ap (_or_ (ltZ (signed a) (signed b))) z ∙ less-equal-set a b psw ha hb
+    let le : _or_ (_xor_ (isSet ovFlag (compareOf a b psw .psw)) (isSet sFlag (compareOf a b psw .psw))) (isSet zFlag (compareOf a b psw .psw)) ≡ leZ (signed a) (signed b) =
+    ap (λ (t : Bool). _or_ t (isSet zFlag p)) l ∙ ap (_or_ (ltZ (signed a) (signed b))) z ∙ less-equal-set a b psw ha hb
     in
     record {
       lower = c;

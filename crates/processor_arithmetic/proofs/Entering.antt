@@ -3,15 +3,16 @@ use Prim.Native.Nat.{ℕ, _^_}
 use mathlib.Core.Path.{_∙_}
 use mathlib.Core.Logic.{_≢_}
 use native.Mathlib.Omega.{arith}
-use Rattle.processor_arithmetic.specs.Flag.{setFlagOf, clearFlagOf, setEpOf, setNpOf, setIdOf, clearAeOf, regularOf, duplexedOf}
+use Rattle.word.specs.Bit.{withoutBit, withBit}
+use Rattle.processor_arithmetic.specs.Flag.{setEpOf, setNpOf, setIdOf, clearAeOf, regularOf, duplexedOf}
 use Rattle.processor_arithmetic.specs.Entry.{Enters, RegularEntry, DuplexedEntry}
 use Rattle.processor_arithmetic.proofs.Places.{set-flag, set-flag-others, clear-flag, clear-flag-others}
 
 -- the bit is neither ID's nor AE's
-enters : (b psw : ℕ) → b ≢ 12 → b ≢ 13 → Enters b psw (clearFlagOf (2 ^ 13) (setFlagOf (2 ^ 12) (setFlagOf (2 ^ b) psw)))
+enters : (b psw : ℕ) → b ≢ 12 → b ≢ 13 → Enters b psw (withoutBit 13 (withBit 12 (withBit b psw)))
 enters b psw i a =
-    let own = setFlagOf (2 ^ b) psw in
-    let id = setFlagOf (2 ^ 12) own in
+    let own = withBit b psw in
+    let id = withBit 12 own in
     record {
       own-set = clear-flag-others b 13 id a ∙ set-flag-others b 12 own i ∙ set-flag b psw;
       id-set = clear-flag-others 12 13 id (λ e. omega (arith, e)) ∙ set-flag 12 own;

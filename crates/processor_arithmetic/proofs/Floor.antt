@@ -8,6 +8,7 @@ use borrow.Author.Tests.{lt-ltb, le-ltb, eq-eqb, ne-eqb}
 use lib.IntN.{pos, negsuc}
 use lib.Signed.{mag, mag-shr, shrZ}
 use lib.Pow.{pow-pos, pow-add, shr-le}
+use Rattle.word.specs.Bit.{bitAt}
 use Rattle.word.specs.Extend.{signedOf}
 use Rattle.word.specs.Floors.{modZ}
 use Rattle.word.proofs.Integers.{is-equal, is-moved, is-negsuc}
@@ -17,7 +18,6 @@ use Rattle.processor_arithmetic.specs.Shift.{leftOutOf, rightOutOf, arit
 use Rattle.processor_arithmetic.specs.Integer.{signed}
 use Rattle.processor_arithmetic.proofs.Reading.{plain-reading}
 use Rattle.processor_arithmetic.proofs.Complement.{signed-complement}
-use Rattle.processor_arithmetic.specs.Bit.{bitAt}
 
 -- a times 2 ^ n, from bit 32 on, is a from bit 32 - n on
 left-bit-at : (a n : ℕ) → n ≤ 32 → a * 2 ^ n / 2 ^ 32 % 2 ≡ bitAt (32 - n) a

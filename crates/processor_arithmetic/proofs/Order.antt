@@ -8,13 +8,14 @@ use native.Mathlib.Omega.{arith}
 use borrow.Author.Tests.{lt-ltb, le-ltb, eq-eqb, ne-eqb}
 use lib.Dec.{ltb, eqb}
 use lib.Signed.{ltZ, leZ}
+use Rattle.word.specs.Bit.{isSet}
 use Rattle.word.specs.Choose.{pick}
 use Rattle.word.proofs.Choices.{less-same, equal-same, less-or-equal}
 use Rattle.word.proofs.Integers.{is-lt-test, is-le-test}
-use Rattle.processor_arithmetic.specs.Flag.{bitOf, signOf}
+use Rattle.processor_arithmetic.specs.Flag.{bitOf, signOf, zFlag, sFlag, ovFlag, cyFlag}
 use Rattle.processor_arithmetic.specs.Sum.{differenceOf, compareOf}
 use Rattle.processor_arithmetic.proofs.Bias.{biasedOf, outsideOf}
-use Rattle.processor_arithmetic.specs.Condition.{isSet, _xor_}
+use Rattle.processor_arithmetic.specs.Condition.{_xor_}
 use Rattle.processor_arithmetic.specs.Integer.{signed}
 use Rattle.processor_arithmetic.proofs.Reading.{signed-biased}
 use Rattle.processor_arithmetic.proofs.Biased.{bias-small}
@@ -30,11 +31,11 @@ bit-set true = refl
 bit-set false = refl
 
 -- the three tests after CMP
-pub carry-set : (a b psw : ℕ) → a < 2 ^ 32 → b < 2 ^ 32 → isSet 8 (compareOf a b psw .psw) ≡ ltb a b
+pub carry-set : (a b psw : ℕ) → a < 2 ^ 32 → b < 2 ^ 32 → isSet cyFlag (compareOf a b psw .psw) ≡ ltb a b
 unfolding compareOf
 carry-set a b psw ha hb = ap (λ (n : ℕ). eqb n 1) (difference-placed a b psw ha hb .at-cy) ∙ bit-set (ltb a b)
 
-pub zero-set : (a b psw : ℕ) → a < 2 ^ 32 → b < 2 ^ 32 → isSet 1 (compareOf a b psw .psw) ≡ eqb a b
+pub zero-set : (a b psw : ℕ) → a < 2 ^ 32 → b < 2 ^ 32 → isSet zFlag (compareOf a b psw .psw) ≡ eqb a b
 unfolding compareOf
 zero-set a b psw ha hb =
     ap (λ (n : ℕ). eqb n 1) (difference-placed a b psw ha hb .at-z)
@@ -84,14 +85,14 @@ pub difference-word : (a b : ℕ) → b < 2 ^ 32 → (a + (2 ^ 32 - b)) % 2 ^ 32
 difference-word a b hb = unfold biasedOf in omega arith
 
 pub less-set : (a b psw : ℕ) → a < 2 ^ 32 → b < 2 ^ 32
-    → _xor_ (isSet 4 (compareOf a b psw .psw)) (isSet 2 (compareOf a b psw .psw)) ≡ ltZ (signed a) (signed b)
+    → _xor_ (isSet ovFlag (compareOf a b psw .psw)) (isSet sFlag (compareOf a b psw .psw)) ≡ ltZ (signed a) (signed b)
 unfolding compareOf
 less-set a b psw ha hb =
     let t = biasedOf a + (2 ^ 32 - biasedOf b) in
     let p = difference-placed a b psw ha hb in
     let sa : biasedOf a < 2 ^ 32 = bias-small a in
     let sb : biasedOf b < 2 ^ 32 = bias-small b in
-    ap (λ (n : ℕ). _xor_ (eqb n 1) (isSet 2 (differenceOf a b psw .psw))) (p .at-ov ∙ sym (difference-outside a b ha hb))
+    ap (λ (n : ℕ). _xor_ (eqb n 1) (isSet sFlag (differenceOf a b psw .psw))) (p .at-ov ∙ sym (difference-outside a b ha hb))
     ∙ ap (λ (n : ℕ). _xor_ (eqb (outsideOf t) 1) (eqb n 1)) (p .at-s ∙ ap signOf (difference-word a b hb))
     ∙ negative-flags t (omega arith)
     ∙ less-same t (2 ^ 32) (biasedOf a + 2 ^ 31) (biasedOf b + 2 ^ 31) (omega arith) (omega arith)

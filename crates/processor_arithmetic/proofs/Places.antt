@@ -5,8 +5,8 @@ use native.Mathlib.Nat.{mul-le-mul-right, mul-comm, mul-sub, add-mul, one-mul}
 use native.Mathlib.Omega.{arith}
 use lib.Dec.{eqb}
 use lib.Pow.{split}
-use Rattle.processor_arithmetic.specs.Flag.{zeroOf, flagsOf, keepCarryOf, setFlagOf, clearFlagOf}
-use Rattle.processor_arithmetic.specs.Bit.{bitAt}
+use Rattle.word.specs.Bit.{bitAt, withoutBit, withBit}
+use Rattle.processor_arithmetic.specs.Flag.{zeroOf, flagsOf, keepCarryOf}
 use Rattle.processor_arithmetic.proofs.Bits.{bit-small, same-above, above-below, other-bits}
 use Rattle.processor_arithmetic.specs.Places.{FlagsPlaced, KeepCarryPlaced, ClearFlag, ClearFlagOthers, SetFlag, SetFlagOthers}
 
@@ -34,7 +34,7 @@ keep-carry-placed psw ov v ho hv =
       others = λ k h. same-above _ psw 4 k (omega arith) h;
     }
 
-cleared : (k psw : ℕ) → clearFlagOf (2 ^ k) psw ≡ (psw / 2 ^ k - psw / 2 ^ k % 2) * 2 ^ k + psw % 2 ^ k
+cleared : (k psw : ℕ) → withoutBit k psw ≡ (psw / 2 ^ k - psw / 2 ^ k % 2) * 2 ^ k + psw % 2 ^ k
 cleared k psw =
     let q = psw / 2 ^ k in
     let b = psw / 2 ^ k % 2 in
@@ -44,7 +44,7 @@ cleared k psw =
     in
     omega (arith, split psw k, mul-comm (2 ^ k) q, mul-comm (2 ^ k) b)
 
-put : (k psw : ℕ) → setFlagOf (2 ^ k) psw ≡ (psw / 2 ^ k - psw / 2 ^ k % 2 + 1) * 2 ^ k + psw % 2 ^ k
+put : (k psw : ℕ) → withBit k psw ≡ (psw / 2 ^ k - psw / 2 ^ k % 2 + 1) * 2 ^ k + psw % 2 ^ k
 put k psw =
     let m = psw / 2 ^ k - psw / 2 ^ k % 2 in
     omega (arith, cleared k psw, add-mul m 1 (2 ^ k), one-mul (2 ^ k))

@@ -5,9 +5,9 @@ use mathlib.Core.Path.{_≡_, refl, ap, sym, _∙_}
 use mathlib.Core.Bool.{Bool, true, false}
 use mathlib.Core.List.{List, [], _∷_}
 use native.Mathlib.Omega.{arith}
-use lib.Dec.{T, eqb}
+use lib.Dec.{T}
 use lib.ListN.{getD}
-use Rattle.processor_arithmetic.specs.Flag.{flagOf}
+use Rattle.word.specs.Bit.{isSet}
 use Rattle.processor_arithmetic.specs.Condition.{conditionOf}
 use Rattle.processor_arithmetic.proofs.Finite.{every, at, same, same-eq}
 
@@ -16,14 +16,14 @@ rows =
     61680 ∷ 65280 ∷ 43690 ∷ 65450 ∷ 52428 ∷ 65535 ∷ 15420 ∷ 48830 ∷ 3855 ∷ 255 ∷ 21845 ∷ 85 ∷ 13107 ∷ 0 ∷ 50115 ∷ 16705 ∷ []
 
 -- bit n of row c
-bitAt : ℕ → ℕ → Bool
-bitAt c n = eqb (getD rows c 0 / 2 ^ n % 2) 1
+rowBit : ℕ → ℕ → Bool
+rowBit c n = isSet n (getD rows c 0)
 
 agrees : ℕ → ℕ → Bool
-agrees c n = same (bitAt c n) (conditionOf c n)
+agrees c n = same (rowBit c n) (conditionOf c n)
 
 all-agree : T (every 16 (λ c. every 16 (λ n. agrees c n)))
-unfolding rows bitAt agrees conditionOf
+unfolding rows rowBit agrees conditionOf
 all-agree = tt
 
 -- a condition looks at four bits of PSW, and is named by four bits
@@ -38,11 +38,11 @@ low-bits c psw =
     rw (← cy, ← ov, ← s, ← z, ← k)
 
 -- a row's bits are its condition's
-pub row-bits : (c : ℕ) → c < 16 → (n : ℕ) → n < 16 → eqb (getD rows c 0 / 2 ^ n % 2) 1 ≡ conditionOf c n
-unfolding bitAt agrees
+pub row-bits : (c : ℕ) → c < 16 → (n : ℕ) → n < 16 → isSet n (getD rows c 0) ≡ conditionOf c n
+unfolding rowBit agrees
 row-bits c hc n hn =
     let row = at 16 (λ c. every 16 (λ n. agrees c n)) all-agree c hc in
-    same-eq (bitAt c n) (conditionOf c n) (at 16 (λ n. agrees c n) row n hn)
+    same-eq (rowBit c n) (conditionOf c n) (at 16 (λ n. agrees c n) row n hn)
 
 pub condition-low : (c psw : ℕ) → conditionOf (c % 16) (psw % 16) ≡ conditionOf c psw
 condition-low c psw = sym (low-bits c psw)

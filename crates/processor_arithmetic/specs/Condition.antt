@@ -3,9 +3,9 @@ use Prim.Native.Nat.{ℕ, _%_}
 use mathlib.Core.Bool.{Bool, true, false, not}
 use mathlib.Core.List.{List, [], _∷_}
 use lib.ListN.{getD}
-use lib.Dec.{eqb}
 use Rattle.word.specs.Choose.{pick}
-use Rattle.processor_arithmetic.specs.Flag.{flagOf}
+use Rattle.word.specs.Bit.{isSet}
+use Rattle.processor_arithmetic.specs.Flag.{zFlag, sFlag, ovFlag, cyFlag}
 
 abbrev pub _or_ : Bool → Bool → Bool
 _or_ a b = pick a true b
@@ -50,10 +50,7 @@ conditionsOf cy ov s z =
     ∷ not (_or_ (_xor_ ov s) z)
     ∷ []
 
--- whether a flag of PSW is set
-abbrev pub isSet : ℕ → ℕ → Bool
-isSet w psw = eqb (flagOf w psw) 1
-
 -- whether condition c holds in PSW
 unfoldable pub conditionOf : ℕ → ℕ → Bool
-conditionOf c psw = getD (conditionsOf (isSet 8 psw) (isSet 4 psw) (isSet 2 psw) (isSet 1 psw)) (c % 16) false
+conditionOf c psw =
+    getD (conditionsOf (isSet cyFlag psw) (isSet ovFlag psw) (isSet sFlag psw) (isSet zFlag psw)) (c % 16) false

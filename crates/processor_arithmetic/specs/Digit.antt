@@ -2,8 +2,8 @@
 -- two bits the lesser is their and, the greater their or, and the last digit of their sum their exclusive or.
 use Prim.Native.Nat.{ℕ, _+_, _-_, _*_, _/_, _%_, _^_, _<_, min, max}
 use mathlib.Core.Path.{_≡_}
+use Rattle.word.specs.Bit.{bitAt}
 use Rattle.processor_arithmetic.specs.Bitwise.{andOf, orOf, xorOf, notOf}
-use Rattle.processor_arithmetic.specs.Bit.{bitAt}
 
 -- the complement of a number of j + k bits: that of its upper j bits, then that of its lower k
 abbrev pub Complement : Type 0

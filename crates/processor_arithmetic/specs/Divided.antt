@@ -6,12 +6,12 @@ use mathlib.Core.Logic.{_≢_}
 use mathlib.Core.Bool.{false}
 use lib.Dec.{eqb}
 use lib.Signed.{quotZ}
+use Rattle.word.specs.Bit.{bitAt}
 use Rattle.word.specs.Choose.{pick}
 use Rattle.processor_arithmetic.specs.Flag.{bitOf}
 use Rattle.processor_arithmetic.specs.Quotient.{divideOf, divideUnsignedOf}
 use Rattle.processor_arithmetic.specs.Integer.{signed, outside}
 use Rattle.processor_arithmetic.specs.Places.{Placed}
-use Rattle.processor_arithmetic.specs.Bit.{bitAt}
 use Rattle.processor_arithmetic.specs.Truncation.{Truncated}
 
 -- every flag of DIV at its place: CY is kept, S and Z are those of the quotient

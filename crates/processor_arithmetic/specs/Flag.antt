@@ -1,24 +1,55 @@
 -- PSW's flags (document 000, "PSW"): where each stands, and what a result leaves there.
--- Z is bit 0, S bit 1, OV bit 2, CY bit 3; ID is bit 12, AE 13, EP 14, NP 15.
-use Prim.Native.Nat.{ℕ, _+_, _-_, _*_, _/_, _%_, _^_}
+use Prim.Native.Nat.{ℕ, _+_, _*_, _/_, _^_}
 use mathlib.Core.Bool.{Bool, true, false}
 use lib.Dec.{eqb}
+use Rattle.word.specs.Bit.{withoutBit, withBit}
+
+-- the places of the flags: Z, S, OV and CY of every result
+abbrev pub zFlag : ℕ
+zFlag = 0
+
+abbrev pub sFlag : ℕ
+sFlag = 1
+
+abbrev pub ovFlag : ℕ
+ovFlag = 2
+
+abbrev pub cyFlag : ℕ
+cyFlag = 3
+
+-- FUD, FOV, FZD, FIV and FRO of the floating instructions
+abbrev pub fudFlag : ℕ
+fudFlag = 5
+
+abbrev pub fovFlag : ℕ
+fovFlag = 6
+
+abbrev pub fzdFlag : ℕ
+fzdFlag = 7
+
+abbrev pub fivFlag : ℕ
+fivFlag = 8
+
+abbrev pub froFlag : ℕ
+froFlag = 9
+
+-- ID, AE, EP and NP of interrupts and exceptions
+abbrev pub idFlag : ℕ
+idFlag = 12
+
+abbrev pub aeFlag : ℕ
+aeFlag = 13
+
+abbrev pub epFlag : ℕ
+epFlag = 14
+
+abbrev pub npFlag : ℕ
+npFlag = 15
 
 -- 1 for true and 0 for false
 abbrev pub bitOf : Bool → ℕ
 bitOf true = 1
 bitOf false = 0
-
--- the bit of PSW of weight w: 1 for Z, 2 for S, 4 for OV, 8 for CY, 4096 for ID
-abbrev pub flagOf : ℕ → ℕ → ℕ
-flagOf w psw = psw / w % 2
-
--- PSW with that bit cleared, and set
-abbrev pub clearFlagOf : ℕ → ℕ → ℕ
-clearFlagOf w psw = psw - flagOf w psw * w
-
-abbrev pub setFlagOf : ℕ → ℕ → ℕ
-setFlagOf w psw = clearFlagOf w psw + w
 
 -- S: "a copy of the highest-order bit of the result"
 abbrev pub signOf : ℕ → ℕ
@@ -38,20 +69,20 @@ keepCarryOf psw ov v = psw / 8 * 8 + ov * 4 + signOf v * 2 + zeroOf v
 
 -- SEI sets ID, CLI clears it
 unfoldable pub setIdOf : ℕ → ℕ
-setIdOf psw = setFlagOf 4096 psw
+setIdOf psw = withBit idFlag psw
 
 unfoldable pub clearIdOf : ℕ → ℕ
-clearIdOf psw = clearFlagOf 4096 psw
+clearIdOf psw = withoutBit idFlag psw
 
 -- EP set, NP set, AE cleared
 unfoldable pub setEpOf : ℕ → ℕ
-setEpOf psw = setFlagOf 16384 psw
+setEpOf psw = withBit epFlag psw
 
 unfoldable pub setNpOf : ℕ → ℕ
-setNpOf psw = setFlagOf 32768 psw
+setNpOf psw = withBit npFlag psw
 
 unfoldable pub clearAeOf : ℕ → ℕ
-clearAeOf psw = clearFlagOf 8192 psw
+clearAeOf psw = withoutBit aeFlag psw
 
 -- PSW as a regular exception enters: "EP and ID set, AE cleared"
 unfoldable pub regularOf : ℕ → ℕ

@@ -7,7 +7,6 @@ pub mod Bitwise
 pub mod Product
 pub mod Quotient
 pub mod Condition
-pub mod Bit
 pub mod Places
 pub mod Digit
 pub mod Signed

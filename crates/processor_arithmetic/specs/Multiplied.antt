@@ -5,12 +5,12 @@ use Prim.Native.Nat.{ℕ, _+_, _-_, _*_, _%_, _^_, _<_}
 use mathlib.Core.Path.{_≡_}
 use lib.Dec.{leb}
 use lib.IntN.{_*ℤ_}
+use Rattle.word.specs.Bit.{bitAt}
 use Rattle.processor_arithmetic.specs.Flag.{bitOf}
 use Rattle.processor_arithmetic.specs.Product.{overflowsOf, wordsOf, productOf, multiplyOf, multiplyUnsignedOf}
 use Rattle.processor_arithmetic.specs.declared.Pair.{Pair}
 use Rattle.processor_arithmetic.specs.Integer.{signed, signed64, outside}
 use Rattle.processor_arithmetic.specs.Places.{Placed}
-use Rattle.processor_arithmetic.specs.Bit.{bitAt}
 
 -- the two words as one number of 64 bits
 abbrev pub whole : Pair → ℕ

@@ -3,8 +3,8 @@
 use Prim.Native.Nat.{ℕ, _-_, _^_, _<_, _≤_}
 use mathlib.Core.Path.{_≡_}
 use mathlib.Core.Logic.{_≢_}
-use Rattle.processor_arithmetic.specs.Flag.{signOf, zeroOf, flagsOf, keepCarryOf, setFlagOf, clearFlagOf}
-use Rattle.processor_arithmetic.specs.Bit.{bitAt}
+use Rattle.word.specs.Bit.{bitAt, withoutBit, withBit}
+use Rattle.processor_arithmetic.specs.Flag.{signOf, zeroOf, flagsOf, keepCarryOf}
 
 -- a PSW after a result v with this CY and OV
 pub record Placed (psw cy ov v after : ℕ) : Type 0 where
@@ -27,17 +27,17 @@ KeepCarryPlaced =
 -- to clear a flag makes its bit 0 and changes no other
 abbrev pub ClearFlag : Type 0
 ClearFlag =
-    (k psw : ℕ) → bitAt k (clearFlagOf (2 ^ k) psw) ≡ 0
+    (k psw : ℕ) → bitAt k (withoutBit k psw) ≡ 0
 
 abbrev pub ClearFlagOthers : Type 0
 ClearFlagOthers =
-    (j k psw : ℕ) → j ≢ k → bitAt j (clearFlagOf (2 ^ k) psw) ≡ bitAt j psw
+    (j k psw : ℕ) → j ≢ k → bitAt j (withoutBit k psw) ≡ bitAt j psw
 
 -- to set a flag makes its bit 1 and changes no other
 abbrev pub SetFlag : Type 0
 SetFlag =
-    (k psw : ℕ) → bitAt k (setFlagOf (2 ^ k) psw) ≡ 1
+    (k psw : ℕ) → bitAt k (withBit k psw) ≡ 1
 
 abbrev pub SetFlagOthers : Type 0
 SetFlagOthers =
-    (j k psw : ℕ) → j ≢ k → bitAt j (setFlagOf (2 ^ k) psw) ≡ bitAt j psw
+    (j k psw : ℕ) → j ≢ k → bitAt j (withBit k psw) ≡ bitAt j psw

@@ -1,15 +1,16 @@
 -- MUL and MULU (document 000, "Arithmetic"; paper 01): the 64-bit product, its high word to r30, its low word to reg2.
-use Prim.Native.Nat.{ℕ, _+_, _-_, _*_, _/_, _%_, _^_}
-use lib.Dec.{ltb, eqb}
+use Prim.Native.Nat.{ℕ, _*_, _/_, _%_, _^_}
+use lib.Dec.{eqb}
 use lib.IntN.{_*ℤ_}
 use Rattle.word.specs.Choose.{pick}
+use Rattle.word.specs.Extend.{extendTo}
 use Rattle.processor_arithmetic.specs.Flag.{keepCarryOf}
 use Rattle.processor_arithmetic.specs.Integer.{signed, complementOf}
 use Rattle.processor_arithmetic.specs.declared.Pair.{Pair}
 
 -- a signed word at 64 bits
 unfoldable pub extend64Of : ℕ → ℕ
-extend64Of x = pick (ltb x (2 ^ 31)) x (x + (2 ^ 64 - 2 ^ 32))
+extend64Of x = extendTo 64 (2 ^ 31) x
 
 -- OV of a product, signed or not: 1 where "the full 64-bit result is not equivalent to the 64-bit value produced by
 -- sign-extending the lower 32 bits"

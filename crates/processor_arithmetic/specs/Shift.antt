@@ -2,9 +2,9 @@
 use Prim.Native.Nat.{ℕ, _-_, _*_, _/_, _%_, _^_}
 use lib.Dec.{eqb}
 use lib.Signed.{shrZ}
+use Rattle.word.specs.Bit.{bitAt}
 use Rattle.word.specs.Choose.{pick}
 use Rattle.processor_arithmetic.specs.Flag.{flagsOf}
-use Rattle.processor_arithmetic.specs.Bit.{bitAt}
 use Rattle.processor_arithmetic.specs.Integer.{signed, complementOf}
 use Rattle.processor_arithmetic.specs.declared.Outcome.{Outcome}
 

@@ -3,10 +3,10 @@
 use Prim.Native.Nat.{ℕ, _-_, _*_, _%_, _^_, _<_}
 use mathlib.Core.Path.{_≡_}
 use lib.IntN.{pos, _+ℤ_, _*ℤ_}
+use Rattle.word.specs.Bit.{bitAt}
 use Rattle.processor_arithmetic.specs.Shift.{leftOutOf, rightOutOf, shiftLeftOf, shiftRightOf, shiftArithmeticOf}
 use Rattle.processor_arithmetic.specs.Integer.{signed}
 use Rattle.processor_arithmetic.specs.Places.{Placed}
-use Rattle.processor_arithmetic.specs.Bit.{bitAt}
 
 -- every flag of SHL at its place: OV is 0, S and Z are those of the result
 abbrev pub ShiftLeftPlaced : Type 0

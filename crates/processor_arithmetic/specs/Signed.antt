@@ -4,11 +4,11 @@ use Prim.Native.Nat.{ℕ, _+_, _-_, _/_, _%_, _^_, _<_}
 use mathlib.Core.Path.{_≡_}
 use lib.Dec.{ltb, leb}
 use lib.IntN.{_+ℤ_, _-ℤ_}
+use Rattle.word.specs.Bit.{bitAt}
 use Rattle.processor_arithmetic.specs.Flag.{bitOf}
 use Rattle.processor_arithmetic.specs.Sum.{sumOf, differenceOf}
 use Rattle.processor_arithmetic.specs.Integer.{signed, outside}
 use Rattle.processor_arithmetic.specs.Places.{Placed}
-use Rattle.processor_arithmetic.specs.Bit.{bitAt}
 
 -- every flag of a sum at its place
 abbrev pub SumPlaced : Type 0

@@ -1,7 +1,7 @@
 -- The instruction formats of document 000 ("Instruction Formats"): the fields of a first halfword f and a second
 -- halfword s, and what each format makes of them. An immediate or displacement comes as a word, "(sign extend)" or
 -- "(zero extend)" as 000's list of instructions says for each.
-use Prim.Native.Nat.{ℕ, _+_, _*_, _/_, _%_}
+use Prim.Native.Nat.{ℕ, _+_, _*_, _/_, _%_, _^_}
 use mathlib.Core.Bool.{Bool, true, false}
 use lib.Dec.{eqb, ltb}
 use Rattle.word.specs.Choose.{pick}
@@ -102,6 +102,22 @@ nintendo op f = Modelled (Nintendo op (lowOf f) (reg2Of f))
 abbrev pub exchange : NintendoOperation → ℕ → Decoded
 exchange op f = Modelled (Nintendo op 0 (reg2Of f))
 
+-- the opcode, bits 15-10
+abbrev pub opcodeOf : ℕ → ℕ
+opcodeOf f = f / 2 ^ 10
+
+-- 101000, the first opcode of a format with two halfwords, and the two illegal ones above it, 110010 and 110110
+abbrev pub firstLong : ℕ
+firstLong = 0x28
+
+abbrev pub illegalLoad : ℕ
+illegalLoad = 0x32
+
+abbrev pub illegalStore : ℕ
+illegalStore = 0x36
+
 -- Formats IV to VII have two halfwords: opcodes from 101000 up, but for the two illegal ones there
 abbrev pub twoOf : ℕ → Bool
-twoOf f = pick (ltb (f / 1024) 40) false (pick (eqb (f / 1024) 50) false (pick (eqb (f / 1024) 54) false true))
+twoOf f =
+    pick (ltb (opcodeOf f) firstLong) false
+    (pick (eqb (opcodeOf f) illegalLoad) false (pick (eqb (opcodeOf f) illegalStore) false true))

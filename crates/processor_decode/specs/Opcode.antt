@@ -1,11 +1,11 @@
 -- Document 000's "List of Instructions by Opcode": one row for each of the 64 opcodes, in order, each with its format
 -- and mnemonic as there. f is the first halfword and s the second. Paper 01's Illegal opcodes are `Modelled Illegal`,
 -- those that it leaves out `NotModelled`.
-use Prim.Native.Nat.{ℕ, _/_}
+use Prim.Native.Nat.{ℕ}
 use mathlib.Core.List.{List, [], _∷_, _++_}
 use lib.ListN.{getD, replicate}
 use Rattle.processor_decode.specs.Format.{lowOf, reg2Of, register, signedImmediate, unsigned, setf, ldsr, stsr}
-use Rattle.processor_decode.specs.Format.{branch, jr}
+use Rattle.processor_decode.specs.Format.{opcodeOf, branch, jr}
 use Rattle.processor_decode.specs.Format.{jal, longSigned, longUnsigned, load, input, store, output}
 use Rattle.processor_decode.specs.SubOpcode.{extendedOf}
 use Rattle.processor_decode.specs.declared.RegisterOperation.{RegisterOperation}
@@ -145,4 +145,4 @@ longRows f s =
 
 -- the row of the opcode, the top six bits of the first halfword
 unfoldable pub decodeOf : ℕ → ℕ → Decoded
-decodeOf f s = getD (shortRows f ++ (branchRows f ++ longRows f s)) (f / 1024) NotModelled
+decodeOf f s = getD (shortRows f ++ (branchRows f ++ longRows f s)) (opcodeOf f) NotModelled

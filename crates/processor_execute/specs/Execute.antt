@@ -5,10 +5,11 @@ use mathlib.Core.List.{List}
 use lib.Dec.{eqb}
 use lib.Ieee.{binary32, toBits}
 use lib.ListN.{getD}
+use Rattle.word.specs.Bit.{isSet}
 use Rattle.word.specs.Choose.{pick}
 use Rattle.processor_arithmetic.specs.declared.Outcome.{Outcome}
 use Rattle.processor_arithmetic.specs.declared.Pair.{Pair}
-use Rattle.processor_arithmetic.specs.Flag.{bitOf, flagOf, setIdOf, clearIdOf}
+use Rattle.processor_arithmetic.specs.Flag.{bitOf, setIdOf, clearIdOf, npFlag}
 use Rattle.processor_arithmetic.specs.Product.{multiplyOf, multiplyUnsignedOf}
 use Rattle.processor_arithmetic.specs.Quotient.{divideOf, divideUnsignedOf}
 use Rattle.processor_arithmetic.specs.Condition.{conditionOf}
@@ -24,6 +25,7 @@ use Rattle.processor_float.specs.declared.Compared.{Compared}
 use Rattle.processor_float.specs.declared.FloatOutcome.{FloatOutcome}
 use Rattle.processor_float.specs.declared.FloatOutcome.the-variants.{Number, Word, Reserved, Invalid, ZeroDivide}
 use Rattle.processor_float.specs.declared.FloatOutcome.the-variants.{Overflow}
+use Rattle.processor_machine.specs.State.{eipcPlace, eipswPlace, fepcPlace, fepswPlace}
 use Rattle.processor_machine.specs.State.{State, Stepped, stateOf, steppedOf, regOf, putOf, evenOf}
 use Rattle.processor_machine.specs.System.{systemOf, writtenOf}
 use Rattle.processor_machine.specs.Exception.{raiseOf}
@@ -85,8 +87,8 @@ plusOf a disp = (a + disp) % 2 ^ 32
 -- RETI, by NP: PC and PSW from FEPC and FEPSW, or from EIPC and EIPSW
 abbrev pub returnsOf : State → Memory → Stepped
 returnsOf s m =
-    pick (eqb (flagOf 32768 (s .psw)) 1) (goesOn (s .regs) (getD (s .sys) 2 0) (getD (s .sys) 3 0) s m)
-    (goesOn (s .regs) (getD (s .sys) 0 0) (getD (s .sys) 1 0) s m)
+    pick (isSet npFlag (s .psw)) (goesOn (s .regs) (getD (s .sys) fepcPlace 0) (getD (s .sys) fepswPlace 0) s m)
+    (goesOn (s .regs) (getD (s .sys) eipcPlace 0) (getD (s .sys) eipswPlace 0) s m)
 
 unfoldable pub executeOf : Instruction → ℕ → State → Memory → Stepped
 -- Register Transfer, Arithmetic, Bitwise

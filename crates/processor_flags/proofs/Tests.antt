@@ -7,10 +7,11 @@ use native.Mathlib.Omega.{arith}
 use borrow.Author.Tests.{lt-leb, le-leb, eq-eqb, ne-eqb}
 use lib.Bits.{bitXor, xor-shr, xor-lt}
 use lib.Dec.{eqb, leb}
+use Rattle.word.specs.Bit.{isSet}
 use Rattle.word.specs.Choose.{pick}
 use Rattle.processor_arithmetic.proofs.Bits.{bit-small}
-use Rattle.processor_arithmetic.specs.Condition.{_xor_, isSet, conditionOf}
-use Rattle.processor_arithmetic.specs.Flag.{bitOf, zeroOf, flagsOf}
+use Rattle.processor_arithmetic.specs.Condition.{_xor_, conditionOf}
+use Rattle.processor_arithmetic.specs.Flag.{bitOf, zeroOf, flagsOf, sFlag, ovFlag}
 use Rattle.processor_flags.specs.Packed.{packedValueOf, carryOf, overflowOf, packedOf}
 use Rattle.processor_flags.specs.declared.Flags.{Flags}
 
@@ -81,7 +82,7 @@ module _ (p : ℕ) where
 
   pub greater-zero : conditionOf 2 p ≡ true → false ≡ conditionOf 15 p
   unfolding conditionOf
-  greater-zero e = rw e (or-true (_xor_ (isSet 4 p) (isSet 2 p)))
+  greater-zero e = rw e (or-true (_xor_ (isSet ovFlag p) (isSet sFlag p)))
     where
       or-true : (b : Bool) → false ≡ not (pick b true true)
       or-true true = refl
@@ -89,7 +90,7 @@ module _ (p : ℕ) where
 
   pub greater-none : conditionOf 2 p ≡ false → not (conditionOf 6 p) ≡ conditionOf 15 p
   unfolding conditionOf
-  greater-none e = rw e (or-false (_xor_ (isSet 4 p) (isSet 2 p)))
+  greater-none e = rw e (or-false (_xor_ (isSet ovFlag p) (isSet sFlag p)))
     where
       or-false : (b : Bool) → not b ≡ not (pick b true false)
       or-false true = refl

@@ -3,8 +3,9 @@
 use Prim.Native.Nat.{ℕ, _+_, _*_, _/_, _%_, _^_}
 use mathlib.Core.Bool.{Bool, true, false}
 use lib.Dec.{ltb, eqb}
+use Rattle.word.specs.Bit.{withBit}
 use Rattle.word.specs.Choose.{pick}
-use Rattle.processor_arithmetic.specs.Flag.{bitOf, setFlagOf, keepCarryOf}
+use Rattle.processor_arithmetic.specs.Flag.{bitOf, keepCarryOf, fudFlag}
 use Rattle.processor_float.specs.Operand.{isZero}
 use Rattle.processor_float.specs.declared.Compared.{Compared}
 use Rattle.processor_float.specs.declared.Compared.the-variants.{Lower, Equal, Higher, Reserved}
@@ -15,7 +16,7 @@ orderFlagsOf psw zero negative = psw / 16 * 16 + bitOf negative * 10 + bitOf zer
 
 -- FUD, bit 5: set where the result underflowed, else kept
 unfoldable pub underflowOf : ℕ → Bool → ℕ
-underflowOf psw underflowed = pick underflowed (setFlagOf 32 psw) psw
+underflowOf psw underflowed = pick underflowed (withBit fudFlag psw) psw
 
 -- ADDF.S, SUBF.S, MULF.S, DIVF.S and CVT.WS, whose result is the word w
 unfoldable pub numberFlagsOf : ℕ → ℕ → Bool → ℕ

@@ -4,7 +4,8 @@ use mathlib.Core.Path.{_∙_}
 use mathlib.Core.Bool.{true, false}
 use native.Mathlib.Omega.{arith}
 use lib.Dec.{ltb}
-use Rattle.processor_arithmetic.specs.Flag.{setFlagOf}
+use Rattle.word.specs.Bit.{withBit}
+use Rattle.processor_arithmetic.specs.Flag.{fudFlag}
 use Rattle.processor_arithmetic.proofs.Bits.{same-above}
 use Rattle.processor_arithmetic.proofs.Places.{keep-carry-placed, set-flag, set-flag-others}
 use Rattle.processor_float.specs.Operand.{isZero}
@@ -49,7 +50,7 @@ order-placed psw false false =
 pub number-placed : NumberPlaced
 unfolding numberFlagsOf underflowOf
 number-placed psw w true =
-    let o = order-placed (setFlagOf 32 psw) (isZero w) (ltb (2 ^ 31) w) in
+    let o = order-placed (withBit fudFlag psw) (isZero w) (ltb (2 ^ 31) w) in
     record {
       order = o;
       at-fud = o .others 5 (omega arith) ∙ set-flag 5 psw;

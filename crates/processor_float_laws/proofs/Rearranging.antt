@@ -7,6 +7,7 @@ use native.Mathlib.Omega.{arith}
 use lib.IntN.{ℤ, pos, negℤ, _+ℤ_, _*ℤ_}
 use lib.Pow.{high, low, shr-shr, mod-mod-pow, field}
 use lib.Signed.{shrZ}
+use Rattle.word.specs.Bit.{bitAt}
 use Rattle.word.specs.Extend.{extendOf, signedOf}
 use Rattle.word.specs.Floors.{modZ}
 use Rattle.word.proofs.Integers.{is-moved, is-scaled}
@@ -14,7 +15,6 @@ use Rattle.word.proofs.Signs.{opposite-times}
 use Rattle.word.proofs.Floors.{is-mod}
 use Rattle.word.proofs.Readings.{reading-low, reading-high}
 use Rattle.word.proofs.Extended.{extend-low, extend-high}
-use Rattle.processor_arithmetic.specs.Bit.{bitAt}
 use Rattle.processor_arithmetic.proofs.Bits.{same-below}
 use Rattle.processor_float.specs.Nintendo.{xbOf, xhOf, reversedOf, revOf, mpyhwOf}
 use Rattle.processor_float.proofs.Reversal.{reversed-small}

@@ -5,9 +5,9 @@ use mathlib.Core.Path.{_≡_}
 use mathlib.Core.Logic.{_≢_}
 use mathlib.Core.Bool.{Bool}
 use lib.Dec.{ltb}
+use Rattle.word.specs.Bit.{bitAt}
 use Rattle.word.specs.Choose.{pick}
 use Rattle.processor_arithmetic.specs.Flag.{bitOf}
-use Rattle.processor_arithmetic.specs.Bit.{bitAt}
 use Rattle.processor_arithmetic.specs.Places.{Placed}
 use Rattle.processor_float.specs.Operand.{isZero}
 use Rattle.processor_float.specs.Flag.{orderFlagsOf, underflowOf, numberFlagsOf, conversionFlagsOf}

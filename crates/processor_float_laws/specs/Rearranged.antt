@@ -3,8 +3,8 @@
 use Prim.Native.Nat.{ℕ, _-_, _/_, _%_, _^_, _<_}
 use mathlib.Core.Path.{_≡_}
 use lib.IntN.{ℤ, pos, _+ℤ_, _*ℤ_}
+use Rattle.word.specs.Bit.{bitAt}
 use Rattle.word.specs.Extend.{signedOf}
-use Rattle.processor_arithmetic.specs.Bit.{bitAt}
 use Rattle.processor_float.specs.Nintendo.{xbOf, xhOf, revOf, mpyhwOf}
 
 abbrev pub byteAt : ℕ → ℕ → ℕ

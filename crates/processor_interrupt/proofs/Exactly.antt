@@ -5,8 +5,9 @@ use mathlib.Core.Path.{_≡_, refl, sym, _∙_}
 use native.Mathlib.Omega.{arith}
 use borrow.Author.Tests.{eqb-true, eqb-false, ne-eqb, leb-true, le-leb}
 use lib.Dec.{eqb, leb}
+use Rattle.word.specs.Bit.{bitAt}
 use Rattle.word.specs.Choose.{pick}
-use Rattle.processor_arithmetic.specs.Flag.{flagOf}
+use Rattle.processor_arithmetic.specs.Flag.{idFlag, epFlag, npFlag}
 use Rattle.processor_machine.specs.Exception.{regularEntryOf}
 use Rattle.processor_machine.specs.declared.Mode.{Mode}
 use Rattle.processor_machine.specs.declared.Mode.the-variants.{Running, Halted, Fatal}
@@ -40,17 +41,17 @@ not-fatal-awake Fatal n = absurd (n refl)
 
 -- what PSW lets through
 record Allows (psw level : ℕ) : Type 0 where
-  np : flagOf 32768 psw ≡ 0
-  ep : flagOf 16384 psw ≡ 0
-  id : flagOf 4096 psw ≡ 0
+  np : bitAt npFlag psw ≡ 0
+  ep : bitAt epFlag psw ≡ 0
+  id : bitAt idFlag psw ≡ 0
   at-least : maskingLevelOf psw ≤ level
 
 allows : (psw level : ℕ) → allowsOf psw level ≡ true → Allows psw level
 unfolding allowsOf
 allows psw level e =
-    let np = second-holds (eqb (flagOf 32768 psw) 1) _ e in
-    let ep = second-holds (eqb (flagOf 16384 psw) 1) _ (np .1) in
-    let id = second-holds (eqb (flagOf 4096 psw) 1) _ (ep .1) in
+    let np = second-holds (eqb (bitAt npFlag psw) 1) _ e in
+    let ep = second-holds (eqb (bitAt epFlag psw) 1) _ (np .1) in
+    let id = second-holds (eqb (bitAt idFlag psw) 1) _ (ep .1) in
     record {
       np = flag-clear (psw / 32768) (np .0);
       ep = flag-clear (psw / 16384) (ep .0);

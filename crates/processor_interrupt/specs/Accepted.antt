@@ -4,8 +4,9 @@
 use Prim.Native.Nat.{ℕ, _+_, _<_, _≤_}
 use mathlib.Core.Bool.{true}
 use mathlib.Core.Path.{_≡_}
+use Rattle.word.specs.Bit.{bitAt}
 use Rattle.bus.specs.Memory.{Memory}
-use Rattle.processor_arithmetic.specs.Flag.{flagOf}
+use Rattle.processor_arithmetic.specs.Flag.{idFlag, epFlag, npFlag}
 use Rattle.processor_machine.specs.State.{State, stateOf}
 use Rattle.processor_machine.specs.Exception.{regularEntryOf}
 use Rattle.processor_machine.specs.declared.Cause.{Cause}
@@ -19,9 +20,9 @@ pub record Acceptable (lines psw : ℕ) (mode : Mode) (level : ℕ) : Type 0 whe
   pub level-below : level < 5
   pub raised : lineOf level lines ≡ 1
   pub at-least : maskingLevelOf psw ≤ level
-  pub np-clear : flagOf 32768 psw ≡ 0
-  pub ep-clear : flagOf 16384 psw ≡ 0
-  pub id-clear : flagOf 4096 psw ≡ 0
+  pub np-clear : bitAt npFlag psw ≡ 0
+  pub ep-clear : bitAt epFlag psw ≡ 0
+  pub id-clear : bitAt idFlag psw ≡ 0
   pub not-fatal : mode ≡ Fatal → ⊥
 
 -- the level taken is such a line's, and no raised line's is above it

@@ -4,15 +4,16 @@ use Prim.Native.Nat.{ℕ, _+_, _*_, _/_, _%_, _^_}
 use mathlib.Core.Bool.{Bool, true, false}
 use lib.Dec.{eqb, leb}
 use lib.ListN.{getD, set}
+use Rattle.word.specs.Bit.{bitAt, isSet}
 use Rattle.word.specs.Choose.{pick}
-use Rattle.processor_arithmetic.specs.Flag.{flagOf, regularOf}
-use Rattle.processor_machine.specs.State.{State, stateOf}
+use Rattle.processor_arithmetic.specs.Flag.{regularOf, idFlag, epFlag, npFlag}
+use Rattle.processor_machine.specs.State.{eipcPlace, eipswPlace, ecrPlace, State, stateOf}
 use Rattle.processor_machine.specs.declared.Mode.{Mode}
 use Rattle.processor_machine.specs.declared.Mode.the-variants.{Running, Halted, Fatal}
 
 -- the line of level n
 abbrev pub lineOf : ℕ → ℕ → ℕ
-lineOf n lines = lines / 2 ^ n % 2
+lineOf n lines = bitAt n lines
 
 -- I, bits 19 to 16 of PSW
 abbrev pub maskingLevelOf : ℕ → ℕ
@@ -27,8 +28,8 @@ levelOf lines =
 -- "at least I while NP, EP and ID are all clear"
 unfoldable pub allowsOf : ℕ → ℕ → Bool
 allowsOf psw level =
-    pick (eqb (flagOf 32768 psw) 1) false
-    (pick (eqb (flagOf 16384 psw) 1) false (pick (eqb (flagOf 4096 psw) 1) false (leb (maskingLevelOf psw) level)))
+    pick (isSet npFlag psw) false
+    (pick (isSet epFlag psw) false (pick (isSet idFlag psw) false (leb (maskingLevelOf psw) level)))
 
 -- "Running or halted"
 abbrev pub awakeOf : Mode → Bool
@@ -56,6 +57,7 @@ withLevelOf level psw = psw / 1048576 * 1048576 + level * 65536 + psw % 65536
 -- record's: HALT has moved it past itself
 unfoldable pub interruptedOf : ℕ → State → State
 interruptedOf level s =
-    let sys = set (set (s .sys) 0 (s .pc)) 1 (s .psw) in
-    stateOf (s .regs) (set sys 4 (getD sys 4 0 / 65536 * 65536 + interruptCodeOf level)) (interruptHandlerOf level)
+    let sys = set (set (s .sys) eipcPlace (s .pc)) eipswPlace (s .psw) in
+    stateOf (s .regs) (set sys ecrPlace (getD sys ecrPlace 0 / 65536 * 65536 + interruptCodeOf level))
+    (interruptHandlerOf level)
     (withLevelOf (level + 1) (regularOf (s .psw))) Running

@@ -5,7 +5,8 @@ use mathlib.Core.Bool.{Bool, true, false}
 use mathlib.Core.Path.{_≡_, refl, sym, ap, _∙_}
 use native.Mathlib.Omega.{arith}
 use lib.Dec.{eqb}
-use Rattle.processor_arithmetic.specs.Flag.{flagOf}
+use Rattle.word.specs.Bit.{bitAt}
+use Rattle.processor_arithmetic.specs.Flag.{epFlag, npFlag}
 use Rattle.processor_arithmetic.specs.Condition.{conditionOf}
 use Rattle.processor_arithmetic.specs.Quotient.{divideOf, divideUnsignedOf}
 use Rattle.bus.specs.Memory.{Memory}
@@ -67,8 +68,8 @@ module _ (s : State) (m : Memory) (running : s .mode ≡ Running) where
   raise-sleeps c next =
       let duplexed = duplexedEntryOf c (codeOf c) (restoreOf c (s .pc) next) (savedOf c (s .psw)) s m in
       let regular = regularEntryOf c (codeOf c) (handlerOf c) (restoreOf c (s .pc) next) (savedOf c (s .psw)) s m in
-      pick-each Sleeps (eqb (flagOf 32768 (s .psw)) 1) (fatalOf c s m) _ (fatal-sleeps c)
-      (pick-each Sleeps (eqb (flagOf 16384 (s .psw)) 1) duplexed regular awake awake)
+      pick-each Sleeps (eqb (bitAt npFlag (s .psw)) 1) (fatalOf c s m) _ (fatal-sleeps c)
+      (pick-each Sleeps (eqb (bitAt epFlag (s .psw)) 1) duplexed regular awake awake)
 
   settles-sleeps : (n : ℕ) (o : FloatOutcome) (next : ℕ) → Sleeps (settlesOf n o next s m)
   settles-sleeps n (Number v underflowed) next = awake
@@ -111,7 +112,7 @@ module _ (s : State) (m : Memory) (running : s .mode ≡ Running) where
   execute-sleeps (Jr disp) next = awake
   execute-sleeps (Jal disp) next = awake
   execute-sleeps (Trap vector) next = raise-sleeps (cause.the-variants.Trap vector) next
-  execute-sleeps Reti next = pick-each Sleeps (eqb (flagOf 32768 (s .psw)) 1) _ _ awake awake
+  execute-sleeps Reti next = pick-each Sleeps (eqb (bitAt npFlag (s .psw)) 1) _ _ awake awake
   execute-sleeps Halt next = λ h. (refl, refl)
   execute-sleeps (Ldsr reg2 id) next = awake
   execute-sleeps (Stsr id reg2) next = awake

@@ -3,7 +3,7 @@ use Prim.Native.Nat.{ℕ, _+_, _*_, _/_, _%_, _^_, _<_}
 use mathlib.Core.Path.{_≡_, sym, ap, _∙_}
 use native.Mathlib.Omega.{arith}
 use lib.Pow.{shr-shr}
-use Rattle.processor_arithmetic.specs.Bit.{bitAt}
+use Rattle.word.specs.Bit.{bitAt}
 use Rattle.processor_arithmetic.proofs.Bits.{same-above, same-below}
 use Rattle.processor_interrupt.specs.Interrupt.{withLevelOf}
 use Rattle.processor_interrupt_laws.specs.Level.{LevelPlaced}

@@ -4,8 +4,9 @@ use Prim.Native.Nat.{ℕ}
 use mathlib.Core.Bool.{Bool, true, false}
 use mathlib.Core.Path.{_≡_, refl, ap}
 use lib.Dec.{eqb}
+use Rattle.word.specs.Bit.{bitAt}
 use Rattle.word.specs.Choose.{pick}
-use Rattle.processor_arithmetic.specs.Flag.{flagOf}
+use Rattle.processor_arithmetic.specs.Flag.{epFlag, npFlag}
 use Rattle.processor_arithmetic.specs.Condition.{conditionOf}
 use Rattle.processor_arithmetic.specs.Quotient.{divideOf, divideUnsignedOf}
 use Rattle.bus_timer.proofs.Choices.{pick-each}
@@ -41,8 +42,8 @@ module _ (s : State) (m : Memory) (P : Memory → Type 0) (here : P m) where
   raise-leaves c next =
       let duplexed = duplexedEntryOf c (codeOf c) (restoreOf c (s .pc) next) (savedOf c (s .psw)) s m in
       let regular = regularEntryOf c (codeOf c) (handlerOf c) (restoreOf c (s .pc) next) (savedOf c (s .psw)) s m in
-      pick-each Leaves (eqb (flagOf 32768 (s .psw)) 1) (fatalOf c s m) _ here
-      (pick-each Leaves (eqb (flagOf 16384 (s .psw)) 1) duplexed regular here here)
+      pick-each Leaves (eqb (bitAt npFlag (s .psw)) 1) (fatalOf c s m) _ here
+      (pick-each Leaves (eqb (bitAt epFlag (s .psw)) 1) duplexed regular here here)
 
   settles-leaves : (n : ℕ) (o : FloatOutcome) (next : ℕ) → Leaves (settlesOf n o next s m)
   settles-leaves n (Number v underflowed) next = here
@@ -92,7 +93,7 @@ module _ (s : State) (m : Memory) (P : Memory → Type 0) (here : P m) where
   execute-leaves (Jr disp) next h = here
   execute-leaves (Jal disp) next h = here
   execute-leaves (Trap vector) next h = raise-leaves (cause.the-variants.Trap vector) next
-  execute-leaves Reti next h = pick-each Leaves (eqb (flagOf 32768 (s .psw)) 1) _ _ here here
+  execute-leaves Reti next h = pick-each Leaves (eqb (bitAt npFlag (s .psw)) 1) _ _ here here
   execute-leaves Halt next h = here
   execute-leaves (Ldsr reg2 id) next h = here
   execute-leaves (Stsr id reg2) next h = here

@@ -2,7 +2,7 @@
 -- bits, and every other bit stays. The statement; its proof is `level-placed` in proofs/Levelling.
 use Prim.Native.Nat.{ℕ, _+_, _<_, _≤_}
 use mathlib.Core.Path.{_≡_}
-use Rattle.processor_arithmetic.specs.Bit.{bitAt}
+use Rattle.word.specs.Bit.{bitAt}
 use Rattle.processor_interrupt.specs.Interrupt.{maskingLevelOf, withLevelOf}
 
 pub record LevelAt (level psw after : ℕ) : Type 0 where

@@ -18,7 +18,7 @@ use Rattle.processor_machine.specs.State.{State, Stepped}
 use Rattle.processor_step.specs.Step.{firstOf, secondOf, nextOf, performOf, runningStepOf, stepInOf, instructionStepOf, linesIn, acceptsIn, interruptStepOf, stepOf}
 use Rattle.processor_interrupt.specs.Interrupt.{levelOf}
 use Rattle.processor_interrupt.proofs.Exactly.{accepts-taken}
-use Rattle.processor_machine.proofs.PswMask.{psw-bits-mask}
+use Rattle.processor_machine.specs.System.{pswBitsOf}
 use Rattle.processor_machine.specs.declared.Mode.{Mode}
 use Rattle.processor_machine.specs.declared.Mode.the-variants.{Running, Halted, Fatal}
 use Rattle.processor.specs.Run.{Run, afterOf, afterStep, runOf}
@@ -108,6 +108,7 @@ run-count (suc budget) s m =
 
 -- what 5 says of an accepted machine
 pub machine-accepted-means : MachineAcceptedMeans
+unfolding pswBitsOf
 machine-accepted-means s m k =
     let t = told s m (k .accepted) in
     let p = t .1 in
@@ -119,9 +120,9 @@ machine-accepted-means s m k =
       eipc-even = p .eipc-even;
       fepc-even = p .fepc-even;
       sr25-even = p .sr25-even;
-      psw-bits = sym (psw-bits-mask _) ∙ p .psw-format;
-      eipsw-bits = sym (psw-bits-mask _) ∙ p .eipsw-format;
-      fepsw-bits = sym (psw-bits-mask _) ∙ p .fepsw-format;
+      psw-bits = p .psw-format;
+      eipsw-bits = p .eipsw-format;
+      fepsw-bits = p .fepsw-format;
       sr31-most = p .sr31-most;
       drawing-widths = register-within (m .regs) w;
       lines-and-timer = h;
@@ -129,6 +130,7 @@ machine-accepted-means s m k =
 
 -- and the other way
 pub machine-means-accepted : MachineMeansAccepted
+unfolding pswBitsOf
 machine-means-accepted s m l p =
     let h = hardware.means-accepted (hardwareIn (m .regs)) (p .lines-and-timer) in
     tells s m (lengths-accepted _ _ _ _ (m .regs) l (both-registers (m .regs) (within-drawing (m .regs) (p .drawing-widths)) h))
@@ -138,8 +140,8 @@ machine-means-accepted s m l p =
       eipc-even = p .eipc-even;
       fepc-even = p .fepc-even;
       sr25-even = p .sr25-even;
-      psw-format = psw-bits-mask _ ∙ p .psw-bits;
-      eipsw-format = psw-bits-mask _ ∙ p .eipsw-bits;
-      fepsw-format = psw-bits-mask _ ∙ p .fepsw-bits;
+      psw-format = p .psw-bits;
+      eipsw-format = p .eipsw-bits;
+      fepsw-format = p .fepsw-bits;
       sr31-most = p .sr31-most;
     }

@@ -4,7 +4,8 @@ use mathlib.Core.Path.{refl}
 use native.Mathlib.Omega.{arith}
 use lib.Dec.{ltb, eqb}
 use lib.ListN.{getD, set}
-use Rattle.processor_arithmetic.specs.Flag.{flagOf, setFlagOf, regularOf}
+use Rattle.word.specs.Bit.{bitAt, withBit}
+use Rattle.processor_arithmetic.specs.Flag.{regularOf, fovFlag, fzdFlag, fivFlag, froFlag, epFlag, npFlag}
 use Rattle.bus.specs.Memory.{Memory}
 use Rattle.processor_machine.specs.State.{State, Stepped, steppedOf}
 use Rattle.processor_machine.specs.Exception.{codeOf, handlerOf, restoreOf, savedOf, fatalOf, duplexedEntryOf, regularEntryOf, enterOf, raiseOf}
@@ -55,10 +56,10 @@ saved-format : (c : Cause) (psw : ℕ) → Format psw → Format (savedOf c psw)
 saved-format ZeroDivision psw h = h
 saved-format Illegal psw h = h
 saved-format (Trap vector) psw h = h
-saved-format FloatReserved psw h = low-format psw (setFlagOf 512 psw) (psw % 1024 - psw / 512 % 2 * 512 + 512) h (omega arith) (omega arith)
-saved-format FloatInvalid psw h = low-format psw (setFlagOf 256 psw) (psw % 1024 - psw / 256 % 2 * 256 + 256) h (omega arith) (omega arith)
-saved-format FloatZeroDivide psw h = low-format psw (setFlagOf 128 psw) (psw % 1024 - psw / 128 % 2 * 128 + 128) h (omega arith) (omega arith)
-saved-format FloatOverflow psw h = low-format psw (setFlagOf 64 psw) (psw % 1024 - psw / 64 % 2 * 64 + 64) h (omega arith) (omega arith)
+saved-format FloatReserved psw h = low-format psw (withBit froFlag psw) (psw % 1024 - psw / 512 % 2 * 512 + 512) h (omega arith) (omega arith)
+saved-format FloatInvalid psw h = low-format psw (withBit fivFlag psw) (psw % 1024 - psw / 256 % 2 * 256 + 256) h (omega arith) (omega arith)
+saved-format FloatZeroDivide psw h = low-format psw (withBit fzdFlag psw) (psw % 1024 - psw / 128 % 2 * 128 + 128) h (omega arith) (omega arith)
+saved-format FloatOverflow psw h = low-format psw (withBit fovFlag psw) (psw % 1024 - psw / 64 % 2 * 64 + 64) h (omega arith) (omega arith)
 
 module _ (c : Cause) (s : State) (m : Memory) (g : Good s m) where
   fatal-left : Left (fatalOf c s m)
@@ -102,8 +103,8 @@ module _ (c : Cause) (s : State) (m : Memory) (g : Good s m) where
     enter-left : Left (enterOf c code handler restore saved s m)
     unfolding enterOf
     enter-left =
-        pick-each Left (eqb (flagOf 32768 (s .psw)) 1) (fatalOf c s m) _ fatal-left
-        (pick-each Left (eqb (flagOf 16384 (s .psw)) 1) (duplexedEntryOf c code restore saved s m) (regularEntryOf c code handler restore saved s m) duplexed-left regular-left)
+        pick-each Left (eqb (bitAt npFlag (s .psw)) 1) (fatalOf c s m) _ fatal-left
+        (pick-each Left (eqb (bitAt epFlag (s .psw)) 1) (duplexedEntryOf c code restore saved s m) (regularEntryOf c code handler restore saved s m) duplexed-left regular-left)
 
 -- an exception leaves an accepted machine
 pub raise-left : (c : Cause) (next : ℕ) (s : State) (m : Memory) → Address next → Good s m → Left (raiseOf c next s m)

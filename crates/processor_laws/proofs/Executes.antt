@@ -7,9 +7,10 @@ use native.Mathlib.Omega.{arith}
 use lib.Dec.{eqb}
 use lib.ListN.{getD}
 use lib.Ieee.{binary32, toBits}
+use Rattle.word.specs.Bit.{bitAt}
 use Rattle.processor_arithmetic.specs.declared.Outcome.{Outcome}
 use Rattle.processor_arithmetic.specs.declared.Pair.{Pair}
-use Rattle.processor_arithmetic.specs.Flag.{bitOf, flagOf, setIdOf, clearIdOf}
+use Rattle.processor_arithmetic.specs.Flag.{bitOf, setIdOf, clearIdOf, npFlag}
 use Rattle.processor_arithmetic.proofs.Bits.{bit-small}
 use Rattle.processor_arithmetic.specs.Product.{multiplyOf, multiplyUnsignedOf}
 use Rattle.processor_arithmetic.specs.Quotient.{divideOf, divideUnsignedOf}
@@ -106,7 +107,7 @@ module _ (s : State) (m : Memory) (g : Good s m) where
   returns : Left (returnsOf s m)
   returns =
       let q = g .systems in
-      pick-each Left (eqb (flagOf 32768 (s .psw)) 1) (goesOn (s .regs) (getD (s .sys) 2 0) (getD (s .sys) 3 0) s m)
+      pick-each Left (eqb (bitAt npFlag (s .psw)) 1) (goesOn (s .regs) (getD (s .sys) 2 0) (getD (s .sys) 3 0) s m)
       (goesOn (s .regs) (getD (s .sys) 0 0) (getD (s .sys) 1 0) s m)
       (stays (getD (s .sys) 2 0) (getD (s .sys) 3 0) record { word = q .each 2 .word; even = q .each 2 .fepc refl } (q .each 3 .fepsw refl))
       (stays (getD (s .sys) 0 0) (getD (s .sys) 1 0) record { word = q .each 0 .word; even = q .each 0 .eipc refl } (q .each 1 .eipsw refl))

@@ -10,7 +10,7 @@ use lib.Dec.{ltb, eqb}
 use lib.ListN.{getD, set}
 use lib.Seq.{getD-set-other}
 use lib.Ieee.{Float, binary32, toBits, ofInt}
-use Rattle.processor_arithmetic.specs.Bit.{bitAt}
+use Rattle.word.specs.Bit.{bitAt}
 use Rattle.processor_arithmetic.specs.Integer.{signed}
 use Rattle.processor_arithmetic.proofs.Places.{set-flag, set-flag-others}
 use Rattle.bus.specs.Memory.{Memory}

@@ -4,7 +4,7 @@ use mathlib.Core.List.{_++_}
 use native.Mathlib.Omega.{arith}
 use lib.Dec.{eqb}
 use Rattle.word.specs.Extend.{extendOf}
-use Rattle.word.proofs.Extended.{extended-word}
+use Rattle.word.proofs.Extended.{extend-word}
 use Rattle.processor_decode.specs.Format.{lowOf, reg2Of, ldsr, stsr}
 use Rattle.processor_decode.specs.SubOpcode.{subRows, extendedOf}
 use Rattle.processor_decode.specs.Opcode.{shortRows, branchRows, longRows, decodeOf}
@@ -50,7 +50,7 @@ Found NotModelled = Unit {0}
 
 module _ (f : ℕ) where
   five : extendOf 16 (lowOf f) < 2 ^ 32
-  five = extended-word 16 (f % 32) (omega arith) (omega arith)
+  five = extend-word 16 (f % 32) (omega arith) (omega arith)
 
   plain : lowOf f < 2 ^ 32
   plain = omega arith
@@ -81,7 +81,7 @@ module _ (f s : ℕ) (h : s < 65536) where
   long-found : Each Found (longRows f s)
   unfolding longRows
   long-found =
-      let e : extendOf 32768 s < 2 ^ 32 = extended-word 32768 s (omega arith) (omega arith) in
+      let e : extendOf 32768 s < 2 ^ 32 = extend-word 32768 s (omega arith) (omega arith) in
       let p : s < 2 ^ 32 = omega arith in
       (e, (e, (tt, (tt, (p, (p, (p, (p, (tt, (tt, (tt, (tt, (tt, (tt, (tt, (tt, (tt, (tt, (tt, (tt, (tt, (tt, (extended-found f s, (tt, tt))))))))))))))))))))))))
 

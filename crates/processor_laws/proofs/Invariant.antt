@@ -16,6 +16,7 @@ use Rattle.refusal.specs.declared.Verdict.the-variants.{Accepted, Refused}
 use Rattle.bus.proofs.Accepted.{unless-passed}
 use Rattle.processor_machine.specs.State.{State}
 use Rattle.processor_machine.specs.System.{pswBitsOf}
+use Rattle.processor_machine.proofs.PswMask.{psw-bits-kept}
 use Rattle.processor.specs.Acceptance.{both, isEven, isFormat, evenOk, formatsOk, stateOk, acceptanceAt, acceptanceOf}
 use Rattle.processor_laws.specs.Accepted.{Below, Machine}
 
@@ -81,8 +82,7 @@ then-accepted (Refused n) later e =
     absurd (omega arith)
 
 pub format-word : (v : ℕ) → Format v → v < 2 ^ 20
-unfolding pswBitsOf
-format-word v h = omega arith
+format-word v h = omega (arith, psw-bits-kept v)
 
 -- what the tests of 5 say of the processor
 pub record Passed (s : State) : Type 0 where

@@ -1,39 +1,37 @@
 -- A PSW stays within the bits of 0x000FF3FF: after results' flags, with a floating flag, ID, EP, NP and AE set or cleared,
 -- and with I replaced.
 use Prim.Native.Nat.{ℕ, _+_, _-_, _*_, _/_, _%_, _^_, _≤_, _<_}
-use mathlib.Core.Path.{_≡_, subst}
+use mathlib.Core.Path.{_≡_, subst, _∙_}
 use mathlib.Core.Bool.{Bool, true, false}
 use native.Mathlib.Omega.{arith}
 use lib.Dec.{ltb, eqb}
-use Rattle.processor_arithmetic.specs.Flag.{bitOf, setFlagOf, signOf, zeroOf, flagsOf, keepCarryOf, setIdOf, clearIdOf, setEpOf, setNpOf, clearAeOf, regularOf, duplexedOf}
+use Rattle.word.specs.Bit.{withBit}
+use Rattle.processor_arithmetic.specs.Flag.{bitOf, signOf, zeroOf, flagsOf, keepCarryOf, setIdOf, clearIdOf, setEpOf, setNpOf, clearAeOf, regularOf, duplexedOf, fudFlag}
 use Rattle.processor_arithmetic.proofs.Bits.{bit-small}
 use Rattle.processor_float.specs.Operand.{isZero}
 use Rattle.processor_float.specs.Flag.{orderFlagsOf, underflowOf, numberFlagsOf, conversionFlagsOf}
 use Rattle.processor_machine.specs.System.{pswBitsOf}
+use Rattle.processor_machine.proofs.PswMask.{psw-bits-kept}
 use Rattle.processor_interrupt.specs.Interrupt.{withLevelOf}
 use Rattle.processor_laws.proofs.Invariant.{Format}
 
 pub kept-format : (v : ℕ) → Format (pswBitsOf v)
-unfolding pswBitsOf
-kept-format v = omega arith
+kept-format v = psw-bits-kept (pswBitsOf v) ∙ omega (arith, psw-bits-kept v)
 
 -- a PSW format is ten low bits, and eight from bit 12 on
 joined : (v high low : ℕ) → v ≡ high * 4096 + low → high < 256 → low < 1024 → Format v
-unfolding pswBitsOf
 joined v high low e hh hl =
     let a : v % 1024 ≡ low = omega arith in
     let b : v / 4096 ≡ high = omega arith in
     let d : high % 256 ≡ high = omega arith in
     let f : v / 4096 % 256 ≡ high = rw b d in
-    omega arith
+    omega (arith, psw-bits-kept v)
 
 parted : (v : ℕ) → Format v → v ≡ v / 4096 * 4096 + v % 1024
-unfolding pswBitsOf
-parted v h = omega arith
+parted v h = omega (arith, psw-bits-kept v)
 
 high-small : (v : ℕ) → Format v → v / 4096 < 256
-unfolding pswBitsOf
-high-small v h = omega arith
+high-small v h = omega (arith, psw-bits-kept v)
 
 -- the four low bits, and the three
 low-four : (psw r : ℕ) → Format psw → r < 16 → Format (psw / 16 * 16 + r)
@@ -68,7 +66,7 @@ order-format psw zero negative h =
 
 underflow-format : (psw : ℕ) (underflowed : Bool) → Format psw → Format (underflowOf psw underflowed)
 unfolding underflowOf
-underflow-format psw true h = low-format psw (setFlagOf 32 psw) (psw % 1024 - psw / 32 % 2 * 32 + 32) h (omega arith) (omega arith)
+underflow-format psw true h = low-format psw (withBit fudFlag psw) (psw % 1024 - psw / 32 % 2 * 32 + 32) h (omega arith) (omega arith)
 underflow-format psw false h = h
 
 pub number-format : (psw w : ℕ) (underflowed : Bool) → Format psw → Format (numberFlagsOf psw w underflowed)

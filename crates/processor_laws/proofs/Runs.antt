@@ -4,7 +4,8 @@ use mathlib.Core.Bool.{Bool, false}
 use mathlib.Core.Path.{_≡_, refl, sym, ap}
 use native.Mathlib.Omega.{arith}
 use lib.Dec.{eqb}
-use Rattle.processor_arithmetic.specs.Flag.{flagOf}
+use Rattle.word.specs.Bit.{bitAt}
+use Rattle.processor_arithmetic.specs.Flag.{epFlag, npFlag}
 use Rattle.processor_arithmetic.specs.Condition.{conditionOf}
 use Rattle.processor_arithmetic.specs.Quotient.{divideOf, divideUnsignedOf}
 use Rattle.bus.specs.Memory.{Memory}
@@ -54,8 +55,8 @@ module _ (s : State) (m : Memory) where
   raise-idle : (c : cause.Cause) (next : ℕ) → Idle (raiseOf c next s m)
   unfolding raiseOf enterOf
   raise-idle c next =
-      pick-each Idle (eqb (flagOf 32768 (s .psw)) 1) (fatalOf c s m) _ (refl, refl)
-      (pick-each Idle (eqb (flagOf 16384 (s .psw)) 1) (duplexedEntryOf c (codeOf c) (restoreOf c (s .pc) next) (savedOf c (s .psw)) s m)
+      pick-each Idle (eqb (bitAt npFlag (s .psw)) 1) (fatalOf c s m) _ (refl, refl)
+      (pick-each Idle (eqb (bitAt epFlag (s .psw)) 1) (duplexedEntryOf c (codeOf c) (restoreOf c (s .pc) next) (savedOf c (s .psw)) s m)
       (regularEntryOf c (codeOf c) (handlerOf c) (restoreOf c (s .pc) next) (savedOf c (s .psw)) s m) tt tt)
 
   settles-idle : (n : ℕ) (o : FloatOutcome) (next : ℕ) → Idle (settlesOf n o next s m)
@@ -98,7 +99,7 @@ module _ (s : State) (m : Memory) where
   execute-idle (Jr disp) next = tt
   execute-idle (Jal disp) next = tt
   execute-idle (Trap vector) next = raise-idle (cause.the-variants.Trap vector) next
-  execute-idle Reti next = pick-each Idle (eqb (flagOf 32768 (s .psw)) 1) _ _ tt tt
+  execute-idle Reti next = pick-each Idle (eqb (bitAt npFlag (s .psw)) 1) _ _ tt tt
   execute-idle Halt next = tt
   execute-idle (Ldsr reg2 id) next = tt
   execute-idle (Stsr id reg2) next = tt

@@ -5,9 +5,10 @@ use mathlib.Core.Path.{_∙_}
 use native.Mathlib.Omega.{arith}
 use lib.Dec.{eqb}
 use lib.ListN.{set}
-use Rattle.word.proofs.Extended.{extended-word}
+use Rattle.word.proofs.Extended.{extend-word}
 use Rattle.bus_timer.specs.Ports.{tlr, thr, tcr, controlBitsOf, portByteOf}
 use Rattle.bus_timer.specs.declared.Hardware.{Hardware}
+use Rattle.bus_timer.proofs.Mask.{control-sum}
 use Rattle.bus.specs.Registers.{hardwareIn}
 use Rattle.bus.specs.Place.{Place, vramAt, wramAt, pakAt, romAt, drawingAt, versionAt, silent, unlisted, unmapped, hardwareAt, soundUnit, nothing, expansion}
 use Rattle.bus.specs.Memory.{Memory, readPlace, byteOf, loadOf, putPlace, putDrawing, placeIn, putByte, putRegister, putHalfword, putFrom, storeOf}
@@ -90,15 +91,15 @@ stored-memories m w a v h =
     }
 
 port-small : (h : Hardware) (o : ℕ) → portByteOf h o < 256
-unfolding portByteOf controlBitsOf
+unfolding portByteOf
 port-small h o =
     let low : h .count % 256 < 256 = omega arith in
     let high : h .count / 256 % 256 < 256 = omega arith in
-    let control : 0xE4 + (h .control % 4 + h .control / 8 % 4 * 8) < 256 = omega arith in
+    let control : 0xE4 + controlBitsOf (h .control) < 256 = omega (arith, control-sum (h .control)) in
     let none : 0 < 256 = omega arith in
     pick-each (λ (x : ℕ). x < 256) (eqb o tlr) (h .count % 256) _ low
     (pick-each (λ (x : ℕ). x < 256) (eqb o thr) (h .count / 256 % 256) _ high
-    (pick-each (λ (x : ℕ). x < 256) (eqb o tcr) (0xE4 + (h .control % 4 + h .control / 8 % 4 * 8)) 0 control none))
+    (pick-each (λ (x : ℕ). x < 256) (eqb o tcr) (0xE4 + controlBitsOf (h .control)) 0 control none))
 
 read-byte : (m : Memory) (p : Place) → Bytes m → readPlace m p < 256
 read-byte m (vramAt i) h = h .vram i
@@ -135,8 +136,8 @@ module _ (m : Memory) (h : Bytes m) where
       omega (arith, byte-small s, byte-small (s + 1), byte-small (s + 1 + 1), byte-small (s + 1 + 1 + 1))
 
 pub loaded-word : (m : Memory) (w : Width) (a : ℕ) → Bytes m → loadedOf m w a < 2 ^ 32
-loaded-word m Byte a h = extended-word 128 (loadOf m 1 a) (omega arith) (load-byte m h a)
-loaded-word m Half a h = extended-word 32768 (loadOf m 2 a) (omega arith) (load-half m h a)
+loaded-word m Byte a h = extend-word 128 (loadOf m 1 a) (omega arith) (load-byte m h a)
+loaded-word m Half a h = extend-word 32768 (loadOf m 2 a) (omega arith) (load-half m h a)
 loaded-word m Word a h = load-word m h a
 
 pub input-word : (m : Memory) (w : Width) (a : ℕ) → Bytes m → inputOf m w a < 2 ^ 32

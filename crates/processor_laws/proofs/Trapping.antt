@@ -1,5 +1,5 @@
 -- `trap-leaves`: the statement of specs/Trapping, by the three entries. Assumes nothing.
-use Prim.Native.Nat.{ℕ, _+_, _*_, _/_, _%_, _^_, _<_}
+use Prim.Native.Nat.{ℕ, _+_, _*_, _/_, _%_, _<_}
 use mathlib.Core.List.{List, [], _∷_}
 use mathlib.Core.Path.{_≡_, refl, ap, _∙_}
 use mathlib.Core.Logic.{_≢_}
@@ -9,15 +9,15 @@ use borrow.Author.Tests.{eq-eqb, ne-eqb}
 use lib.Dec.{eqb}
 use lib.ListN.{length, getD, set, length-set}
 use lib.Seq.{getD-set-same, getD-set-other, set-out}
-use Rattle.processor_arithmetic.specs.Bit.{bitAt}
-use Rattle.processor_arithmetic.specs.Flag.{flagOf, setFlagOf, clearFlagOf, setIdOf, setEpOf, setNpOf, clearAeOf, regularOf, duplexedOf}
-use Rattle.processor_arithmetic.proofs.Places.{clear-flag, clear-flag-others, set-flag, set-flag-others}
+use Rattle.word.specs.Bit.{bitAt}
+use Rattle.processor_arithmetic.specs.Flag.{epFlag, npFlag}
+use Rattle.processor_arithmetic.proofs.Entering.{regular-entry, duplexed-entry}
 use Rattle.bus.specs.Memory.{Memory}
 use Rattle.processor_machine.specs.State.{State, Stepped}
 use Rattle.processor_machine.specs.Exception.{codeOf, handlerOf, restoreOf, savedOf, fatalOf, duplexedEntryOf, regularEntryOf, enterOf, raiseOf}
 use Rattle.processor_machine.specs.declared.Cause.{Cause}
 use Rattle.processor_machine.specs.declared.Answer.the-variants.{Trapped}
-use Rattle.processor_laws.specs.Trapping.{Enters, Leaves, TrapLeaves}
+use Rattle.processor_laws.specs.Trapping.{Entered, Leaves, TrapLeaves}
 use Rattle.processor_laws.proofs.Lists.{pick-each}
 use Rattle.processor_laws.proofs.Exceptions.{code-small}
 
@@ -44,24 +44,6 @@ half g l z e =
       | no outside ↦ ap (λ (r : List ℕ). g (getD r 4 0)) (set-out l 4 z (omega arith))
     ]
 
--- ---- PSW with ID set, AE cleared and one more flag set
-
-module _ (level v : ℕ) (n12 : level ≢ 12) (n13 : level ≢ 13) where
-  abbrev entered : ℕ
-  entered = clearFlagOf (2 ^ 13) (setFlagOf (2 ^ 12) (setFlagOf (2 ^ level) v))
-
-  at-id : bitAt 12 entered ≡ 1
-  at-id = clear-flag-others 12 13 _ (λ e. omega arith) ∙ set-flag 12 _
-
-  at-ae : bitAt 13 entered ≡ 0
-  at-ae = clear-flag 13 _
-
-  at-level : bitAt level entered ≡ 1
-  at-level = clear-flag-others level 13 _ n13 ∙ set-flag-others level 12 _ n12 ∙ set-flag level v
-
-  at-others : (k : ℕ) → k ≢ 12 → k ≢ 13 → k ≢ level → bitAt k entered ≡ bitAt k v
-  at-others k m12 m13 nl = clear-flag-others k 13 _ m13 ∙ set-flag-others k 12 _ m12 ∙ set-flag-others k level v nl
-
 -- ---- the three entries
 
 module _ (c : Cause) (next : ℕ) (s : State) (m : Memory) where
@@ -77,19 +59,19 @@ module _ (c : Cause) (next : ℕ) (s : State) (m : Memory) where
   abbrev regular : Stepped
   regular = regularEntryOf c (codeOf c) (handlerOf c) restore kept s m
 
-  raise-fatal : flagOf 32768 (s .psw) ≡ 1 → raiseOf c next s m ≡ fatalOf c s m
+  raise-fatal : bitAt npFlag (s .psw) ≡ 1 → raiseOf c next s m ≡ fatalOf c s m
   unfolding raiseOf enterOf
-  raise-fatal e = simp (eq-eqb (flagOf 32768 (s .psw)) 1 e)
+  raise-fatal e = simp (eq-eqb (bitAt npFlag (s .psw)) 1 e)
 
-  raise-duplexed : flagOf 32768 (s .psw) ≡ 0 → flagOf 16384 (s .psw) ≡ 1 → raiseOf c next s m ≡ duplexed
+  raise-duplexed : bitAt npFlag (s .psw) ≡ 0 → bitAt epFlag (s .psw) ≡ 1 → raiseOf c next s m ≡ duplexed
   unfolding raiseOf enterOf
   raise-duplexed e f =
-      simp (ne-eqb (flagOf 32768 (s .psw)) 1 (λ g. omega arith), eq-eqb (flagOf 16384 (s .psw)) 1 f)
+      simp (ne-eqb (bitAt npFlag (s .psw)) 1 (λ g. omega arith), eq-eqb (bitAt epFlag (s .psw)) 1 f)
 
-  raise-regular : flagOf 32768 (s .psw) ≡ 0 → flagOf 16384 (s .psw) ≡ 0 → raiseOf c next s m ≡ regular
+  raise-regular : bitAt npFlag (s .psw) ≡ 0 → bitAt epFlag (s .psw) ≡ 0 → raiseOf c next s m ≡ regular
   unfolding raiseOf enterOf
   raise-regular e f =
-      simp (ne-eqb (flagOf 32768 (s .psw)) 1 (λ g. omega arith), ne-eqb (flagOf 16384 (s .psw)) 1 (λ g. omega arith))
+      simp (ne-eqb (bitAt npFlag (s .psw)) 1 (λ g. omega arith), ne-eqb (bitAt epFlag (s .psw)) 1 (λ g. omega arith))
 
   abbrev Both : Stepped → Type 0
   Both t = (t .memory ≡ m) × (t .state .regs ≡ s .regs)
@@ -97,39 +79,31 @@ module _ (c : Cause) (next : ℕ) (s : State) (m : Memory) where
   both : Both (raiseOf c next s m)
   unfolding raiseOf enterOf
   both =
-      pick-each Both (eqb (flagOf 32768 (s .psw)) 1) (fatalOf c s m) _ (refl, refl)
-      (pick-each Both (eqb (flagOf 16384 (s .psw)) 1) duplexed regular (refl, refl) (refl, refl))
+      pick-each Both (eqb (bitAt npFlag (s .psw)) 1) (fatalOf c s m) _ (refl, refl)
+      (pick-each Both (eqb (bitAt epFlag (s .psw)) 1) duplexed regular (refl, refl) (refl, refl))
 
-  trapped : flagOf 32768 (s .psw) ≡ 0 → raiseOf c next s m .answer ≡ Trapped c
+  trapped : bitAt npFlag (s .psw) ≡ 0 → raiseOf c next s m .answer ≡ Trapped c
   unfolding raiseOf enterOf
   trapped e =
-      rw (ne-eqb (flagOf 32768 (s .psw)) 1 (λ g. omega arith))
-      (pick-each (λ (t : Stepped). t .answer ≡ Trapped c) (eqb (flagOf 16384 (s .psw)) 1) duplexed regular refl refl)
+      rw (ne-eqb (bitAt npFlag (s .psw)) 1 (λ g. omega arith))
+      (pick-each (λ (t : Stepped). t .answer ≡ Trapped c) (eqb (bitAt epFlag (s .psw)) 1) duplexed regular refl refl)
 
-  duplexed-enters : Enters (2 ∷ 3 ∷ 4 ∷ []) 3 15 kept s (duplexed .state)
-  unfolding duplexedOf setIdOf setNpOf clearAeOf
+  duplexed-enters : Entered (2 ∷ 3 ∷ 4 ∷ []) 3 npFlag kept s (duplexed .state)
   duplexed-enters =
       record {
         mode = refl;
         system = λ k n. others (s .sys) 2 3 restore kept _ k (n .0) (n .1 .0) (n .1 .1 .0);
         kept = λ h. saved (s .sys) 2 3 restore kept _ (λ e. omega arith) h;
-        id = at-id 15 kept (λ e. omega arith) (λ e. omega arith);
-        ae = at-ae 15 kept (λ e. omega arith) (λ e. omega arith);
-        set = at-level 15 kept (λ e. omega arith) (λ e. omega arith);
-        others = λ k n. at-others 15 kept (λ e. omega arith) (λ e. omega arith) k (n .0) (n .1 .0) (n .1 .1 .0);
+        psw = duplexed-entry kept;
       }
 
-  regular-enters : Enters (0 ∷ 1 ∷ 4 ∷ []) 1 14 kept s (regular .state)
-  unfolding regularOf setIdOf setEpOf clearAeOf
+  regular-enters : Entered (0 ∷ 1 ∷ 4 ∷ []) 1 epFlag kept s (regular .state)
   regular-enters =
       record {
         mode = refl;
         system = λ k n. others (s .sys) 0 1 restore kept _ k (n .0) (n .1 .0) (n .1 .1 .0);
         kept = λ h. saved (s .sys) 0 1 restore kept _ (λ e. omega arith) h;
-        id = at-id 14 kept (λ e. omega arith) (λ e. omega arith);
-        ae = at-ae 14 kept (λ e. omega arith) (λ e. omega arith);
-        set = at-level 14 kept (λ e. omega arith) (λ e. omega arith);
-        others = λ k n. at-others 14 kept (λ e. omega arith) (λ e. omega arith) k (n .0) (n .1 .0) (n .1 .1 .0);
+        psw = regular-entry kept;
       }
 
   duplexed-half : getD (duplexed .state .sys) 4 0 % 65536 ≡ getD (s .sys) 4 0 % 65536

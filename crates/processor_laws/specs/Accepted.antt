@@ -11,6 +11,7 @@ use Rattle.bus.specs.Registers.{deviceLength, widthOf, hardwareIn}
 use Rattle.bus.specs.Memory.{Memory, Lengths}
 use Rattle.refusal.specs.declared.Verdict.the-variants.{Accepted}
 use Rattle.processor_machine.specs.State.{State}
+use Rattle.processor_machine.specs.System.{pswMask}
 use Rattle.processor_step.specs.Step.{stepOf}
 use Rattle.processor.specs.Acceptance.{acceptanceOf}
 use Rattle.processor.specs.Run.{runOf}
@@ -60,9 +61,9 @@ pub record MachineMeans (s : State) (m : Memory) : Type 0 where
   pub eipc-even : getD (s .sys) 0 0 % 2 ≡ 0
   pub fepc-even : getD (s .sys) 2 0 % 2 ≡ 0
   pub sr25-even : getD (s .sys) 5 0 % 2 ≡ 0
-  pub psw-bits : bitAnd (s .psw) 0x000FF3FF ≡ s .psw
-  pub eipsw-bits : bitAnd (getD (s .sys) 1 0) 0x000FF3FF ≡ getD (s .sys) 1 0
-  pub fepsw-bits : bitAnd (getD (s .sys) 3 0) 0x000FF3FF ≡ getD (s .sys) 3 0
+  pub psw-bits : bitAnd (s .psw) pswMask ≡ s .psw
+  pub eipsw-bits : bitAnd (getD (s .sys) 1 0) pswMask ≡ getD (s .sys) 1 0
+  pub fepsw-bits : bitAnd (getD (s .sys) 3 0) pswMask ≡ getD (s .sys) 3 0
   pub sr31-most : getD (s .sys) 7 0 ≤ 0x80000000
   pub drawing-widths : (k : ℕ) → k < 13 → getD (m .regs) k 0 < 2 ^ widthOf k
   pub lines-and-timer : hardware.Means (hardwareIn (m .regs))

@@ -7,8 +7,10 @@ use mathlib.Core.List.{List, [], _∷_}
 use mathlib.Core.Path.{_≡_}
 use mathlib.Core.Logic.{_≢_, _⊎_}
 use lib.ListN.{getD}
+use Rattle.word.specs.Bit.{bitAt}
+use Rattle.processor_arithmetic.specs.Flag.{zFlag, sFlag, ovFlag, cyFlag}
+use Rattle.processor_arithmetic.specs.Flag.{fudFlag, fovFlag, fzdFlag, fivFlag, froFlag}
 use Rattle.word.specs.Choose.{member}
-use Rattle.processor_arithmetic.specs.Bit.{bitAt}
 use Rattle.bus.specs.Memory.{Memory}
 use Rattle.processor_decode.specs.SubOpcode.{extendedOf}
 use Rattle.processor_decode.specs.Opcode.{decodeOf}
@@ -31,12 +33,11 @@ pub record Saves (cause : Cause) (flag : ℕ) : Type 0 where
   pub set : (psw : ℕ) → bitAt flag (savedOf cause psw) ≡ 1
   pub kept : (psw k : ℕ) → k ≢ flag → bitAt k (savedOf cause psw) ≡ bitAt k psw
 
--- FRO is bit 9, FIV 8, FZD 7, FOV 6
 pub record FlagsSaved : Type 0 where
-  pub fro : Saves FloatReserved 9
-  pub fiv : Saves FloatInvalid 8
-  pub fzd : Saves FloatZeroDivide 7
-  pub fov : Saves FloatOverflow 6
+  pub fro : Saves FloatReserved froFlag
+  pub fiv : Saves FloatInvalid fivFlag
+  pub fzd : Saves FloatZeroDivide fzdFlag
+  pub fov : Saves FloatOverflow fovFlag
 
 -- 111110 is 62
 pub record Decodes (f s : ℕ) : Type 0 where
@@ -61,23 +62,23 @@ pub record Traps (next : ℕ) (s : State) (m : Memory) (t : Stepped) : Type 0 wh
   pub floating : member (codeOf cause) (0xFF60 ∷ 0xFF64 ∷ 0xFF68 ∷ 0xFF70 ∷ []) ≡ true
   pub raised : t ≡ raiseOf cause next s m
 
--- the flags that may change, by their bits: Z 0, S 1, OV 2, CY 3, FUD 5. CY stays where the result is a whole number
--- (ruling W4.4), and only the four operations underflow
+-- the flags that may change: CY stays where the result is a whole number (ruling W4.4), and only the four operations
+-- underflow
 abbrev pub floatingFlags : FloatingOperation → List ℕ
-floatingFlags FloatingOperation.CvtWs = 0 ∷ 1 ∷ 2 ∷ 3 ∷ []
-floatingFlags FloatingOperation.CvtSw = 0 ∷ 1 ∷ 2 ∷ []
-floatingFlags FloatingOperation.Addf = 0 ∷ 1 ∷ 2 ∷ 3 ∷ 5 ∷ []
-floatingFlags FloatingOperation.Subf = 0 ∷ 1 ∷ 2 ∷ 3 ∷ 5 ∷ []
-floatingFlags FloatingOperation.Mulf = 0 ∷ 1 ∷ 2 ∷ 3 ∷ 5 ∷ []
-floatingFlags FloatingOperation.Divf = 0 ∷ 1 ∷ 2 ∷ 3 ∷ 5 ∷ []
-floatingFlags FloatingOperation.TrncSw = 0 ∷ 1 ∷ 2 ∷ []
+floatingFlags FloatingOperation.CvtWs = zFlag ∷ sFlag ∷ ovFlag ∷ cyFlag ∷ []
+floatingFlags FloatingOperation.CvtSw = zFlag ∷ sFlag ∷ ovFlag ∷ []
+floatingFlags FloatingOperation.Addf = zFlag ∷ sFlag ∷ ovFlag ∷ cyFlag ∷ fudFlag ∷ []
+floatingFlags FloatingOperation.Subf = zFlag ∷ sFlag ∷ ovFlag ∷ cyFlag ∷ fudFlag ∷ []
+floatingFlags FloatingOperation.Mulf = zFlag ∷ sFlag ∷ ovFlag ∷ cyFlag ∷ fudFlag ∷ []
+floatingFlags FloatingOperation.Divf = zFlag ∷ sFlag ∷ ovFlag ∷ cyFlag ∷ fudFlag ∷ []
+floatingFlags FloatingOperation.TrncSw = zFlag ∷ sFlag ∷ ovFlag ∷ []
 
 -- CMPF.S changes no general register
 abbrev pub CmpfChanges : Type 0
 CmpfChanges =
     (reg1 reg2 next : ℕ) (s : State) (m : Memory)
     → let t = executeOf (Cmpf reg1 reg2) next s m in
-    Changes [] (0 ∷ 1 ∷ 2 ∷ 3 ∷ []) next s m t ⊎ Traps next s m t
+    Changes [] (zFlag ∷ sFlag ∷ ovFlag ∷ cyFlag ∷ []) next s m t ⊎ Traps next s m t
 
 -- the other floating instructions change reg2, unless they trap
 abbrev pub FloatingChanges : Type 0

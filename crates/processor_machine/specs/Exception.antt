@@ -1,11 +1,13 @@
 -- Exceptions (document 000, "Exception Processing", "List of Exceptions"; paper 01): the code, handler and restore PC
 -- of each cause, and the one entry that all of them take.
 use Prim.Native.Nat.{ℕ, _+_, _*_, _/_, _%_}
-use lib.Dec.{ltb, eqb}
+use lib.Dec.{ltb}
 use lib.ListN.{getD, set}
+use Rattle.word.specs.Bit.{isSet, withBit}
 use Rattle.word.specs.Choose.{pick}
-use Rattle.processor_arithmetic.specs.Flag.{flagOf, setFlagOf, regularOf, duplexedOf}
+use Rattle.processor_arithmetic.specs.Flag.{regularOf, duplexedOf, fovFlag, fzdFlag, fivFlag, froFlag, epFlag, npFlag}
 use Rattle.bus.specs.Memory.{Memory}
+use Rattle.processor_machine.specs.State.{eipcPlace, eipswPlace, fepcPlace, fepswPlace, ecrPlace}
 use Rattle.processor_machine.specs.State.{State, Stepped, stateOf, steppedOf}
 use Rattle.processor_machine.specs.declared.Mode.the-variants.{Fatal}
 use Rattle.processor_machine.specs.declared.Cause.{Cause}
@@ -43,16 +45,15 @@ restoreOf FloatInvalid pc next = pc
 restoreOf FloatZeroDivide pc next = pc
 restoreOf FloatOverflow pc next = pc
 
--- the PSW that is saved: a floating trap sets "the corresponding flag", FRO (bit 9), FIV (8), FZD (7) or FOV (6), and
--- keeps every other bit (ruling W4.1)
+-- the PSW that is saved: a floating trap sets "the corresponding flag" and keeps every other bit (ruling W4.1)
 abbrev pub savedOf : Cause → ℕ → ℕ
 savedOf ZeroDivision psw = psw
 savedOf Illegal psw = psw
 savedOf (Trap vector) psw = psw
-savedOf FloatReserved psw = setFlagOf 512 psw
-savedOf FloatInvalid psw = setFlagOf 256 psw
-savedOf FloatZeroDivide psw = setFlagOf 128 psw
-savedOf FloatOverflow psw = setFlagOf 64 psw
+savedOf FloatReserved psw = withBit froFlag psw
+savedOf FloatInvalid psw = withBit fivFlag psw
+savedOf FloatZeroDivide psw = withBit fzdFlag psw
+savedOf FloatOverflow psw = withBit fovFlag psw
 
 -- an exception with NP set: "mode fatal, nothing else changes"
 abbrev pub fatalOf : Cause → State → Memory → Stepped
@@ -61,22 +62,24 @@ fatalOf cause s m = steppedOf (TurnedFatal cause) (stateOf (s .regs) (s .sys) (s
 -- a duplexed exception: FEPC, FEPSW and the high half of ECR are filled
 abbrev pub duplexedEntryOf : Cause → ℕ → ℕ → ℕ → State → Memory → Stepped
 duplexedEntryOf cause code restore saved s m =
-    let sys = set (set (s .sys) 2 restore) 3 saved in
+    let sys = set (set (s .sys) fepcPlace restore) fepswPlace saved in
     steppedOf (Trapped cause)
-    (stateOf (s .regs) (set sys 4 (getD sys 4 0 % 65536 + code * 65536)) 0xFFFFFFD0 (duplexedOf saved) (s .mode)) m
+    (stateOf (s .regs) (set sys ecrPlace (getD sys ecrPlace 0 % 65536 + code * 65536)) 0xFFFFFFD0 (duplexedOf saved)
+    (s .mode)) m
 
 -- a regular exception: EIPC, EIPSW and the low half of ECR are filled
 abbrev pub regularEntryOf : Cause → ℕ → ℕ → ℕ → ℕ → State → Memory → Stepped
 regularEntryOf cause code handler restore saved s m =
-    let sys = set (set (s .sys) 0 restore) 1 saved in
+    let sys = set (set (s .sys) eipcPlace restore) eipswPlace saved in
     steppedOf (Trapped cause)
-    (stateOf (s .regs) (set sys 4 (getD sys 4 0 / 65536 * 65536 + code)) handler (regularOf saved) (s .mode)) m
+    (stateOf (s .regs) (set sys ecrPlace (getD sys ecrPlace 0 / 65536 * 65536 + code)) handler (regularOf saved)
+    (s .mode)) m
 
--- the entry, by NP (bit 15) and EP (bit 14): `saved` is the PSW that is saved
+-- the entry, by NP and EP: `saved` is the PSW that is saved
 unfoldable pub enterOf : Cause → ℕ → ℕ → ℕ → ℕ → State → Memory → Stepped
 enterOf cause code handler restore saved s m =
-    pick (eqb (flagOf 32768 (s .psw)) 1) (fatalOf cause s m)
-    (pick (eqb (flagOf 16384 (s .psw)) 1) (duplexedEntryOf cause code restore saved s m)
+    pick (isSet npFlag (s .psw)) (fatalOf cause s m)
+    (pick (isSet epFlag (s .psw)) (duplexedEntryOf cause code restore saved s m)
     (regularEntryOf cause code handler restore saved s m))
 
 -- an exception of the instruction at PC

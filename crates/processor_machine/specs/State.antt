@@ -12,6 +12,31 @@ use Rattle.processor_machine.specs.declared.Answer.{Answer}
 use Rattle.processor_machine.specs.declared.Answer.the-variants.{Ended}
 use Rattle.processor_machine.specs.declared.Control.{Control}
 
+-- the place of each in that list
+abbrev pub eipcPlace : ℕ
+eipcPlace = 0
+
+abbrev pub eipswPlace : ℕ
+eipswPlace = 1
+
+abbrev pub fepcPlace : ℕ
+fepcPlace = 2
+
+abbrev pub fepswPlace : ℕ
+fepswPlace = 3
+
+abbrev pub ecrPlace : ℕ
+ecrPlace = 4
+
+abbrev pub sr25Place : ℕ
+sr25Place = 5
+
+abbrev pub sr29Place : ℕ
+sr29Place = 6
+
+abbrev pub sr31Place : ℕ
+sr31Place = 7
+
 pub record State : Type 0 where
   pub regs : List ℕ
   pub sys : List ℕ

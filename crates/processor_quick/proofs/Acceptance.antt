@@ -6,8 +6,9 @@ use native.Mathlib.Omega.{arith}
 use borrow.Author.Tests.{eq-eqb}
 use lib.Dec.{eqb}
 use lib.Pow.{shr-shr}
+use Rattle.word.specs.Bit.{bitAt}
 use Rattle.word.specs.Choose.{pick}
-use Rattle.processor_arithmetic.specs.Flag.{flagOf, setIdOf}
+use Rattle.processor_arithmetic.specs.Flag.{setIdOf, idFlag}
 use Rattle.processor_flags.specs.Packed.{packedOf}
 use Rattle.processor_flags.specs.declared.Flags.{Flags}
 use Rattle.processor_flags.proofs.Kept.{packed-high}
@@ -37,7 +38,7 @@ pick-false : (b : Bool) → pick b false false ≡ false
 pick-false true = refl
 pick-false false = refl
 
-id-set : (psw : ℕ) → flagOf 4096 (setIdOf psw) ≡ 1
+id-set : (psw : ℕ) → bitAt idFlag (setIdOf psw) ≡ 1
 unfolding setIdOf
 id-set psw = omega arith
 
@@ -45,4 +46,4 @@ id-set psw = omega arith
 pub accepts-id : (lines psw : ℕ) → acceptsOf lines (setIdOf psw) Running ≡ false
 unfolding acceptsOf allowsOf
 accepts-id lines psw =
-    simp (eq-eqb (flagOf 4096 (setIdOf psw)) 1 (id-set psw), pick-false)
+    simp (eq-eqb (bitAt idFlag (setIdOf psw)) 1 (id-set psw), pick-false)

@@ -1,4 +1,5 @@
 pub mod Choose
+pub mod Bit
 pub mod Extend
 pub mod LittleEndian
 pub mod Integers

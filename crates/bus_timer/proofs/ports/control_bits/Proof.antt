@@ -1,6 +1,6 @@
--- `bus_timer::ports::control_bits`: the definition's sum.
-use Rattle.bus_timer.specs.Ports.{controlBitsOf}
-use mathlib.Core.Path.{refl}
+-- `bus_timer::ports::control_bits`: the bits of the mask, as a sum.
+use mathlib.Core.Path.{sym}
+use Rattle.bus_timer.proofs.Mask.{control-sum}
 use borrow.Author.Needs.{needs}
 use Rattle.bus_timer.proofs.ports.control_bits.Statement.{statement}
 use Rattle.bus_timer.proofs.ports.control_bits.Tie as tie
@@ -12,8 +12,7 @@ add-result : tie.Need-add-result
 add-result c = search needs
 
 returns : tie.Need-returns
-unfolding controlBitsOf
-returns c = refl
+returns c = sym (control-sum _)
 
 pub control-bits-spec : {M : Type 1} → statement M
 control-bits-spec = tie.close (tie.spec mul-result add-result returns)

@@ -1,7 +1,8 @@
 -- `bus_timer::ports::read`: by the offset.
 use Prim.Native.Nat.{_/_, _%_, _<_}
 use mathlib.Core.Path.{_≡_}
-use Rattle.bus_timer.specs.Ports.{portByteOf, controlBitsOf}
+use Rattle.bus_timer.specs.Ports.{portByteOf}
+use Rattle.bus_timer.proofs.Mask.{control-sum}
 use native.Mathlib.Omega.{arith}
 use borrow.Author.Tests.{eq-eqb, ne-eqb}
 use borrow.Author.Needs.{needs}
@@ -26,15 +27,14 @@ control-bits-requires : tie.Need-control-bits-requires
 control-bits-requires c κs = search needs
 
 add-result : tie.Need-add-result
-unfolding controlBitsOf
-add-result c = omega (arith, c .control-bits .ensures)
+add-result c = omega (arith, simp control-sum at (c .control-bits .ensures))
 
 cast-result-3 : tie.Need-cast-result-3
 cast-result-3 c = search needs
 
 returns-3 : tie.Need-returns-3
-unfolding portByteOf controlBitsOf
-returns-3 c = (rw (c .control-bits .ensures) (simp (ne-eqb _ _ (c .before .before .before .if1 .left), ne-eqb _ _ (c .before .before .if2 .left), eq-eqb _ _ (c .before .if3 .taken))), omega (arith, c .control-bits .ensures))
+unfolding portByteOf
+returns-3 c = (rw (c .control-bits .ensures) (simp (ne-eqb _ _ (c .before .before .before .if1 .left), ne-eqb _ _ (c .before .before .if2 .left), eq-eqb _ _ (c .before .if3 .taken))), omega (arith, simp control-sum at (c .control-bits .ensures)))
 
 returns-4 : tie.Need-returns-4
 unfolding portByteOf

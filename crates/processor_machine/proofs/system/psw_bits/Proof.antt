@@ -1,7 +1,7 @@
--- `processor_machine::system::psw_bits`: the definition's own arithmetic.
-use native.Mathlib.Omega.{arith}
+-- `processor_machine::system::psw_bits`: the bits of the mask, as a sum.
+use mathlib.Core.Path.{sym}
 use borrow.Author.Needs.{needs}
-use Rattle.processor_machine.specs.System.{pswBitsOf}
+use Rattle.processor_machine.proofs.PswMask.{psw-bits-kept}
 use Rattle.processor_machine.proofs.system.psw_bits.Statement.{statement}
 use Rattle.processor_machine.proofs.system.psw_bits.Tie as tie
 
@@ -12,8 +12,7 @@ add-result : tie.Need-add-result
 add-result c = search needs
 
 returns : tie.Need-returns
-unfolding pswBitsOf
-returns c = omega arith
+returns c = sym (psw-bits-kept _)
 
 pub psw-bits-spec : {M : Type 1} → statement M
 psw-bits-spec = tie.close (tie.spec mul-result add-result returns)
