@@ -23,7 +23,7 @@ pub record FirstZero (n : ℕ) (h : Hardware) : Type 0 where
   pub enabled : bitAt tEnb (ticksOf n h .control) ≡ 1
   pub again : startOf (ticksOf n h) ≡ h .reload
 
--- "reload n has period n": `startOf h` is n where count and reload are n, and where count is 0 and reload n
+-- T9: reload n has period n: `startOf h` is n where count and reload are n, and where count is 0 and reload n
 abbrev pub Period : Type 0
 Period =
     (n : ℕ) (h : Hardware) → 0 < n → startOf h ≡ n → bitAt tEnb (h .control) ≡ 1 → bitAt zStat (h .control) ≡ 0
@@ -33,6 +33,6 @@ Period =
 abbrev pub withClock : ℕ → Hardware → Hardware
 withClock b h = withControl h (withoutBit tClkSel (h .control) + b * 2 ^ tClkSel)
 
--- T11: T-Clk-Sel "is stored and has no other effect": a tick does with either value what it does with the other
+-- T11: T-Clk-Sel is stored and has no other effect: a tick does with either value what it does with the other
 abbrev pub ClockSelection : Type 0
 ClockSelection = (b : ℕ) (h : Hardware) → b < 2 → tickOf (withClock b h) ≡ withClock b (tickOf h)

@@ -28,7 +28,7 @@ timZInt = 3
 abbrev pub tClkSel : ℕ
 tClkSel = 4
 
--- T9: what a tick counts down from: "a count of 0 first becomes reload"
+-- T9: what a tick counts down from: a count of 0 first becomes reload
 unfoldable pub startOf : Hardware → ℕ
 startOf h = pick (eqb (h .count) 0) (h .reload) (h .count)
 
@@ -38,7 +38,7 @@ reachedZeroOf h =
     withLines (withCount (withControl h (withBit zStat (h .control))) 0)
     (pick (isSet timZInt (h .control)) (withBit timerLine (h .lines)) (h .lines))
 
--- T9: the count after a tick: "a count that is not 0 becomes one less", and 0 - 1 is 0
+-- T9: the count after a tick: one that is not 0 becomes one less, and 0 - 1 is 0
 unfoldable pub tickedCountOf : Hardware → ℕ
 tickedCountOf h = startOf h - 1
 

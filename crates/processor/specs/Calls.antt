@@ -49,7 +49,7 @@ pub record Ran : Type 0 where
 abbrev pub ranOf : Verdict → ℕ → Processor → Memory → Ran
 ranOf v n p m = record { verdict = v; count = n; processor = p; memory = m }
 
--- a run, unless refused: "refused so, its count is 0"
+-- a run, unless refused; the count of a refused one is 0
 abbrev pub runWhen : Verdict → ℕ → Processor → Memory → Ran
 runWhen verdict.Accepted budget p m =
     let r = runOf budget (stateIn p) (busOf p m) in
@@ -59,8 +59,8 @@ runWhen (verdict.Refused n) budget p m = ranOf (verdict.Refused n) 0 p m
 unfoldable pub checkedRunOf : ℕ → Processor → Memory → Ran
 checkedRunOf budget p m = runWhen (acceptanceIn p m) budget p m
 
--- reset: "PC 0xFFFFFFF0, ECR 0xFFF0, PSW 0x8000, all else 0, running"; "Lines and timer reset to 0" (paper 02, W6). ECR
--- is number 4 of the stored system registers
+-- reset: "PC 0xFFFFFFF0, ECR 0xFFF0, PSW 0x8000, all else 0 (H), running"; "Lines and timer reset to 0" (paper 02, W6).
+-- ECR is number 4 of the stored system registers
 unfoldable pub resetOf : Machine
 resetOf =
     record {

@@ -1,7 +1,7 @@
 -- What a salvage leaves of each body (paper 02, W13: it "keeps each body whose stored sum matches and which the writer
 -- could have made for some accepted state, and sets every other to reset values (3 to 5: zeros)"): a replaced body is
--- the one that a writer makes of the machine at reset (paper 01: "PC 0xFFFFFFF0, ECR 0xFFF0, PSW 0x8000, all else 0,
--- running"), whichever others are replaced. The statement; its proof is `replaced-at-reset`.
+-- the one that a writer makes of the machine at reset (paper 01: "PC 0xFFFFFFF0, ECR 0xFFF0, PSW 0x8000, all else 0
+-- (H), running"), whichever others are replaced. The statement; its proof is `replaced-at-reset`.
 use Prim.Native.Nat.{ℕ}
 use mathlib.Core.Bool.{Bool, true, false}
 use mathlib.Core.List.{List}
