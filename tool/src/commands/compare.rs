@@ -141,8 +141,6 @@ fn compared(options: &Options) -> Result<Report, Failure> {
     let mut vram = scene.drawn(options.frame)?;
     let views = Views::of(&vram, options.frame);
     let mut outputs = Outputs::default();
-    outputs.keep(scene.vram.identity);
-    outputs.keep(scene.drawing_file.identity);
     let mut eyes = Vec::new();
     for (number, input) in captures(options)? {
         let (eye, drawn) = [(Eye::Left, &views.left), (Eye::Right, &views.right)][number as usize];
@@ -156,7 +154,6 @@ fn compared(options: &Options) -> Result<Report, Failure> {
             (drawn.clone(), Capture::read(&input, wanted)?)
         };
         let found = differences(&expected, &capture.picture);
-        outputs.keep(input.identity);
         if !found.is_empty() {
             mark(options, &mut outputs, eye_name(eye), &expected, &capture.picture);
         }

@@ -167,7 +167,6 @@ fn by_captures(options: &Options) -> Result<Report, Failure> {
     let summary = Summary::of(&judged, lot.entries.len(), unknown);
 
     let mut outputs = Outputs::default();
-    judged.iter().flat_map(|one| &one.read).for_each(|read| outputs.keep(Some(*read)));
     if let Some(path) = html {
         let title = format!("{} judged", name(&options.lot));
         outputs.add(path, page(&title, &judged, &summary, &lot.unknown)?.into_bytes());

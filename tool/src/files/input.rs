@@ -10,7 +10,6 @@ use vb::grouped;
 
 use super::names::shown;
 use super::read::register;
-use super::Identity;
 use crate::failure::Failure;
 
 /// No memory of the console is larger than a quarter of this.
@@ -21,8 +20,6 @@ const LARGEST: u64 = 64 << 20;
 pub struct Input {
     pub path: PathBuf,
     pub bytes: Vec<u8>,
-    /// None for standard input.
-    pub identity: Option<Identity>,
 }
 
 impl Input {
@@ -32,7 +29,7 @@ impl Input {
             |what: String| Failure::bad(format!("{}: {what}; it must be {wanted}", shown(path)));
         if path == Path::new("-") {
             let bytes = standard_input().map_err(failed)?;
-            return Ok(Input { path: PathBuf::from("standard input"), bytes, identity: None });
+            return Ok(Input { path: PathBuf::from("standard input"), bytes });
         }
         let file = File::open(path).map_err(|error| failed(reason(&error)))?;
         let about = file.metadata().map_err(|error| failed(reason(&error)))?;
@@ -41,7 +38,7 @@ impl Input {
         }
         register(&about);
         let bytes = limited(file).map_err(failed)?;
-        Ok(Input { path: path.to_path_buf(), bytes, identity: Some(Identity::of(&about)) })
+        Ok(Input { path: path.to_path_buf(), bytes })
     }
 
     /// The file, its length, and what is wrong with it.

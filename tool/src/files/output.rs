@@ -12,7 +12,6 @@ use super::names::shown;
 use super::place::{folder_of, Place};
 use super::stream::{Sink, Stream};
 use super::temporary::{keep_folders, make_folder, remove_folders, Committing, Temporary};
-use super::Identity;
 use crate::failure::Failure;
 
 #[derive(Default)]
@@ -61,9 +60,6 @@ impl Outputs {
         self.grown.extend(stream.named());
         self.streams.get_mut().push(stream);
     }
-
-    /// Every input registers itself, so this says nothing new.
-    pub fn keep(&mut self, _read: Option<Identity>) {}
 
     /// The names, as they are printed.
     pub fn paths(&self) -> Vec<String> {

@@ -8,7 +8,7 @@ use super::{Entry, Eyes, Part};
 use crate::commands::compare::CAPTURE;
 use crate::commands::draw::Views;
 use crate::failure::Failure;
-use crate::files::{Identity, Input};
+use crate::files::Input;
 use crate::inputs::capture::{Capture, Level, Wanted};
 use crate::inputs::scene::{Read, Scene};
 use crate::pictures::difference::{differences, Bounds, Difference};
@@ -61,8 +61,6 @@ pub struct Judged {
     pub eyes: Vec<EyeJudged>,
     #[serde(flatten)]
     pub failure: Option<Failure>,
-    #[serde(skip)]
-    pub read: Vec<Identity>,
 }
 
 #[derive(Serialize)]
@@ -110,7 +108,6 @@ pub fn judge(entry: &Entry, wish: Wish) -> Judged {
         drawing: None,
         eyes: Vec::new(),
         failure: None,
-        read: Vec::new(),
     };
     let done = match &entry.part {
         Ok(part) => judged.part(part, wish),
@@ -135,8 +132,6 @@ impl Judged {
         let Part { state, vram, drawing, .. } = part.clone();
         let scene = Scene { state, vram, drawing }.read()?;
         (self.vram, self.drawing) = (Some(scene.vram.name()), Some(scene.drawing_file.name()));
-        self.read.extend(scene.vram.identity);
-        self.read.extend(scene.drawing_file.identity);
         let drawn = scene.drawn(self.frame)?;
         let mut wrong: Vec<Failure> = Vec::new();
         for eye in [Eye::Left, Eye::Right] {
@@ -163,7 +158,6 @@ impl Judged {
         wish: Wish,
     ) -> Result<(), Failure> {
         let Some(input) = capture(part, eye)? else { return Ok(()) };
-        self.read.extend(input.identity);
         let threshold = part.threshold.unwrap_or(0);
         let wanted = Wanted { frame: self.frame, eye: eye.number(), threshold };
         let capture = Capture::read(&input, wanted)?;

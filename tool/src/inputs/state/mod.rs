@@ -57,7 +57,6 @@ pub fn scene_of(input: &Input) -> Result<(Input, Input), Failure> {
     let part = |bytes: Vec<u8>, name: &str| Input {
         path: PathBuf::from(format!("{}, {name}", input.name())),
         bytes,
-        identity: input.identity,
     };
     let drawing = saved.machine.drawing.to_bytes();
     Ok((part(saved.vram, "VRAM"), part(drawing, "drawing record")))

@@ -20,7 +20,7 @@ fn state(form: Form, pak: usize) -> Vec<u8> {
 }
 
 fn input(bytes: Vec<u8>) -> Input {
-    Input { path: PathBuf::from("a.state"), bytes, identity: None }
+    Input { path: PathBuf::from("a.state"), bytes }
 }
 
 #[test]
