@@ -307,20 +307,6 @@ fn bad_input_a_lot_that_is_none_is_told() {
 }
 
 #[test]
-fn two_parts_of_one_name_are_told() {
-    let folder = Folder::with_demo("judge-names");
-    let part = "[[part]]\nname = 'a'\nvram = 'out/vram.bin'\ndrawing = 'out/drawing.bin'\nleft = 'out/frame1-left.png'\n";
-    folder.write("lot.toml", part.repeat(2).as_bytes());
-    let ran = folder.vbmodel("judge lot.toml");
-    assert_eq!(ran.status, 2);
-    assert!(
-        ran.text.contains("invalid  a: the name a is given to an earlier part\n"),
-        "{}",
-        ran.text
-    );
-}
-
-#[test]
 fn a_lot_is_stopped_by_ctrl_c_with_what_was_judged() {
     let folder = Folder::with_demo("judge-interrupt");
     lot_of(&folder, 1);

@@ -3,6 +3,7 @@
 mod common;
 
 use std::fs;
+use std::path::Path;
 use std::process::Command;
 
 use common::Folder;
@@ -48,6 +49,98 @@ fn the_header_names_model_command_and_every_file_with_its_hash() {
     for file in files {
         let path = folder.path(file["path"].as_str().unwrap());
         assert_eq!(file["bytes"].as_u64().unwrap(), fs::metadata(path).unwrap().len());
+    }
+}
+
+/// Whether python3 is there to read a report.
+fn python(folder: &Folder, script: &Path, arguments: &[&str]) -> Option<String> {
+    let output = Command::new("python3")
+        .arg(script)
+        .args(arguments)
+        .current_dir(folder.path("."))
+        .output()
+        .ok()?;
+    assert!(output.status.success(), "{}", String::from_utf8_lossy(&output.stderr));
+    Some(String::from_utf8(output.stdout).unwrap())
+}
+
+#[test]
+fn stdf_is_read_by_a_reader_that_was_written_apart() {
+    let folder = with_lot("reports-stdf");
+    assert_eq!(folder.vbmodel(&format!("{JUDGE} --stdf r.stdf")).status, 2);
+    let reader = Path::new(env!("CARGO_MANIFEST_DIR")).join("tests/stdf_reader.py");
+    let Some(text) = python(&folder, &reader, &["r.stdf"]) else { return };
+    let all = json_lines(&text);
+    let of = |name: &str| all.iter().filter(|one| one["record"] == name).collect::<Vec<_>>();
+    let order: Vec<&str> = all.iter().map(|one| one["record"].as_str().unwrap()).collect();
+    assert_eq!(order[..3], ["FAR", "ATR", "MIR"]);
+    assert_eq!(order[order.len() - 2..], ["PCR", "MRR"]);
+    assert_eq!((of("PIR").len(), of("PRR").len(), of("FTR").len()), (25, 25, 50));
+    assert_eq!(
+        (&of("MIR")[0]["LOT_ID"], &of("MIR")[0]["JOB_NAM"]),
+        (&"parts".into(), &"demo".into())
+    );
+    let prr = |part: &str| of("PRR").into_iter().rfind(|one| one["PART_ID"] == part).unwrap();
+    let facts = |part: &str| {
+        ["PART_FLG", "HARD_BIN", "SOFT_BIN", "X_COORD", "Y_COORD"]
+            .map(|name| prr(part)[name].as_i64().unwrap())
+    };
+    assert_eq!(facts("die-01"), [0, 1, 1, 2, 0]);
+    assert_eq!(facts("die-14"), [8, 4, 4, 1, 3]);
+    assert_eq!(facts("die-17"), [16, 0, 0, 4, 3]);
+    assert_eq!(facts("die-22"), [1, 1, 1, 4, 4]);
+    let failed: Vec<_> = of("FTR")
+        .iter()
+        .filter(|one| one["TEST_FLG"] == 128)
+        .map(|one| one["TEST_TXT"].clone())
+        .collect();
+    assert_eq!(failed, ["picture", "picture", "steps", "picture"]);
+    let bins: Vec<_> = of("HBR")
+        .iter()
+        .map(|one| (one["HBIN_NUM"].clone(), one["HBIN_CNT"].clone(), one["HBIN_PF"].clone()))
+        .collect();
+    let bin = |bin: u32, count: u32, sign: &str| (bin.into(), count.into(), sign.into());
+    assert_eq!(bins, [bin(0, 2, " "), bin(1, 19, "P"), bin(3, 2, "F"), bin(4, 1, "F")]);
+    assert_eq!(of("SBR").len(), 4);
+    let wrr = of("WRR")[0];
+    assert_eq!(
+        ["PART_CNT", "RTST_CNT", "GOOD_CNT"].map(|name| wrr[name].as_i64().unwrap()),
+        [24, 1, 19]
+    );
+    assert_eq!(
+        of("TSR").iter().map(|one| one["FAIL_CNT"].as_i64().unwrap()).collect::<Vec<_>>(),
+        [3, 1]
+    );
+    let files = of("DTR")
+        .into_iter()
+        .filter(|one| one["TEXT_DAT"].as_str().unwrap().starts_with("FILE "))
+        .count();
+    assert_eq!(files, 126);
+}
+
+#[test]
+fn csv_and_junit_have_every_part() {
+    let folder = with_lot("reports-forms");
+    assert_eq!(folder.vbmodel(&format!("{JUDGE} --csv r.csv --junit r.xml")).status, 2);
+    let csv = String::from_utf8(folder.read("r.csv")).unwrap();
+    assert_eq!(csv.lines().count(), 26);
+    assert!(csv.starts_with(
+        "part,attempt,decides,verdict,bin,wafer,x,y,what,test picture,test steps,probe card\n"
+    ));
+    assert!(csv.contains("die-17,1,yes,invalid,0,W1,4,3,\"picture: no capture of frame 1, right eye\",invalid,pass,A2\n"), "{csv}");
+    let xml = String::from_utf8(folder.read("r.xml")).unwrap();
+    for part in [
+        "<testsuite name=\"demo\" tests=\"24\" failures=\"3\" errors=\"2\" skipped=\"0\" time=\"",
+        "<testcase classname=\"vbmodel.judge\" name=\"die-01\"/>",
+        "<failure message=\"steps: trace: record 12,345 differs in PSW after",
+        "<error message=\"picture: no capture of frame 1, right eye\">",
+        "<property name=\"file lot/demo.rom\" value=\"SHA-256 ",
+    ] {
+        assert!(xml.contains(part), "{part}\nnot in\n{xml}");
+    }
+    folder.write("read.py", b"import sys, xml.dom.minidom as m\nprint(len(m.parse(sys.argv[1]).getElementsByTagName('testcase')))\n");
+    if let Some(count) = python(&folder, &folder.path("read.py"), &["r.xml"]) {
+        assert_eq!(count, "24\n");
     }
 }
 

@@ -190,3 +190,17 @@ fn a_part_with_an_empty_name_is_invalid() {
         "invalid  line 2: b.csv: the name is empty; it must have at least one character",
     );
 }
+
+#[test]
+fn the_second_of_two_parts_of_one_name_is_invalid() {
+    let folder = Folder::with_demo("verdicts-names");
+    let part = "[[part]]\nname = 'a'\nvram = 'out/vram.bin'\ndrawing = 'out/drawing.bin'\nleft = 'out/frame1-left.png'\n";
+    folder.write("lot.toml", part.repeat(2).as_bytes());
+    let ran = folder.vbmodel("judge lot.toml");
+    assert_eq!(ran.status, 2);
+    assert!(
+        ran.text.contains("invalid  a: the name a is given to an earlier part\n"),
+        "{}",
+        ran.text
+    );
+}
