@@ -79,3 +79,8 @@ fn the_manual_compares_and_follows_as_it_shows() {
     follow(&folder, "Comparing a capture", 1);
     follow(&folder, "Following a program", 1);
 }
+
+#[test]
+fn the_manual_records_a_trace_and_finds_its_wrong_flag() {
+    follow(&repository("readme-traces"), "Traces", 1);
+}
