@@ -63,14 +63,14 @@ LengthKept =
 -- the strip's first four rows in its byte 0 and the other four in its byte 1
 abbrev pub ColumnBytes : Type 0
 ColumnBytes =
-    (vram regs : List ℕ) (frame strip eye x b : ℕ) → length vram ≡ vramBytes
+    (vram regs : List ℕ) (frame strip eye column b : ℕ) → length vram ≡ vramBytes
     → frame < 2
     → strip < 28
     → eye < 2
-    → x < 384
+    → column < 384
     → b < 2
-    → getD (stripOf vram regs frame strip) (imageOf frame eye + pixelOffsetOf x (8 * strip) + b) 0
-    ≡ fourPixelsOf vram regs eye x (8 * strip + 4 * b)
+    → getD (stripOf vram regs frame strip) (imageOf frame eye + pixelOffsetOf column (8 * strip) + b) 0
+    ≡ fourPixelsOf vram regs eye column (8 * strip + 4 * b)
 
 -- a byte that is none of these is kept: "stored into that part of VRAM alone"
 abbrev pub OtherBytes : Type 0
