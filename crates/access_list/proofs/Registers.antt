@@ -21,7 +21,8 @@ unfolding accessOf
 access-registers k m xs =
     let a = addressAt xs k in
     let size = sizeAt xs k in
-    made-registers (eqb (writeAt xs k) 0) (length (m .regs)) m (storeOf m size a (valueAt xs k)) (answeredOf xs k (loadOf m size a) (undefinedOf m size a)) xs refl
+    made-registers (eqb (writeAt xs k) 0) (length (m .regs)) m (storeOf m size a (valueAt xs k)) (answeredOf xs k
+    (loadOf m size a) (undefinedOf m size a)) xs refl
     (store-shape m size a (valueAt xs k) .same-regs)
 
 pub accesses-registers : (n k : ℕ) (m : Memory) (xs : List ℕ) → length (accessesOf n k m xs .memory .regs) ≡ length (m .regs)

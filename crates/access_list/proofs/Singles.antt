@@ -16,7 +16,8 @@ use Rattle.access_list.specs.Calls.{listVerdictOf}
 use Rattle.access_list.specs.OneByOne.{singleOf, singlesOf, OneByOne, NoneRefused}
 use Rattle.access_list.proofs.Tested.{bus-passed, list-left}
 
-picked-access : (b : Bool) (m n : Memory) (xs ys : List ℕ) → verdictOf m ≡ Accepted → verdictOf n ≡ Accepted → verdictOf (pick b (madeOf m xs) (madeOf n ys) .memory) ≡ Accepted
+picked-access : (b : Bool) (m n : Memory) (xs ys : List ℕ) → verdictOf m ≡ Accepted → verdictOf n ≡ Accepted → verdictOf
+    (pick b (madeOf m xs) (madeOf n ys) .memory) ≡ Accepted
 picked-access true m n xs ys p q = p
 picked-access false m n xs ys p q = q
 

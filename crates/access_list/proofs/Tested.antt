@@ -27,7 +27,8 @@ then-passed (Refused n) later e =
     absurd (omega arith)
 
 module _ (rom wram vram pak : ℕ) (regs xs : List ℕ) where
-  passed : listVerdictAt rom wram vram pak regs xs ≡ Accepted → (verdictAt rom wram vram pak regs ≡ Accepted) × (unless (listOk xs) AccessList Accepted ≡ Accepted)
+  passed : listVerdictAt rom wram vram pak regs xs ≡ Accepted → (verdictAt rom wram vram pak regs ≡ Accepted) × (unless
+      (listOk xs) AccessList Accepted ≡ Accepted)
   unfolding listVerdictAt
   passed e = then-passed (verdictAt rom wram vram pak regs) (unless (listOk xs) AccessList Accepted) e
 

@@ -24,7 +24,8 @@ unless-passed false n later e =
     absurd (omega arith)
 
 module _ (rom wram vram pak : ℕ) (regs : List ℕ) where
-  passed : verdictAt rom wram vram pak regs ≡ Accepted → (romOk rom ≡ true) × ((wramOk wram ≡ true) × ((vramOk vram ≡ true) × ((pakOk pak ≡ true) × (registersOk regs ≡ true))))
+  passed : verdictAt rom wram vram pak regs ≡ Accepted → (romOk rom ≡ true) × ((wramOk wram ≡ true) ×
+      ((vramOk vram ≡ true) × ((pakOk pak ≡ true) × (registersOk regs ≡ true))))
   unfolding verdictAt
   passed e =
       let last = unless (registersOk regs) State Accepted in

@@ -9,7 +9,8 @@ use Rattle.word.specs.LittleEndian.{littleEndian}
 use Rattle.bus.specs.Refusal.{romOk}
 use Rattle.bus.specs.Place.{vramAt, vipPlace, regionOf}
 use Rattle.bus.specs.Memory.{Memory, byteOf, loadOf, putByte, putRegister, putHalfword, alignedOf, bytesFrom, putFrom, storeOf, withWram, withVram}
-use Rattle.bus.proofs.Places.{region-code, region-half-start, region-word, region-word-start, region-next, place-wram, place-rom, place-vip, byte-nothing, register-elsewhere, put-nothing}
+use Rattle.bus.proofs.Places.{region-code, region-half-start, region-word, region-word-start, region-next}
+use Rattle.bus.proofs.Places.{place-wram, place-rom, place-vip, byte-nothing, register-elsewhere, put-nothing}
 use Rattle.bus.proofs.Halfwords.{byte-load, byte-store}
 use Rattle.bus.proofs.VipPlaces.{register-byte}
 
@@ -125,7 +126,8 @@ between-put m s v even here low high =
     let h : (s + 1) % 524288 < 491520 = omega arith in
     rw (register-byte m s v here low high, register-byte m (s + 1) (v / 256) (region-next s even ∙ here) l h)
 
-pub between-half : (m : Memory) (a v : ℕ) → regionOf a ≡ 0 → 262144 ≤ (a - a % 2) % 524288 → (a - a % 2) % 524288 < 491520 → storeOf m 2 a v ≡ putRegister m (a - a % 2) v
+pub between-half : (m : Memory) (a v : ℕ) → regionOf a ≡ 0 → 262144 ≤ (a - a % 2) % 524288 →
+    (a - a % 2) % 524288 < 491520 → storeOf m 2 a v ≡ putRegister m (a - a % 2) v
 unfolding storeOf
 between-half m a v here low high = between-put m (a - a % 2) v (omega arith) (region-half-start a ∙ here) low high
 

@@ -10,7 +10,9 @@ use Rattle.word.specs.Choose.{pick, member, indexOf}
 use Rattle.bus_timer.specs.Ports.{hardwareOffsetOf}
 use Rattle.bus_timer.proofs.Choices.{pick-each, pick-cases}
 use Rattle.bus.specs.Registers.{drawingAddresses, silentAddresses, versionAddress}
-use Rattle.bus.specs.Place.{Place, vramAt, wramAt, pakAt, romAt, drawingAt, versionAt, silent, unlisted, unmapped, hardwareAt, soundUnit, nothing, expansion, mirrorOf, vipPlace, registerPlace, regionOf, placeOf}
+use Rattle.bus.specs.Place.{Place, vramAt, wramAt, pakAt, romAt, drawingAt, versionAt, silent, unlisted}
+use Rattle.bus.specs.Place.{unmapped, hardwareAt, soundUnit, nothing, expansion, mirrorOf, vipPlace}
+use Rattle.bus.specs.Place.{registerPlace, regionOf, placeOf}
 
 abbrev pub Proper : Place → Type 0
 Proper (drawingAt k b) = k < 13

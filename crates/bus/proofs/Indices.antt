@@ -18,7 +18,8 @@ module _ (h : ℕ) where
       let q = (h - 0x5F848) / 2 in
       let e : 0x5F848 + 2 * ((h - 0x5F848) / 2) ≡ h = omega arith in
       let small : (h - 0x5F848) / 2 < 4 = omega arith in
-      rw e at (eqb-true (indexOf (0x5F848 + 2 * q) drawingAddresses) q (below-test (λ (k : ℕ). eqb (indexOf (0x5F848 + 2 * k) drawingAddresses) k) 4 q tt small))
+      rw e at (eqb-true (indexOf (0x5F848 + 2 * q) drawingAddresses) q (below-test (λ (k : ℕ). eqb (indexOf
+      (0x5F848 + 2 * k) drawingAddresses) k) 4 q tt small))
 
   pub index-between : 0x5F850 ≤ h → h < 0x5F860 → indexOf h drawingAddresses ≡ 13
   index-between from less =
@@ -29,7 +30,8 @@ module _ (h : ℕ) where
       let q = (h - 0x5F860) / 2 in
       let e : 0x5F860 + 2 * ((h - 0x5F860) / 2) ≡ h = omega arith in
       let small : (h - 0x5F860) / 2 < 9 = omega arith in
-      rw e at (eqb-true (indexOf (0x5F860 + 2 * q) drawingAddresses) (q + 4) (below-test (λ (k : ℕ). eqb (indexOf (0x5F860 + 2 * k) drawingAddresses) (k + 4)) 9 q tt small))
+      rw e at (eqb-true (indexOf (0x5F860 + 2 * q) drawingAddresses) (q + 4) (below-test (λ (k : ℕ). eqb (indexOf
+      (0x5F860 + 2 * k) drawingAddresses) (k + 4)) 9 q tt small))
 
   pub index-after : 0x5F872 ≤ h → indexOf h drawingAddresses ≡ 13
   index-after from = apart (λ (x : ℕ). ltb x 0x5F872) h drawingAddresses tt (le-ltb h 0x5F872 from)

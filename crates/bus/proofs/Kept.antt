@@ -16,7 +16,8 @@ use Rattle.bus_timer.specs.declared.Hardware.{Hardware}
 use Rattle.bus_timer.proofs.Accepting.{ok-fits, fits-ok, write-accepted}
 use Rattle.bus_timer.proofs.Choices.{pick-true}
 use Rattle.bus.specs.Registers.{widthOf, keptOf, withinFrom, drawingOk, hardwareIn, withHardware, registersOk}
-use Rattle.bus.specs.Place.{Place, vramAt, wramAt, pakAt, romAt, drawingAt, versionAt, silent, unlisted, unmapped, hardwareAt, soundUnit, nothing, expansion}
+use Rattle.bus.specs.Place.{Place, vramAt, wramAt, pakAt, romAt, drawingAt, versionAt, silent, unlisted}
+use Rattle.bus.specs.Place.{unmapped, hardwareAt, soundUnit, nothing, expansion}
 use Rattle.bus.specs.Memory.{Memory, Lengths, verdictOf, putPlace, putDrawing, placeIn, putByte, putRegister, putHalfword, putFrom, storeOf}
 use Rattle.bus.proofs.Accepted.{accepted-lengths, accepted-registers, lengths-accepted}
 use Rattle.bus.proofs.Devices.{drawing-ok-same, set-hardware, with-register, with-length, with-fits}

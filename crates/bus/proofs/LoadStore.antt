@@ -10,8 +10,10 @@ use Rattle.word.specs.LittleEndian.{putHalf, putWord}
 use Rattle.bus_timer.specs.Ports.{portByteOf, portWrittenOf}
 use Rattle.bus_timer.specs.declared.Hardware.{Hardware}
 use Rattle.bus.specs.Registers.{keptOf, hardwareIn}
-use Rattle.bus.specs.Place.{Place, vramAt, wramAt, pakAt, romAt, drawingAt, versionAt, silent, unlisted, unmapped, hardwareAt, soundUnit, nothing, expansion}
-use Rattle.bus.specs.Memory.{Memory, byteOf, loadOf, readPlace, placeIn, putPlace, putDrawing, putByte, putRegister, putHalfword, alignedOf, putFrom, storeOf, withWram, withVram}
+use Rattle.bus.specs.Place.{Place, vramAt, wramAt, pakAt, romAt, drawingAt, versionAt, silent, unlisted}
+use Rattle.bus.specs.Place.{unmapped, hardwareAt, soundUnit, nothing, expansion}
+use Rattle.bus.specs.Memory.{Memory, byteOf, loadOf, readPlace, placeIn, putPlace, putDrawing, putByte}
+use Rattle.bus.specs.Memory.{putRegister, putHalfword, alignedOf, putFrom, storeOf, withWram, withVram}
 use Rattle.bus.proofs.Devices.{set-hardware, with-register}
 use Rattle.bus.proofs.DrawingPlaces.{Proper, place-proper}
 use Rattle.bus.proofs.Kept.{Shape, byte-shape, register-shape, halfword-shape}
@@ -187,12 +189,14 @@ Apart m b a = cellOf (placeIn m b) ≢ cellOf (placeIn m a)
 put-elsewhere : (m : Memory) (a b v : ℕ) → Apart m b a → byteOf (putByte m a v) b ≡ byteOf m b
 unfolding byteOf putByte
 put-elsewhere m a b v ne =
-    rw (shape-place m (putByte m a v) (byte-shape m a v) b) (read-other m (placeIn m a) (placeIn m b) (v % 256) (place-proper (length (m .rom)) (length (m .pak)) b) ne)
+    rw (shape-place m (putByte m a v) (byte-shape m a v) b) (read-other m (placeIn m a) (placeIn m b) (v % 256)
+    (place-proper (length (m .rom)) (length (m .pak)) b) ne)
 
 write-elsewhere : (m : Memory) (a b v : ℕ) → Apart m b a → byteOf (putRegister m a v) b ≡ byteOf m b
 unfolding byteOf putRegister
 write-elsewhere m a b v ne =
-    rw (shape-place m (putRegister m a v) (register-shape m a v) b) (drawing-other m (placeIn m a) (placeIn m b) (v % 65536) (place-proper (length (m .rom)) (length (m .pak)) a) ne)
+    rw (shape-place m (putRegister m a v) (register-shape m a v) b) (drawing-other m (placeIn m a) (placeIn m b)
+    (v % 65536) (place-proper (length (m .rom)) (length (m .pak)) a) ne)
 
 moved : (m n : Memory) → Shape m n → (b a : ℕ) → Apart m b a → Apart n b a
 moved m n p b a ne = rw (shape-place m n p b, shape-place m n p a) ne

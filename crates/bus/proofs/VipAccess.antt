@@ -11,7 +11,8 @@ use Rattle.bus.proofs.VipPlaces.{between-fits}
 use Rattle.bus.proofs.Halfwords.{byte-load, half-load, half-load-start}
 
 -- a byte of VRAM
-pub vram-byte : (m : Memory) (a i : ℕ) → regionOf a ≡ 0 → ((j : ℕ) → a % 524288 % 4 + j < 4 → vipPlace (a % 524288 + j) ≡ vramAt (i + j)) → loadOf m 1 a ≡ getD (m .vram) i 0
+pub vram-byte : (m : Memory) (a i : ℕ) → regionOf a ≡ 0 → ((j : ℕ) → a % 524288 % 4 + j < 4 → vipPlace
+    (a % 524288 + j) ≡ vramAt (i + j)) → loadOf m 1 a ≡ getD (m .vram) i 0
 unfolding byteOf
 vram-byte m a i here p =
     let e : a % 524288 + 0 ≡ a % 524288 = omega arith in

@@ -110,13 +110,17 @@ vip-register v low high m x =
 
 -- the two bytes of the register at an even address
 module _ (h : ℕ) (even : h % 2 ≡ 0) where
-  pub register-low : registerPlace h ≡ pick (ltb (indexOf h drawingAddresses) 13) (drawingAt (indexOf h drawingAddresses) 0) (pick (eqb h versionAddress) (versionAt 0) (pick (member h silentAddresses) silent unlisted))
+  pub register-low : registerPlace h ≡ pick (ltb (indexOf h drawingAddresses) 13) (drawingAt
+      (indexOf h drawingAddresses) 0) (pick (eqb h versionAddress) (versionAt 0) (pick
+      (member h silentAddresses) silent unlisted))
   unfolding registerPlace
   register-low =
       let e : h - h % 2 ≡ h = omega arith in
       rw (e, even)
 
-  pub register-high : registerPlace (h + 1) ≡ pick (ltb (indexOf h drawingAddresses) 13) (drawingAt (indexOf h drawingAddresses) 1) (pick (eqb h versionAddress) (versionAt 1) (pick (member h silentAddresses) silent unlisted))
+  pub register-high : registerPlace (h + 1) ≡ pick (ltb (indexOf h drawingAddresses) 13) (drawingAt
+      (indexOf h drawingAddresses) 1) (pick (eqb h versionAddress) (versionAt 1) (pick
+      (member h silentAddresses) silent unlisted))
   unfolding registerPlace
   register-high =
       let e : h + 1 - (h + 1) % 2 ≡ h = omega arith in
@@ -127,10 +131,12 @@ module _ (h : ℕ) (even : h % 2 ≡ 0) where
       → readPlace m (registerPlace h) + 256 * readPlace m (registerPlace (h + 1)) ≡ getD (m .regs) (indexOf h drawingAddresses) 0
   read-drawing m k fits = rw (register-low, register-high) (simp (lt-ltb _ _ k) (omega arith))
 
-  pub read-version : (m : Memory) → 13 ≤ indexOf h drawingAddresses → h ≡ versionAddress → readPlace m (registerPlace h) + 256 * readPlace m (registerPlace (h + 1)) ≡ 2
+  pub read-version : (m : Memory) → 13 ≤ indexOf h drawingAddresses → h ≡ versionAddress → readPlace m
+      (registerPlace h) + 256 * readPlace m (registerPlace (h + 1)) ≡ 2
   read-version m k e = rw (register-low, register-high) (simp (le-ltb _ _ k, eq-eqb h versionAddress e))
 
-  pub read-quiet : (m : Memory) → 13 ≤ indexOf h drawingAddresses → (h ≡ versionAddress → ⊥) → readPlace m (registerPlace h) + 256 * readPlace m (registerPlace (h + 1)) ≡ 0
+  pub read-quiet : (m : Memory) → 13 ≤ indexOf h drawingAddresses → (h ≡ versionAddress → ⊥) → readPlace m
+      (registerPlace h) + 256 * readPlace m (registerPlace (h + 1)) ≡ 0
   read-quiet m k n =
       rw (register-low, register-high)
       (simp (le-ltb _ _ k, ne-eqb h versionAddress n, quiet-read m (member h silentAddresses)))
@@ -154,7 +160,8 @@ register-load m a here low high even =
     )
 
 -- a register write at an address between VRAM and the mirror
-pub register-store : (m : Memory) (a v : ℕ) → regionOf a ≡ 0 → 262144 ≤ a % 524288 → a % 524288 < 491520 → putRegister m a v ≡ putDrawing m (registerPlace (a % 524288)) (v % 65536)
+pub register-store : (m : Memory) (a v : ℕ) → regionOf a ≡ 0 → 262144 ≤ a % 524288 → a % 524288 < 491520 → putRegister m
+    a v ≡ putDrawing m (registerPlace (a % 524288)) (v % 65536)
 unfolding putRegister
 register-store m a v here low high =
     rw (place-vip (length (m .rom)) (length (m .pak)) a here) (vip-register (a % 524288) low high m (v % 65536) .1 .0)

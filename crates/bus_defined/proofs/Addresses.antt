@@ -12,7 +12,9 @@ use lib.ListN.{length, getD}
 use Rattle.word.specs.Choose.{pick, member, indexOf}
 use Rattle.bus.specs.Registers.{drawingAddresses, silentAddresses, versionAddress}
 use Rattle.bus_timer.specs.Ports.{hardwareOffsetOf}
-use Rattle.bus.specs.Place.{Place, vramAt, wramAt, pakAt, romAt, drawingAt, versionAt, silent, unlisted, unmapped, hardwareAt, soundUnit, nothing, expansion, registerPlace, vipPlace, mirrorOf, regionOf, placeOf}
+use Rattle.bus.specs.Place.{Place, vramAt, wramAt, pakAt, romAt, drawingAt, versionAt, silent, unlisted, unmapped}
+use Rattle.bus.specs.Place.{hardwareAt, soundUnit, nothing, expansion, registerPlace, vipPlace, mirrorOf, regionOf}
+use Rattle.bus.specs.Place.{placeOf}
 use Rattle.bus.specs.Memory.{Memory, byteOf, readPlace, placeIn}
 use Rattle.bus.proofs.Places.{region-code, region-half, place-vip}
 use Rattle.bus_defined.specs.Defined.{definedPlace, definedOf, undefinedOf, registerAddresses}
@@ -31,13 +33,15 @@ unfoldable pub definedAt : ℕ → Bool
 definedAt a = pick (eqb (regionOf a) 0) (definedEven (evenOf a)) true
 
 -- the three lists of registers that the bus goes by are the 27 that 000 lists
-listed-same : (h : ℕ) → pick (ltb (indexOf h drawingAddresses) 13) true (pick (eqb h versionAddress) true (member h silentAddresses)) ≡ member h registerAddresses
+listed-same : (h : ℕ) → pick (ltb (indexOf h drawingAddresses) 13) true (pick (eqb h versionAddress) true
+    (member h silentAddresses)) ≡ member h registerAddresses
 listed-same h =
     rw (index-member h drawingAddresses)
     (sym (member-append h drawingAddresses (versionAddress ∷ silentAddresses))
     ∙ member-same h (drawingAddresses ++ (versionAddress ∷ silentAddresses)) registerAddresses tt tt)
 
-register-kinds : (k y z : ℕ) (b₁ b₂ b₃ : Bool) → definedPlace (pick b₁ (drawingAt k y) (pick b₂ (versionAt z) (pick b₃ silent unlisted))) ≡ pick b₁ true (pick b₂ true b₃)
+register-kinds : (k y z : ℕ) (b₁ b₂ b₃ : Bool) → definedPlace (pick b₁ (drawingAt k y) (pick b₂ (versionAt z)
+    (pick b₃ silent unlisted))) ≡ pick b₁ true (pick b₂ true b₃)
 register-kinds k y z true b₂ b₃ = refl
 register-kinds k y z false true b₃ = refl
 register-kinds k y z false false true = refl
@@ -85,17 +89,41 @@ vip-defined v =
                 elim (decLt v 0x60000) [
                   | yes d ↦
                       let d′ : v - v % 2 < 0x78000 = omega arith in
-                      simp (le-ltb v 0x40000 low, le-ltb v 0x5E000 from, lt-ltb v 0x60000 d, le-ltb (v - v % 2) 0x40000 low′, lt-ltb (v - v % 2) 0x78000 d′) (register-defined v)
+                      simp (
+                        le-ltb v 0x40000 low,
+                        le-ltb v 0x5E000 from,
+                        lt-ltb v 0x60000 d,
+                        le-ltb
+                            (v - v % 2) 0x40000 low′,
+                        lt-ltb (v - v % 2) 0x78000 d′,
+                      ) (register-defined v)
                   | no d ↦
                       let past : 0x60000 ≤ v = omega arith in
                       elim (decLt v 0x78000) [
                         | yes e ↦
                             let e′ : v - v % 2 < 0x78000 = omega arith in
-                            simp (le-ltb v 0x40000 low, le-ltb v 0x5E000 from, le-ltb v 0x60000 past, lt-ltb v 0x78000 e, le-ltb (v - v % 2) 0x40000 low′, lt-ltb (v - v % 2) 0x78000 e′) (sym (above-range v past))
+                            simp (
+                              le-ltb v 0x40000 low,
+                              le-ltb v 0x5E000 from,
+                              le-ltb v 0x60000 past,
+                              lt-ltb v 0x78000
+                                  e,
+                              le-ltb (v - v % 2) 0x40000 low′,
+                              lt-ltb (v - v % 2) 0x78000 e′,
+                            ) (sym
+                            (above-range v past))
                         | no e ↦
                             let high : 0x78000 ≤ v = omega arith in
                             let high′ : 0x78000 ≤ v - v % 2 = omega arith in
-                            simp (le-ltb v 0x40000 low, le-ltb v 0x5E000 from, le-ltb v 0x60000 past, le-ltb v 0x78000 high, le-ltb (v - v % 2) 0x40000 low′, le-ltb (v - v % 2) 0x78000 high′)
+                            simp (
+                              le-ltb v 0x40000 low,
+                              le-ltb v 0x5E000 from,
+                              le-ltb v 0x60000 past,
+                              le-ltb v 0x78000
+                                  high,
+                              le-ltb (v - v % 2) 0x40000 low′,
+                              le-ltb (v - v % 2) 0x78000 high′,
+                            )
                       ]
                 ]
           ]

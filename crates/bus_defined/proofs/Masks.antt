@@ -56,7 +56,8 @@ fourth-bit : (t : Bool) → _≡_ {A = ℕ} (pick t 0 8) (4 * pick t 0 2)
 fourth-bit true = refl
 fourth-bit false = refl
 
-four-bits : (a b c d : Bool) → _≡_ {A = ℕ} (pick a 0 1 + (pick b 0 2 + 0) + 4 * (pick c 0 1 + (pick d 0 2 + 0))) (pick a 0 1 + (pick b 0 2 + (pick c 0 4 + (pick d 0 8 + 0))))
+four-bits : (a b c d : Bool) → _≡_ {A = ℕ} (pick a 0 1 + (pick b 0 2 + 0) + 4 * (pick c 0 1 + (pick d 0 2 + 0)))
+    (pick a 0 1 + (pick b 0 2 + (pick c 0 4 + (pick d 0 8 + 0))))
 four-bits a b c d = omega (arith, third-bit c, fourth-bit d)
 
 pub word-undefined : (m : Memory) (a : ℕ) → undefinedOf m 2 (a - a % 4) + 4 * undefinedOf m 2 (a - a % 4 + 2) ≡ undefinedOf m 4 a

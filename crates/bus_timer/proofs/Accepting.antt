@@ -11,7 +11,8 @@ use Rattle.word.specs.Bit.{bitAt, isSet, withoutBit, withBit}
 use Rattle.word.specs.Choose.{pick}
 use Rattle.bus_timer.specs.Record.{withCount}
 use Rattle.bus_timer.specs.Timer.{tEnb, timZInt, tClkSel, zStat, zStatClr, startOf, tickedCountOf, reachedZeroOf, countedOf, tickOf}
-use Rattle.bus_timer.specs.Ports.{tlr, thr, tcr, controlBitsOf, reloadWrittenOf, lowWrittenOf, highWrittenOf, controlWrittenOf, lineAfterControl, tcrWrittenOf, portWrittenOf, hardwareOk}
+use Rattle.bus_timer.specs.Ports.{tlr, thr, tcr, controlBitsOf, reloadWrittenOf, lowWrittenOf, highWrittenOf}
+use Rattle.bus_timer.specs.Ports.{controlWrittenOf, lineAfterControl, tcrWrittenOf, portWrittenOf, hardwareOk}
 use Rattle.bus_timer.specs.Accepted.{TickAccepted, WriteAccepted, Means, AcceptedMeans, MeansAccepted, Halfwords, TickHalfwords, WriteHalfwords}
 use Rattle.bus_timer.specs.declared.Hardware.{Hardware}
 use Rattle.bus_timer.proofs.Choices.{pick-each, pick-true}
@@ -52,13 +53,16 @@ set-digits c e z i t sum second = omega arith
 -- bit 1 of the control bits may be set
 set-control : (c : ℕ) → controlBitsOf c ≡ c → controlBitsOf (withBit 1 c) ≡ withBit 1 c
 set-control c e =
-    let digits : withBit 1 c ≡ c % 2 + c / 8 % 2 * 8 + c / 8 / 2 % 2 * 16 + 1 * 2 = set-digits c (c % 2) (c / 2 % 2) (c / 8 % 2) (c / 8 / 2 % 2) (sum c (sym (control-sum c) ∙ e) (two-bits c) (two-bits (c / 8))) refl in
+    let digits : withBit 1 c ≡ c % 2 + c / 8 % 2 * 8 + c / 8 / 2 % 2 * 16 + 1 * 2 = set-digits c (c % 2) (c / 2 % 2)
+    (c / 8 % 2) (c / 8 / 2 % 2) (sum c (sym (control-sum c) ∙ e) (two-bits c) (two-bits (c / 8))) refl in
     rw digits (kept (c % 2) 1 (c / 8 % 2) (c / 8 / 2 % 2) (omega arith) (omega arith) (omega arith) (omega arith))
 
 written-control : (c v : ℕ) → controlBitsOf (controlWrittenOf c v) ≡ controlWrittenOf c v
 unfolding controlWrittenOf
 written-control c v =
-    pick-each (λ z. controlBitsOf (bitAt tEnb v + bitAt timZInt v * 2 ^ timZInt + bitAt tClkSel v * 2 ^ tClkSel + z) ≡ bitAt tEnb v + bitAt timZInt v * 2 ^ timZInt + bitAt tClkSel v * 2 ^ tClkSel + z) (isSet zStatClr v) 0 (bitAt zStat c * 2 ^ zStat)
+    pick-each (λ z. controlBitsOf (bitAt tEnb v + bitAt timZInt v * 2 ^ timZInt + bitAt tClkSel v * 2 ^ tClkSel + z) ≡
+    bitAt tEnb v + bitAt timZInt v * 2 ^ timZInt + bitAt tClkSel v * 2 ^ tClkSel + z) (isSet zStatClr v) 0
+    (bitAt zStat c * 2 ^ zStat)
     (kept (bitAt tEnb v) 0 (bitAt timZInt v) (bitAt tClkSel v) (omega arith) (omega arith) (omega arith) (omega arith))
     (kept (bitAt tEnb v) (bitAt zStat c) (bitAt timZInt v) (bitAt tClkSel v) (omega arith) (omega arith) (omega arith) (omega arith))
 

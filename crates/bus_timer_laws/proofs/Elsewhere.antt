@@ -10,7 +10,9 @@ use Rattle.word.specs.Choose.{member, indexOf}
 use Rattle.bus_timer.specs.Ports.{hardwareOffsetOf}
 use Rattle.bus_timer.proofs.Choices.{pick-each}
 use Rattle.bus.specs.Registers.{drawingAddresses, silentAddresses, versionAddress, keptOf}
-use Rattle.bus.specs.Place.{Place, vramAt, wramAt, pakAt, romAt, drawingAt, versionAt, silent, unlisted, unmapped, hardwareAt, soundUnit, nothing, expansion, registerPlace, mirrorOf, vipPlace, regionOf, placeOf}
+use Rattle.bus.specs.Place.{Place, vramAt, wramAt, pakAt, romAt, drawingAt, versionAt, silent, unlisted, unmapped}
+use Rattle.bus.specs.Place.{hardwareAt, soundUnit, nothing, expansion, registerPlace, mirrorOf, vipPlace, regionOf}
+use Rattle.bus.specs.Place.{placeOf}
 use Rattle.bus.specs.Memory.{Memory, putPlace, putDrawing, placeIn, putByte, putRegister, putHalfword, storeOf}
 use Rattle.bus.proofs.Devices.{set-hardware}
 use Rattle.bus.proofs.DrawingPlaces.{Proper, place-proper}

@@ -1,5 +1,5 @@
 -- What the C boundary gives for a list of accesses (include/vb.h): the papers' refusal number, or VB_MISUSE, after 1 to
--- 5 and before 11, where the list is no whole number of accesses; memory, registers and the list afterwards.
+-- 5 and before 11, where the list's length is not a multiple of 20; memory, registers and the list afterwards.
 use Prim.Native.Nat.{ℕ, _%_}
 use mathlib.Core.List.{List}
 use lib.Dec.{eqb}

@@ -37,7 +37,8 @@ unfolding displayOf brightnessOf lampLevelOf repeatsOf tableEntryOf columnEntryO
 brightness-at vram room view d x y e b h l =
     rw e
     (shown-at vram view d x y h l
-    ∙ rw (high-byte vram (0x3DC00 + 0x200 * view .eye + 2 * (view .start - x / 4)) (0x3DC01 + 0x200 * view .eye + 2 * (view .start - x / 4)) (b _) (omega arith)))
+    ∙ rw (high-byte vram (0x3DC00 + 0x200 * view .eye + 2 * (view .start - x / 4)) (0x3DC01 + 0x200 * view .eye + 2 *
+    (view .start - x / 4)) (b _) (omega arith)))
 
 -- a byte of VRAM after loading
 module _ (vram : List ℕ) (l : length vram ≡ 262144) where

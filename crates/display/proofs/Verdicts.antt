@@ -49,8 +49,11 @@ module _ (vram room : List ℕ) (view : View) (d : Durations) where
       pub display-accepted : view .eye < 2 → 95 ≤ view .start → view .start < 256 → length room ≡ 86016
           → (Accepted ≡ displayVerdictOf vram view room) × (shownOf vram view d ≡ displayOf vram view d room)
       unfolding displayOf displayVerdictOf vramOk displayOk
-      display-accepted e s t r =
-          (simp (eq-eqb _ _ l, lt-ltb _ _ f, lt-ltb _ _ e, le-leb _ _ s, lt-ltb _ _ t, eq-eqb _ _ r), simp (eq-eqb _ _ l, lt-ltb _ _ f, lt-ltb _ _ e, le-leb _ _ s, lt-ltb _ _ t, eq-eqb _ _ r))
+      display-accepted e s t r = (
+        simp (eq-eqb _ _ l, lt-ltb _ _ f, lt-ltb _ _ e, le-leb _ _ s, lt-ltb _ _ t, eq-eqb _ _ r),
+        simp
+            (eq-eqb _ _ l, lt-ltb _ _ f, lt-ltb _ _ e, le-leb _ _ s, lt-ltb _ _ t, eq-eqb _ _ r),
+      )
 
 module _ (vram : List ℕ) where
   pub load-length : (length vram ≡ 262144 → ⊥) → (Refused VramLength ≡ loadTableVerdictOf vram) × (vram ≡ loadTableOf vram)

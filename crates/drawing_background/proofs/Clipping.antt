@@ -66,7 +66,8 @@ column-in : (x to left wide : ℕ) → x < to → to + 1024 ≤ left + wide → 
 column-in x to left wide h l = omega arith
 
 -- the rows first to last - 1 of a strip are those in a world's window
-module _ (vram regs w : List ℕ) (eye strip first last : ℕ) (f : first ≡ min 8 (gyOf w - (8 * strip + 32768))) (g : last ≡ min 8 (gyOf w + rowsOf w - (8 * strip + 32768))) where
+module _ (vram regs w : List ℕ) (eye strip first last : ℕ) (f : first ≡ min 8 (gyOf w - (8 * strip + 32768)))
+    (g : last ≡ min 8 (gyOf w + rowsOf w - (8 * strip + 32768))) where
   rows-outside : (x r v : ℕ) → r < 8
       → (r < first → backgroundPixelOf vram regs w eye x (8 * strip + r) v ≡ v) × (last ≤ r → backgroundPixelOf vram regs w eye x (8 * strip + r) v ≡ v)
   rows-outside x r v u = (
@@ -84,7 +85,8 @@ module _ (vram regs w : List ℕ) (eye strip first last : ℕ) (f : first ≡ mi
       ])
 
   -- those rows of a normal world, painted from where its window's column `from` and row `first` read
-  module _ (normal : bgmOf w ≡ 0) (shown : worldShownOf w eye ≡ true) (few : first < last) (from to : ℕ) (left : windowLeftOf w eye ≤ from + 1024) (right : to + 1024 ≤ windowLeftOf w eye + columnsOf w) where
+  module _ (normal : bgmOf w ≡ 0) (shown : worldShownOf w eye ≡ true) (few : first < last) (from to : ℕ)
+      (left : windowLeftOf w eye ≤ from + 1024) (right : to + 1024 ≤ windowLeftOf w eye + columnsOf w) where
     inside : (sx sy : ℕ) → sx ≡ plainLeftOf w eye + (from + 1024 - windowLeftOf w eye) → sy ≡ normalYOf w (8 * strip + 32768 + first - gyOf w)
         → (x r v : ℕ) → from ≤ x → x < to → first ≤ r → r < last
         → sourcePixelOf vram regs w (sx + (x - from)) (sy + (r - first)) v ≡ backgroundPixelOf vram regs w eye x (8 * strip + r) v
@@ -97,11 +99,13 @@ module _ (vram regs w : List ℕ) (eye strip first last : ℕ) (f : first ≡ mi
         let d : y + first - gyOf w + (r - first) ≡ y + r - gyOf w = row-offset y _ first r m t in
         rw (p, q)
         (normal-pixel vram regs w eye (from + 1024 - windowLeftOf w eye) (y + first - gyOf w) (x - from) (r - first) normal v
-        ∙ row-inside vram regs w eye x (8 * strip + r) v from _ _ shown (rw c (le-trans m (row-later y first r t))) (rw c n) left l (column-in x to _ _ h right) refl (rw c d))
+        ∙ row-inside vram regs w eye x (8 * strip + r) v from _ _ shown (rw c (le-trans m (row-later y first r t)))
+        (rw c n) left l (column-in x to _ _ h right) refl (rw c d))
 
     pub rows-inside : (sx sy : ℕ) → sx ≡ plainLeftOf w eye + (from + 1024 - windowLeftOf w eye) → sy ≡ normalYOf w (8 * strip + 32768 + first - gyOf w)
         → (a b : List ℕ) → Block first last from to (λ x r. sourcePixelOf vram regs w (sx + (x - from)) (sy + (r - first))) a b
         → Block 0 8 from to (λ x r. backgroundPixelOf vram regs w eye x (8 * strip + r)) a b
     rows-inside sx sy p q a b s =
-        block-tall first last from to (λ x r. sourcePixelOf vram regs w (sx + (x - from)) (sy + (r - first))) (λ x r. backgroundPixelOf vram regs w eye x (8 * strip + r)) a b
+        block-tall first last from to (λ x r. sourcePixelOf vram regs w (sx + (x - from)) (sy + (r - first)))
+        (λ x r. backgroundPixelOf vram regs w eye x (8 * strip + r)) a b
         (inside sx sy p q) rows-outside s

@@ -41,9 +41,11 @@ value-turned cell row k = picked-value cell (bits-picked row k (bitSet 13 cell))
 
 -- three shades at any row fit a word of 64 bits
 pub inks-fit : (a b c : ℕ) → a < 4 → b < 4 → c < 4 → (r : ℕ) → r < 8
-    → ((a * 65536 + b * 4294967296 + c * 281474976710656) * 2 ^ (2 * r)) % 18446744073709551616 ≡ (a * 65536 + b * 4294967296 + c * 281474976710656) * 2 ^ (2 * r)
+    → ((a * 65536 + b * 4294967296 + c * 281474976710656) * 2 ^ (2 * r)) % 18446744073709551616 ≡
+    (a * 65536 + b * 4294967296 + c * 281474976710656) * 2 ^ (2 * r)
 inks-fit a b c h k l =
-    below-eight (λ r. ((a * 65536 + b * 4294967296 + c * 281474976710656) * 2 ^ (2 * r)) % 18446744073709551616 ≡ (a * 65536 + b * 4294967296 + c * 281474976710656) * 2 ^ (2 * r))
+    below-eight (λ r. ((a * 65536 + b * 4294967296 + c * 281474976710656) * 2 ^ (2 * r)) % 18446744073709551616 ≡
+    (a * 65536 + b * 4294967296 + c * 281474976710656) * 2 ^ (2 * r))
     (omega arith) (omega arith) (omega arith) (omega arith) (omega arith) (omega arith) (omega arith) (omega arith)
 
 -- .. and stand apart
@@ -62,7 +64,8 @@ one-of a b c h k l = (omega arith, (omega arith, (omega arith, omega arith)))
 
 -- what a value takes of them
 module _ (palette r : ℕ) (l : r < 8) where
-  sum : inksOf palette r ≡ (twoBitsOf palette 1 * 2 ^ (2 * r)) * 65536 + (twoBitsOf palette 2 * 2 ^ (2 * r)) * 4294967296 + (twoBitsOf palette 3 * 2 ^ (2 * r)) * 281474976710656
+  sum : inksOf palette r ≡ (twoBitsOf palette 1 * 2 ^ (2 * r)) * 65536 + (twoBitsOf palette 2 * 2 ^
+      (2 * r)) * 4294967296 + (twoBitsOf palette 3 * 2 ^ (2 * r)) * 281474976710656
   unfolding inksOf
   sum = apart (twoBitsOf palette 1) (twoBitsOf palette 2) (twoBitsOf palette 3) (2 ^ (2 * r))
 
@@ -86,7 +89,8 @@ mask-of (suc (suc (suc zero))) h = refl
 mask-of (suc (suc (suc (suc v)))) h = absurd (omega arith)
 
 -- the column that is left, and with what is added the column repainted
-module _ (h r palette v mask inks m n : ℕ) (l : r < 8) (s : v < 4) (e : mask ≡ inksOf 255 r) (f : inks ≡ inksOf palette r) (p : m ≡ mask / 2 ^ (16 * v) % 65536) (q : n ≡ inks / 2 ^ (16 * v) % 65536) where
+module _ (h r palette v mask inks m n : ℕ) (l : r < 8) (s : v < 4) (e : mask ≡ inksOf 255 r)
+    (f : inks ≡ inksOf palette r) (p : m ≡ mask / 2 ^ (16 * v) % 65536) (q : n ≡ inks / 2 ^ (16 * v) % 65536) where
   pub inked-of : h - bitAnd h m + n ≡ repaintedOf r (shadeOf palette v) h
   inked-of =
       rw (p, q, e, f, ink-of 255 r l v s, ink-of palette r l v s, mask-of v s, kept-of h r (eqb v 0) l)

@@ -6,7 +6,8 @@ use mathlib.Core.Path.{_≡_, ap}
 use mathlib.Core.List.{List}
 use borrow.Author.Tests.{eq-eqb, ne-eqb}
 use Rattle.drawing_pixel.specs.World.{bgmOf, myOf}
-use Rattle.drawing_pixel.specs.Background.{sourceXOf, sourceYOf, normalXOf, normalYOf, biasXOf, affineXOf, affineYOf, plainLeftOf, affineParameterOf, affineShiftOf, affineFloorOf, sourcePixelOf}
+use Rattle.drawing_pixel.specs.Background.{sourceXOf, sourceYOf, normalXOf, normalYOf, biasXOf, affineXOf, affineYOf}
+use Rattle.drawing_pixel.specs.Background.{plainLeftOf, affineParameterOf, affineShiftOf, affineFloorOf, sourcePixelOf}
 use Rattle.drawing_background.specs.Row.{rowBiasOf}
 
 module _ (vram w : List ℕ) (eye i j k : ℕ) where

@@ -22,8 +22,10 @@ unfolding repaintedOf
 repainted-change r f g h e = rw (e (twoBitsOf h r))
 
 module _ (vram regs w : List ℕ) (sx sy cell row palette : ℕ) where
-  module _ (e : cell ≡ halfAt vram (cellAddressOf w (sx / 8) (sy / 8))) (f : row ≡ halfAt vram (rowAddressOf cell (sy % 8))) (g : palette ≡ getD regs (4 + cell / 16384) 0) where
-    pub source-pixel-along : (k : ℕ) → sx % 8 + k < 8 → (v : ℕ) → shadeOf palette (pixelValueOf cell row (sx % 8 + k)) v ≡ sourcePixelOf vram regs w (sx + k) sy v
+  module _ (e : cell ≡ halfAt vram (cellAddressOf w (sx / 8) (sy / 8))) (f : row ≡ halfAt vram (rowAddressOf cell
+      (sy % 8))) (g : palette ≡ getD regs (4 + cell / 16384) 0) where
+    pub source-pixel-along : (k : ℕ) → sx % 8 + k < 8 → (v : ℕ) → shadeOf palette (pixelValueOf cell row
+        (sx % 8 + k)) v ≡ sourcePixelOf vram regs w (sx + k) sy v
     unfolding sourcePixelOf sourceCellAddressOf cellPixelOf gpltOf
     source-pixel-along k h v =
         let d : (sx + k) / 8 ≡ sx / 8 = omega arith in
@@ -31,7 +33,8 @@ module _ (vram regs w : List ℕ) (sx sy cell row palette : ℕ) where
         rw (d, m, ← e, ← f, ← g)
 
 -- a source pixel k columns and j rows further in the same cell
-module _ (vram regs w : List ℕ) (sx sy cell palette : ℕ) (e : cell ≡ halfAt vram (cellAddressOf w (sx / 8) (sy / 8))) (g : palette ≡ getD regs (4 + cell / 16384) 0) where
+module _ (vram regs w : List ℕ) (sx sy cell palette : ℕ) (e : cell ≡ halfAt vram (cellAddressOf w (sx / 8) (sy / 8)))
+    (g : palette ≡ getD regs (4 + cell / 16384) 0) where
   pub source-pixel-near : (k j : ℕ) → sx % 8 + k < 8 → sy % 8 + j < 8 → (v : ℕ)
       → shadeOf palette (pixelValueOf cell (halfAt vram (rowAddressOf cell (sy % 8 + j))) (sx % 8 + k)) v ≡ sourcePixelOf vram regs w (sx + k) (sy + j) v
   unfolding sourcePixelOf sourceCellAddressOf cellPixelOf gpltOf
@@ -44,15 +47,19 @@ module _ (vram regs w : List ℕ) (sx sy cell palette : ℕ) (e : cell ≡ halfA
 
 -- a block that was painted from one cell shows source pixels
 module _ (vram regs w : List ℕ) (top bottom from to sx sy half address cell palette : ℕ) (a b : List ℕ) where
-  module _ (c : cell ≡ half) (d : half ≡ halfAt vram address) (e : address ≡ cellAddressOf w (sx / 8) (sy / 8)) (g : palette ≡ getD regs (4 + cell / 16384) 0) (across : sx % 8 + (to - from) ≤ 8) (down : sy % 8 + (bottom - top) ≤ 8) where
-    pub block-of-part : Block top bottom from to (λ x r. shadeOf palette (pixelValueOf cell (halfAt vram (rowAddressOf cell (sy % 8 + (r - top)))) (sx % 8 + (x - from)))) a b
+  module _ (c : cell ≡ half) (d : half ≡ halfAt vram address) (e : address ≡ cellAddressOf w (sx / 8) (sy / 8))
+      (g : palette ≡ getD regs (4 + cell / 16384) 0) (across : sx % 8 + (to - from) ≤ 8) (down : sy % 8 +
+      (bottom - top) ≤ 8) where
+    pub block-of-part : Block top bottom from to (λ x r. shadeOf palette (pixelValueOf cell (halfAt vram
+        (rowAddressOf cell (sy % 8 + (r - top)))) (sx % 8 + (x - from)))) a b
         → Block top bottom from to (λ x r. sourcePixelOf vram regs w (sx + (x - from)) (sy + (r - top))) a b
     block-of-part s =
         block-change top bottom from to _ _ a b
         (λ x r v l h t u. source-pixel-near vram regs w sx sy cell palette (c ∙ (d ∙ ap (halfAt vram) e)) g (x - from) (r - top) (omega arith) (omega arith) v)
         s
 
-    pub block-of-whole : from + 8 ≡ to → Block top bottom from to (λ x r. shadeOf palette (pixelValueOf cell (halfAt vram (rowAddressOf cell (sy % 8 + (r - top)))) (x - from))) a b
+    pub block-of-whole : from + 8 ≡ to → Block top bottom from to (λ x r. shadeOf palette (pixelValueOf cell
+        (halfAt vram (rowAddressOf cell (sy % 8 + (r - top)))) (x - from))) a b
         → Block top bottom from to (λ x r. sourcePixelOf vram regs w (sx + (x - from)) (sy + (r - top))) a b
     block-of-whole q s = block-of-part (block-change top bottom from to _ _ a b zero s)
       where
@@ -112,5 +119,6 @@ pub level-pixel : (vram regs w : List ℕ) (mx my n k sx sy v : ℕ) → sx ≡ 
 level-pixel vram regs w mx my n k sx sy v e f = rw (e, f, level-x mx n k, level-y my n k)
 
 pub level-steps : (vram regs w : List ℕ) (mx my dx dy n v : ℕ) → dx ≡ 33280 → dy ≡ 32768
-    → sourcePixelOf vram regs w (affineFloorOf mx 33280 n) (affineFloorOf my 32768 n) v ≡ sourcePixelOf vram regs w (affineFloorOf mx dx n) (affineFloorOf my dy n) v
+    → sourcePixelOf vram regs w (affineFloorOf mx 33280 n) (affineFloorOf my 32768 n) v ≡ sourcePixelOf vram regs w
+    (affineFloorOf mx dx n) (affineFloorOf my dy n) v
 level-steps vram regs w mx my dx dy n v e f = rw (e, f)

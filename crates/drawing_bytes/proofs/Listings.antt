@@ -57,7 +57,8 @@ left-more start n r whole xs rest all a b c e p q =
     let l = rw e at (p .count) in
     record {
       count = omega (arith, l, q .count, length-append xs rest);
-      words = ap (λ (k : List ℕ). sets k r rest) (q .words) ∙ (ap (λ (k : ℕ). sets (sets b n xs) k rest) (q .count) ∙ (sets-append xs rest b n ∙ (rw e at (p .words))));
+      words = ap (λ (k : List ℕ). sets k r rest) (q .words) ∙ (ap (λ (k : ℕ). sets (sets b n xs) k rest) (q .count) ∙
+          (sets-append xs rest b n ∙ (rw e at (p .words))));
     }
 
 pub left-done : (start n : ℕ) (whole rest a b : List ℕ) → rest ≡ [] → Left start whole n rest a b → Listing start whole n a b

@@ -11,7 +11,10 @@ use Rattle.drawing_pixel.specs.Character.{rowAddressOf}
 use borrow.Author.Tests.{eq-eqb, ne-eqb}
 use Rattle.drawing_pixel.specs.Signed.{biasedOf}
 use Rattle.drawing_pixel.specs.World.{bgmOf, gyOf, windowLeftOf, columnInOf, rowInOf, worldCoversOf, skippedOf}
-use Rattle.drawing_pixel.specs.Background.{parameterAddressOf, parameterOf, biasIndexOf, plainLeftOf, normalXOf, normalYOf, biasXOf, affineShiftOf, affineFloorOf, affineParameterOf, affineXOf, affineYOf, sourceXOf, sourceYOf, cellAddressOf, sourceCellAddressOf}
+use Rattle.drawing_pixel.specs.Background.{parameterAddressOf, parameterOf, biasIndexOf, plainLeftOf, normalXOf}
+use Rattle.drawing_pixel.specs.Background.{normalYOf, biasXOf, affineShiftOf, affineFloorOf, affineParameterOf}
+use Rattle.drawing_pixel.specs.Background.{affineXOf, affineYOf, sourceXOf, sourceYOf, cellAddressOf}
+use Rattle.drawing_pixel.specs.Background.{sourceCellAddressOf}
 use Rattle.drawing_laws.specs.PixelBytes.{halfBytesOf, affineBytesOf, parameterBytesOf}
 use Rattle.drawing_laws.specs.SourceBytes.{cellBytesOf, backgroundBytesOf, worldBytesOf}
 use Rattle.drawing_bytes.specs.Room.{Listing}

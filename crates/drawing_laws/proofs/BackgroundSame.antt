@@ -8,7 +8,9 @@ use Rattle.word.specs.LittleEndian.{halfAt}
 use Rattle.bus.specs.Registers.{gpltOf}
 use Rattle.drawing_pixel.specs.Character.{rowAddressOf, cellPixelOf}
 use Rattle.drawing_pixel.specs.World.{bgmOf, columnInOf, rowInOf, worldCoversOf}
-use Rattle.drawing_pixel.specs.Background.{parameterAddressOf, parameterOf, biasIndexOf, biasXOf, affineParameterOf, affineXOf, affineYOf, sourceXOf, sourceYOf, sourceCellAddressOf, sourcePixelOf, backgroundPixelOf}
+use Rattle.drawing_pixel.specs.Background.{parameterAddressOf, parameterOf, biasIndexOf, biasXOf, affineParameterOf}
+use Rattle.drawing_pixel.specs.Background.{affineXOf, affineYOf, sourceXOf, sourceYOf, sourceCellAddressOf}
+use Rattle.drawing_pixel.specs.Background.{sourcePixelOf, backgroundPixelOf}
 use Rattle.drawing_laws.specs.Demand3.{Each, SameByte}
 use Rattle.drawing_laws.specs.PixelBytes.{halfBytesOf, affineBytesOf, parameterBytesOf}
 use Rattle.drawing_laws.specs.SourceBytes.{cellBytesOf, backgroundBytesOf}

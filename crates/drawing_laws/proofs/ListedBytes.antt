@@ -17,7 +17,9 @@ use Rattle.drawing_pixel.specs.Object.{groupCountOf, objectOf, objectRowOf, obj
 use Rattle.drawing_pixel.specs.Pixel.{counterOf, drawsObjectsOf}
 use Rattle.drawing_laws.specs.Demand3.{Each}
 use Rattle.drawing_laws.specs.PixelBytes.{halfBytesOf, amongOf, affineBytesOf, parameterBytesOf}
-use Rattle.drawing_laws.specs.SourceBytes.{cellBytesOf, backgroundBytesOf, worldBytesOf, worldsBytesOf, worldDrawsOf, worldsDrawOf, objectBytesOf, objectsBytesOf, sourceBytesOf}
+use Rattle.drawing_laws.specs.SourceBytes.{cellBytesOf, backgroundBytesOf, worldBytesOf, worldsBytesOf}
+use Rattle.drawing_laws.specs.SourceBytes.{worldDrawsOf, worldsDrawOf, objectBytesOf, objectsBytesOf}
+use Rattle.drawing_laws.specs.SourceBytes.{sourceBytesOf}
 use Rattle.drawing_laws.proofs.Each.{each-join, each-pick}
 use Rattle.word.proofs.Choices.{and-left, and-right, or-cases, pick-second}
 
@@ -36,7 +38,8 @@ drawn-row vram regs eye x y (suc n) counter k e =
     pick-second (endOf (worldOf vram n)) _ e
     (λ _ f.
     or-cases (worldDrawsOf vram regs (worldOf vram n) counter eye x y k) _ f
-    (λ d. covers-row (worldOf vram n) (objectOf vram k) eye x y (and-right (amongOf (groupCountOf regs counter) (sptOf regs counter) k) _ (and-right (drawsObjectsOf (worldOf vram n)) _ d)))
+    (λ d. covers-row (worldOf vram n) (objectOf vram k) eye x y (and-right (amongOf (groupCountOf regs counter)
+    (sptOf regs counter) k) _ (and-right (drawsObjectsOf (worldOf vram n)) _ d)))
     (drawn-row vram regs eye x y n (counterOf (worldOf vram n) counter) k))
 
 module _ (P : ℕ → Type 0) (vram : List ℕ)
@@ -107,4 +110,5 @@ module _ (P : ℕ → Type 0) (vram : List ℕ)
 
     pub listed-each : (regs : List ℕ) (eye x y : ℕ) → Each P (sourceBytesOf vram regs eye x y)
     unfolding sourceBytesOf
-    listed-each regs eye x y = each-join P (worldsBytesOf vram eye x y 32) (objectsBytesOf vram regs eye x y 1024) (worlds-each eye x y 32) (objects-each regs eye x y 1024)
+    listed-each regs eye x y = each-join P (worldsBytesOf vram eye x y 32) (objectsBytesOf vram regs eye x y 1024)
+        (worlds-each eye x y 32) (objects-each regs eye x y 1024)

@@ -1,5 +1,5 @@
 // Objects: paints what an object, and a group of objects, shows of a strip over what is there.
-// These functions are `pub` for the crates above; none is a call of the library's users.
+// These functions are `pub` for the crates above: internal, not calls of the library.
 use bus::DrawingRegisters;
 ghost use mathlib.Core.Path.{_≡_};
 ghost use mathlib.Core.Bool.{true};

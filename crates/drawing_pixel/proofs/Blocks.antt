@@ -128,7 +128,8 @@ block-change top bottom from to f g a b e s =
 
 -- a block of all eight rows, by a function that agrees in the rows painted and keeps the others
 module _ (top bottom from to : ℕ) (f g : ℕ → ℕ → ℕ → ℕ) (a b : List ℕ) where
-  module _ (agrees : (x r v : ℕ) → from ≤ x → x < to → top ≤ r → r < bottom → f x r v ≡ g x r v) (rows : (x r v : ℕ) → r < 8 → (r < top → g x r v ≡ v) × (bottom ≤ r → g x r v ≡ v)) where
+  module _ (agrees : (x r v : ℕ) → from ≤ x → x < to → top ≤ r → r < bottom → f x r v ≡ g x r v) (rows :
+      (x r v : ℕ) → r < 8 → (r < top → g x r v ≡ v) × (bottom ≤ r → g x r v ≡ v)) where
     pub block-tall : Block top bottom from to f a b → Block 0 8 from to g a b
     block-tall s =
         record {

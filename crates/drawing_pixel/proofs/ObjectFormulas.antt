@@ -9,12 +9,14 @@ use mathlib.Core.List.{List}
 use lib.ListN.{getD}
 use lib.IntN.{pos, _-ℤ_}
 use Rattle.bus.specs.Registers.{sptOf}
-use Rattle.drawing_pixel.specs.Object.{objectOf, objectLeftOf, objectRowOf, objectColumnOf, objectCoversOf, objectPixelOf, objectAfterOf, groupCountOf, objectsPixelOf}
+use Rattle.drawing_pixel.specs.Object.{objectOf, objectLeftOf, objectRowOf, objectColumnOf, objectCoversOf}
+use Rattle.drawing_pixel.specs.Object.{objectPixelOf, objectAfterOf, groupCountOf, objectsPixelOf}
 use Rattle.word.specs.Integers.{aboveZero}
 use Rattle.word.proofs.Integers.{Is, is-pos, is-difference, is-moved, is-tied, is-natural, le-is, is-above}
 use Rattle.word.proofs.Floors.{is-mod}
 use Rattle.drawing_pixel.proofs.WindowFormulas.{is-edge, span}
-use Rattle.drawing_pixel.specs.ObjectFormulas.{objectLeft, drawnOf, ObjectLeft, ObjectRow, ObjectCovers, ObjectColumn, ObjectDrawn, ObjectsInOrder, GroupZero}
+use Rattle.drawing_pixel.specs.ObjectFormulas.{objectLeft, drawnOf, ObjectLeft, ObjectRow, ObjectCovers}
+use Rattle.drawing_pixel.specs.ObjectFormulas.{ObjectColumn, ObjectDrawn, ObjectsInOrder, GroupZero}
 
 is-left : (o : List ℕ) (eye : ℕ) → Is (objectLeft o eye) (objectLeftOf o eye) 1024
 unfolding objectLeftOf

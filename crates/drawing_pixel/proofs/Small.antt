@@ -42,7 +42,8 @@ pub objects-small : (vram regs w : List ℕ) (eye x y count k v : ℕ) → v < 4
 unfolding objectsPixelOf
 objects-small vram regs w eye x y zero k v h = h
 objects-small vram regs w eye x y (suc n) k v h =
-    objects-small vram regs w eye x y n (objectAfterOf k) (objectPixelOf vram regs w (objectOf vram k) eye x y v) (object-small vram regs w (objectOf vram k) eye x y v h)
+    objects-small vram regs w eye x y n (objectAfterOf k) (objectPixelOf vram regs w (objectOf vram k) eye x y v)
+    (object-small vram regs w (objectOf vram k) eye x y v h)
 
 pub world-small : (vram regs w : List ℕ) (counter eye x y v : ℕ) → v < 4 → worldPixelOf vram regs w counter eye x y v < 4
 unfolding worldPixelOf groupPixelOf

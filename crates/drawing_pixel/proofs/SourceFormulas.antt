@@ -12,12 +12,16 @@ use lib.Signed.{ltZ, shrZ}
 use Rattle.word.specs.Choose.{pick}
 use Rattle.drawing_pixel.specs.Signed.{biasedOf}
 use Rattle.drawing_pixel.specs.World.{bgmOf}
-use Rattle.drawing_pixel.specs.Background.{parameterOf, plainLeftOf, normalXOf, normalYOf, biasIndexOf, biasXOf, affineShiftOf, affineFloorOf, affineParameterOf, affineXOf, affineYOf, sourceXOf, sourceYOf}
+use Rattle.drawing_pixel.specs.Background.{parameterOf, plainLeftOf, normalXOf, normalYOf, biasIndexOf, biasXOf}
+use Rattle.drawing_pixel.specs.Background.{affineShiftOf, affineFloorOf, affineParameterOf, affineXOf, affineYOf}
+use Rattle.drawing_pixel.specs.Background.{sourceXOf, sourceYOf}
 use Rattle.word.proofs.Integers.{Is, is-pos, is-sum, is-difference, is-moved, is-tied, is-times, is-scaled}
 use Rattle.word.proofs.Floors.{is-floor}
 use Rattle.drawing_pixel.specs.Fields.{fieldOf}
 use Rattle.drawing_pixel.proofs.Fields.{is-field}
-use Rattle.drawing_pixel.specs.SourceFormulas.{normalX, normalY, biasX, affineParameter, affineShift, affineX, affineY, NormalX, NormalY, BiasX, AffineX, AffineY, SourceX, SourceY}
+use Rattle.drawing_pixel.specs.SourceFormulas.{normalX, normalY, biasX, affineParameter, affineShift, affineX}
+use Rattle.drawing_pixel.specs.SourceFormulas.{affineY, NormalX, NormalY, BiasX, AffineX, AffineY, SourceX}
+use Rattle.drawing_pixel.specs.SourceFormulas.{SourceY}
 
 plain : (left : Bool) (p q : ℕ)
     → Is (pick left (fieldOf 4096 p -ℤ fieldOf 16384 q) (fieldOf 4096 p +ℤ fieldOf 16384 q))

@@ -7,7 +7,8 @@ use lib.ListN.{getD}
 use borrow.Author.Tests.{lt-leb, le-leb, le-ltb, lt-ltb}
 use Rattle.bus.specs.Registers.{jpltOf}
 use Rattle.drawing_pixel.specs.Character.{cellPixelOf}
-use Rattle.drawing_pixel.specs.World.{gyOf, rowsOf, columnsOf, windowLeftOf, worldShownOf, columnCoveredOf, rowCoveredOf, columnInOf, rowInOf, worldCoversOf}
+use Rattle.drawing_pixel.specs.World.{gyOf, rowsOf, columnsOf, windowLeftOf, worldShownOf, columnCoveredOf}
+use Rattle.drawing_pixel.specs.World.{rowCoveredOf, columnInOf, rowInOf, worldCoversOf}
 use Rattle.drawing_pixel.specs.Background.{sourcePixelOf, sourceXOf, sourceYOf, backgroundPixelOf}
 use Rattle.drawing_pixel.specs.Object.{objectShownOf, objectRowOf, objectLeftOf, objectColumnOf, objectCoversOf, objectPixelOf}
 

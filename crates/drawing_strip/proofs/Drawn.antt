@@ -128,7 +128,8 @@ eye-one : (i : ℕ) → i < 131072 → (i / 65536 ≡ 0 → ⊥) → i / 65536 �
 eye-one i h n = omega arith
 
 module _ (regs left right v v1 v2 : List ℕ) (frame strip : ℕ) (f : frame < 2) (s : strip < 28) where
-  module _ (l : Worked v regs 0 strip left) (r : Worked v regs 1 strip right) (a : Stored (32768 * frame) strip 384 left v v1) (b : Stored (32768 * frame + 65536) strip 384 right v1 v2) where
+  module _ (l : Worked v regs 0 strip left) (r : Worked v regs 1 strip right) (a : Stored
+      (32768 * frame) strip 384 left v v1) (b : Stored (32768 * frame + 65536) strip 384 right v1 v2) where
     -- an address in neither image's strip
     kept : (i : ℕ) → ((o : ℕ) → o < 24576 → i ≡ 32768 * frame + o → InStrip strip o → ⊥)
         → ((o : ℕ) → o < 24576 → i ≡ 32768 * frame + 65536 + o → InStrip strip o → ⊥) → getD v2 i 0 ≡ getD v i 0

@@ -1,5 +1,5 @@
 // A strip: the loop over worlds for an eye, the strip of both eyes stored into an image, and a frame of strips.
-// These functions are `pub` for the crates above; none is a call of the library's users.
+// These functions are `pub` for the crates above: internal, not calls of the library.
 use bus::DrawingRegisters;
 ghost use mathlib.Core.Path.{_≡_};
 ghost use Prim.Native.Nat.{ℕ, _+_, _-_, _*_, _<_, _≤_};

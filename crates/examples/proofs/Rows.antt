@@ -19,7 +19,8 @@ use Rattle.drawing_pixel.specs.Signed.{eyeFlagOf}
 use Rattle.drawing_pixel.specs.Character.{twoBitsOf, characterAddressOf, shadeOf}
 use Rattle.drawing_pixel.specs.World.{worldShownOf}
 use Rattle.word.specs.Floors.{modZ}
-use Rattle.examples.specs.Rows.{Answer, addresses, answer, branch, exampleRows, exampleRow, worldWith, shownFrom, flagsIn, pcBefore, memoryWith, stateWith, pcAfter, pcsFrom, RowsHold}
+use Rattle.examples.specs.Rows.{Answer, addresses, answer, branch, exampleRows, exampleRow, worldWith, shownFrom}
+use Rattle.examples.specs.Rows.{flagsIn, pcBefore, memoryWith, stateWith, pcAfter, pcsFrom, RowsHold}
 use Rattle.examples.proofs.Branches.{branches-to-itself, never-branches}
 
 -- the halfword at PC, and no request line

@@ -10,7 +10,9 @@ use lib.Dec.{ltb, eqb}
 use borrow.Author.Tests.{lt-ltb, le-ltb}
 use Rattle.word.specs.Choose.{pick, member, indexOf}
 use Rattle.bus.specs.Registers.{drawingAddresses, silentAddresses, versionAddress}
-use Rattle.bus.specs.Place.{Place, vramAt, wramAt, pakAt, romAt, drawingAt, versionAt, silent, unlisted, unmapped, hardwareAt, soundUnit, nothing, expansion, registerPlace, mirrorOf, vipPlace, regionOf, placeOf}
+use Rattle.bus.specs.Place.{Place, vramAt, wramAt, pakAt, romAt, drawingAt, versionAt, silent, unlisted, unmapped}
+use Rattle.bus.specs.Place.{hardwareAt, soundUnit, nothing, expansion, registerPlace, mirrorOf, vipPlace, regionOf}
+use Rattle.bus.specs.Place.{placeOf}
 use Rattle.bus.proofs.Places.{region-code, place-vip}
 use Rattle.probe.specs.Probe.{vramIndexOf, targetOf}
 

@@ -18,7 +18,9 @@ use Rattle.processor.specs.Run.{Run, runOf}
 use Rattle.processor.specs.Calls.{doneOf, ranOf, checkedStepOf, checkedRunOf}
 use Rattle.processor.specs.declared.Processor.{Processor}
 
-module _ (p : Processor) (m : Memory) (sys d : List ℕ) (v : Verdict) (held : sys ≡ systemIn p) (assembled : d ≡ deviceOf (m .regs) (p .hardware)) (tested : v ≡ acceptanceAt (length (m .rom)) (length (m .wram)) (length (m .vram)) (length (m .pak)) d (p .regs) sys (p .pc) (p .psw)) (accepted : v ≡ Accepted) where
+module _ (p : Processor) (m : Memory) (sys d : List ℕ) (v : Verdict) (held : sys ≡ systemIn p) (assembled : d ≡ deviceOf
+    (m .regs) (p .hardware)) (tested : v ≡ acceptanceAt (length (m .rom)) (length (m .wram)) (length (m .vram)) (length
+    (m .pak)) d (p .regs) sys (p .pc) (p .psw)) (accepted : v ≡ Accepted) where
   passed : acceptanceIn p m ≡ Accepted
   passed = rw (← assembled, ← held) (sym tested ∙ accepted)
 

@@ -30,7 +30,8 @@ follows-start budget s m = record { within = omega arith; rest = λ k e. let f :
 
 module _ (budget : ℕ) (s₀ : State) (m₀ : Memory) (n : ℕ) (s : State) (m : Memory) (before : Follows budget s₀ m₀ n s m) where
   -- the definition's next step
-  turn : n < budget → (t : Stepped) → t ≡ stepOf s m → (k : ℕ) → suc k + n ≡ budget → runOf budget s₀ m₀ ≡ later n (afterStep (afterOf (t .answer)) t (runOf k (t .state) (t .memory)))
+  turn : n < budget → (t : Stepped) → t ≡ stepOf s m → (k : ℕ) → suc k + n ≡ budget → runOf budget s₀ m₀ ≡ later n
+      (afterStep (afterOf (t .answer)) t (runOf k (t .state) (t .memory)))
   unfolding runOf
   turn h t e k f = rw e (before .rest (suc k) f)
 
@@ -56,7 +57,8 @@ module _ (budget : ℕ) (s₀ : State) (m₀ : Memory) (n : ℕ) (s : State) (m 
             before .rest left e ∙ ap (λ (r : Run). later n r) (after .rest j g) ∙ later-later n k (runOf j t w);
       }
 
-  pub follows-stopped : n < budget → (t : Stepped) (v : Verdict) → t ≡ stepOf s m → afterOf (t .answer) ≡ Stopped v → runWith v n (t .state) (t .memory) ≡ runOf budget s₀ m₀
+  pub follows-stopped : n < budget → (t : Stepped) (v : Verdict) → t ≡ stepOf s m → afterOf
+      (t .answer) ≡ Stopped v → runWith v n (t .state) (t .memory) ≡ runOf budget s₀ m₀
   follows-stopped h t v e a =
       let g : suc (budget - suc n) + n ≡ budget = omega arith in
       let z : n + 0 ≡ n = omega arith in

@@ -17,7 +17,8 @@ first-accepted (Refused n) later e =
     let z : _≡_ {A = ℕ} 0 1 = cc in
     absurd (omega arith)
 
-pub lengths-of-accepted : (rom wram vram pak : ℕ) (device regs sys : List ℕ) (pc psw : ℕ) → acceptanceAt rom wram vram pak device regs sys pc psw ≡ Accepted → Lengths rom wram vram pak
+pub lengths-of-accepted : (rom wram vram pak : ℕ) (device regs sys : List ℕ)
+    (pc psw : ℕ) → acceptanceAt rom wram vram pak device regs sys pc psw ≡ Accepted → Lengths rom wram vram pak
 unfolding acceptanceAt
 lengths-of-accepted rom wram vram pak device regs sys pc psw e =
     accepted-lengths rom wram vram pak device

@@ -23,7 +23,8 @@ compared a b psw ha hb =
     let nh : _or_ (isSet cyFlag (compareOf a b psw .psw)) (isSet zFlag (compareOf a b psw .psw)) ≡ leb a b =
     ap (λ (t : Bool). _or_ t (isSet zFlag p)) c ∙ ap (_or_ (ltb a b)) z ∙ less-or-equal a b
     in
-    let le : _or_ (_xor_ (isSet ovFlag (compareOf a b psw .psw)) (isSet sFlag (compareOf a b psw .psw))) (isSet zFlag (compareOf a b psw .psw)) ≡ leZ (signed a) (signed b) =
+    let le : _or_ (_xor_ (isSet ovFlag (compareOf a b psw .psw)) (isSet sFlag (compareOf a b psw .psw))) (isSet zFlag
+    (compareOf a b psw .psw)) ≡ leZ (signed a) (signed b) =
     ap (λ (t : Bool). _or_ t (isSet zFlag p)) l ∙ ap (_or_ (ltZ (signed a) (signed b))) z ∙ less-equal-set a b psw ha hb
     in
     record {

@@ -10,7 +10,8 @@ use Rattle.processor_arithmetic.specs.Quotient.{divideOf, divideUnsigned
 use Rattle.processor_arithmetic.proofs.Places.{keep-carry-placed}
 use Rattle.processor_arithmetic.proofs.Bits.{bit-small}
 use Rattle.processor_arithmetic.proofs.Division.{complement-word, overflows-bit, by-signs}
-use Rattle.processor_arithmetic.specs.Divided.{DividePlaced, DivideOverflow, DivideAtOverflow, DivideTruncates, DivideUnsigned, DivideUnsignedPlaced, DivideUnsignedOverflow}
+use Rattle.processor_arithmetic.specs.Divided.{DividePlaced, DivideOverflow, DivideAtOverflow, DivideTruncates}
+use Rattle.processor_arithmetic.specs.Divided.{DivideUnsigned, DivideUnsignedPlaced, DivideUnsignedOverflow}
 
 pub divide-placed : DividePlaced
 unfolding divideOf

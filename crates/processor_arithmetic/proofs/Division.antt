@@ -18,7 +18,8 @@ use Rattle.word.proofs.Signs.{quotient-divisor, quotient-dividend, quotient-bot
 use Rattle.processor_arithmetic.specs.Flag.{bitOf, signOf}
 use Rattle.processor_arithmetic.specs.Sign.{magnitudeOf, negativeOf}
 use Rattle.processor_arithmetic.specs.Integer.{signed, outside, complementOf}
-use Rattle.processor_arithmetic.proofs.Reading.{magnitude-low, magnitude-high, magnitude-small, signed-low, signed-high, plain-reading, negative-reading, outside-opposite}
+use Rattle.processor_arithmetic.proofs.Reading.{magnitude-low, magnitude-high, magnitude-small, signed-low}
+use Rattle.processor_arithmetic.proofs.Reading.{signed-high, plain-reading, negative-reading, outside-opposite}
 use Rattle.processor_arithmetic.proofs.Magnitude.{magnitude-positive}
 use Rattle.processor_arithmetic.proofs.Complement.{complement-below}
 use Rattle.processor_arithmetic.specs.Truncation.{Truncated}

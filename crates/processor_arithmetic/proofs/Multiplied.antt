@@ -7,8 +7,12 @@ use Rattle.processor_arithmetic.specs.Flag.{bitOf}
 use Rattle.processor_arithmetic.specs.Product.{overflowsOf, wordsOf, productOf, multiplyOf, multiplyUnsignedOf}
 use Rattle.processor_arithmetic.specs.Integer.{signed64, outside}
 use Rattle.processor_arithmetic.proofs.Places.{keep-carry-placed}
-use Rattle.processor_arithmetic.proofs.Product64.{product-signed, product-word, product-overflow, unsigned-small, unsigned-word, unsigned-overflow, overflow-small}
-use Rattle.processor_arithmetic.specs.Multiplied.{WordsPlaced, WordsWhole, MultiplyWords, MultiplySigned, MultiplyOverflow, MultiplyUnsigned, MultiplyUnsignedOverflow, MultiplyUnsignedLarge}
+use Rattle.processor_arithmetic.proofs.Product64.{product-signed, product-word, product-overflow}
+use Rattle.processor_arithmetic.proofs.Product64.{unsigned-small, unsigned-word, unsigned-overflow}
+use Rattle.processor_arithmetic.proofs.Product64.{overflow-small}
+use Rattle.processor_arithmetic.specs.Multiplied.{WordsPlaced, WordsWhole, MultiplyWords, MultiplySigned}
+use Rattle.processor_arithmetic.specs.Multiplied.{MultiplyOverflow, MultiplyUnsigned, MultiplyUnsignedOverflow}
+use Rattle.processor_arithmetic.specs.Multiplied.{MultiplyUnsignedLarge}
 
 pub words-placed : WordsPlaced
 unfolding wordsOf

@@ -10,7 +10,9 @@ use Rattle.processor_arithmetic.specs.Shift.{leftOutOf, rightOutOf, arit
 use Rattle.processor_arithmetic.specs.Integer.{signed}
 use Rattle.processor_arithmetic.proofs.Places.{flags-placed}
 use Rattle.processor_arithmetic.proofs.Floor.{sar-word, sar-floor, low-rest, left-some, left-zero, left-bit, right-some, right-zero, right-bit}
-use Rattle.processor_arithmetic.specs.Shifted.{ShiftLeftPlaced, ShiftLeftOut, ShiftLeftNone, ShiftRightPlaced, ShiftRightOut, ShiftRightNone, ShiftArithmeticPlaced, ShiftArithmeticOut, ShiftArithmeticNone, ShiftArithmeticFloor}
+use Rattle.processor_arithmetic.specs.Shifted.{ShiftLeftPlaced, ShiftLeftOut, ShiftLeftNone, ShiftRightPlaced}
+use Rattle.processor_arithmetic.specs.Shifted.{ShiftRightOut, ShiftRightNone, ShiftArithmeticPlaced}
+use Rattle.processor_arithmetic.specs.Shifted.{ShiftArithmeticOut, ShiftArithmeticNone, ShiftArithmeticFloor}
 
 pub shift-left-placed : ShiftLeftPlaced
 unfolding shiftLeftOf

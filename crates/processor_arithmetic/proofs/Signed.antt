@@ -13,7 +13,8 @@ use Rattle.processor_arithmetic.proofs.Places.{flags-placed}
 use Rattle.processor_arithmetic.proofs.Bits.{bit-small}
 use Rattle.processor_arithmetic.proofs.Overflow.{sum-outside, difference-outside}
 use Rattle.processor_arithmetic.proofs.Biased.{inside, sum-biased, sum-bias, difference-biased, difference-bias}
-use Rattle.processor_arithmetic.specs.Signed.{SumPlaced, SumOverflow, SumCarry, SumSigned, DifferencePlaced, DifferenceOverflow, DifferenceCarry, DifferenceSigned}
+use Rattle.processor_arithmetic.specs.Signed.{SumPlaced, SumOverflow, SumCarry, SumSigned, DifferencePlaced}
+use Rattle.processor_arithmetic.specs.Signed.{DifferenceOverflow, DifferenceCarry, DifferenceSigned}
 
 pub sum-placed : SumPlaced
 unfolding sumOf

@@ -1,6 +1,6 @@
 // What the integer instructions compute: a word's value and the flags that the result leaves in PSW.
 // Words are numbers below 2^32; a signed word is read by its sign and magnitude.
-// These functions are `pub` for the crates above; none is a call of the library's users.
+// These functions are `pub` for the crates above: internal, not calls of the library.
 pub mod bitwise;
 pub mod condition;
 pub mod flag;

@@ -1,7 +1,7 @@
 // Halfwords to instructions, as document 000's formats and its list of instructions by opcode give them.
 // Fields come normalised: a jump's or branch's displacement has bit 0 clear, SETF's condition four bits,
 // and unused bits are absent. Immediates and displacements are words: sign- or zero-extended as 000 says for each.
-// These functions are `pub` for the crates above; none is a call of the library's users.
+// These functions are `pub` for the crates above: internal, not calls of the library.
 mod format;
 mod sub_opcode;
 

@@ -18,7 +18,8 @@ module _ (x : fields.Fields) (f : format.Format) (t : Bool) (e : f ≡ formatOf 
       let out : fitsOf (formatOf (x .operation)) x ≡ false = rw (fits, e) at h in
       rw out
 
-pub encoded-placed : (x : fields.Fields) (f : format.Format) (t : Bool) (r : encoded.Encoded) → f ≡ formatOf (x .operation) → t ≡ fitsOf f x → t ≡ true → r ≡ halfwordsOf f x → encodedOf x ≡ r
+pub encoded-placed : (x : fields.Fields) (f : format.Format) (t : Bool) (r : encoded.Encoded) → f ≡ formatOf
+    (x .operation) → t ≡ fitsOf f x → t ≡ true → r ≡ halfwordsOf f x → encodedOf x ≡ r
 unfolding encodedOf
 encoded-placed x f t r e fits h done =
     let in-range : fitsOf (formatOf (x .operation)) x ≡ true = rw (fits, e) at h in

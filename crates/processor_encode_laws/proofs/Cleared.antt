@@ -11,7 +11,10 @@ use Rattle.processor_encode.specs.Format.{formatOf, longFormats}
 use Rattle.processor_encode.specs.Unused.{operationAt, firstWithout, secondWithout, clearedFirst, clearedSecond, clearedOf}
 use Rattle.processor_encode.specs.declared.Encoded.the-variants.{One, Two}
 use Rattle.processor_encode.specs.declared.format.Format as format
-use Rattle.processor_encode.specs.declared.format.Format.the-variants.{Registers, Target, SignedImmediate, UnsignedImmediate, Condition, Vector, Bare, SystemRegister, Branch, Jump, SignedLong, UnsignedLong, Extended, Exchange, Unlisted}
+use Rattle.processor_encode.specs.declared.format.Format.the-variants.{Registers, Target, SignedImmediate}
+use Rattle.processor_encode.specs.declared.format.Format.the-variants.{UnsignedImmediate, Condition, Vector, Bare}
+use Rattle.processor_encode.specs.declared.format.Format.the-variants.{SystemRegister, Branch, Jump, SignedLong}
+use Rattle.processor_encode.specs.declared.format.Format.the-variants.{UnsignedLong, Extended, Exchange, Unlisted}
 use Rattle.processor_encode_laws.specs.Clearing.{ClearedTwice}
 
 opcode-kept : (t : format.Format) (f : ℕ) → firstWithout t f / 1024 ≡ f / 1024
@@ -157,10 +160,12 @@ branch-format = refl
 pub cleared-branch : (f s : ℕ) → 32 ≤ f / 1024 → f / 1024 < 40 → clearedOf f s ≡ One (firstWithout Branch f)
 cleared-branch f s h k = cleared-one Branch 32 f s branch-format (operation-branch f s h k) (two-short f k)
 
-pub cleared-long : (t : format.Format) (n f s : ℕ) → formatOf n ≡ t → f / 1024 ≡ n → 40 ≤ n → (n ≡ 50 → ⊥) → (n ≡ 54 → ⊥) → (n ≡ 62 → ⊥) → clearedOf f s ≡ Two (firstWithout t f) (secondWithout t s)
+pub cleared-long : (t : format.Format) (n f s : ℕ) → formatOf n ≡ t → f / 1024 ≡ n → 40 ≤ n → (n ≡ 50 → ⊥) →
+    (n ≡ 54 → ⊥) → (n ≡ 62 → ⊥) → clearedOf f s ≡ Two (firstWithout t f) (secondWithout t s)
 cleared-long t n f s known e h a b d = cleared-two t n f s known (operation-long n f s e h d) (two-long n f e h a b)
 
-pub cleared-extended : (t : format.Format) (m f s : ℕ) → formatOf (64 + m) ≡ t → f / 1024 ≡ 62 → s / 1024 ≡ m → clearedOf f s ≡ Two (firstWithout t f) (secondWithout t s)
+pub cleared-extended : (t : format.Format) (m f s : ℕ) → formatOf
+    (64 + m) ≡ t → f / 1024 ≡ 62 → s / 1024 ≡ m → clearedOf f s ≡ Two (firstWithout t f) (secondWithout t s)
 cleared-extended t m f s known e h =
     cleared-two t (64 + m) f s known (operation-extended m f s e h) (two-long 62 f e (omega arith) (λ q. absurd (omega arith)) (λ q. absurd (omega arith)))
 

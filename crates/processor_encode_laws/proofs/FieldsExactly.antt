@@ -14,20 +14,35 @@ use Rattle.processor_decode.specs.declared.FloatingOperation.{FloatingOperation
 use Rattle.processor_decode.specs.declared.NintendoOperation.{NintendoOperation}
 use Rattle.processor_decode.specs.declared.Width.{Width}
 use Rattle.processor_decode.specs.declared.Instruction.{Instruction}
-use Rattle.processor_decode.specs.declared.Instruction.the-variants.{Register, Mul, Div, Mulu, Divu, Jmp, Immediate, Setf, Cli, Sei, Trap, Reti, Halt, Ldsr, Stsr, Bcond, Jr, Jal, Long, Load, In, Store, Out, Illegal, Cmpf, Floating, Nintendo}
+use Rattle.processor_decode.specs.declared.Instruction.the-variants.{Register, Mul, Div, Mulu, Divu, Jmp, Immediate}
+use Rattle.processor_decode.specs.declared.Instruction.the-variants.{Setf, Cli, Sei, Trap, Reti, Halt, Ldsr, Stsr}
+use Rattle.processor_decode.specs.declared.Instruction.the-variants.{Bcond, Jr, Jal, Long, Load, In, Store, Out}
+use Rattle.processor_decode.specs.declared.Instruction.the-variants.{Illegal, Cmpf, Floating, Nintendo}
 use Rattle.processor_encode.specs.Format.{formatOf, shortFormats, longFormats, extendedFormats}
 use Rattle.processor_encode.specs.Fields.{fieldsOf, numbers}
 use Rattle.processor_encode.specs.Range.{fitsOf, inRange, signedIn, evenIn, systemFits}
 use Rattle.processor_encode.specs.declared.Fields.{Fields}
 use Rattle.processor_encode.specs.declared.format.Format as format
-use Rattle.processor_encode.specs.declared.format.Format.the-variants.{Registers, Target, SignedImmediate, UnsignedImmediate, Condition, Vector, Bare, SystemRegister, Branch, Jump, SignedLong, UnsignedLong, Extended, Exchange, Unlisted}
+use Rattle.processor_encode.specs.declared.format.Format.the-variants.{Registers, Target, SignedImmediate}
+use Rattle.processor_encode.specs.declared.format.Format.the-variants.{UnsignedImmediate, Condition, Vector, Bare}
+use Rattle.processor_encode.specs.declared.format.Format.the-variants.{SystemRegister, Branch, Jump, SignedLong}
+use Rattle.processor_encode.specs.declared.format.Format.the-variants.{UnsignedLong, Extended, Exchange, Unlisted}
 use Rattle.processor_encode_laws.specs.RoundTrip.{DecodesTo, FieldsOf, FieldsExactly}
 use Rattle.processor_encode_laws.proofs.Fitting.{Within, within-facts}
 use Rattle.processor_encode_laws.proofs.RoundTrip.{decode-encode}
 use Rattle.processor_encode_laws.proofs.Rows.{EachFrom, each-from-at}
-use Rattle.processor_encode_laws.proofs.ShortFormats.{OfRegisters, OfTarget, OfSignedImmediate, OfUnsignedImmediate, OfCondition, OfVector, OfBare, OfSystemRegister}
+use Rattle.processor_encode_laws.proofs.ShortFormats.{OfRegisters, OfTarget, OfSignedImmediate}
+use Rattle.processor_encode_laws.proofs.ShortFormats.{OfUnsignedImmediate, OfCondition, OfVector, OfBare}
+use Rattle.processor_encode_laws.proofs.ShortFormats.{OfSystemRegister}
 use Rattle.processor_encode_laws.proofs.LongFormats.{OfJump, OfSignedLong, OfUnsignedLong, OfExtended, OfExchange}
-use Rattle.processor_encode_laws.proofs.Instructions.{mov, add, sub, cmp, shl, shr, jmp, sar, mul, div, mulu, divu, or, and, xor, not, mov-immediate, add-immediate, setf, cmp-immediate, shl-immediate, shr-immediate, cli, sar-immediate, trap, reti, halt, ldsr, stsr, sei, movea, addi, jr, jal, ori, andi, xori, movhi, ld-b, ld-h, ld-w, st-b, st-h, st-w, in-b, in-h, in-w, out-b, out-h, out-w, cmpf, cvt-ws, cvt-sw, addf, subf, mulf, divf, xb, xh, rev, trnc-sw, mpyhw}
+use Rattle.processor_encode_laws.proofs.Instructions.{mov, add, sub, cmp, shl, shr, jmp, sar, mul, div, mulu}
+use Rattle.processor_encode_laws.proofs.Instructions.{divu, or, and, xor, not, mov-immediate, add-immediate}
+use Rattle.processor_encode_laws.proofs.Instructions.{setf, cmp-immediate, shl-immediate, shr-immediate, cli}
+use Rattle.processor_encode_laws.proofs.Instructions.{sar-immediate, trap, reti, halt, ldsr, stsr, sei, movea}
+use Rattle.processor_encode_laws.proofs.Instructions.{addi, jr, jal, ori, andi, xori, movhi, ld-b, ld-h, ld-w}
+use Rattle.processor_encode_laws.proofs.Instructions.{st-b, st-h, st-w, in-b, in-h, in-w, out-b, out-h, out-w}
+use Rattle.processor_encode_laws.proofs.Instructions.{cmpf, cvt-ws, cvt-sw, addf, subf, mulf, divf, xb, xh, rev}
+use Rattle.processor_encode_laws.proofs.Instructions.{trnc-sw, mpyhw}
 
 -- an instruction with these fields
 record Source (x : Fields) : Type 0 where
@@ -43,72 +58,136 @@ none n h = omega arith
 registers-fields : (n : ℕ) (I : ℕ → ℕ → Instruction) → OfRegisters n I → (x : Fields) → x .operation ≡ n → fitsOf Registers x ≡ true → Source x
 registers-fields n I o x e h =
     let w = within-facts x 32 32 1 (ltb (x .immediate) 1) h in
-    record { instruction = I (x .reg1) (x .reg2); fields = o .fields (x .reg1) (x .reg2) ∙ same-numbers x n (x .reg1) (x .reg2) 0 0 (sym e) refl refl (none (x .condition) (w .third)) (none (x .immediate) (ltb-true (x .immediate) 1 (w .last))) }
+    record {
+      instruction = I (x .reg1) (x .reg2);
+      fields = o .fields (x .reg1) (x .reg2) ∙ same-numbers x n (x .reg1)
+          (x .reg2) 0 0 (sym e) refl refl (none (x .condition) (w .third)) (none (x .immediate) (ltb-true (x .immediate) 1
+          (w .last)));
+    }
 
 target-fields : (n : ℕ) (I : ℕ → Instruction) → OfTarget n I → (x : Fields) → x .operation ≡ n → fitsOf Target x ≡ true → Source x
 target-fields n I o x e h =
     let w = within-facts x 32 1 1 (ltb (x .immediate) 1) h in
-    record { instruction = I (x .reg1); fields = o .fields (x .reg1) ∙ same-numbers x n (x .reg1) 0 0 0 (sym e) refl (none (x .reg2) (w .second)) (none (x .condition) (w .third)) (none (x .immediate) (ltb-true (x .immediate) 1 (w .last))) }
+    record {
+      instruction = I (x .reg1);
+      fields = o .fields (x .reg1) ∙ same-numbers x n (x .reg1) 0 0 0 (sym e) refl
+          (none (x .reg2) (w .second)) (none (x .condition) (w .third)) (none (x .immediate) (ltb-true (x .immediate) 1
+          (w .last)));
+    }
 
 signed-fields : (n : ℕ) (I : ℕ → ℕ → Instruction) → OfSignedImmediate n I → (x : Fields) → x .operation ≡ n → fitsOf SignedImmediate x ≡ true → Source x
 signed-fields n I o x e h =
     let w = within-facts x 1 32 1 (signedIn 16 (x .immediate)) h in
-    record { instruction = I (x .immediate) (x .reg2); fields = o .fields (x .immediate) (x .reg2) ∙ same-numbers x n 0 (x .reg2) 0 (x .immediate) (sym e) (none (x .reg1) (w .first)) refl (none (x .condition) (w .third)) refl }
+    record {
+      instruction = I (x .immediate) (x .reg2);
+      fields = o .fields (x .immediate) (x .reg2) ∙ same-numbers x n 0
+          (x .reg2) 0 (x .immediate) (sym e) (none (x .reg1) (w .first)) refl (none (x .condition) (w .third)) refl;
+    }
 
 unsigned-fields : (n : ℕ) (I : ℕ → ℕ → Instruction) → OfUnsignedImmediate n I → (x : Fields) → x .operation ≡ n → fitsOf UnsignedImmediate x ≡ true → Source x
 unsigned-fields n I o x e h =
     let w = within-facts x 1 32 1 (ltb (x .immediate) 32) h in
-    record { instruction = I (x .immediate) (x .reg2); fields = o .fields (x .immediate) (x .reg2) ∙ same-numbers x n 0 (x .reg2) 0 (x .immediate) (sym e) (none (x .reg1) (w .first)) refl (none (x .condition) (w .third)) refl }
+    record {
+      instruction = I (x .immediate) (x .reg2);
+      fields = o .fields (x .immediate) (x .reg2) ∙ same-numbers x n 0
+          (x .reg2) 0 (x .immediate) (sym e) (none (x .reg1) (w .first)) refl (none (x .condition) (w .third)) refl;
+    }
 
 condition-fields : (n : ℕ) (I : ℕ → ℕ → Instruction) → OfCondition n I → (x : Fields) → x .operation ≡ n → fitsOf Condition x ≡ true → Source x
 condition-fields n I o x e h =
     let w = within-facts x 1 32 16 (ltb (x .immediate) 1) h in
-    record { instruction = I (x .condition) (x .reg2); fields = o .fields (x .condition) (x .reg2) ∙ same-numbers x n 0 (x .reg2) (x .condition) 0 (sym e) (none (x .reg1) (w .first)) refl refl (none (x .immediate) (ltb-true (x .immediate) 1 (w .last))) }
+    record {
+      instruction = I (x .condition) (x .reg2);
+      fields = o .fields (x .condition) (x .reg2) ∙ same-numbers x n 0
+          (x .reg2) (x .condition) 0 (sym e) (none (x .reg1) (w .first)) refl refl (none (x .immediate) (ltb-true
+          (x .immediate) 1 (w .last)));
+    }
 
 vector-fields : (n : ℕ) (I : ℕ → Instruction) → OfVector n I → (x : Fields) → x .operation ≡ n → fitsOf Vector x ≡ true → Source x
 vector-fields n I o x e h =
     let w = within-facts x 1 1 1 (ltb (x .immediate) 32) h in
-    record { instruction = I (x .immediate); fields = o .fields (x .immediate) ∙ same-numbers x n 0 0 0 (x .immediate) (sym e) (none (x .reg1) (w .first)) (none (x .reg2) (w .second)) (none (x .condition) (w .third)) refl }
+    record {
+      instruction = I (x .immediate);
+      fields = o .fields (x .immediate) ∙ same-numbers x n 0 0 0 (x .immediate)
+          (sym e) (none (x .reg1) (w .first)) (none (x .reg2) (w .second)) (none (x .condition) (w .third)) refl;
+    }
 
 bare-fields : (n : ℕ) (I : Instruction) → OfBare n I → (x : Fields) → x .operation ≡ n → fitsOf Bare x ≡ true → Source x
 bare-fields n I o x e h =
     let w = within-facts x 1 1 1 (ltb (x .immediate) 1) h in
-    record { instruction = I; fields = o .fields ∙ same-numbers x n 0 0 0 0 (sym e) (none (x .reg1) (w .first)) (none (x .reg2) (w .second)) (none (x .condition) (w .third)) (none (x .immediate) (ltb-true (x .immediate) 1 (w .last))) }
+    record {
+      instruction = I;
+      fields = o .fields ∙ same-numbers x n 0 0 0 0 (sym e) (none (x .reg1) (w .first)) (none
+          (x .reg2) (w .second)) (none (x .condition) (w .third)) (none (x .immediate) (ltb-true (x .immediate) 1
+          (w .last)));
+    }
 
 system-fields : (n : ℕ) (I : ℕ → ℕ → Instruction) → OfSystemRegister n I → (x : Fields) → x .operation ≡ n → fitsOf SystemRegister x ≡ true → Source x
 system-fields n I o x e h =
     let w = within-facts x 1 32 1 (systemFits (x .immediate)) h in
-    record { instruction = I (x .immediate) (x .reg2); fields = o .fields (x .immediate) (x .reg2) ∙ same-numbers x n 0 (x .reg2) 0 (x .immediate) (sym e) (none (x .reg1) (w .first)) refl (none (x .condition) (w .third)) refl }
+    record {
+      instruction = I (x .immediate) (x .reg2);
+      fields = o .fields (x .immediate) (x .reg2) ∙ same-numbers x n 0
+          (x .reg2) 0 (x .immediate) (sym e) (none (x .reg1) (w .first)) refl (none (x .condition) (w .third)) refl;
+    }
 
 jump-fields : (n : ℕ) (I : ℕ → Instruction) → OfJump n I → (x : Fields) → x .operation ≡ n → fitsOf Jump x ≡ true → Source x
 jump-fields n I o x e h =
     let w = within-facts x 1 1 1 (evenIn 33554432 (x .immediate)) h in
-    record { instruction = I (x .immediate); fields = o .fields (x .immediate) ∙ same-numbers x n 0 0 0 (x .immediate) (sym e) (none (x .reg1) (w .first)) (none (x .reg2) (w .second)) (none (x .condition) (w .third)) refl }
+    record {
+      instruction = I (x .immediate);
+      fields = o .fields (x .immediate) ∙ same-numbers x n 0 0 0 (x .immediate)
+          (sym e) (none (x .reg1) (w .first)) (none (x .reg2) (w .second)) (none (x .condition) (w .third)) refl;
+    }
 
 signed-long-fields : (n : ℕ) (I : ℕ → ℕ → ℕ → Instruction) → OfSignedLong n I → (x : Fields) → x .operation ≡ n → fitsOf SignedLong x ≡ true → Source x
 signed-long-fields n I o x e h =
     let w = within-facts x 32 32 1 (signedIn 32768 (x .immediate)) h in
-    record { instruction = I (x .immediate) (x .reg1) (x .reg2); fields = o .fields (x .immediate) (x .reg1) (x .reg2) ∙ same-numbers x n (x .reg1) (x .reg2) 0 (x .immediate) (sym e) refl refl (none (x .condition) (w .third)) refl }
+    record {
+      instruction = I (x .immediate) (x .reg1) (x .reg2);
+      fields = o .fields (x .immediate) (x .reg1) (x .reg2)
+          ∙ same-numbers x n (x .reg1) (x .reg2) 0 (x .immediate) (sym e) refl refl (none (x .condition)
+          (w .third)) refl;
+    }
 
 unsigned-long-fields : (n : ℕ) (I : ℕ → ℕ → ℕ → Instruction) → OfUnsignedLong n I → (x : Fields) → x .operation ≡ n → fitsOf UnsignedLong x ≡ true → Source x
 unsigned-long-fields n I o x e h =
     let w = within-facts x 32 32 1 (ltb (x .immediate) 65536) h in
-    record { instruction = I (x .immediate) (x .reg1) (x .reg2); fields = o .fields (x .immediate) (x .reg1) (x .reg2) ∙ same-numbers x n (x .reg1) (x .reg2) 0 (x .immediate) (sym e) refl refl (none (x .condition) (w .third)) refl }
+    record {
+      instruction = I (x .immediate) (x .reg1) (x .reg2);
+      fields = o .fields (x .immediate) (x .reg1) (x .reg2)
+          ∙ same-numbers x n (x .reg1) (x .reg2) 0 (x .immediate) (sym e) refl refl (none (x .condition)
+          (w .third)) refl;
+    }
 
 extended-fields : (n : ℕ) (I : ℕ → ℕ → Instruction) → OfExtended n I → (x : Fields) → x .operation ≡ 64 + n → fitsOf Extended x ≡ true → Source x
 extended-fields n I o x e h =
     let w = within-facts x 32 32 1 (ltb (x .immediate) 1) h in
-    record { instruction = I (x .reg1) (x .reg2); fields = o .fields (x .reg1) (x .reg2) ∙ same-numbers x (64 + n) (x .reg1) (x .reg2) 0 0 (sym e) refl refl (none (x .condition) (w .third)) (none (x .immediate) (ltb-true (x .immediate) 1 (w .last))) }
+    record {
+      instruction = I (x .reg1) (x .reg2);
+      fields = o .fields (x .reg1) (x .reg2) ∙ same-numbers x (64 + n)
+          (x .reg1) (x .reg2) 0 0 (sym e) refl refl (none (x .condition) (w .third)) (none (x .immediate) (ltb-true
+          (x .immediate) 1 (w .last)));
+    }
 
 exchange-fields : (n : ℕ) (I : ℕ → ℕ → Instruction) → OfExchange n I → (x : Fields) → x .operation ≡ 64 + n → fitsOf Exchange x ≡ true → Source x
 exchange-fields n I o x e h =
     let w = within-facts x 1 32 1 (ltb (x .immediate) 1) h in
-    record { instruction = I (x .reg1) (x .reg2); fields = o .fields (x .reg1) (x .reg2) ∙ same-numbers x (64 + n) (x .reg1) (x .reg2) 0 0 (sym e) refl refl (none (x .condition) (w .third)) (none (x .immediate) (ltb-true (x .immediate) 1 (w .last))) }
+    record {
+      instruction = I (x .reg1) (x .reg2);
+      fields = o .fields (x .reg1) (x .reg2) ∙ same-numbers x (64 + n)
+          (x .reg1) (x .reg2) 0 0 (sym e) refl refl (none (x .condition) (w .third)) (none (x .immediate) (ltb-true
+          (x .immediate) 1 (w .last)));
+    }
 
 branch-fields : (x : Fields) → x .operation ≡ 32 → fitsOf Branch x ≡ true → Source x
 branch-fields x e h =
     let w = within-facts x 1 1 16 (evenIn 256 (x .immediate)) h in
-    record { instruction = Bcond (x .condition) (x .immediate); fields = same-numbers x 32 0 0 (x .condition) (x .immediate) (sym e) (none (x .reg1) (w .first)) (none (x .reg2) (w .second)) refl refl }
+    record {
+      instruction = Bcond (x .condition) (x .immediate);
+      fields = same-numbers x 32 0 0 (x .condition)
+          (x .immediate) (sym e) (none (x .reg1) (w .first)) (none (x .reg2) (w .second)) refl refl;
+    }
 
 module _ (x : Fields) where
   abbrev Found : ℕ → format.Format → Type 0
@@ -359,7 +438,8 @@ module _ (x : Fields) where
             elim (decLt (x .operation) 64) [
               | yes b ↦
                   let to : x .operation - 32 < 32 = omega arith in
-                  each-from-at Found 32 longFormats (x .operation - 32) Unlisted long-found to (x .operation) (omega arith) refl (simp (le-ltb (x .operation) 32 from, lt-ltb (x .operation) 64 b) at h)
+                  each-from-at Found 32 longFormats (x .operation - 32) Unlisted long-found to (x .operation)
+                  (omega arith) refl (simp (le-ltb (x .operation) 32 from, lt-ltb (x .operation) 64 b) at h)
               | no b ↦
                   let high : 64 ≤ x .operation = omega arith in
                   let part = simp (le-ltb (x .operation) 32 from, le-ltb (x .operation) 64 high) at h in

@@ -27,7 +27,8 @@ both-true n limit later h =
     let b = pick-both (ltb n limit) later h in
     (ltb-true n limit (b .0), b .1)
 
-pub within-facts : (x : Fields) (reg1 reg2 condition : ℕ) (immediate : Bool) → within x reg1 reg2 condition immediate ≡ true → Within x reg1 reg2 condition immediate
+pub within-facts : (x : Fields) (reg1 reg2 condition : ℕ)
+    (immediate : Bool) → within x reg1 reg2 condition immediate ≡ true → Within x reg1 reg2 condition immediate
 unfolding within
 within-facts x reg1 reg2 condition immediate h =
     let a = both-true (x .reg1) reg1 _ h in
@@ -35,7 +36,8 @@ within-facts x reg1 reg2 condition immediate h =
     let c = both-true (x .condition) condition _ (b .1) in
     record { first = a .0; second = b .0; third = c .0; last = c .1 }
 
-pub within-true : (x : Fields) (reg1 reg2 condition : ℕ) (immediate : Bool) → Within x reg1 reg2 condition immediate → within x reg1 reg2 condition immediate ≡ true
+pub within-true : (x : Fields) (reg1 reg2 condition : ℕ)
+    (immediate : Bool) → Within x reg1 reg2 condition immediate → within x reg1 reg2 condition immediate ≡ true
 unfolding within
 within-true x reg1 reg2 condition immediate w =
     simp (lt-ltb (x .reg1) reg1 (w .first), lt-ltb (x .reg2) reg2 (w .second), lt-ltb (x .condition) condition (w .third)) (w .last)

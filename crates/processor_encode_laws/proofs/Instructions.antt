@@ -12,10 +12,15 @@ use Rattle.processor_decode.specs.declared.LongOperation.{LongOperation}
 use Rattle.processor_decode.specs.declared.FloatingOperation.{FloatingOperation}
 use Rattle.processor_decode.specs.declared.NintendoOperation.{NintendoOperation}
 use Rattle.processor_decode.specs.declared.Width.{Width}
-use Rattle.processor_decode.specs.declared.Instruction.the-variants.{Register, Mul, Div, Mulu, Divu, Jmp, Immediate, Setf, Cli, Sei, Trap, Reti, Halt, Ldsr, Stsr, Bcond, Jr, Jal, Long, Load, In, Store, Out, Illegal, Cmpf, Floating, Nintendo}
+use Rattle.processor_decode.specs.declared.Instruction.the-variants.{Register, Mul, Div, Mulu, Divu, Jmp, Immediate}
+use Rattle.processor_decode.specs.declared.Instruction.the-variants.{Setf, Cli, Sei, Trap, Reti, Halt, Ldsr, Stsr}
+use Rattle.processor_decode.specs.declared.Instruction.the-variants.{Bcond, Jr, Jal, Long, Load, In, Store, Out}
+use Rattle.processor_decode.specs.declared.Instruction.the-variants.{Illegal, Cmpf, Floating, Nintendo}
 use Rattle.processor_decode.specs.declared.Decoded.the-variants.{Modelled, NotModelled}
 use Rattle.processor_encode.specs.Format.{formatOf, shortFormats, longFormats, extendedFormats}
-use Rattle.processor_encode_laws.proofs.ShortFormats.{OfRegisters, OfTarget, OfSignedImmediate, OfUnsignedImmediate, OfCondition, OfVector, OfBare, OfSystemRegister}
+use Rattle.processor_encode_laws.proofs.ShortFormats.{OfRegisters, OfTarget, OfSignedImmediate}
+use Rattle.processor_encode_laws.proofs.ShortFormats.{OfUnsignedImmediate, OfCondition, OfVector, OfBare}
+use Rattle.processor_encode_laws.proofs.ShortFormats.{OfSystemRegister}
 use Rattle.processor_encode_laws.proofs.LongFormats.{Long as LongOpcode, OfJump, OfSignedLong, OfUnsignedLong, OfExtended, OfExchange}
 
 -- the row at a number

@@ -23,7 +23,9 @@ use Rattle.processor_encode.specs.declared.format.Format.the-variants.{Jump, Si
 use Rattle.processor_encode_laws.specs.RoundTrip.{DecodesTo, Legal}
 use Rattle.processor_encode_laws.proofs.Extending.{sixteen, twenty-six, extend-word, extended-in, extended-low}
 use Rattle.processor_encode_laws.proofs.Fitting.{pick-known, Within, within-facts, within-true, even-facts, even-true}
-use Rattle.processor_encode_laws.proofs.Places.{placed-opcode, placed-middle, placed-low, placed-half, placed-again, jump-opcode, jump-offset, jump-first, jump-second, sub-again}
+use Rattle.processor_encode_laws.proofs.Places.{placed-opcode, placed-middle, placed-low, placed-half}
+use Rattle.processor_encode_laws.proofs.Places.{placed-again, jump-opcode, jump-offset, jump-first, jump-second}
+use Rattle.processor_encode_laws.proofs.Places.{sub-again}
 use Rattle.processor_encode_laws.proofs.Cleared.{two-long, cleared-long, cleared-extended}
 use Rattle.processor_encode_laws.proofs.Encoding.{Facts, legal-row, encoded-in}
 
@@ -73,7 +75,14 @@ module _ (n : ℕ) (I : ℕ → Instruction) (o : OfJump n I) where
       let back : d % 67108864 ≡ f % 1024 * 65536 + s / 2 * 2 = extended-low 33554432 twenty-six (f % 1024 * 65536 + s / 2 * 2) small in
       let even : d % 2 ≡ 0 = omega arith in
       let signed = extended-in 33554432 twenty-six (f % 1024 * 65536 + s / 2 * 2) small in
-      let fits : within x 1 1 1 (evenIn 33554432 d) ≡ true = within-true x 1 1 1 (evenIn 33554432 d) (record { first = omega arith; second = omega arith; third = omega arith; last = even-true 33554432 d even signed }) in
+      let fits : within x 1 1 1 (evenIn 33554432 d) ≡ true = within-true x 1 1 1 (evenIn 33554432 d)
+      (record {
+        first = omega arith;
+        second = omega arith;
+        third = omega arith;
+        last = even-true 33554432 d even
+            signed;
+      }) in
       let first : jumpPlaced n d ≡ f = jump-first n d f s to hs e back in
       let second : lowHalf d ≡ without 0 1 s = jump-second d f s hs back in
       rw (o .fields d, cleared-long Jump n f s (o .known) e (o .opcode .from) (o .opcode .not-50) (o .opcode .not-54) (o .opcode .not-62))
@@ -116,7 +125,14 @@ module _ (n : ℕ) (I : ℕ → ℕ → ℕ → Instruction) (o : OfSignedLong n
       let d = extendOf 32768 s in
       let x = numbers n a b 0 d in
       let to = o .opcode .to in
-      let fits : within x 32 32 1 (signedIn 32768 d) ≡ true = within-true x 32 32 1 (signedIn 32768 d) (record { first = omega arith; second = omega arith; third = omega arith; last = extended-in 32768 sixteen s hs }) in
+      let fits : within x 32 32 1 (signedIn 32768 d) ≡ true = within-true x 32 32 1 (signedIn 32768 d)
+      (record {
+        first = omega arith;
+        second = omega arith;
+        third = omega arith;
+        last = extended-in 32768 sixteen s
+            hs;
+      }) in
       let first : placed n b a ≡ f = placed-again n f to e in
       let second : lowHalf d ≡ s = extended-low 32768 sixteen s hs in
       rw (o .fields d a b, cleared-long SignedLong n f s (o .known) e (o .opcode .from) (o .opcode .not-50) (o .opcode .not-54) (o .opcode .not-62))
@@ -161,7 +177,8 @@ module _ (n : ℕ) (I : ℕ → ℕ → ℕ → Instruction) (o : OfUnsignedLong
       let b = f / 32 % 32 in
       let x = numbers n a b 0 s in
       let to = o .opcode .to in
-      let fits : within x 32 32 1 (ltb s 65536) ≡ true = within-true x 32 32 1 (ltb s 65536) (record { first = omega arith; second = omega arith; third = omega arith; last = lt-ltb s 65536 hs }) in
+      let fits : within x 32 32 1 (ltb s 65536) ≡ true = within-true x 32 32 1 (ltb s 65536)
+      (record { first = omega arith; second = omega arith; third = omega arith; last = lt-ltb s 65536 hs }) in
       let first : placed n b a ≡ f = placed-again n f to e in
       let second : lowHalf s ≡ s = omega arith in
       rw (o .fields s a b, cleared-long UnsignedLong n f s (o .known) e (o .opcode .from) (o .opcode .not-50) (o .opcode .not-54) (o .opcode .not-62))
@@ -209,7 +226,8 @@ module _ (m : ℕ) (I : ℕ → ℕ → Instruction) (o : OfExtended m I) where
       let a = f % 32 in
       let b = f / 32 % 32 in
       let x = numbers (64 + m) a b 0 0 in
-      let fits : within x 32 32 1 true ≡ true = within-true x 32 32 1 true (record { first = omega arith; second = omega arith; third = omega arith; last = refl }) in
+      let fits : within x 32 32 1 true ≡ true = within-true x 32 32 1 true
+      (record { first = omega arith; second = omega arith; third = omega arith; last = refl }) in
       let first : placed 62 b a ≡ f = placed-again 62 f (omega arith) e in
       let second : subOpcode (64 + m) ≡ without 0 10 s = sub-again m s (o .small) h in
       rw (o .fields a b, cleared-extended Extended m f s (o .known) e h)
@@ -253,7 +271,8 @@ module _ (m : ℕ) (I : ℕ → ℕ → Instruction) (o : OfExchange m I) where
   exchange-encode f s e h =
       let b = f / 32 % 32 in
       let x = numbers (64 + m) 0 b 0 0 in
-      let fits : within x 1 32 1 true ≡ true = within-true x 1 32 1 true (record { first = omega arith; second = omega arith; third = omega arith; last = refl }) in
+      let fits : within x 1 32 1 true ≡ true = within-true x 1 32 1 true
+      (record { first = omega arith; second = omega arith; third = omega arith; last = refl }) in
       let first : placed 62 b 0 ≡ without 0 5 f = omega arith in
       let second : subOpcode (64 + m) ≡ without 0 10 s = sub-again m s (o .small) h in
       rw (o .fields 0 b, cleared-extended Exchange m f s (o .known) e h)

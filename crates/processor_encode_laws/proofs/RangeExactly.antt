@@ -20,7 +20,10 @@ use Rattle.processor_encode.specs.declared.Fields.{Fields}
 use Rattle.processor_encode.specs.declared.Encoded.{Encoded}
 use Rattle.processor_encode.specs.declared.Encoded.the-variants.{One, Two, Refused}
 use Rattle.processor_encode.specs.declared.format.Format as format
-use Rattle.processor_encode.specs.declared.format.Format.the-variants.{Registers, Target, SignedImmediate, UnsignedImmediate, Condition, Vector, Bare, SystemRegister, Branch, Jump, SignedLong, UnsignedLong, Extended, Exchange, Unlisted}
+use Rattle.processor_encode.specs.declared.format.Format.the-variants.{Registers, Target, SignedImmediate}
+use Rattle.processor_encode.specs.declared.format.Format.the-variants.{UnsignedImmediate, Condition, Vector, Bare}
+use Rattle.processor_encode.specs.declared.format.Format.the-variants.{SystemRegister, Branch, Jump, SignedLong}
+use Rattle.processor_encode.specs.declared.format.Format.the-variants.{UnsignedLong, Extended, Exchange, Unlisted}
 use Rattle.processor_encode_laws.specs.RoundTrip.{DecodesTo, Legal, RefusedExactly, Decodable, RangeExactly}
 use Rattle.processor_encode_laws.proofs.RoundTrip.{decode-encode, encode-decode}
 

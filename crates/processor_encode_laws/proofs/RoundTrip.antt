@@ -19,7 +19,10 @@ use Rattle.processor_decode.specs.declared.FloatingOperation.{FloatingOperation
 use Rattle.processor_decode.specs.declared.NintendoOperation.{NintendoOperation}
 use Rattle.processor_decode.specs.declared.Width.{Width}
 use Rattle.processor_decode.specs.declared.Instruction.{Instruction}
-use Rattle.processor_decode.specs.declared.Instruction.the-variants.{Register, Mul, Div, Mulu, Divu, Jmp, Immediate, Setf, Cli, Sei, Trap, Reti, Halt, Ldsr, Stsr, Bcond, Jr, Jal, Long, Load, In, Store, Out, Illegal, Cmpf, Floating, Nintendo}
+use Rattle.processor_decode.specs.declared.Instruction.the-variants.{Register, Mul, Div, Mulu, Divu, Jmp, Immediate}
+use Rattle.processor_decode.specs.declared.Instruction.the-variants.{Setf, Cli, Sei, Trap, Reti, Halt, Ldsr, Stsr}
+use Rattle.processor_decode.specs.declared.Instruction.the-variants.{Bcond, Jr, Jal, Long, Load, In, Store, Out}
+use Rattle.processor_decode.specs.declared.Instruction.the-variants.{Illegal, Cmpf, Floating, Nintendo}
 use Rattle.processor_decode.specs.declared.Decoded.{Decoded}
 use Rattle.processor_decode.specs.declared.Decoded.the-variants.{Modelled, NotModelled}
 use Rattle.processor_encode.specs.Format.{formatOf, shortFormats, longFormats, extendedFormats}
@@ -34,9 +37,23 @@ use Rattle.processor_encode_laws.specs.Clearing.{ClearedDecodes}
 use Rattle.processor_encode_laws.proofs.Rows.{EachFrom, each-from-at}
 use Rattle.processor_encode_laws.proofs.Cleared.{operation-short, operation-long, operation-extended, unlisted-first, unlisted-second}
 use Rattle.processor_encode_laws.proofs.Encoding.{Facts, absent-row, illegal-row}
-use Rattle.processor_encode_laws.proofs.ShortFormats.{registers-decode, registers-row, target-decode, target-row, signed-decode, signed-row, unsigned-decode, unsigned-row, condition-decode, condition-row, vector-decode, vector-row, bare-decode, bare-row, system-decode, system-row, branch-decode, branch-facts}
-use Rattle.processor_encode_laws.proofs.LongFormats.{jump-decode, jump-row, signed-long-decode, signed-long-row, unsigned-long-decode, unsigned-long-row, extended-decode, extended-row, exchange-decode, exchange-row}
-use Rattle.processor_encode_laws.proofs.Instructions.{short-at, long-at, extended-at, mov, add, sub, cmp, shl, shr, jmp, sar, mul, div, mulu, divu, or, and, xor, not, mov-immediate, add-immediate, setf, cmp-immediate, shl-immediate, shr-immediate, cli, sar-immediate, trap, reti, halt, ldsr, stsr, sei, movea, addi, jr, jal, ori, andi, xori, movhi, ld-b, ld-h, ld-w, st-b, st-h, st-w, in-b, in-h, in-w, out-b, out-h, out-w, cmpf, cvt-ws, cvt-sw, addf, subf, mulf, divf, xb, xh, rev, trnc-sw, mpyhw}
+use Rattle.processor_encode_laws.proofs.ShortFormats.{registers-decode, registers-row, target-decode}
+use Rattle.processor_encode_laws.proofs.ShortFormats.{target-row, signed-decode, signed-row, unsigned-decode}
+use Rattle.processor_encode_laws.proofs.ShortFormats.{unsigned-row, condition-decode, condition-row}
+use Rattle.processor_encode_laws.proofs.ShortFormats.{vector-decode, vector-row, bare-decode, bare-row}
+use Rattle.processor_encode_laws.proofs.ShortFormats.{system-decode, system-row, branch-decode, branch-facts}
+use Rattle.processor_encode_laws.proofs.LongFormats.{jump-decode, jump-row, signed-long-decode, signed-long-row}
+use Rattle.processor_encode_laws.proofs.LongFormats.{unsigned-long-decode, unsigned-long-row, extended-decode}
+use Rattle.processor_encode_laws.proofs.LongFormats.{extended-row, exchange-decode, exchange-row}
+use Rattle.processor_encode_laws.proofs.Instructions.{short-at, long-at, extended-at, mov, add, sub, cmp, shl}
+use Rattle.processor_encode_laws.proofs.Instructions.{shr, jmp, sar, mul, div, mulu, divu, or, and, xor, not}
+use Rattle.processor_encode_laws.proofs.Instructions.{mov-immediate, add-immediate, setf, cmp-immediate}
+use Rattle.processor_encode_laws.proofs.Instructions.{shl-immediate, shr-immediate, cli, sar-immediate, trap}
+use Rattle.processor_encode_laws.proofs.Instructions.{reti, halt, ldsr, stsr, sei, movea, addi, jr, jal, ori}
+use Rattle.processor_encode_laws.proofs.Instructions.{andi, xori, movhi, ld-b, ld-h, ld-w, st-b, st-h, st-w}
+use Rattle.processor_encode_laws.proofs.Instructions.{in-b, in-h, in-w, out-b, out-h, out-w, cmpf, cvt-ws}
+use Rattle.processor_encode_laws.proofs.Instructions.{cvt-sw, addf, subf, mulf, divf, xb, xh, rev, trnc-sw}
+use Rattle.processor_encode_laws.proofs.Instructions.{mpyhw}
 
 pub decode-encode : DecodeEncode
 unfolding encodedOf formatOf extendedFormats
@@ -126,18 +143,21 @@ module _ (f s : ℕ) (hs : s < 65536) where
       let at = operation-short n f s e h in
       absent-row f s (unlisted-first n f s known at) (unlisted-second n f s known at) (short-at n f s h e ∙ row)
 
-  illegal-long : (n : ℕ) → 40 ≤ n → (n ≡ 62 → ⊥) → formatOf n ≡ Unlisted → getD (longRows f s) (n - 40) NotModelled ≡ Modelled Illegal → f / 1024 ≡ n → Facts f s (Modelled Illegal)
+  illegal-long : (n : ℕ) → 40 ≤ n → (n ≡ 62 → ⊥) → formatOf n ≡ Unlisted → getD (longRows f s)
+      (n - 40) NotModelled ≡ Modelled Illegal → f / 1024 ≡ n → Facts f s (Modelled Illegal)
   illegal-long n h ne known row e =
       let at = operation-long n f s e h ne in
       illegal-row f s (unlisted-first n f s known at) (unlisted-second n f s known at) (long-at n f s h e ∙ row)
 
-  absent-long : (n : ℕ) → 40 ≤ n → (n ≡ 62 → ⊥) → formatOf n ≡ Unlisted → getD (longRows f s) (n - 40) NotModelled ≡ NotModelled → f / 1024 ≡ n → Facts f s NotModelled
+  absent-long : (n : ℕ) → 40 ≤ n → (n ≡ 62 → ⊥) → formatOf n ≡ Unlisted → getD (longRows f s)
+      (n - 40) NotModelled ≡ NotModelled → f / 1024 ≡ n → Facts f s NotModelled
   absent-long n h ne known row e =
       let at = operation-long n f s e h ne in
       absent-row f s (unlisted-first n f s known at) (unlisted-second n f s known at) (long-at n f s h e ∙ row)
 
   module _ (e : f / 1024 ≡ 62) where
-    illegal-extended : (m : ℕ) → formatOf (64 + m) ≡ Unlisted → getD (subRows f) m (Modelled Illegal) ≡ Modelled Illegal → s / 1024 ≡ m → Facts f s (Modelled Illegal)
+    illegal-extended : (m : ℕ) → formatOf (64 + m) ≡ Unlisted → getD (subRows f) m
+        (Modelled Illegal) ≡ Modelled Illegal → s / 1024 ≡ m → Facts f s (Modelled Illegal)
     illegal-extended m known row h =
         let at = operation-extended m f s e h in
         illegal-row f s (unlisted-first (64 + m) f s known at) (unlisted-second (64 + m) f s known at) (extended-at m f s e h ∙ row)
@@ -187,7 +207,8 @@ module _ (f s : ℕ) (hs : s < 65536) where
     extended-found =
         elim (decLt (s / 1024) 13) [
           | yes h ↦
-              each-from-at (λ (m : ℕ) (d : Decoded). s / 1024 ≡ m → Facts f s d) 0 (subRows f) (s / 1024) (Modelled Illegal) extended-facts h (s / 1024) (omega arith) refl
+              each-from-at (λ (m : ℕ) (d : Decoded). s / 1024 ≡ m → Facts f s d) 0 (subRows f) (s / 1024)
+              (Modelled Illegal) extended-facts h (s / 1024) (omega arith) refl
           | no n ↦
               let past : 13 ≤ s / 1024 = omega arith in
               rw (unlisted f s past) (illegal-extended (s / 1024) (unlisted-format (s / 1024) past) (unlisted f s past) refl)
@@ -369,7 +390,8 @@ module _ (f s : ℕ) (hs : s < 65536) where
       elim (decLt (f / 1024) 32) [
         | yes h ↦
             rw (short-row f s h)
-            (each-from-at (λ (n : ℕ) (d : Decoded). f / 1024 ≡ n → Facts f s d) 0 (shortRows f) (f / 1024) NotModelled short-facts h (f / 1024) (omega arith) refl)
+            (each-from-at (λ (n : ℕ) (d : Decoded). f / 1024 ≡ n → Facts f s d) 0 (shortRows f)
+            (f / 1024) NotModelled short-facts h (f / 1024) (omega arith) refl)
         | no a ↦ elim (decLt (f / 1024) 40) [
           | yes h ↦
               let from : 32 ≤ f / 1024 = omega arith in
@@ -379,7 +401,8 @@ module _ (f s : ℕ) (hs : s < 65536) where
               let to : f / 1024 - 40 < 24 = omega arith in
               let at : f / 1024 ≡ 40 + (f / 1024 - 40) = omega arith in
               rw (long-row f s from)
-              (each-from-at (λ (n : ℕ) (d : Decoded). f / 1024 ≡ n → Facts f s d) 40 (longRows f s) (f / 1024 - 40) NotModelled long-facts to (f / 1024) at refl)
+              (each-from-at (λ (n : ℕ) (d : Decoded). f / 1024 ≡ n → Facts f s d) 40 (longRows f s)
+              (f / 1024 - 40) NotModelled long-facts to (f / 1024) at refl)
         ]
       ]
 

@@ -9,7 +9,8 @@ abbrev pub EachFrom : {A : Type 0} → (ℕ → A → Type 0) → ℕ → List A
 EachFrom P n [] = Unit {0}
 EachFrom P n (x ∷ xs) = P n x × EachFrom P (suc n) xs
 
-pub each-from-at : {A : Type 0} (P : ℕ → A → Type 0) (n : ℕ) (xs : List A) (k : ℕ) (other : A) → EachFrom P n xs → k < length xs → (m : ℕ) → m ≡ n + k → P m (getD xs k other)
+pub each-from-at : {A : Type 0} (P : ℕ → A → Type 0) (n : ℕ) (xs : List A) (k : ℕ)
+    (other : A) → EachFrom P n xs → k < length xs → (m : ℕ) → m ≡ n + k → P m (getD xs k other)
 each-from-at P n [] k other all h m e = absurd (omega arith)
 each-from-at P n (x ∷ xs) zero other all h m e =
     let q : m ≡ n = omega arith in

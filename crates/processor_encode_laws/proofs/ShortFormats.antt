@@ -25,7 +25,9 @@ use Rattle.processor_encode.specs.Place.{placed, branchPlaced}
 use Rattle.processor_encode.specs.Encode.{encodeOf, encodedOf}
 use Rattle.processor_encode.specs.Unused.{without, clearedOf}
 use Rattle.processor_encode.specs.declared.Encoded.the-variants.{One, Two, Refused}
-use Rattle.processor_encode.specs.declared.format.Format.the-variants.{Registers, Target, SignedImmediate, UnsignedImmediate, Condition, Vector, Bare, SystemRegister, Branch}
+use Rattle.processor_encode.specs.declared.format.Format.the-variants.{Registers, Target, SignedImmediate}
+use Rattle.processor_encode.specs.declared.format.Format.the-variants.{UnsignedImmediate, Condition, Vector, Bare}
+use Rattle.processor_encode.specs.declared.format.Format.the-variants.{SystemRegister, Branch}
 use Rattle.processor_encode_laws.specs.RoundTrip.{DecodesTo, Legal}
 use Rattle.processor_encode_laws.proofs.Extending.{five, nine, extend-word, extended-in, extended-low}
 use Rattle.processor_encode_laws.proofs.Fitting.{pick-known, Within, within-facts, within-true, even-facts, even-true, system-facts, system-true}
@@ -67,7 +69,8 @@ module _ (n : ℕ) (I : ℕ → ℕ → Instruction) (o : OfRegisters n I) where
       let a = f % 32 in
       let b = f / 32 % 32 in
       let x = numbers n a b 0 0 in
-      let fits : within x 32 32 1 true ≡ true = within-true x 32 32 1 true (record { first = omega arith; second = omega arith; third = omega arith; last = refl }) in
+      let fits : within x 32 32 1 true ≡ true = within-true x 32 32 1 true
+      (record { first = omega arith; second = omega arith; third = omega arith; last = refl }) in
       let small = o .small in
       let same : placed n b a ≡ f = placed-again n f (omega arith) e in
       rw (o .fields a b, cleared-short Registers n f s (o .known) e small)
@@ -104,7 +107,8 @@ module _ (n : ℕ) (I : ℕ → Instruction) (o : OfTarget n I) where
   target-encode f s e =
       let a = f % 32 in
       let x = numbers n a 0 0 0 in
-      let fits : within x 32 1 1 true ≡ true = within-true x 32 1 1 true (record { first = omega arith; second = omega arith; third = omega arith; last = refl }) in
+      let fits : within x 32 1 1 true ≡ true = within-true x 32 1 1 true
+      (record { first = omega arith; second = omega arith; third = omega arith; last = refl }) in
       let small = o .small in
       let same : placed n 0 a ≡ without 5 5 f = omega arith in
       rw (o .fields a, cleared-short Target n f s (o .known) e small)
@@ -141,7 +145,14 @@ module _ (n : ℕ) (I : ℕ → ℕ → Instruction) (o : OfSignedImmediate n I)
       let a = extendOf 16 (f % 32) in
       let b = f / 32 % 32 in
       let x = numbers n 0 b 0 a in
-      let fits : within x 1 32 1 (signedIn 16 a) ≡ true = within-true x 1 32 1 (signedIn 16 a) (record { first = omega arith; second = omega arith; third = omega arith; last = extended-in 16 five (f % 32) (omega arith) }) in
+      let fits : within x 1 32 1 (signedIn 16 a) ≡ true = within-true x 1 32 1 (signedIn 16 a)
+      (record {
+        first = omega arith;
+        second = omega arith;
+        third = omega arith;
+        last = extended-in 16 five (f % 32)
+            (omega arith);
+      }) in
       let small = o .small in
       let back : a % 32 ≡ f % 32 = extended-low 16 five (f % 32) (omega arith) in
       let same : placed n b a ≡ f = omega arith in
@@ -182,7 +193,14 @@ module _ (n : ℕ) (I : ℕ → ℕ → Instruction) (o : OfUnsignedImmediate n 
       let a = f % 32 in
       let b = f / 32 % 32 in
       let x = numbers n 0 b 0 a in
-      let fits : within x 1 32 1 (ltb a 32) ≡ true = within-true x 1 32 1 (ltb a 32) (record { first = omega arith; second = omega arith; third = omega arith; last = lt-ltb a 32 (omega arith) }) in
+      let fits : within x 1 32 1 (ltb a 32) ≡ true = within-true x 1 32 1 (ltb a 32)
+      (record {
+        first = omega arith;
+        second = omega arith;
+        third = omega arith;
+        last = lt-ltb a 32
+            (omega arith);
+      }) in
       let small = o .small in
       let same : placed n b a ≡ f = placed-again n f (omega arith) e in
       rw (o .fields a b, cleared-short UnsignedImmediate n f s (o .known) e small)
@@ -221,7 +239,8 @@ module _ (n : ℕ) (I : ℕ → ℕ → Instruction) (o : OfCondition n I) where
       let a = f % 16 in
       let b = f / 32 % 32 in
       let x = numbers n 0 b a 0 in
-      let fits : within x 1 32 16 true ≡ true = within-true x 1 32 16 true (record { first = omega arith; second = omega arith; third = omega arith; last = refl }) in
+      let fits : within x 1 32 16 true ≡ true = within-true x 1 32 16 true
+      (record { first = omega arith; second = omega arith; third = omega arith; last = refl }) in
       let small = o .small in
       let same : placed n b a ≡ without 4 1 f = condition-again n f (omega arith) e in
       rw (o .fields a b, cleared-short Condition n f s (o .known) e small)
@@ -258,7 +277,14 @@ module _ (n : ℕ) (I : ℕ → Instruction) (o : OfVector n I) where
   vector-encode f s e =
       let a = f % 32 in
       let x = numbers n 0 0 0 a in
-      let fits : within x 1 1 1 (ltb a 32) ≡ true = within-true x 1 1 1 (ltb a 32) (record { first = omega arith; second = omega arith; third = omega arith; last = lt-ltb a 32 (omega arith) }) in
+      let fits : within x 1 1 1 (ltb a 32) ≡ true = within-true x 1 1 1 (ltb a 32)
+      (record {
+        first = omega arith;
+        second = omega arith;
+        third = omega arith;
+        last = lt-ltb a 32
+            (omega arith);
+      }) in
       let small = o .small in
       let same : placed n 0 a ≡ without 5 5 f = omega arith in
       rw (o .fields a, cleared-short Vector n f s (o .known) e small)
@@ -291,7 +317,8 @@ module _ (n : ℕ) (i : Instruction) (o : OfBare n i) where
   bare-encode : (f s : ℕ) → f / 1024 ≡ n → encodeOf i ≡ clearedOf f s
   bare-encode f s e =
       let x = numbers n 0 0 0 0 in
-      let fits : within x 1 1 1 true ≡ true = within-true x 1 1 1 true (record { first = omega arith; second = omega arith; third = omega arith; last = refl }) in
+      let fits : within x 1 1 1 true ≡ true = within-true x 1 1 1 true
+      (record { first = omega arith; second = omega arith; third = omega arith; last = refl }) in
       let small = o .small in
       let same : placed n 0 0 ≡ without 0 10 f = omega arith in
       rw (o .fields, cleared-short Bare n f s (o .known) e small)
@@ -331,7 +358,14 @@ module _ (n : ℕ) (I : ℕ → ℕ → Instruction) (o : OfSystemRegister n I) 
       let a = f % 32 in
       let b = f / 32 % 32 in
       let x = numbers n 0 b 0 a in
-      let fits : within x 1 32 1 (systemFits a) ≡ true = within-true x 1 32 1 (systemFits a) (record { first = omega arith; second = omega arith; third = omega arith; last = system-true a (omega arith) ne }) in
+      let fits : within x 1 32 1 (systemFits a) ≡ true = within-true x 1 32 1 (systemFits a)
+      (record {
+        first = omega arith;
+        second = omega arith;
+        third = omega arith;
+        last = system-true a
+            (omega arith) ne;
+      }) in
       let small = o .small in
       let same : placed n b a ≡ f = placed-again n f (omega arith) e in
       rw (o .fields a b, cleared-short SystemRegister n f s (o .known) e small)
@@ -383,7 +417,12 @@ branch-decode a d =
       omega arith,
       two-short (branchPlaced a d) (at .1),
       λ s.
-          branch-row (branchPlaced a d) s (at .0) (at .1) ∙ rw (branch-condition a d third, branch-offset a d third (in-range .0), extend-word 256 nine d (in-range .1)),
+          branch-row (branchPlaced a d) s (at .0) (at .1) ∙ rw (
+            branch-condition a d third,
+            branch-offset a d third
+                (in-range .0),
+            extend-word 256 nine d (in-range .1),
+          ),
     ))
     tt)
 
@@ -396,10 +435,13 @@ branch-encode f s h k =
     let back : d % 512 ≡ f % 512 / 2 * 2 = extended-low 256 nine (f % 512 / 2 * 2) (omega arith) in
     let even : d % 2 ≡ 0 = omega arith in
     let signed = extended-in 256 nine (f % 512 / 2 * 2) (omega arith) in
-    let fits : within x 1 1 16 (evenIn 256 d) ≡ true = within-true x 1 1 16 (evenIn 256 d) (record { first = omega arith; second = omega arith; third = omega arith; last = even-true 256 d even signed }) in
+    let fits : within x 1 1 16 (evenIn 256 d) ≡ true = within-true x 1 1 16 (evenIn 256 d)
+    (record { first = omega arith; second = omega arith; third = omega arith; last = even-true 256 d even signed })
+    in
     let same : branchPlaced a d ≡ without 0 1 f = branch-again f d h k back in
     rw (cleared-branch f s h k) (encoded-in x (rw branch-known fits) ∙ rw branch-known (ap One same))
 
 pub branch-facts : (f s : ℕ) → 32 ≤ f / 1024 → f / 1024 < 40 → Facts f s (branch f)
 branch-facts f s h k =
-    legal-row f s (Bcond (f / 512 % 16) (extendOf 256 (f % 512 / 2 * 2))) (branch-decode (f / 512 % 16) (extendOf 256 (f % 512 / 2 * 2))) (branch-encode f s h k)
+    legal-row f s (Bcond (f / 512 % 16) (extendOf 256 (f % 512 / 2 * 2))) (branch-decode (f / 512 % 16) (extendOf 256
+    (f % 512 / 2 * 2))) (branch-encode f s h k)

@@ -44,7 +44,8 @@ module _ (a b r : ℕ) (ha : a < 2 ^ 32) (hb : b < 2 ^ 32) (hr : r < 2 ^ 64) whe
   both-parts : (2 ^ 32 - a) * (2 ^ 32 - b) + 2 ^ 32 * a + 2 ^ 32 * b ≡ 2 ^ 64 + a * b
   both-parts =
       let e : 2 ^ 32 - b + b ≡ 2 ^ 32 = omega arith in
-      let one : (2 ^ 32 - a) * (2 ^ 32 - b) + (2 ^ 32 - a) * b ≡ (2 ^ 32 - a) * 2 ^ 32 = sym (mul-add (2 ^ 32 - a) (2 ^ 32 - b) b) ∙ ap (λ (n : ℕ). (2 ^ 32 - a) * n) e in
+      let one : (2 ^ 32 - a) * (2 ^ 32 - b) + (2 ^ 32 - a) * b ≡ (2 ^ 32 - a) * 2 ^ 32 = sym (mul-add (2 ^ 32 - a)
+      (2 ^ 32 - b) b) ∙ ap (λ (n : ℕ). (2 ^ 32 - a) * n) e in
       let two : a * b + (2 ^ 32 - a) * b ≡ 2 ^ 32 * b = parts a b ha in
       omega arith
 

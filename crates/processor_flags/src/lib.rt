@@ -1,5 +1,5 @@
 // The flags of a result kept as what they are made of, and put into PSW only where it is asked for. The functions here
-// are `pub` for the crates above; none is a call of the library's users.
+// are `pub` for the crates above: internal, not calls of the library.
 pub mod bitwise;
 pub mod condition;
 pub mod order;

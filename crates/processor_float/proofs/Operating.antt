@@ -43,7 +43,8 @@ module _ (x y : ℕ) (a b : Bool) (p : a ≡ reservedOf x) (q : b ≡ reservedOf
   numbers-compared e = pick-false (reservedOf x || reservedOf y) compared.Reserved (comparedOf x y) (either false e)
 
   pub lower-compared : (a || b) ≡ false → lt (floatOf x) (floatOf y) ≡ true → compared.Lower ≡ comparisonOf x y
-  lower-compared e f = pick-true (lt (floatOf x) (floatOf y)) compared.Lower (pick (eq (floatOf x) (floatOf y)) compared.Equal compared.Higher) f ∙ numbers-compared e
+  lower-compared e f = pick-true (lt (floatOf x) (floatOf y)) compared.Lower (pick (eq (floatOf x)
+      (floatOf y)) compared.Equal compared.Higher) f ∙ numbers-compared e
 
   pub equal-compared : (a || b) ≡ false → lt (floatOf x) (floatOf y) ≡ false → eq (floatOf x) (floatOf y) ≡ true → compared.Equal ≡ comparisonOf x y
   equal-compared e f g =

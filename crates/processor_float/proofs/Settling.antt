@@ -123,7 +123,8 @@ module _ (exact : Bool) where
   unfolding lt neg
   flushes-negative v = rw (nothing, least) (go v)
     where
-      go : (v : Float) → (lt v (fin false 0 (pos 0)) && lt (neg (fin false 1 (negsuc 125))) v) ≡ true → Number (neg (fin false 0 (pos 0))) (not exact) ≡ settledOf exact v
+      go : (v : Float) → (lt v (fin false 0 (pos 0)) && lt (neg (fin false 1 (negsuc 125))) v) ≡ true → Number (neg
+          (fin false 0 (pos 0))) (not exact) ≡ settledOf exact v
       go nan h = never h
       go (inf true) h = never h
       go (inf false) h = never h

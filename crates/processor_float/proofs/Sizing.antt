@@ -137,7 +137,12 @@ module _ (w n : ℕ) (exact : 150 ≤ exponentOf w → n ≡ (2 ^ 23 + digitsOf 
   above : 158 ≤ exponentOf w → 158 * 2 ^ 23 < w % 2 ^ 31 → 2 ^ 31 < n
   above h g =
       elim (decLt 158 (exponentOf w)) [
-        | yes l ↦ omega (arith, exact (omega arith), mul-le-mul {n₁ = 2 ^ 23} {m₁ = 2 ^ 9} {n₂ = 2 ^ 23 + digitsOf w} {m₂ = 2 ^ (exponentOf w - 150)} (omega arith) (pow-mono {i = 9} {j = exponentOf w - 150} (omega arith)))
+        | yes l ↦ omega (
+          arith,
+          exact (omega arith),
+          mul-le-mul {n₁ = 2 ^ 23} {m₁ = 2 ^ 9} {n₂ = 2 ^ 23 + digitsOf w}
+              {m₂ = 2 ^ (exponentOf w - 150)} (omega arith) (pow-mono {i = 9} {j = exponentOf w - 150} (omega arith)),
+        )
         | no l ↦
             let e : exponentOf w ≡ 158 = omega arith in
             let x : n ≡ (2 ^ 23 + digitsOf w) * 2 ^ 8 = exact (omega arith) ∙ ap (λ (k : ℕ). (2 ^ 23 + digitsOf w) * 2 ^ (k - 150)) e in
@@ -145,7 +150,12 @@ module _ (w n : ℕ) (exact : 150 ≤ exponentOf w → n ≡ (2 ^ 23 + digitsOf 
       ]
 
   reaches : Reaches w n
-  reaches = record { small = λ h. below (omega (arith, fields w)); limit = λ h. at-limit (omega (arith, fields w)) (omega (arith, fields w)); large = λ h. above (omega (arith, fields w)) h }
+  reaches = record {
+    small = λ h. below (omega (arith, fields w));
+    limit = λ h. at-limit (omega (arith, fields w))
+        (omega (arith, fields w));
+    large = λ h. above (omega (arith, fields w)) h;
+  }
 
 pub nearest-reaches : (w : ℕ) → Reaches w (nearestSizeOf w)
 nearest-reaches w = reaches w (nearestSizeOf w) (nearest-whole w) (nearest-least w)

@@ -1,6 +1,6 @@
 // What the floating-point and Nintendo instructions compute: words that stand for IEEE 754 single floats, each result
 // rounded once, to nearest, ties to even; the flags that a result leaves in PSW; and four rearrangements of words.
-// These functions are `pub` for the crates above; none is a call of the library's users.
+// These functions are `pub` for the crates above: internal, not calls of the library.
 pub mod arithmetic;
 pub mod comparison;
 pub mod conversion;

@@ -92,17 +92,20 @@ module _ (op : Operation) (x y : ℕ) (c : HasResult op x y) where
         underflow =
             λ h.
             within (less (magnitudeSizeOf op x y) (2 ^ 23) (2 ^ 277) h (lib.Pow.pow-mono {i = 23} {j = 277} (omega arith)))
-            ∙ sym (pick-true (ltb (magnitudeSizeOf op x y) (2 ^ 23)) (Number (fin (rounds .sign) 0 (pos 0)) (not (eqb (natAbs num) 0))) (Number value false) (lt-ltb (magnitudeSizeOf op x y) (2 ^ 23) h));
+            ∙ sym (pick-true (ltb (magnitudeSizeOf op x y) (2 ^ 23)) (Number (fin (rounds .sign) 0 (pos 0)) (not (eqb
+            (natAbs num) 0))) (Number value false) (lt-ltb (magnitudeSizeOf op x y) (2 ^ 23) h));
         value = value;
         number =
             λ h l.
             within l
-            ∙ sym (pick-false (ltb (magnitudeSizeOf op x y) (2 ^ 23)) (Number (fin (rounds .sign) 0 (pos 0)) (not (eqb (natAbs num) 0))) (Number value false) (le-ltb (magnitudeSizeOf op x y) (2 ^ 23) h));
+            ∙ sym (pick-false (ltb (magnitudeSizeOf op x y) (2 ^ 23)) (Number (fin (rounds .sign) 0 (pos 0)) (not (eqb
+            (natAbs num) 0))) (Number value false) (le-ltb (magnitudeSizeOf op x y) (2 ^ 23) h));
         nearest =
             λ h l.
             subst (λ (z : ℤ). NearestEven z den (toBits binary32 value)) (sym (rounds .agrees))
             (rounded-nearest (rounds .sign) (natAbs num) den den-pos value (toBits binary32 value)
-            (word-of value (rounds .sign) (magnitudeSizeOf op x y) (round-fits binary32 (rounds .sign) (natAbs num) den) (round-number (rounds .sign) (natAbs num) den l)) h);
+            (word-of value (rounds .sign) (magnitudeSizeOf op x y) (round-fits binary32 (rounds .sign) (natAbs num) den)
+            (round-number (rounds .sign) (natAbs num) den l)) h);
       }
 
 pub each-answered : EachAnswered
@@ -117,8 +120,10 @@ traps-first op x y =
       reserved = λ h. sym (pick-true (reservedOf x || reservedOf y) Reserved numbers h);
       invalid =
           λ h z e.
-          sym (pick-true (isZero x) Invalid ZeroDivide e ∙ pick-true (isDivide op && isZero y) divided (floatResultOf op x y) z ∙ pick-false (reservedOf x || reservedOf y) Reserved numbers h);
+          sym (pick-true (isZero x) Invalid ZeroDivide e ∙ pick-true (isDivide op && isZero y) divided
+          (floatResultOf op x y) z ∙ pick-false (reservedOf x || reservedOf y) Reserved numbers h);
       zero-divide =
           λ h z e.
-          sym (pick-false (isZero x) Invalid ZeroDivide e ∙ pick-true (isDivide op && isZero y) divided (floatResultOf op x y) z ∙ pick-false (reservedOf x || reservedOf y) Reserved numbers h);
+          sym (pick-false (isZero x) Invalid ZeroDivide e ∙ pick-true (isDivide op && isZero y) divided
+          (floatResultOf op x y) z ∙ pick-false (reservedOf x || reservedOf y) Reserved numbers h);
     }

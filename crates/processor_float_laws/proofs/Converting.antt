@@ -3,7 +3,9 @@ use Prim.Native.Nat.{ℕ, suc, _+_, _-_, _*_, _/_, _%_, _^_, _<_, _≤_, compare
 use mathlib.Core.Path.{_≡_, refl, sym, subst, _∙_, ap}
 use mathlib.Core.Bool.{Bool, true, false, not}
 use native.Mathlib.Decide.{decLt, ℕ-discrete}
-use native.Mathlib.Nat.{div-mul-le-self, div-lt-iff-lt-mul, lt-suc-self, mul-one, one-mul, mul-pos, mul-le-mul, mul-le-mul-right, mul-right-comm, div-one, le-div-iff-mul-le, le-trans, le-of-eq, lt-irrefl, lt-of-le-of-lt, lt-of-lt-of-le}
+use native.Mathlib.Nat.{div-mul-le-self, div-lt-iff-lt-mul, lt-suc-self, mul-one, one-mul, mul-pos, mul-le-mul}
+use native.Mathlib.Nat.{mul-le-mul-right, mul-right-comm, div-one, le-div-iff-mul-le, le-trans, le-of-eq, lt-irrefl}
+use native.Mathlib.Nat.{lt-of-le-of-lt, lt-of-lt-of-le}
 use native.Mathlib.Omega.{arith}
 use borrow.Author.Tests.{lt-ltb, le-ltb, leb-false, ltb-false}
 use lib.Dec.{T, ltb, leb}

@@ -74,7 +74,8 @@ module _ (s : Bool) (n d : ℕ) (D : 0 < d) where
   abbrev R : ℕ
   R = roundedOf n d
 
-  abbrev near : (y j : ℕ) → y < 2 ^ 24 → (apart (R * d) (n * 2 ^ 149) ≤ apart (y * 2 ^ j * d) (n * 2 ^ 149)) × (apart (R * d) (n * 2 ^ 149) ≡ apart (y * 2 ^ j * d) (n * 2 ^ 149) → y * 2 ^ j ≢ R → significandOf n d % 2 ≡ 0)
+  abbrev near : (y j : ℕ) → y < 2 ^ 24 → (apart (R * d) (n * 2 ^ 149) ≤ apart (y * 2 ^ j * d) (n * 2 ^ 149)) × (apart
+      (R * d) (n * 2 ^ 149) ≡ apart (y * 2 ^ j * d) (n * 2 ^ 149) → y * 2 ^ j ≢ R → significandOf n d % 2 ≡ 0)
   near y j h = nearest-rounded 24 (n * 2 ^ 149) d no-place D y j h
 
   nothing : 0 * 2 ^ 0 * d ≡ 0

@@ -4,7 +4,9 @@ use Prim.Native.Nat.{ℕ, zero, suc, _+_, _-_, _*_, _/_, _%_, _^_, _<_, _≤_, c
 use mathlib.Core.Path.{_≡_, refl, sym, subst, _∙_, ap}
 use mathlib.Core.Logic.{_≢_}
 use native.Mathlib.Decide.{decLt, ℕ-discrete}
-use native.Mathlib.Nat.{mul-assoc, mul-comm, mul-right-comm, mul-pos, mul-le-mul, mul-le-mul-right, mul-lt-mul-of-pos-right, add-mul, one-mul, suc-mul, mod-lt, div-add-mod', le-div-iff-mul-le, le-trans}
+use native.Mathlib.Nat.{mul-assoc, mul-comm, mul-right-comm, mul-pos, mul-le-mul, mul-le-mul-right}
+use native.Mathlib.Nat.{mul-lt-mul-of-pos-right, add-mul, one-mul, suc-mul, mod-lt, div-add-mod', le-div-iff-mul-le}
+use native.Mathlib.Nat.{le-trans}
 use native.Mathlib.Omega.{arith}
 use lib.Pow.{pow-pos, pow-add, pow-mono, shl-lt}
 use lib.Ieee.{size}
@@ -41,10 +43,23 @@ module _ (n u : ℕ) (U : 0 < u) where
   next = suc-mul (n / u) u
 
   down-case : n % u * 2 < u → Closest n u (n / u)
-  down-case h = record { above = omega (arith, parts); under = omega (arith, parts); tie-above = λ e. absurd (omega (arith, parts)); tie-under = λ e. absurd (omega (arith, parts)) }
+  down-case h = record {
+    above = omega (arith, parts);
+    under = omega (arith, parts);
+    tie-above = λ e. absurd (omega
+        (arith, parts));
+    tie-under = λ e. absurd (omega (arith, parts));
+  }
 
   up-case : u < n % u * 2 → Closest n u (suc (n / u))
-  up-case h = record { above = omega (arith, parts, next, mod-lt n U); under = omega (arith, parts, next, mod-lt n U); tie-above = λ e. absurd (omega (arith, parts, next, mod-lt n U)); tie-under = λ e. absurd (omega (arith, parts, next, mod-lt n U)) }
+  up-case h = record {
+    above = omega (arith, parts, next, mod-lt n U);
+    under = omega
+        (arith, parts, next, mod-lt n U);
+    tie-above = λ e. absurd (omega
+        (arith, parts, next, mod-lt n U));
+    tie-under = λ e. absurd (omega (arith, parts, next, mod-lt n U));
+  }
 
   even-case : n % u * 2 ≡ u → n / u % 2 ≡ 0 → Closest n u (n / u)
   even-case h e = record { above = omega (arith, parts); under = omega (arith, parts); tie-above = λ z. e; tie-under = λ z. e }
@@ -156,13 +171,15 @@ module _ (p n c : ℕ) (P : 0 < p) (C : 0 < c) where
     fine h =
         let k = drop p n c in
         let l : y * 2 ^ j < 2 ^ (p - 1 + k) = lt-pow (y * 2 ^ j) (p + j) (p - 1 + k) (shl-lt p j Y) (omega arith) in
-        let b : y * 2 ^ j * c < 2 ^ (p - 1) * (c * 2 ^ k) = subst (λ (x : ℕ). y * 2 ^ j * c < x) (ap (λ (x : ℕ). x * c) (pow-add 2 (p - 1) k) ∙ in-units (2 ^ (p - 1)) k) (mul-lt-mul-of-pos-right l C) in
+        let b : y * 2 ^ j * c < 2 ^ (p - 1) * (c * 2 ^ k) = subst (λ (x : ℕ). y * 2 ^ j * c < x) (ap (λ (x : ℕ). x * c)
+        (pow-add 2 (p - 1) k) ∙ in-units (2 ^ (p - 1)) k) (mul-lt-mul-of-pos-right l C) in
         let r : 2 ^ (p - 1) * (c * 2 ^ k) ≤ n = reached (omega arith) in
         let g : rounded * c ≡ kept p n c * (c * 2 ^ k) = in-units (kept p n c) k in
         let m = nearest-multiple n (c * 2 ^ k) (kept p n c) (2 ^ (p - 1)) is-closest .0 in
         let t = strictly (y * 2 ^ j * c) (2 ^ (p - 1) * (c * 2 ^ k)) n b r in (
           subst (λ (x : ℕ). apart x n ≤ apart (y * 2 ^ j * c) n) (sym g) (omega arith),
-          λ a ne. absurd (further (apart (kept p n c * (c * 2 ^ k)) n) (apart (2 ^ (p - 1) * (c * 2 ^ k)) n) (apart (y * 2 ^ j * c) n) m t (ap (λ (x : ℕ). apart x n) (sym g) ∙ a)),
+          λ a ne. absurd (further (apart (kept p n c * (c * 2 ^ k)) n) (apart (2 ^ (p - 1) * (c * 2 ^ k)) n) (apart
+              (y * 2 ^ j * c) n) m t (ap (λ (x : ℕ). apart x n) (sym g) ∙ a)),
         )
       where
         lt-pow : (a i m : ℕ) → a < 2 ^ i → i ≤ m → a < 2 ^ m

@@ -47,8 +47,10 @@ module _ (x y de dd a b c : ℕ) (C : 0 < c) (E : 0 < de) (D : 0 < dd) (p : x * 
   pub cross-lt : ltb (x * dd) (y * de) ≡ ltb a b
   cross-lt =
       less-same (x * dd) (y * de) a b
-      (λ g. lt-of-mul-lt-mul-right (de * dd) (subst (λ (n : ℕ). n < b * (de * dd)) first (subst (λ (n : ℕ). x * dd * c < n) second (mul-lt-mul-of-pos-right g C))))
-      (λ h. lt-of-mul-lt-mul-right c (subst (λ (n : ℕ). n < y * de * c) (sym first) (subst (λ (n : ℕ). a * (de * dd) < n) (sym second) (mul-lt-mul-of-pos-right h both-pos))))
+      (λ g. lt-of-mul-lt-mul-right (de * dd) (subst (λ (n : ℕ). n < b * (de * dd)) first (subst (λ
+      (n : ℕ). x * dd * c < n) second (mul-lt-mul-of-pos-right g C))))
+      (λ h. lt-of-mul-lt-mul-right c (subst (λ (n : ℕ). n < y * de * c) (sym first) (subst (λ (n : ℕ). a *
+      (de * dd) < n) (sym second) (mul-lt-mul-of-pos-right h both-pos))))
 
   pub cross-eq : eqb (x * dd) (y * de) ≡ eqb a b
   cross-eq =
@@ -58,7 +60,8 @@ module _ (x y de dd a b c : ℕ) (C : 0 < c) (E : 0 < de) (D : 0 < dd) (p : x * 
 
   pub cross-sum : ltb 0 (x * dd + y * de) ≡ ltb 0 (a + b)
   cross-sum =
-      let e : (x * dd + y * de) * c ≡ (a + b) * (de * dd) = add-mul (x * dd) (y * de) c ∙ ap (λ (n : ℕ). n + y * de * c) first ∙ ap (λ (n : ℕ). a * (de * dd) + n) second ∙ sym (add-mul a b (de * dd)) in
+      let e : (x * dd + y * de) * c ≡ (a + b) * (de * dd) = add-mul (x * dd) (y * de) c ∙ ap (λ
+      (n : ℕ). n + y * de * c) first ∙ ap (λ (n : ℕ). a * (de * dd) + n) second ∙ sym (add-mul a b (de * dd)) in
       less-same 0 (x * dd + y * de) 0 (a + b)
       (λ g. first-pos (a + b) (de * dd) (subst (λ (n : ℕ). 0 < n) e (mul-pos g C)))
       (λ h. first-pos (x * dd + y * de) c (subst (λ (n : ℕ). 0 < n) (sym e) (mul-pos h both-pos)))

@@ -3,7 +3,9 @@ use Prim.Native.Nat.{ℕ, zero, suc, _+_, _-_, _*_, _/_, _%_, _^_, _<_, _≤_}
 use mathlib.Core.Path.{_≡_, refl, sym, subst, _∙_, ap}
 use mathlib.Core.Bool.{Bool, true, false, not, _&&_, _||_, Bool·beq, cond}
 use native.Mathlib.Decide.{decLt, ℕ-discrete}
-use native.Mathlib.Nat.{mul-assoc, mul-comm, mul-left-comm, mul-right-comm, mul-pos, add-mul, mul-one, one-mul, zero-mul, eq-of-mul-eq-mul-right, lt-irrefl, mul-sub, mul-lt-mul-of-pos-right, lt-of-mul-lt-mul-right}
+use native.Mathlib.Nat.{mul-assoc, mul-comm, mul-left-comm, mul-right-comm, mul-pos, add-mul, mul-one, one-mul}
+use native.Mathlib.Nat.{zero-mul, eq-of-mul-eq-mul-right, lt-irrefl, mul-sub, mul-lt-mul-of-pos-right}
+use native.Mathlib.Nat.{lt-of-mul-lt-mul-right}
 use native.Mathlib.Omega.{arith}
 use borrow.Author.Tests.{lt-ltb, le-ltb, eq-eqb, ne-eqb, leb-true, leb-false}
 use lib.Dec.{T, ltb, leb, eqb}
@@ -55,7 +57,8 @@ mul-numbers s t m n a b e d p q =
     (cross (m * up e) (n * up d) (down e) (down d) L p q)
   where
     cross : (x y f g l : ℕ) → x * l ≡ a * f → y * l ≡ b * g → x * y * (l * l) ≡ a * b * (f * g)
-    cross x y f g l p q = native.Mathlib.Nat.mul-mul-mul-comm x y l l ∙ ap (λ (k : ℕ). k * (y * l)) p ∙ ap (λ (k : ℕ). a * f * k) q ∙ native.Mathlib.Nat.mul-mul-mul-comm a f b g
+    cross x y f g l p q = native.Mathlib.Nat.mul-mul-mul-comm x y l l ∙ ap (λ (k : ℕ). k * (y * l)) p ∙ ap (λ
+        (k : ℕ). a * f * k) q ∙ native.Mathlib.Nat.mul-mul-mul-comm a f b g
 
 pub mul-values : (x y : Float) (s t : Bool) (a b : ℕ) → HasValue x s a L → HasValue y t b L → mul binary32 x y ≡ round binary32 (unlike s t) (a * b) (2 ^ 298)
 mul-values nan y s t a b h k = absurd h
@@ -63,7 +66,8 @@ mul-values (inf u) y s t a b h k = absurd h
 mul-values (fin u m e) nan s t a b h k = absurd k
 mul-values (fin u m e) (inf v) s t a b h k = absurd k
 mul-values (fin u m e) (fin v n d) s t a b h k =
-    mul-numbers u v m n a b e d (h .1) (k .1) ∙ ap (λ (w : Bool). round binary32 (unlike w v) (a * b) (2 ^ 298)) (h .0) ∙ ap (λ (w : Bool). round binary32 (unlike s w) (a * b) (2 ^ 298)) (k .0)
+    mul-numbers u v m n a b e d (h .1) (k .1) ∙ ap (λ (w : Bool). round binary32 (unlike w v) (a * b) (2 ^ 298)) (h .0)
+    ∙ ap (λ (w : Bool). round binary32 (unlike s w) (a * b) (2 ^ 298)) (k .0)
 
 pub positive : (n : ℕ) → eqb n 0 ≡ false → 0 < n
 positive zero h = absurd (subst T h tt)
@@ -94,7 +98,8 @@ div-values (inf u) y s t a b B h k = absurd h
 div-values (fin u m e) nan s t a b B h k = absurd k
 div-values (fin u m e) (inf v) s t a b B h k = absurd k
 div-values (fin u m e) (fin v n d) s t a b B h k =
-    div-numbers u v m n a b e d B (h .1) (k .1) ∙ ap (λ (w : Bool). round binary32 (unlike w v) a b) (h .0) ∙ ap (λ (w : Bool). round binary32 (unlike s w) a b) (k .0)
+    div-numbers u v m n a b e d B (h .1) (k .1) ∙ ap (λ (w : Bool). round binary32 (unlike w v) a b) (h .0) ∙ ap (λ
+    (w : Bool). round binary32 (unlike s w) a b) (k .0)
 
 -- ---- sums
 
@@ -109,10 +114,12 @@ module _ (s t : Bool) (x y a b c l : ℕ) (C : 0 < c) (H : 0 < l) (p : x * l ≡
   alike = round-same binary32 s (x + y) c (a + b) l C H (add-mul x y l ∙ ap (λ (z : ℕ). z + y * l) p ∙ ap (λ (z : ℕ). a * c + z) q ∙ sym (add-mul a b c))
 
   less : round binary32 t (y - x) c ≡ round binary32 t (b - a) l
-  less = round-same binary32 t (y - x) c (b - a) l C H (difference-times y x l ∙ ap (λ (z : ℕ). z - x * l) q ∙ ap (λ (z : ℕ). b * c - z) p ∙ sym (difference-times b a c))
+  less = round-same binary32 t (y - x) c (b - a) l C H (difference-times y x l ∙ ap (λ (z : ℕ). z - x * l) q ∙ ap (λ
+      (z : ℕ). b * c - z) p ∙ sym (difference-times b a c))
 
   more : (u : Bool) → round binary32 u (x - y) c ≡ round binary32 u (a - b) l
-  more u = round-same binary32 u (x - y) c (a - b) l C H (difference-times x y l ∙ ap (λ (z : ℕ). z - y * l) p ∙ ap (λ (z : ℕ). a * c - z) q ∙ sym (difference-times a b c))
+  more u = round-same binary32 u (x - y) c (a - b) l C H (difference-times x y l ∙ ap (λ (z : ℕ). z - y * l) p ∙ ap (λ
+      (z : ℕ). a * c - z) q ∙ sym (difference-times a b c))
 
   below-same : ltb x y ≡ ltb a b
   below-same = sym (ltb-scaled x y l H) ∙ ap (λ (z : ℕ). ltb z (y * l)) p ∙ ap (λ (z : ℕ). ltb (a * c) z) q ∙ ltb-scaled a b c C
@@ -128,8 +135,10 @@ module _ (s t : Bool) (x y a b c l : ℕ) (C : 0 < c) (H : 0 < l) (p : x * l ≡
   sum-same : sum binary32 s x t y c ≡ sum binary32 s a t b l
   unfolding sum
   sum-same =
-      ap (λ (β : Bool). cond (Bool·beq s t) (round binary32 s (x + y) c) (cond β (round binary32 t (y - x) c) (round binary32 (s && ltb y x) (x - y) c))) below-same
-      ∙ ap (λ (β : Bool). cond (Bool·beq s t) (round binary32 s (x + y) c) (cond (ltb a b) (round binary32 t (y - x) c) (round binary32 (s && β) (x - y) c))) above-same
+      ap (λ (β : Bool). cond (Bool·beq s t) (round binary32 s (x + y) c) (cond β (round binary32 t (y - x) c)
+      (round binary32 (s && ltb y x) (x - y) c))) below-same
+      ∙ ap (λ (β : Bool). cond (Bool·beq s t) (round binary32 s (x + y) c) (cond (ltb a b) (round binary32 t (y - x) c)
+      (round binary32 (s && β) (x - y) c))) above-same
       ∙ cond-same (Bool·beq s t) (ltb a b) (round binary32 s (x + y) c) (round binary32 t (y - x) c) (round binary32 (s && ltb b a) (x - y) c)
       (round binary32 s (a + b) l) (round binary32 t (b - a) l) (round binary32 (s && ltb b a) (a - b) l) alike less (more (s && ltb b a))
 
@@ -142,7 +151,8 @@ add-values (fin u m e) (inf v) s t a b h k = absurd k
 add-values (fin u m e) (fin v n d) s t a b h k =
     sum-same u v (m * up e * down d) (n * up d * down e) a b (down e * down d) L (mul-pos (down-pos e) (down-pos d)) (pow-pos 149)
     (mul-right-comm (m * up e) (down d) L ∙ ap (λ (z : ℕ). z * down d) (h .1) ∙ mul-assoc a (down e) (down d))
-    (mul-right-comm (n * up d) (down e) L ∙ ap (λ (z : ℕ). z * down e) (k .1) ∙ mul-assoc b (down d) (down e) ∙ ap (λ (z : ℕ). b * z) (mul-comm (down d) (down e)))
+    (mul-right-comm (n * up d) (down e) L ∙ ap (λ (z : ℕ). z * down e) (k .1) ∙ mul-assoc b (down d) (down e) ∙ ap (λ
+    (z : ℕ). b * z) (mul-comm (down d) (down e)))
     ∙ ap (λ (w : Bool). sum binary32 w a v b L) (h .0)
     ∙ ap (λ (w : Bool). sum binary32 s a w b L) (k .0)
 
@@ -169,7 +179,8 @@ sum-rounds true false a b c =
     ]
 sum-rounds false true a b c =
     elim (decLt a b) [
-      | yes h ↦ rounds-by _ (signedSize false a +ℤ signedSize true b) c false true (b - a) (simp (lt-ltb a b h)) (sum-less false a b h) (λ z. absurd (omega arith))
+      | yes h ↦ rounds-by _ (signedSize false a +ℤ signedSize true b) c false true (b - a) (simp (lt-ltb a b h))
+          (sum-less false a b h) (λ z. absurd (omega arith))
       | no h ↦
           let g : b ≤ a = omega arith in
           rounds-by _ (signedSize false a +ℤ signedSize true b) c false (false && ltb b a) (a - b) (simp (le-ltb a b g)) (sum-more false a b g) (λ z. refl)
@@ -192,14 +203,22 @@ module _ (x y : ℕ) (hx : Finite x) (hy : Finite y) where
   subtract-rounds : Rounds (computedOf Subtract (floatOf x) (floatOf y)) (numeratorOf Subtract x y) (2 ^ 149) (zeroSignOf Subtract x y)
   unfolding sub
   subtract-rounds =
-      rw (add-values (floatOf x) (neg (floatOf y)) s (not t) (unitsOf x) (unitsOf y) (reading x hx) (neg-value (floatOf y) t (unitsOf y) L (reading y hy)), signed-value x (unitsOf x), signed-value y (unitsOf y), opposite t (unitsOf y))
+      rw (
+        add-values (floatOf x) (neg (floatOf y)) s (not t) (unitsOf x) (unitsOf y) (reading x hx) (neg-value
+            (floatOf y) t (unitsOf y) L (reading y hy)),
+        signed-value x (unitsOf x),
+        signed-value y
+            (unitsOf y),
+        opposite t (unitsOf y),
+      )
       (sum-rounds s (not t) (unitsOf x) (unitsOf y) (2 ^ 149))
 
   multiply-rounds : Rounds (computedOf Multiply (floatOf x) (floatOf y)) (numeratorOf Multiply x y) (2 ^ 298) (zeroSignOf Multiply x y)
   multiply-rounds =
       rounds-by (computedOf Multiply (floatOf x) (floatOf y)) (numeratorOf Multiply x y) (2 ^ 298) (unlike s t) (unlike s t) (unitsOf x * unitsOf y)
       (mul-values (floatOf x) (floatOf y) s t (unitsOf x) (unitsOf y) (reading x hx) (reading y hy))
-      (ap (λ (z : ℤ). z *ℤ valueOf y) (signed-value x (unitsOf x)) ∙ ap (λ (z : ℤ). signedSize s (unitsOf x) *ℤ z) (signed-value y (unitsOf y)) ∙ times s t (unitsOf x) (unitsOf y)) (λ z. refl)
+      (ap (λ (z : ℤ). z *ℤ valueOf y) (signed-value x (unitsOf x)) ∙ ap (λ (z : ℤ). signedSize s (unitsOf x) *ℤ z)
+      (signed-value y (unitsOf y)) ∙ times s t (unitsOf x) (unitsOf y)) (λ z. refl)
 
   divide-rounds : 0 < unitsOf y → Rounds (computedOf Divide (floatOf x) (floatOf y)) (numeratorOf Divide x y) (unitsOf y) (zeroSignOf Divide x y)
   divide-rounds B =
@@ -226,7 +245,8 @@ module _ (x y : ℕ) (hx : Finite x) (hy : Finite y) where
           (signed-value x (unitsOf x) ∙ ap (λ (b : Bool). signedSize b (unitsOf x)) (sym (unlike-false s))))
 
   -- every operation but a division by zero
-  pub operation-rounds : (op : Operation) → 0 < denominatorOf op x y → Rounds (computedOf op (floatOf x) (floatOf y)) (numeratorOf op x y) (denominatorOf op x y) (zeroSignOf op x y)
+  pub operation-rounds : (op : Operation) → 0 < denominatorOf op x y → Rounds (computedOf op (floatOf x) (floatOf y))
+      (numeratorOf op x y) (denominatorOf op x y) (zeroSignOf op x y)
   operation-rounds Add h = add-rounds
   operation-rounds Subtract h = subtract-rounds
   operation-rounds Multiply h = multiply-rounds

@@ -64,7 +64,8 @@ module _ (exact : Bool) where
         Overflow
     settled-round =
         elim (decLt (roundedOf num den) (2 ^ 277)) [
-          | yes h ↦ settled-value (round binary32 s num den) s (roundedOf num den) (round-number s num den h) ∙ sym (simp (lt-ltb (roundedOf num den) (2 ^ 277) h))
+          | yes h ↦ settled-value (round binary32 s num den) s (roundedOf num den) (round-number s num den h) ∙ sym
+              (simp (lt-ltb (roundedOf num den) (2 ^ 277) h))
           | no h ↦
               let g : 2 ^ 277 ≤ roundedOf num den = not-below (roundedOf num den) (2 ^ 277) h in
               overflow g ∙ sym (simp (le-ltb (roundedOf num den) (2 ^ 277) g))

@@ -63,7 +63,8 @@ module _ (x y : ℕ) (hx : Finite x) (hy : Finite y) where
       ∙ zero-product (unitsOf x) (unitsOf y)
       ∙ ap (λ (n : ℕ). eqb n 0) (sym (size-of (unlike s t) (unitsOf x * unitsOf y)))
       ∙ ap (λ (z : ℤ). eqb (natAbs z) 0)
-      (sym (ap (λ (z : ℤ). z *ℤ valueOf y) (signed-value x (unitsOf x)) ∙ ap (λ (z : ℤ). signedSize s (unitsOf x) *ℤ z) (signed-value y (unitsOf y)) ∙ times s t (unitsOf x) (unitsOf y)))
+      (sym (ap (λ (z : ℤ). z *ℤ valueOf y) (signed-value x (unitsOf x)) ∙ ap (λ (z : ℤ). signedSize s (unitsOf x) *ℤ z)
+      (signed-value y (unitsOf y)) ∙ times s t (unitsOf x) (unitsOf y)))
   vanishes-is Divide = zero-units x ∙ ap (λ (n : ℕ). eqb n 0) (sym (size (ltb y (2 ^ 31))))
     where
       plain : natAbs (valueOf x) ≡ unitsOf x

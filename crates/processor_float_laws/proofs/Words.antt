@@ -3,7 +3,8 @@ use Prim.Native.Nat.{ℕ, zero, suc, _+_, _-_, _*_, _/_, _%_, _^_, _<_, _≤_, c
 use mathlib.Core.Path.{_≡_, refl, sym, subst, _∙_, ap}
 use mathlib.Core.Bool.{Bool, true, false, not, _&&_, cond}
 use native.Mathlib.Decide.{decLt, ℕ-discrete}
-use native.Mathlib.Nat.{mul-assoc, mul-comm, mul-pos, mul-le-mul, mul-le-mul-right, mul-le-mul-left, mul-one, eq-of-mul-eq-mul-right, div-div-eq-div-mul, pow-succ', le-trans, le-of-eq, lt-of-lt-of-le}
+use native.Mathlib.Nat.{mul-assoc, mul-comm, mul-pos, mul-le-mul, mul-le-mul-right, mul-le-mul-left, mul-one}
+use native.Mathlib.Nat.{eq-of-mul-eq-mul-right, div-div-eq-div-mul, pow-succ', le-trans, le-of-eq, lt-of-lt-of-le}
 use native.Mathlib.Omega.{arith}
 use borrow.Author.Tests.{lt-ltb, le-ltb, eq-eqb, ne-eqb}
 use lib.Dec.{T, ltb, leb, eqb}
@@ -28,7 +29,8 @@ use Rattle.processor_float_laws.proofs.Grid.{Closest, closest-is}
 special : (s : Bool) (e t : ℕ) (u : Bool) (r : ℕ) → e ≡ 255 → HasValue (ofFields binary32 s e t) u r (2 ^ 149) → ⊥
 unfolding ofFields
 special s zero t u r h v = absurd (omega arith)
-special s (suc x) t u r h v = go (eqb t 0) (subst (λ (b : Bool). HasValue (cond b (cond (eqb t 0) (inf s) nan) (odd 24 s (2 ^ 23 + t) x 149)) u r (2 ^ 149)) (eq-eqb (suc x) 255 h) v)
+special s (suc x) t u r h v = go (eqb t 0) (subst (λ (b : Bool). HasValue (cond b (cond (eqb t 0) (inf s) nan) (odd 24 s
+    (2 ^ 23 + t) x 149)) u r (2 ^ 149)) (eq-eqb (suc x) 255 h) v)
   where
     go : (b : Bool) → HasValue (cond b (inf s) nan) u r (2 ^ 149) → ⊥
     go true v = v
@@ -94,7 +96,8 @@ digits-of w =
 
 twice-even : (n d : ℕ) → n * 2 ^ suc d % 2 ≡ 0
 twice-even n d =
-    let e : n * 2 ^ suc d ≡ 2 * (n * 2 ^ d) = ap (λ (x : ℕ). n * x) (pow-succ' 2 d) ∙ sym (mul-assoc n 2 (2 ^ d)) ∙ ap (λ (x : ℕ). x * 2 ^ d) (mul-comm n 2) ∙ mul-assoc 2 n (2 ^ d) in
+    let e : n * 2 ^ suc d ≡ 2 * (n * 2 ^ d) = ap (λ (x : ℕ). n * x) (pow-succ' 2 d) ∙ sym (mul-assoc n 2 (2 ^ d)) ∙ ap
+    (λ (x : ℕ). x * 2 ^ d) (mul-comm n 2) ∙ mul-assoc 2 n (2 ^ d) in
     omega arith
 
 module _ (m x q k : ℕ) (e : m * 2 ^ x ≡ q * 2 ^ k) where
@@ -116,7 +119,8 @@ module _ (m x q k : ℕ) (e : m * 2 ^ x ≡ q * 2 ^ k) where
                   let d = x - suc k in
                   let s : k + suc (x - suc k) ≡ x = omega arith in
                   let c : q ≡ m * 2 ^ suc d = cancel k x (suc d) q m (sym e) s in
-                  let p : m * 2 ^ suc d ≡ 2 * (m * 2 ^ d) = ap (λ (n : ℕ). m * n) (pow-succ' 2 d) ∙ sym (mul-assoc m 2 (2 ^ d)) ∙ ap (λ (n : ℕ). n * 2 ^ d) (mul-comm m 2) ∙ mul-assoc 2 m (2 ^ d) in
+                  let p : m * 2 ^ suc d ≡ 2 * (m * 2 ^ d) = ap (λ (n : ℕ). m * n) (pow-succ' 2 d) ∙ sym (mul-assoc m 2
+                  (2 ^ d)) ∙ ap (λ (n : ℕ). n * 2 ^ d) (mul-comm m 2) ∙ mul-assoc 2 m (2 ^ d) in
                   let l : m * 1 ≤ m * 2 ^ d = mul-le-mul-left m (pow-pos d) in
                   omega arith
               | no g ↦

@@ -15,7 +15,10 @@ use Rattle.processor_decode.specs.Opcode.{decodeOf}
 use Rattle.processor_decode.specs.declared.Decoded.{Decoded}
 use Rattle.processor_decode.specs.declared.Decoded.the-variants.{Modelled, NotModelled}
 use Rattle.processor_decode.specs.declared.Instruction.{Instruction}
-use Rattle.processor_decode.specs.declared.Instruction.the-variants.{Register, Mul, Div, Mulu, Divu, Jmp, Immediate, Setf, Cli, Sei, Trap, Reti, Halt, Ldsr, Stsr, Bcond, Jr, Jal, Long, Load, In, Store, Out, Illegal, Cmpf, Floating, Nintendo}
+use Rattle.processor_decode.specs.declared.Instruction.the-variants.{Register, Mul, Div, Mulu, Divu, Jmp, Immediate}
+use Rattle.processor_decode.specs.declared.Instruction.the-variants.{Setf, Cli, Sei, Trap, Reti, Halt, Ldsr, Stsr}
+use Rattle.processor_decode.specs.declared.Instruction.the-variants.{Bcond, Jr, Jal, Long, Load, In, Store, Out}
+use Rattle.processor_decode.specs.declared.Instruction.the-variants.{Illegal, Cmpf, Floating, Nintendo}
 use Rattle.processor_machine.specs.State.{State, Stepped, stateOf, steppedOf, regOf}
 use Rattle.processor_machine.specs.Exception.{fatalOf, duplexedEntryOf, regularEntryOf, enterOf, raiseOf, codeOf, handlerOf, restoreOf, savedOf}
 use Rattle.processor_machine.specs.declared.Cause as cause
@@ -29,7 +32,8 @@ use Rattle.processor_float.specs.declared.Compared.{Compared}
 use Rattle.processor_float.specs.declared.FloatOutcome.{FloatOutcome}
 use Rattle.processor_float.specs.declared.FloatOutcome.the-variants.{Number, Word, Reserved, Invalid, ZeroDivide, Overflow}
 use Rattle.processor_interrupt.specs.Interrupt.{acceptsOf, levelOf, interruptedOf}
-use Rattle.processor_step.specs.Step.{firstOf, secondOf, nextOf, performOf, runningStepOf, stepInOf, instructionStepOf, linesIn, acceptsIn, interruptStepOf, stepOf}
+use Rattle.processor_step.specs.Step.{firstOf, secondOf, nextOf, performOf, runningStepOf, stepInOf, instructionStepOf}
+use Rattle.processor_step.specs.Step.{linesIn, acceptsIn, interruptStepOf, stepOf}
 use Rattle.processor_step.proofs.Choosing.{step-interrupt, step-instruction}
 use Rattle.processor.specs.Run.{Run, afterOf, afterStep, runOf}
 use Rattle.processor.specs.declared.After.{After}

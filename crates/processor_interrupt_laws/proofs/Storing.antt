@@ -17,7 +17,10 @@ use Rattle.processor_decode.specs.declared.Width.{Width}
 use Rattle.processor_decode.specs.declared.Decoded.{Decoded}
 use Rattle.processor_decode.specs.declared.Decoded.the-variants.{Modelled, NotModelled}
 use Rattle.processor_decode.specs.declared.Instruction.{Instruction}
-use Rattle.processor_decode.specs.declared.Instruction.the-variants.{Register, Mul, Div, Mulu, Divu, Jmp, Immediate, Setf, Cli, Sei, Trap, Reti, Halt, Ldsr, Stsr, Bcond, Jr, Jal, Long, Load, In, Store, Out, Illegal, Cmpf, Floating, Nintendo}
+use Rattle.processor_decode.specs.declared.Instruction.the-variants.{Register, Mul, Div, Mulu, Divu, Jmp, Immediate}
+use Rattle.processor_decode.specs.declared.Instruction.the-variants.{Setf, Cli, Sei, Trap, Reti, Halt, Ldsr, Stsr}
+use Rattle.processor_decode.specs.declared.Instruction.the-variants.{Bcond, Jr, Jal, Long, Load, In, Store, Out}
+use Rattle.processor_decode.specs.declared.Instruction.the-variants.{Illegal, Cmpf, Floating, Nintendo}
 use Rattle.processor_machine.specs.State.{State, Stepped, regOf}
 use Rattle.processor_machine.specs.Exception.{fatalOf, duplexedEntryOf, regularEntryOf, enterOf, raiseOf, codeOf, handlerOf, restoreOf, savedOf}
 use Rattle.processor_machine.specs.declared.Cause as cause
@@ -30,7 +33,9 @@ use Rattle.processor_float.specs.Comparison.{comparisonOf}
 use Rattle.processor_float.specs.declared.Compared.{Compared}
 use Rattle.processor_float.specs.declared.FloatOutcome.{FloatOutcome}
 use Rattle.processor_float.specs.declared.FloatOutcome.the-variants.{Number, Word, Reserved, Invalid, ZeroDivide, Overflow}
-use Rattle.processor_step.specs.Step.{firstOf, secondOf, fetchedAt, nextOf, performOf, runningStepOf, stepInOf, instructionStepOf, acceptsIn, interruptStepOf, stepOf, notFetched, fetchedInOf, fetchedOf}
+use Rattle.processor_step.specs.Step.{firstOf, secondOf, fetchedAt, nextOf, performOf, runningStepOf, stepInOf}
+use Rattle.processor_step.specs.Step.{instructionStepOf, acceptsIn, interruptStepOf, stepOf, notFetched, fetchedInOf}
+use Rattle.processor_step.specs.Step.{fetchedOf}
 use Rattle.processor_step.specs.declared.step.Fetched.{Fetched}
 
 module _ (s : State) (m : Memory) (P : Memory → Type 0) (here : P m) where

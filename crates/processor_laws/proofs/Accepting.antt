@@ -15,7 +15,8 @@ use Rattle.processor_decode.specs.Opcode.{decodeOf}
 use Rattle.processor_decode.specs.declared.Decoded.{Decoded}
 use Rattle.processor_decode.specs.declared.Decoded.the-variants.{Modelled, NotModelled}
 use Rattle.processor_machine.specs.State.{State, Stepped}
-use Rattle.processor_step.specs.Step.{firstOf, secondOf, nextOf, performOf, runningStepOf, stepInOf, instructionStepOf, linesIn, acceptsIn, interruptStepOf, stepOf}
+use Rattle.processor_step.specs.Step.{firstOf, secondOf, nextOf, performOf, runningStepOf, stepInOf, instructionStepOf}
+use Rattle.processor_step.specs.Step.{linesIn, acceptsIn, interruptStepOf, stepOf}
 use Rattle.processor_interrupt.specs.Interrupt.{levelOf}
 use Rattle.processor_interrupt.proofs.Exactly.{accepts-taken}
 use Rattle.processor_machine.specs.System.{pswBitsOf}

@@ -76,7 +76,8 @@ module _ (c : Cause) (s : State) (m : Memory) (g : Good s m) where
     duplexed-left : Left (duplexedEntryOf c code restore saved s m)
     duplexed-left =
         let sys = set (set (s .sys) 2 restore) 3 saved in
-        let h : Systems sys = set-systems (set (s .sys) 2 restore) 3 saved (fepsw-system saved hs) (set-systems (s .sys) 2 restore (fepc-system restore (hr .word) (hr .even)) (g .systems)) in
+        let h : Systems sys = set-systems (set (s .sys) 2 restore) 3 saved (fepsw-system saved hs) (set-systems
+        (s .sys) 2 restore (fepc-system restore (hr .word) (hr .even)) (g .systems)) in
         let e : getD sys 4 0 % 65536 + code * 65536 < 2 ^ 32 = omega arith in
         record {
           generals = g .generals;
@@ -89,7 +90,8 @@ module _ (c : Cause) (s : State) (m : Memory) (g : Good s m) where
     pub regular-left : Left (regularEntryOf c code handler restore saved s m)
     regular-left =
         let sys = set (set (s .sys) 0 restore) 1 saved in
-        let h : Systems sys = set-systems (set (s .sys) 0 restore) 1 saved (eipsw-system saved hs) (set-systems (s .sys) 0 restore (eipc-system restore (hr .word) (hr .even)) (g .systems)) in
+        let h : Systems sys = set-systems (set (s .sys) 0 restore) 1 saved (eipsw-system saved hs) (set-systems
+        (s .sys) 0 restore (eipc-system restore (hr .word) (hr .even)) (g .systems)) in
         let w : getD sys 4 0 < 2 ^ 32 = h .each 4 .word in
         let e : getD sys 4 0 / 65536 * 65536 + code < 2 ^ 32 = omega arith in
         record {
@@ -104,7 +106,8 @@ module _ (c : Cause) (s : State) (m : Memory) (g : Good s m) where
     unfolding enterOf
     enter-left =
         pick-each Left (eqb (bitAt npFlag (s .psw)) 1) (fatalOf c s m) _ fatal-left
-        (pick-each Left (eqb (bitAt epFlag (s .psw)) 1) (duplexedEntryOf c code restore saved s m) (regularEntryOf c code handler restore saved s m) duplexed-left regular-left)
+        (pick-each Left (eqb (bitAt epFlag (s .psw)) 1) (duplexedEntryOf c code restore saved s m)
+        (regularEntryOf c code handler restore saved s m) duplexed-left regular-left)
 
 -- an exception leaves an accepted machine
 pub raise-left : (c : Cause) (next : ℕ) (s : State) (m : Memory) → Address next → Good s m → Left (raiseOf c next s m)

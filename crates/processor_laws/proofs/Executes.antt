@@ -17,7 +17,10 @@ use Rattle.processor_arithmetic.specs.Quotient.{divideOf, divideUnsignedOf}
 use Rattle.processor_arithmetic.specs.Condition.{conditionOf}
 use Rattle.bus.specs.Memory.{Memory}
 use Rattle.processor_decode.specs.declared.Instruction.{Instruction}
-use Rattle.processor_decode.specs.declared.Instruction.the-variants.{Register, Mul, Div, Mulu, Divu, Jmp, Immediate, Setf, Cli, Sei, Trap, Reti, Halt, Ldsr, Stsr, Bcond, Jr, Jal, Long, Load, In, Store, Out, Illegal, Cmpf, Floating, Nintendo}
+use Rattle.processor_decode.specs.declared.Instruction.the-variants.{Register, Mul, Div, Mulu, Divu, Jmp, Immediate}
+use Rattle.processor_decode.specs.declared.Instruction.the-variants.{Setf, Cli, Sei, Trap, Reti, Halt, Ldsr, Stsr}
+use Rattle.processor_decode.specs.declared.Instruction.the-variants.{Bcond, Jr, Jal, Long, Load, In, Store, Out}
+use Rattle.processor_decode.specs.declared.Instruction.the-variants.{Illegal, Cmpf, Floating, Nintendo}
 use Rattle.processor_float.specs.Comparison.{comparisonOf}
 use Rattle.processor_float.specs.Flag.{orderFlagsOf, numberFlagsOf, conversionFlagsOf}
 use Rattle.processor_float.specs.declared.Compared.{Compared}
@@ -35,7 +38,9 @@ use Rattle.processor_laws.proofs.Lists.{pick-each}
 use Rattle.processor_laws.proofs.Invariant.{Format, Generals, Address, Memories, Good}
 use Rattle.processor_laws.proofs.Psw.{order-format, number-format, conversion-format, set-id-format, clear-id-format}
 use Rattle.processor_laws.proofs.Floats.{Kept, number-word, floating-kept, nintendo-word}
-use Rattle.processor_laws.proofs.Results.{Result, Results, register-result, immediate-result, long-result, multiply-results, multiply-unsigned-results, divide-results, divide-unsigned-results}
+use Rattle.processor_laws.proofs.Results.{Result, Results, register-result, immediate-result, long-result}
+use Rattle.processor_laws.proofs.Results.{multiply-results, multiply-unsigned-results, divide-results}
+use Rattle.processor_laws.proofs.Results.{divide-unsigned-results}
 use Rattle.processor_laws.proofs.Stores.{stored-memories, loaded-word, input-word}
 use Rattle.processor_laws.proofs.Immediates.{Fine}
 use Rattle.processor_laws.proofs.Registers.{put-generals, system-word, written}

@@ -9,7 +9,10 @@ use Rattle.processor_decode.specs.Format.{lowOf, reg2Of, ldsr, stsr}
 use Rattle.processor_decode.specs.SubOpcode.{subRows, extendedOf}
 use Rattle.processor_decode.specs.Opcode.{shortRows, branchRows, longRows, decodeOf}
 use Rattle.processor_decode.specs.declared.Instruction.{Instruction}
-use Rattle.processor_decode.specs.declared.Instruction.the-variants.{Register, Mul, Div, Mulu, Divu, Jmp, Immediate, Setf, Cli, Sei, Trap, Reti, Halt, Ldsr, Stsr, Bcond, Jr, Jal, Long, Load, In, Store, Out, Illegal, Cmpf, Floating, Nintendo}
+use Rattle.processor_decode.specs.declared.Instruction.the-variants.{Register, Mul, Div, Mulu, Divu, Jmp, Immediate}
+use Rattle.processor_decode.specs.declared.Instruction.the-variants.{Setf, Cli, Sei, Trap, Reti, Halt, Ldsr, Stsr}
+use Rattle.processor_decode.specs.declared.Instruction.the-variants.{Bcond, Jr, Jal, Long, Load, In, Store, Out}
+use Rattle.processor_decode.specs.declared.Instruction.the-variants.{Illegal, Cmpf, Floating, Nintendo}
 use Rattle.processor_decode.specs.declared.Decoded.{Decoded}
 use Rattle.processor_decode.specs.declared.Decoded.the-variants.{Modelled, NotModelled}
 use Rattle.processor_laws.proofs.Lists.{Each, each-append, each-at, pick-each}
@@ -63,8 +66,100 @@ module _ (f : ℕ) where
 
   short-found : Each Found (shortRows f)
   unfolding shortRows
-  short-found =
-      (tt, (tt, (tt, (tt, (tt, (tt, (tt, (tt, (tt, (tt, (tt, (tt, (tt, (tt, (tt, (tt, (five, (five, (tt, (five, (plain, (plain, (tt, (plain, (tt, (tt, (tt, (tt, (ldsr-found, (stsr-found, (tt, (tt, tt))))))))))))))))))))))))))))))))
+  short-found = (
+    tt,
+    (
+      tt,
+      (
+        tt,
+        (
+          tt,
+          (
+            tt,
+            (
+              tt,
+              (
+                tt,
+                (
+                  tt,
+                  (
+                    tt,
+                    (
+                      tt,
+                      (
+                        tt,
+                        (
+                          tt,
+                          (
+                            tt,
+                            (
+                              tt,
+                              (
+                                tt,
+                                (
+                                  tt,
+                                  (
+                                    five,
+                                    (
+                                      five,
+                                      (
+                                        tt,
+                                        (
+                                          five,
+                                          (
+                                            plain,
+                                            (
+                                              plain,
+                                              (
+                                                tt,
+                                                (
+                                                  plain,
+                                                  (
+                                                    tt,
+                                                    (
+                                                      tt,
+                                                      (
+                                                        tt,
+                                                        (
+                                                          tt,
+                                                          (
+                                                            ldsr-found,
+                                                            (
+                                                              stsr-found,
+                                                              (
+                                                                tt,
+                                                                (tt, tt),
+                                                              ),
+                                                            ),
+                                                          ),
+                                                        ),
+                                                      ),
+                                                    ),
+                                                  ),
+                                                ),
+                                              ),
+                                            ),
+                                          ),
+                                        ),
+                                      ),
+                                    ),
+                                  ),
+                                ),
+                              ),
+                            ),
+                          ),
+                        ),
+                      ),
+                    ),
+                  ),
+                ),
+              ),
+            ),
+          ),
+        ),
+      ),
+    ),
+  )
 
   branch-found : Each Found (branchRows f)
   unfolding branchRows
@@ -82,8 +177,73 @@ module _ (f s : ℕ) (h : s < 65536) where
   unfolding longRows
   long-found =
       let e : extendOf 32768 s < 2 ^ 32 = extend-word 32768 s (omega arith) (omega arith) in
-      let p : s < 2 ^ 32 = omega arith in
-      (e, (e, (tt, (tt, (p, (p, (p, (p, (tt, (tt, (tt, (tt, (tt, (tt, (tt, (tt, (tt, (tt, (tt, (tt, (tt, (tt, (extended-found f s, (tt, tt))))))))))))))))))))))))
+      let p : s < 2 ^ 32 = omega arith in (
+        e,
+        (
+          e,
+          (
+            tt,
+            (
+              tt,
+              (
+                p,
+                (
+                  p,
+                  (
+                    p,
+                    (
+                      p,
+                      (
+                        tt,
+                        (
+                          tt,
+                          (
+                            tt,
+                            (
+                              tt,
+                              (
+                                tt,
+                                (
+                                  tt,
+                                  (
+                                    tt,
+                                    (
+                                      tt,
+                                      (
+                                        tt,
+                                        (
+                                          tt,
+                                          (
+                                            tt,
+                                            (
+                                              tt,
+                                              (
+                                                tt,
+                                                (
+                                                  tt,
+                                                  (extended-found f s, (tt, tt)),
+                                                ),
+                                              ),
+                                            ),
+                                          ),
+                                        ),
+                                      ),
+                                    ),
+                                  ),
+                                ),
+                              ),
+                            ),
+                          ),
+                        ),
+                      ),
+                    ),
+                  ),
+                ),
+              ),
+            ),
+          ),
+        ),
+      )
 
   pub decoded-found : Found (decodeOf f s)
   unfolding decodeOf

@@ -123,7 +123,21 @@ module _ (s : State) where
   pub passes : Passed s → stateOk (s .regs) (s .sys) (s .pc) (s .psw) ≡ true
   unfolding stateOk evenOk formatsOk
   passes p =
-      simp (eq-eqb (getD (s .regs) 0 0) 0 (p .zero-register), eq-eqb (s .pc % 2) 0 (p .pc-even), eq-eqb (getD (s .sys) 0 0 % 2) 0 (p .eipc-even), eq-eqb (getD (s .sys) 2 0 % 2) 0 (p .fepc-even), eq-eqb (getD (s .sys) 5 0 % 2) 0 (p .sr25-even), eq-eqb (pswBitsOf (s .psw)) (s .psw) (p .psw-format), eq-eqb (pswBitsOf (getD (s .sys) 1 0)) (getD (s .sys) 1 0) (p .eipsw-format), eq-eqb (pswBitsOf (getD (s .sys) 3 0)) (getD (s .sys) 3 0) (p .fepsw-format), le-leb (getD (s .sys) 7 0) (2 ^ 31) (p .sr31-most))
+      simp (
+        eq-eqb (getD (s .regs) 0 0) 0 (p .zero-register),
+        eq-eqb (s .pc % 2) 0 (p .pc-even),
+        eq-eqb (getD
+            (s .sys) 0 0 % 2) 0 (p .eipc-even),
+        eq-eqb (getD (s .sys) 2 0 % 2) 0 (p .fepc-even),
+        eq-eqb (getD
+            (s .sys) 5 0 % 2) 0 (p .sr25-even),
+        eq-eqb (pswBitsOf (s .psw)) (s .psw) (p .psw-format),
+        eq-eqb (pswBitsOf
+            (getD (s .sys) 1 0)) (getD (s .sys) 1 0) (p .eipsw-format),
+        eq-eqb (pswBitsOf (getD (s .sys) 3 0)) (getD
+            (s .sys) 3 0) (p .fepsw-format),
+        le-leb (getD (s .sys) 7 0) (2 ^ 31) (p .sr31-most),
+      )
 
 module _ (s : State) (m : Memory) where
   pub told : acceptanceOf s m ≡ Accepted → (verdictOf m ≡ Accepted) × Passed s

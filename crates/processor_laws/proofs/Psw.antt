@@ -6,7 +6,8 @@ use mathlib.Core.Bool.{Bool, true, false}
 use native.Mathlib.Omega.{arith}
 use lib.Dec.{ltb, eqb}
 use Rattle.word.specs.Bit.{withBit}
-use Rattle.processor_arithmetic.specs.Flag.{bitOf, signOf, zeroOf, flagsOf, keepCarryOf, setIdOf, clearIdOf, setEpOf, setNpOf, clearAeOf, regularOf, duplexedOf, fudFlag}
+use Rattle.processor_arithmetic.specs.Flag.{bitOf, signOf, zeroOf, flagsOf, keepCarryOf, setIdOf, clearIdOf, setEpOf}
+use Rattle.processor_arithmetic.specs.Flag.{setNpOf, clearAeOf, regularOf, duplexedOf, fudFlag}
 use Rattle.processor_arithmetic.proofs.Bits.{bit-small}
 use Rattle.processor_float.specs.Operand.{isZero}
 use Rattle.processor_float.specs.Flag.{orderFlagsOf, underflowOf, numberFlagsOf, conversionFlagsOf}

@@ -58,35 +58,195 @@ wram-room =
 
 rooms : All Room romLengths
 rooms = (
-  record { least = omega arith; most = omega arith; start = λ pc. omega arith; same = λ pc. omega arith; even = λ base z. omega arith; fits = λ base x h z k. omega arith; index = λ base x z k. omega arith; region = λ base x z k. omega arith },
+  record {
+    least = omega arith;
+    most = omega arith;
+    start = λ pc. omega arith;
+    same = λ pc. omega arith;
+    even = λ base
+        z. omega arith;
+    fits = λ base x h z k. omega arith;
+    index = λ base x z k. omega arith;
+    region = λ base x z k.
+        omega arith;
+  },
   (
-    record { least = omega arith; most = omega arith; start = λ pc. omega arith; same = λ pc. omega arith; even = λ base z. omega arith; fits = λ base x h z k. omega arith; index = λ base x z k. omega arith; region = λ base x z k. omega arith },
+    record {
+      least = omega arith;
+      most = omega arith;
+      start = λ pc. omega arith;
+      same = λ pc. omega arith;
+      even = λ base
+          z. omega arith;
+      fits = λ base x h z k. omega arith;
+      index = λ base x z k. omega arith;
+      region = λ base x z k.
+          omega arith;
+    },
     (
-      record { least = omega arith; most = omega arith; start = λ pc. omega arith; same = λ pc. omega arith; even = λ base z. omega arith; fits = λ base x h z k. omega arith; index = λ base x z k. omega arith; region = λ base x z k. omega arith },
+      record {
+        least = omega arith;
+        most = omega arith;
+        start = λ pc. omega arith;
+        same = λ pc. omega arith;
+        even = λ
+            base z. omega arith;
+        fits = λ base x h z k. omega arith;
+        index = λ base x z k. omega arith;
+        region = λ base x
+            z k. omega arith;
+      },
       (
-        record { least = omega arith; most = omega arith; start = λ pc. omega arith; same = λ pc. omega arith; even = λ base z. omega arith; fits = λ base x h z k. omega arith; index = λ base x z k. omega arith; region = λ base x z k. omega arith },
+        record {
+          least = omega arith;
+          most = omega arith;
+          start = λ pc. omega arith;
+          same = λ pc. omega arith;
+          even = λ
+              base z. omega arith;
+          fits = λ base x h z k. omega arith;
+          index = λ base x z k. omega arith;
+          region = λ base
+              x z k. omega arith;
+        },
         (
-          record { least = omega arith; most = omega arith; start = λ pc. omega arith; same = λ pc. omega arith; even = λ base z. omega arith; fits = λ base x h z k. omega arith; index = λ base x z k. omega arith; region = λ base x z k. omega arith },
+          record {
+            least = omega arith;
+            most = omega arith;
+            start = λ pc. omega arith;
+            same = λ pc. omega arith;
+            even =
+                λ base z. omega arith;
+            fits = λ base x h z k. omega arith;
+            index = λ base x z k. omega arith;
+            region = λ
+                base x z k. omega arith;
+          },
           (
-            record { least = omega arith; most = omega arith; start = λ pc. omega arith; same = λ pc. omega arith; even = λ base z. omega arith; fits = λ base x h z k. omega arith; index = λ base x z k. omega arith; region = λ base x z k. omega arith },
+            record {
+              least = omega arith;
+              most = omega arith;
+              start = λ pc. omega arith;
+              same = λ pc. omega arith;
+              even
+                  = λ base z. omega arith;
+              fits = λ base x h z k. omega arith;
+              index = λ base x z k. omega arith;
+              region =
+                  λ base x z k. omega arith;
+            },
             (
-              record { least = omega arith; most = omega arith; start = λ pc. omega arith; same = λ pc. omega arith; even = λ base z. omega arith; fits = λ base x h z k. omega arith; index = λ base x z k. omega arith; region = λ base x z k. omega arith },
+              record {
+                least = omega arith;
+                most = omega arith;
+                start = λ pc. omega arith;
+                same = λ pc. omega arith;
+                even = λ base z. omega arith;
+                fits = λ base x h z k. omega arith;
+                index = λ base x z k. omega arith;
+                region = λ base x z k. omega arith;
+              },
               (
-                record { least = omega arith; most = omega arith; start = λ pc. omega arith; same = λ pc. omega arith; even = λ base z. omega arith; fits = λ base x h z k. omega arith; index = λ base x z k. omega arith; region = λ base x z k. omega arith },
+                record {
+                  least = omega arith;
+                  most = omega arith;
+                  start = λ pc. omega arith;
+                  same = λ pc. omega arith;
+                  even = λ base z. omega arith;
+                  fits = λ base x h z k. omega arith;
+                  index = λ base x z k. omega arith;
+                  region = λ base x z k. omega arith;
+                },
                 (
-                  record { least = omega arith; most = omega arith; start = λ pc. omega arith; same = λ pc. omega arith; even = λ base z. omega arith; fits = λ base x h z k. omega arith; index = λ base x z k. omega arith; region = λ base x z k. omega arith },
+                  record {
+                    least = omega arith;
+                    most = omega arith;
+                    start = λ pc. omega arith;
+                    same = λ pc. omega arith;
+                    even = λ base z. omega arith;
+                    fits = λ base x h z k. omega arith;
+                    index = λ base x z k. omega
+                        arith;
+                    region = λ base x z k. omega arith;
+                  },
                   (
-                    record { least = omega arith; most = omega arith; start = λ pc. omega arith; same = λ pc. omega arith; even = λ base z. omega arith; fits = λ base x h z k. omega arith; index = λ base x z k. omega arith; region = λ base x z k. omega arith },
+                    record {
+                      least = omega arith;
+                      most = omega arith;
+                      start = λ pc. omega arith;
+                      same = λ pc. omega
+                          arith;
+                      even = λ base z. omega arith;
+                      fits = λ base x h z k. omega arith;
+                      index = λ base x z k.
+                          omega arith;
+                      region = λ base x z k. omega arith;
+                    },
                     (
-                      record { least = omega arith; most = omega arith; start = λ pc. omega arith; same = λ pc. omega arith; even = λ base z. omega arith; fits = λ base x h z k. omega arith; index = λ base x z k. omega arith; region = λ base x z k. omega arith },
+                      record {
+                        least = omega arith;
+                        most = omega arith;
+                        start = λ pc. omega arith;
+                        same = λ pc. omega
+                            arith;
+                        even = λ base z. omega arith;
+                        fits = λ base x h z k. omega arith;
+                        index = λ base x z k.
+                            omega arith;
+                        region = λ base x z k. omega arith;
+                      },
                       (
-                        record { least = omega arith; most = omega arith; start = λ pc. omega arith; same = λ pc. omega arith; even = λ base z. omega arith; fits = λ base x h z k. omega arith; index = λ base x z k. omega arith; region = λ base x z k. omega arith },
+                        record {
+                          least = omega arith;
+                          most = omega arith;
+                          start = λ pc. omega arith;
+                          same = λ pc. omega
+                              arith;
+                          even = λ base z. omega arith;
+                          fits = λ base x h z k. omega arith;
+                          index = λ base x z
+                              k. omega arith;
+                          region = λ base x z k. omega arith;
+                        },
                         (
-                          record { least = omega arith; most = omega arith; start = λ pc. omega arith; same = λ pc. omega arith; even = λ base z. omega arith; fits = λ base x h z k. omega arith; index = λ base x z k. omega arith; region = λ base x z k. omega arith },
+                          record {
+                            least = omega arith;
+                            most = omega arith;
+                            start = λ pc. omega arith;
+                            same = λ pc.
+                                omega arith;
+                            even = λ base z. omega arith;
+                            fits = λ base x h z k. omega arith;
+                            index = λ
+                                base x z k. omega arith;
+                            region = λ base x z k. omega arith;
+                          },
                           (
-                            record { least = omega arith; most = omega arith; start = λ pc. omega arith; same = λ pc. omega arith; even = λ base z. omega arith; fits = λ base x h z k. omega arith; index = λ base x z k. omega arith; region = λ base x z k. omega arith },
+                            record {
+                              least = omega arith;
+                              most = omega arith;
+                              start = λ pc. omega arith;
+                              same = λ pc.
+                                  omega arith;
+                              even = λ base z. omega arith;
+                              fits = λ base x h z k. omega arith;
+                              index = λ
+                                  base x z k. omega arith;
+                              region = λ base x z k. omega arith;
+                            },
                             (
-                              record { least = omega arith; most = omega arith; start = λ pc. omega arith; same = λ pc. omega arith; even = λ base z. omega arith; fits = λ base x h z k. omega arith; index = λ base x z k. omega arith; region = λ base x z k. omega arith },
+                              record {
+                                least = omega arith;
+                                most = omega arith;
+                                start = λ pc. omega arith;
+                                same = λ pc.
+                                    omega arith;
+                                even = λ base z. omega arith;
+                                fits = λ base x h z k. omega arith;
+                                index =
+                                    λ base x z k. omega arith;
+                                region = λ base x z k. omega arith;
+                              },
                               tt,
                             ),
                           ),
@@ -162,14 +322,16 @@ module _ (m : Memory) (base x : ℕ) (hb : base < 2 ^ 32) (even : x % 2 ≡ 0) w
       let room = wram-room in
       let h2 : (base + (x + 2)) % 2 ≡ 0 = omega (arith, wram-room .even base z) in (
         rw (first-address 65536 base x room hb z h)
-            (half-wram m (base + x) x (even-address 65536 base x room hb z h even) (same-region 65536 base x 5 room z (omega arith) here) (room .index base x z (omega arith))),
+            (half-wram m (base + x) x (even-address 65536 base x room hb z h even) (same-region 65536 base x 5 room z
+            (omega arith) here) (room .index base x z (omega arith))),
         rw (second-address 65536 base x room hb z h)
             (half-wram m (base + (x + 2)) (x + 2) h2 (same-region 65536 base (x + 2) 5 room z (omega arith) here) (room .index base (x + 2) z (omega arith))),
       )
 
 -- both, by where the code stands
 pub fetches : (m : Memory) (base x last : ℕ) (inRom : Bool) → romOk (length (m .rom)) ≡ true → Stands (length (m .rom)) inRom base last → x % 2 ≡ 0 → x < last
-    → (loadOf m 2 (addressOf base x) ≡ halfAt (pick inRom (m .rom) (m .wram)) x) × (loadOf m 2 ((addressOf base x + 2) % 2 ^ 32) ≡ halfAt (pick inRom (m .rom) (m .wram)) (x + 2))
+    → (loadOf m 2 (addressOf base x) ≡ halfAt (pick inRom (m .rom) (m .wram)) x) × (loadOf m 2
+    ((addressOf base x + 2) % 2 ^ 32) ≡ halfAt (pick inRom (m .rom) (m .wram)) (x + 2))
 fetches m base x last true ok stands even h =
     let s = stands .in-rom refl in
     rom-fetches m base x (stands .word) even ok (s .1) (s .2) (omega (arith, s .0))

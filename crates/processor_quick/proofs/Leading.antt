@@ -23,14 +23,17 @@ use Rattle.processor_quick.specs.Turns.{Quiet, Turns}
 use Rattle.processor_quick.proofs.Acceptance.{accepts-packed}
 
 -- what stays in the middle of a stretch
-pub stays-here : (regs₀ regs sys₀ sys rom wram₀ wram vram₀ vram pak device : List ℕ) (pc psw₀ psw base x : ℕ) (g : Flags) → Quiet (getD device linesPlace 0) psw₀ psw
+pub stays-here : (regs₀ regs sys₀ sys rom wram₀ wram vram₀ vram pak device : List ℕ) (pc psw₀ psw base x : ℕ)
+    (g : Flags) → Quiet (getD device linesPlace 0) psw₀ psw
     → Stays (stateOf regs₀ sys₀ pc psw₀ Running) (memoryOf rom wram₀ vram₀ pak device) (machineOf regs sys base x psw g) (memoryOf rom wram vram pak device)
 stays-here regs₀ regs sys₀ sys rom wram₀ wram vram₀ vram pak device pc psw₀ psw base x g quiet =
     record { mode = refl; unaccepted = λ u. accepts-packed (getD device linesPlace 0) psw g Running ∙ quiet u }
 
 -- the step at an index, from the halfwords there
-step-at : (regs sys : List ℕ) (base x psw f s : ℕ) (g : Flags) (m : Memory) → loadOf m 2 (addressOf base x) ≡ f → loadOf m 2 ((addressOf base x + 2) % 2 ^ 32) ≡ s
-    → performOf (decodeOf f (pick (twoOf f) s 0)) (nextOf (twoOf f) (addressOf base x)) (machineOf regs sys base x psw g) m ≡ runningStepOf (machineOf regs sys base x psw g) m
+step-at : (regs sys : List ℕ) (base x psw f s : ℕ) (g : Flags) (m : Memory) → loadOf m 2
+    (addressOf base x) ≡ f → loadOf m 2 ((addressOf base x + 2) % 2 ^ 32) ≡ s
+    → performOf (decodeOf f (pick (twoOf f) s 0)) (nextOf (twoOf f) (addressOf base x))
+    (machineOf regs sys base x psw g) m ≡ runningStepOf (machineOf regs sys base x psw g) m
 unfolding runningStepOf secondOf
 step-at regs sys base x psw f s g m e h = rw (← e, ← h)
 
@@ -77,8 +80,10 @@ start-even pc base x h p b e = omega arith
 -- where a stretch ends
 pub ends : (budget left : ℕ) (regs₀ regs sys₀ sys rom wram₀ wram vram₀ vram pak device : List ℕ) (pc psw₀ psw base x to status : ℕ) (g : Flags)
     → Quiet (getD device linesPlace 0) psw₀ psw → to ≡ addressOf base x → status ≡ packedOf psw g
-    → Leads (stateOf regs₀ sys₀ pc psw₀ Running) (memoryOf rom wram₀ vram₀ pak device) (budget - left) (machineOf regs sys base x psw g) (memoryOf rom wram vram pak device)
-    → Stretched budget (stateOf regs₀ sys₀ pc psw₀ Running) (memoryOf rom wram₀ vram₀ pak device) (budget - left) (stateOf regs sys to status Running) (memoryOf rom wram vram pak device)
+    → Leads (stateOf regs₀ sys₀ pc psw₀ Running) (memoryOf rom wram₀ vram₀ pak device) (budget - left)
+    (machineOf regs sys base x psw g) (memoryOf rom wram vram pak device)
+    → Stretched budget (stateOf regs₀ sys₀ pc psw₀ Running) (memoryOf rom wram₀ vram₀ pak device) (budget - left)
+    (stateOf regs sys to status Running) (memoryOf rom wram vram pak device)
 ends budget left regs₀ regs sys₀ sys rom wram₀ wram vram₀ vram pak device pc psw₀ psw base x to status g quiet e h l =
     rw (e, h)
     (record {
@@ -88,5 +93,6 @@ ends budget left regs₀ regs sys₀ sys rom wram₀ wram vram₀ vram pak devic
     })
 
 -- none at all
-pub stretched-none : (budget : ℕ) (regs sys : List ℕ) (pc psw : ℕ) (m : Memory) → Stretched budget (stateOf regs sys pc psw Running) m 0 (stateOf regs sys pc psw Running) m
+pub stretched-none : (budget : ℕ) (regs sys : List ℕ) (pc psw : ℕ) (m : Memory) → Stretched budget
+    (stateOf regs sys pc psw Running) m 0 (stateOf regs sys pc psw Running) m
 stretched-none budget regs sys pc psw m = record { within = omega arith; leads = none; stays = record { mode = refl; unaccepted = λ u. u } }

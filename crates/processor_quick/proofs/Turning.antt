@@ -75,5 +75,7 @@ module _ (psw : ℕ) where
 
     pub packed-set : packedOf (setIdOf psw) g ≡ setIdOf (packedOf psw g)
     packed-set =
-        let e : packedOf (setIdOf psw) g ≡ packedOf (clearIdOf psw) g + 4096 = over (packedOf (setIdOf psw) g) (packedOf (clearIdOf psw) g) (packed-high (setIdOf psw) g ∙ set-high ∙ ap (λ (n : ℕ). n + 256) (sym (packed-high (clearIdOf psw) g))) (low-same (setIdOf psw) (clearIdOf psw) g) in
+        let e : packedOf (setIdOf psw) g ≡ packedOf (clearIdOf psw) g + 4096 = over (packedOf (setIdOf psw) g) (packedOf
+        (clearIdOf psw) g) (packed-high (setIdOf psw) g ∙ set-high ∙ ap (λ (n : ℕ). n + 256) (sym (packed-high
+        (clearIdOf psw) g))) (low-same (setIdOf psw) (clearIdOf psw) g) in
         e ∙ ap (λ (n : ℕ). n + 4096) packed-clear ∙ sym (set-clear (packedOf psw g))

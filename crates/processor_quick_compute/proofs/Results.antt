@@ -66,7 +66,8 @@ put-same regs n =
 -- a comparison leaves its flags alone
 pub compare-does : (base x psw n : ℕ) (regs sys : List ℕ) (g : Flags) (m : Memory) (to next : ℕ) → addressOf base to ≡ next → to % 2 ≡ 0
     → (r : Flags) (b : ℕ) → Gives psw r (differenceOf (getD regs (n % 32) 0) b (packedOf psw g))
-    → Does (Done to (r .wide) (r .ov)) base psw regs m regs m sys (resultOf n (compareOf (getD regs (n % 32) 0) b (packedOf psw g)) next (machineOf regs sys base x psw g) m)
+    → Does (Done to (r .wide) (r .ov)) base psw regs m regs m sys (resultOf n (compareOf (getD regs (n % 32) 0) b
+    (packedOf psw g)) next (machineOf regs sys base x psw g) m)
 unfolding compareOf
 compare-does base x psw n regs sys g m to next on even r b e = (rw (on, e .flags, put-same regs n), even)
 

@@ -91,7 +91,8 @@ abbrev noneLoads : List Decoded → State → Memory → Bool
 noneLoads [] t m = true
 noneLoads (x ∷ xs) t m = pick (eqb (decodedLoadOf x t m) 0) (noneLoads xs t m) false
 
-row-quiet : (xs : List Decoded) (k : ℕ) (d : Decoded) (t : State) (m : Memory) → T (noneLoads xs t m) → decodedLoadOf d t m ≡ 0 → decodedLoadOf (getD xs k d) t m ≡ 0
+row-quiet : (xs : List Decoded) (k : ℕ) (d : Decoded) (t : State) (m : Memory) → T
+    (noneLoads xs t m) → decodedLoadOf d t m ≡ 0 → decodedLoadOf (getD xs k d) t m ≡ 0
 row-quiet [] k d t m h e = e
 row-quiet (x ∷ xs) zero d t m h e = eqb-true _ 0 (first (eqb (decodedLoadOf x t m) 0) (noneLoads xs t m) h)
 row-quiet (x ∷ xs) (suc k) d t m h e = row-quiet xs k d t m (later (eqb (decodedLoadOf x t m) 0) (noneLoads xs t m) h) e
@@ -117,7 +118,8 @@ module _ (f s : ℕ) (t : State) (m : Memory) where
   unfolding decodeOf
   other h n = eqb-true _ 0 (rw n at (below-test quiet 64 (f / 1024) all-quiet h))
 
-  pub loads-nothing : f / 1024 < 64 → (f / 1024 ≡ 48 → ⊥) → (f / 1024 ≡ 49 → ⊥) → (f / 1024 ≡ 51 → ⊥) → (f / 1024 ≡ 56 → ⊥) → (f / 1024 ≡ 57 → ⊥) → (f / 1024 ≡ 59 → ⊥) → decodedLoadOf (decodeOf f s) t m ≡ 0
+  pub loads-nothing : f / 1024 < 64 → (f / 1024 ≡ 48 → ⊥) → (f / 1024 ≡ 49 → ⊥) → (f / 1024 ≡ 51 → ⊥) →
+      (f / 1024 ≡ 56 → ⊥) → (f / 1024 ≡ 57 → ⊥) → (f / 1024 ≡ 59 → ⊥) → decodedLoadOf (decodeOf f s) t m ≡ 0
   loads-nothing h n₁ n₂ n₃ n₄ n₅ n₆ =
       elim (ℕ-discrete (f / 1024) 28) [
         | yes e ↦ rw (row-28 f s e) (either NotModelled (Modelled (Ldsr (reg2Of f) (lowOf f))) (eqb (lowOf f) 24) refl refl)
@@ -127,7 +129,19 @@ module _ (f s : ℕ) (t : State) (m : Memory) where
             | yes e ↦ rw (row-62 f s e) (extended-quiet f s t m)
             | no c ↦
                 other h
-                (simp (ne-eqb (f / 1024) 28 a, ne-eqb (f / 1024) 29 b, ne-eqb (f / 1024) 62 c, ne-eqb (f / 1024) 48 n₁, ne-eqb (f / 1024) 49 n₂, ne-eqb (f / 1024) 51 n₃, ne-eqb (f / 1024) 56 n₄, ne-eqb (f / 1024) 57 n₅, ne-eqb (f / 1024) 59 n₆))
+                (simp (
+                  ne-eqb (f / 1024) 28 a,
+                  ne-eqb (f / 1024) 29 b,
+                  ne-eqb (f / 1024) 62 c,
+                  ne-eqb
+                      (f / 1024) 48 n₁,
+                  ne-eqb (f / 1024) 49 n₂,
+                  ne-eqb (f / 1024) 51 n₃,
+                  ne-eqb (f / 1024) 56 n₄,
+                  ne-eqb
+                      (f / 1024) 57 n₅,
+                  ne-eqb (f / 1024) 59 n₆,
+                ))
           ]
         ]
       ]

@@ -4,7 +4,10 @@ use mathlib.Core.List.{List, [], _∷_}
 use mathlib.Core.Path.{_≡_, refl, sym, ap, _∙_}
 use lib.ListN.{getD}
 use Rattle.refusal.specs.declared.Refusal.{Refusal}
-use Rattle.refusal.specs.declared.Refusal.the-variants.{RomLength, WramLength, VramLength, PakLength, State, NotModelled, Frame, Index, FileLength, FileBytes, AccessList, Encoding, ProbeTarget, TraceLength, Display, NotAtReset, NoLayout}
+use Rattle.refusal.specs.declared.Refusal.the-variants.{RomLength, WramLength, VramLength, PakLength, State}
+use Rattle.refusal.specs.declared.Refusal.the-variants.{NotModelled, Frame, Index, FileLength, FileBytes}
+use Rattle.refusal.specs.declared.Refusal.the-variants.{AccessList, Encoding, ProbeTarget, TraceLength, Display}
+use Rattle.refusal.specs.declared.Refusal.the-variants.{NotAtReset, NoLayout}
 use Rattle.refusal.specs.declared.Verdict.{Verdict}
 use Rattle.refusal.specs.declared.Verdict.the-variants.{Accepted, Refused}
 use Rattle.refusal.specs.Number.{numberOf, verdictNumber}

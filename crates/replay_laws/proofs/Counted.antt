@@ -49,7 +49,8 @@ unfolding replayOf runOf
 run-from zero k trace s m e = refl
 run-from (suc n) k trace s m e =
     let t = stepOf s m in
-    by-answer n t (runOf n (t .state) (t .memory)) (replayOf n (k + 1) trace (t .state) (t .memory)) (run-from n (k + 1) trace (t .state) (t .memory)) (t .answer)
+    by-answer n t (runOf n (t .state) (t .memory)) (replayOf n (k + 1) trace (t .state) (t .memory)) (run-from n
+    (k + 1) trace (t .state) (t .memory)) (t .answer)
     (firstDifferenceOf (recordAt trace k) (recordOf s t)) e
 
 pub agreed-run : AgreedRun

@@ -32,7 +32,8 @@ record EndsFrom (k n : ℕ) (trace : List ℕ) (s : State) (m : Memory) (r : Rep
   all : r .agreed ≡ n → r .end ≡ Agreed
   next : r .agreed < n → (toldAt (r .agreed) s m ≡ Ends (r .end)) ⊎ PartsFrom k trace s m r
 
-module _ (k n : ℕ) (trace : List ℕ) (s : State) (m : Memory) (told : tellingOf (stepOf s m .answer) ≡ Completed) (same : recordAt trace k ≡ recordOf s (stepOf s m)) where
+module _ (k n : ℕ) (trace : List ℕ) (s : State) (m : Memory) (told : tellingOf (stepOf s m .answer) ≡ Completed)
+    (same : recordAt trace k ≡ recordOf s (stepOf s m)) where
   completed-again : (l : ℕ) → ((i : ℕ) → i < l → toldAt i (stepOf s m .state) (stepOf s m .memory) ≡ Completed)
       → (i : ℕ) → i < suc l → toldAt i s m ≡ Completed
   unfolding stepsOf
@@ -49,8 +50,15 @@ module _ (k n : ℕ) (trace : List ℕ) (s : State) (m : Memory) (told : telling
       let z : k + suc i ≡ k + 1 + i = omega arith in
       rw z (h i (omega arith))
 
-  next-again : (r : Replay) → (toldAt (r .agreed) (stepOf s m .state) (stepOf s m .memory) ≡ Ends (r .end)) ⊎ PartsFrom (k + 1) trace (stepOf s m .state) (stepOf s m .memory) r
-      → (toldAt (suc (r .agreed)) s m ≡ Ends (r .end)) ⊎ PartsFrom k trace s m (record { end = r .end; agreed = suc (r .agreed); state = r .state; memory = r .memory })
+  next-again : (r : Replay) → (toldAt (r .agreed) (stepOf s m .state) (stepOf s m .memory) ≡ Ends (r .end)) ⊎ PartsFrom
+      (k + 1) trace (stepOf s m .state) (stepOf s m .memory) r
+      → (toldAt (suc (r .agreed)) s m ≡ Ends (r .end)) ⊎ PartsFrom k trace s m (record {
+        end = r .end;
+        agreed = suc
+            (r .agreed);
+        state = r .state;
+        memory = r .memory;
+      })
   unfolding stepsOf
   next-again r (inl e) = inl e
   next-again r (inr p) =
@@ -69,7 +77,8 @@ module _ (k n : ℕ) (trace : List ℕ) (s : State) (m : Memory) (told : telling
         next = λ l. next-again r (h .next (omega arith));
       }
 
-module _ (k n : ℕ) (trace : List ℕ) (s : State) (m : Memory) (rest : Replay) (later : EndsFrom (k + 1) n trace (stepOf s m .state) (stepOf s m .memory) rest) where
+module _ (k n : ℕ) (trace : List ℕ) (s : State) (m : Memory) (rest : Replay) (later : EndsFrom (k + 1) n trace
+    (stepOf s m .state) (stepOf s m .memory) rest) where
   by-told : (u : Told) (word : ℕ) → tellingOf (stepOf s m .answer) ≡ u → word ≡ firstDifferenceOf (recordAt trace k) (recordOf s (stepOf s m))
       → EndsFrom k (suc n) trace s m (afterRecord u word (stepOf s m) rest)
   unfolding stepsOf

@@ -53,10 +53,22 @@ module _ (a b : Record) where
                 rw z (record { which = omega arith; equal = second-equal p q; different = r })
             | yes r ↦ elim (ℕ-discrete (a .sum) (b .sum)) [
               | no s ↦
-                  let z : word ≡ 3 = simp (eq-eqb (a .before) (b .before) p, eq-eqb (a .after) (b .after) q, eq-eqb (a .psw) (b .psw) r, ne-eqb (a .sum) (b .sum) s) at e in
+                  let z : word ≡ 3 = simp (
+                    eq-eqb (a .before) (b .before) p,
+                    eq-eqb (a .after) (b .after) q,
+                    eq-eqb
+                        (a .psw) (b .psw) r,
+                    ne-eqb (a .sum) (b .sum) s,
+                  ) at e in
                   rw z (record { which = omega arith; equal = third-equal p q r; different = s })
               | yes s ↦
-                  let z : word ≡ 4 = simp (eq-eqb (a .before) (b .before) p, eq-eqb (a .after) (b .after) q, eq-eqb (a .psw) (b .psw) r, eq-eqb (a .sum) (b .sum) s) at e in
+                  let z : word ≡ 4 = simp (
+                    eq-eqb (a .before) (b .before) p,
+                    eq-eqb (a .after) (b .after) q,
+                    eq-eqb
+                        (a .psw) (b .psw) r,
+                    eq-eqb (a .sum) (b .sum) s,
+                  ) at e in
                   absurd (omega arith)
             ]
           ]
@@ -80,7 +92,13 @@ module _ (a b : Record) where
                 absurd (omega arith)
             | yes r ↦ elim (ℕ-discrete (a .sum) (b .sum)) [
               | no s ↦
-                  let z : word ≡ 3 = simp (eq-eqb (a .before) (b .before) p, eq-eqb (a .after) (b .after) q, eq-eqb (a .psw) (b .psw) r, ne-eqb (a .sum) (b .sum) s) at e in
+                  let z : word ≡ 3 = simp (
+                    eq-eqb (a .before) (b .before) p,
+                    eq-eqb (a .after) (b .after) q,
+                    eq-eqb
+                        (a .psw) (b .psw) r,
+                    ne-eqb (a .sum) (b .sum) s,
+                  ) at e in
                   absurd (omega arith)
               | yes s ↦ all-equal p q r s
             ]

@@ -5,7 +5,8 @@ use native.Mathlib.Decide.{decLt}
 use mathlib.Core.Bool.{true}
 use mathlib.Core.List.{List, [], _∷_, _++_, append-nil}
 use mathlib.Core.Path.{_≡_, refl, sym, ap, _∙_}
-use lib.ListN.{length, getD, take, drop, replicate, length-append, length-take, length-drop, drop-of-length-le, length-replicate, getD-replicate, List·getD-eq-default}
+use lib.ListN.{length, getD, take, drop, replicate, length-append, length-take, length-drop, drop-of-length-le}
+use lib.ListN.{length-replicate, getD-replicate, List·getD-eq-default}
 use lib.Seq.{drop-cons, getD-drop, getD-take, take-all}
 use Rattle.word.specs.LittleEndian.{halfAt}
 use Rattle.bus_timer.specs.declared.Hardware.{Hardware}
@@ -182,7 +183,8 @@ module _ (body : List ℕ) (bytes : (k : ℕ) → getD body k 0 < 256) where
       ap (λ (xs : List ℕ). xs ++ restOf (restoredProcessorOf (generalFrom body) (restFrom body) h)) (regs-again (generalFrom body) (restFrom body) h)
       ∙ ap (λ (xs : List ℕ). generalFrom body ++ xs) (rest-again (generalFrom body) (restFrom body) h length-rest-from s)
 
-  pub words-held : (h : Hardware) → getD (restFrom body) 10 0 ≤ 2 → recordWordsOf (restoredProcessorOf (generalFrom body) (restFrom body) h) ≡ wordsFrom body 0 43
+  pub words-held : (h : Hardware) → getD (restFrom body) 10 0 ≤ 2 → recordWordsOf (restoredProcessorOf
+      (generalFrom body) (restFrom body) h) ≡ wordsFrom body 0 43
   words-held h s = words-are h s ∙ words-joined
 
   pub processor-again : (h : Hardware) → length body ≡ 172 → getD (restFrom body) 10 0 ≤ 2

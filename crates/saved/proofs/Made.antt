@@ -26,13 +26,16 @@ use Rattle.saved_layout.specs.declared.Form.{Form}
 use Rattle.saved_layout.specs.declared.Form.the-variants.{One, Two}
 use Rattle.saved_layout.proofs.Files.{file-length, file-held, contents-back, file-again, length-pak-in, sized-in}
 use Rattle.saved_kinds.specs.Fits.{formOf}
-use Rattle.saved_kinds.specs.Kinds.{generalFrom, restFrom, drawingFrom, hardwareFrom, systemFrom, wordsOk, processorBodyOk, drawingBodyOk, hardwareBodyOk, bodiesOk, fileOk}
+use Rattle.saved_kinds.specs.Kinds.{generalFrom, restFrom, drawingFrom, hardwareFrom, systemFrom, wordsOk}
+use Rattle.saved_kinds.specs.Kinds.{processorBodyOk, drawingBodyOk, hardwareBodyOk, bodiesOk, fileOk}
 use Rattle.saved_move.proofs.Returning.{form-back}
 use Rattle.saved.specs.Body.{restOf, recordWordsOf, linesOf, machineBodiesOf, restoredProcessorOf, processorInBodies, memoryIn, modeWordOf}
 use Rattle.saved.specs.Calls.{stateFileOf, heldBodiesOf, heldProcessorOf, heldMemoryOf, formHolds, restoredOf, readBackOf}
 use Rattle.saved.specs.Exactly.{Savable, ReadWritten, Exactly, WrittenExactly}
 use Rattle.saved.proofs.Accepting.{Passed, passed, accepts, small, both-true}
-use Rattle.saved.proofs.Back.{mode-small, general-back, rest-back, drawing-back, lines-back, processor-in-back, memory-in-back, machine-sized, machine-held, bodies-again, words-held, lines-are, part-bytes, zero-bytes}
+use Rattle.saved.proofs.Back.{mode-small, general-back, rest-back, drawing-back, lines-back, processor-in-back}
+use Rattle.saved.proofs.Back.{memory-in-back, machine-sized, machine-held, bodies-again, words-held, lines-are}
+use Rattle.saved.proofs.Back.{part-bytes, zero-bytes}
 use Rattle.saved.proofs.Verdicts.{read-accepted}
 
 -- the bodies of an accepted machine can be made
@@ -167,11 +170,14 @@ module _ (form : Form) (p : ℕ) (file : List ℕ) (whole : length file ≡ file
         × (hardwareBodyOk (bodiesIn form p file .hardware) ≡ true)
     unfolding bodiesOk
     three =
-        let a = both-true (both (processorBodyOk (bodiesIn form p file .processor)) (drawingBodyOk (bodiesIn form p file .drawing))) (hardwareBodyOk (bodiesIn form p file .hardware)) (tests .1) in
+        let a = both-true (both (processorBodyOk (bodiesIn form p file .processor)) (drawingBodyOk
+        (bodiesIn form p file .drawing))) (hardwareBodyOk (bodiesIn form p file .hardware)) (tests .1) in
         (both-true (processorBodyOk (bodiesIn form p file .processor)) (drawingBodyOk (bodiesIn form p file .drawing)) (a .0), a .1)
 
     words-ok : (getD (restFrom (bodiesIn form p file .processor)) 10 0 ≤ 2)
-        × (stateOk (generalFrom (bodiesIn form p file .processor)) (systemFrom (restFrom (bodiesIn form p file .processor))) (getD (restFrom (bodiesIn form p file .processor)) 0 0) (getD (restFrom (bodiesIn form p file .processor)) 6 0) ≡ true)
+        × (stateOk (generalFrom (bodiesIn form p file .processor)) (systemFrom (restFrom
+        (bodiesIn form p file .processor))) (getD (restFrom (bodiesIn form p file .processor)) 0 0) (getD (restFrom
+        (bodiesIn form p file .processor)) 6 0) ≡ true)
     unfolding processorBodyOk wordsOk
     words-ok =
         let rest = restFrom (bodiesIn form p file .processor) in

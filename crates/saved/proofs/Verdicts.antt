@@ -19,7 +19,8 @@ use Rattle.saved_layout.specs.declared.Form.{Form}
 use Rattle.saved_kinds.specs.Fits.{formOf}
 use Rattle.saved_kinds.specs.Kinds.{drawingFrom, fileOk}
 use Rattle.saved.specs.Body.{restOf, recordWordsOf, linesOf, machineBodiesOf, processorInBodies, memoryIn}
-use Rattle.saved.specs.Calls.{stateFileOf, heldBodiesOf, heldProcessorOf, heldMemoryOf, formHolds, writeVerdictOf, writtenRoomOf, readVerdictOf, restoredOf, readBackOf}
+use Rattle.saved.specs.Calls.{stateFileOf, heldBodiesOf, heldProcessorOf, heldMemoryOf, formHolds}
+use Rattle.saved.specs.Calls.{writeVerdictOf, writtenRoomOf, readVerdictOf, restoredOf, readBackOf}
 
 module _ (form : Form) (p : Processor) (m : Memory) (room : List ℕ) where
   pub write-refused : (n : refusal.Refusal) → acceptanceIn p m ≡ Refused n

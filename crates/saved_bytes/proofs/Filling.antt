@@ -12,7 +12,9 @@ use lib.Seq.{paste, paste-zero, paste-suc, getD-set-same, getD-set-other, ext-ge
 use Rattle.word.specs.LittleEndian.{halfAt, wordAt, putHalf, putWord}
 use Rattle.saved_bytes.specs.Numbers.{bytesOf, halvesOf, halvesFrom, wordsFrom}
 use Rattle.saved_bytes.specs.Numbers.{sameOf}
-use Rattle.saved_bytes.proofs.LittleEndian.{length-bytes, length-halves, byte-low, byte-high, half-low, half-high, length-halves-from, getD-halves-from, length-words-from, getD-words-from}
+use Rattle.saved_bytes.proofs.LittleEndian.{length-bytes, length-halves, byte-low, byte-high, half-low}
+use Rattle.saved_bytes.proofs.LittleEndian.{half-high, length-halves-from, getD-halves-from, length-words-from}
+use Rattle.saved_bytes.proofs.LittleEndian.{getD-words-from}
 
 -- one halfword more is put: a number whose two low bytes are the halfword's
 module _ (d : List ℕ) (at : ℕ) (hs : List ℕ) (k v : ℕ) (room : at + 2 * k + 1 < length d) (few : k < length hs) where
@@ -113,7 +115,8 @@ left-all file hs =
     rw e refl
 
 module _ (file hs : List ℕ) (k : ℕ) (few : k < length hs) where
-  step : sameOf (halvesFrom file (2 * k) (length hs - k)) (drop k hs) ≡ sameOf (halfAt file (2 * k) ∷ halvesFrom file (2 * k + 2) (length hs - (k + 1))) (getD hs k 0 ∷ drop (suc k) hs)
+  step : sameOf (halvesFrom file (2 * k) (length hs - k)) (drop k hs) ≡ sameOf (halfAt file (2 * k) ∷ halvesFrom file
+      (2 * k + 2) (length hs - (k + 1))) (getD hs k 0 ∷ drop (suc k) hs)
   unfolding halvesFrom
   step =
       let e : length hs - k ≡ suc (length hs - (k + 1)) = omega arith in

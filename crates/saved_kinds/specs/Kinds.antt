@@ -37,7 +37,7 @@ systemFrom rest =
     ∷ getD rest 9 0
     ∷ []
 
--- the mode is one of three, and 5 has nothing against the processor
+-- the mode is one of three, and the processor state is valid (refusal 5)
 unfoldable pub wordsOk : List ℕ → List ℕ → Bool
 wordsOk general rest =
     both (leb (getD rest 10 0) 2) (stateOk general (systemFrom rest) (getD rest 0 0) (getD rest 6 0))

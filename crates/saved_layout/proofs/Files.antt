@@ -13,22 +13,142 @@ use Rattle.saved_bytes.proofs.LittleEndian.{length-bytes}
 use Rattle.saved_bytes.proofs.Reading.{Under, halves-back, same-self, same-equal, halves-again}
 use Rattle.saved_bytes.proofs.Putting.{put-first}
 use Rattle.saved_layout.specs.Layout.{contentsOf, bodyPlaceOf, lastPlaceOf, fileLengthOf}
-use Rattle.saved_layout.specs.File.{Bodies, bodiesOf, sumsOf, lastOf, joinedOf, fileOf, hardwareReset, hardwareBytesIn, bodiesIn, contentsIn, contentsOk, SizedBodies, HeldBy}
+use Rattle.saved_layout.specs.File.{Bodies, bodiesOf, sumsOf, lastOf, joinedOf, fileOf, hardwareReset}
+use Rattle.saved_layout.specs.File.{hardwareBytesIn, bodiesIn, contentsIn, contentsOk, SizedBodies, HeldBy}
 use Rattle.saved_layout.specs.declared.Form.{Form}
 use Rattle.saved_layout.specs.declared.Form.the-variants.{One, Two}
-use Rattle.saved_layout.proofs.Positions.{first-small, second, third, fourth, fifth, last-place, length-is, contents-end, one-empty, one-some, two-empty, two-some}
+use Rattle.saved_layout.proofs.Positions.{first-small, second, third, fourth, fifth, last-place, length-is}
+use Rattle.saved_layout.proofs.Positions.{contents-end, one-empty, one-some, two-empty, two-some}
 
 -- the contents are halfwords
 one-under : (p : ℕ) → p ≤ 16777216
     → Under 65536 (5 ∷ 1 ∷ 52 ∷ 0 ∷ 172 ∷ 0 ∷ 2 ∷ 224 ∷ 0 ∷ 26 ∷ 0 ∷ 3 ∷ 250 ∷ 0 ∷ 0 ∷ 1 ∷ 4 ∷ 250 ∷ 1 ∷ 0 ∷ 4 ∷ 5 ∷ 250 ∷ 5 ∷ p % 65536 ∷ p / 65536 ∷ [])
 one-under p h =
     let a : p % 65536 < 65536 = omega arith in
-    let b : p / 65536 < 65536 = omega arith in
-    (omega arith, (omega arith, (omega arith, (omega arith, (omega arith, (omega arith, (omega arith, (omega arith, (omega arith, (omega arith, (omega arith, (omega arith, (omega arith, (omega arith, (omega arith, (omega arith, (omega arith, (omega arith, (omega arith, (omega arith, (omega arith, (omega arith, (omega arith, (omega arith, (a, (b, tt))))))))))))))))))))))))))
+    let b : p / 65536 < 65536 = omega arith in (
+      omega arith,
+      (
+        omega arith,
+        (
+          omega arith,
+          (
+            omega arith,
+            (
+              omega arith,
+              (
+                omega arith,
+                (
+                  omega arith,
+                  (
+                    omega arith,
+                    (
+                      omega arith,
+                      (
+                        omega arith,
+                        (
+                          omega arith,
+                          (
+                            omega arith,
+                            (
+                              omega arith,
+                              (
+                                omega arith,
+                                (
+                                  omega arith,
+                                  (
+                                    omega arith,
+                                    (
+                                      omega arith,
+                                      (
+                                        omega arith,
+                                        (
+                                          omega arith,
+                                          (
+                                            omega arith,
+                                            (
+                                              omega arith,
+                                              (
+                                                omega arith,
+                                                (
+                                                  omega arith,
+                                                  (
+                                                    omega arith,
+                                                    (a, (b, tt)),
+                                                  ),
+                                                ),
+                                              ),
+                                            ),
+                                          ),
+                                        ),
+                                      ),
+                                    ),
+                                  ),
+                                ),
+                              ),
+                            ),
+                          ),
+                        ),
+                      ),
+                    ),
+                  ),
+                ),
+              ),
+            ),
+          ),
+        ),
+      ),
+    )
 
 one-under-empty : Under 65536 (4 ∷ 1 ∷ 42 ∷ 0 ∷ 172 ∷ 0 ∷ 2 ∷ 214 ∷ 0 ∷ 26 ∷ 0 ∷ 3 ∷ 240 ∷ 0 ∷ 0 ∷ 1 ∷ 4 ∷ 240 ∷ 1 ∷ 0 ∷ 4 ∷ [])
-one-under-empty =
-    (omega arith, (omega arith, (omega arith, (omega arith, (omega arith, (omega arith, (omega arith, (omega arith, (omega arith, (omega arith, (omega arith, (omega arith, (omega arith, (omega arith, (omega arith, (omega arith, (omega arith, (omega arith, (omega arith, (omega arith, (omega arith, tt)))))))))))))))))))))
+one-under-empty = (
+  omega arith,
+  (
+    omega arith,
+    (
+      omega arith,
+      (
+        omega arith,
+        (
+          omega arith,
+          (
+            omega arith,
+            (
+              omega arith,
+              (
+                omega arith,
+                (
+                  omega arith,
+                  (
+                    omega arith,
+                    (
+                      omega arith,
+                      (
+                        omega arith,
+                        (
+                          omega arith,
+                          (
+                            omega arith,
+                            (
+                              omega arith,
+                              (
+                                omega arith,
+                                (omega arith, (omega arith, (omega arith, (omega arith, (omega arith, tt))))),
+                              ),
+                            ),
+                          ),
+                        ),
+                      ),
+                    ),
+                  ),
+                ),
+              ),
+            ),
+          ),
+        ),
+      ),
+    ),
+  ),
+)
 
 -- those of form 2, whose sums are words
 module _ (s : List ℕ) (small : (k : ℕ) → getD s k 0 < 2 ^ 32) where
@@ -44,8 +164,115 @@ module _ (s : List ℕ) (small : (k : ℕ) → getD s k 0 < 2 ^ 32) where
       let b3 : getD s 3 0 / 65536 < 65536 = omega (arith, small 3) in
       let a5 : getD s 5 0 % 65536 < 65536 = omega arith in
       let b5 : getD s 5 0 / 65536 < 65536 = omega (arith, small 5) in
-      subst (Under 65536) (two-empty s)
-      (omega arith, (omega arith, (omega arith, (omega arith, (omega arith, (omega arith, (omega arith, (omega arith, (a0, (b0, (omega arith, (omega arith, (omega arith, (omega arith, (omega arith, (a1, (b1, (omega arith, (omega arith, (omega arith, (omega arith, (omega arith, (a2, (b2, (omega arith, (omega arith, (omega arith, (omega arith, (omega arith, (a3, (b3, (omega arith, (omega arith, (omega arith, (omega arith, (omega arith, (a5, (b5, tt))))))))))))))))))))))))))))))))))))))
+      subst (Under 65536) (two-empty s) (
+        omega arith,
+        (
+          omega arith,
+          (
+            omega arith,
+            (
+              omega arith,
+              (
+                omega arith,
+                (
+                  omega arith,
+                  (
+                    omega arith,
+                    (
+                      omega arith,
+                      (
+                        a0,
+                        (
+                          b0,
+                          (
+                            omega arith,
+                            (
+                              omega arith,
+                              (
+                                omega arith,
+                                (
+                                  omega arith,
+                                  (
+                                    omega arith,
+                                    (
+                                      a1,
+                                      (
+                                        b1,
+                                        (
+                                          omega arith,
+                                          (
+                                            omega arith,
+                                            (
+                                              omega arith,
+                                              (
+                                                omega arith,
+                                                (
+                                                  omega arith,
+                                                  (
+                                                    a2,
+                                                    (
+                                                      b2,
+                                                      (
+                                                        omega arith,
+                                                        (
+                                                          omega arith,
+                                                          (
+                                                            omega arith,
+                                                            (
+                                                              omega arith,
+                                                              (
+                                                                omega arith,
+                                                                (
+                                                                  a3,
+                                                                  (
+                                                                    b3,
+                                                                    (
+                                                                      omega arith,
+                                                                      (
+                                                                        omega arith,
+                                                                        (
+                                                                          omega arith,
+                                                                          (
+                                                                            omega arith,
+                                                                            (
+                                                                              omega arith,
+                                                                              (a5, (b5, tt)),
+                                                                            ),
+                                                                          ),
+                                                                        ),
+                                                                      ),
+                                                                    ),
+                                                                  ),
+                                                                ),
+                                                              ),
+                                                            ),
+                                                          ),
+                                                        ),
+                                                      ),
+                                                    ),
+                                                  ),
+                                                ),
+                                              ),
+                                            ),
+                                          ),
+                                        ),
+                                      ),
+                                    ),
+                                  ),
+                                ),
+                              ),
+                            ),
+                          ),
+                        ),
+                      ),
+                    ),
+                  ),
+                ),
+              ),
+            ),
+          ),
+        ),
+      )
 
   two-under : (p : ℕ) → 0 < p → p ≤ 16777216 → Under 65536 (contentsOf Two p s)
   two-under p some h =
@@ -65,8 +292,121 @@ module _ (s : List ℕ) (small : (k : ℕ) → getD s k 0 < 2 ^ 32) where
       let n : p / 65536 < 65536 = omega arith in
       let u : (327968 + p) % 65536 < 65536 = omega arith in
       let v : (327968 + p) / 65536 < 65536 = omega arith in
-      subst (Under 65536) (two-some p some s)
-      (omega arith, (omega arith, (omega arith, (omega arith, (omega arith, (omega arith, (omega arith, (omega arith, (a0, (b0, (omega arith, (omega arith, (omega arith, (omega arith, (omega arith, (a1, (b1, (omega arith, (omega arith, (omega arith, (omega arith, (omega arith, (a2, (b2, (omega arith, (omega arith, (omega arith, (omega arith, (omega arith, (a3, (b3, (omega arith, (omega arith, (omega arith, (m, (n, (a4, (b4, (omega arith, (u, (v, (omega arith, (omega arith, (a5, (b5, tt)))))))))))))))))))))))))))))))))))))))))))))
+      subst (Under 65536) (two-some p some s) (
+        omega arith,
+        (
+          omega arith,
+          (
+            omega arith,
+            (
+              omega arith,
+              (
+                omega arith,
+                (
+                  omega arith,
+                  (
+                    omega arith,
+                    (
+                      omega arith,
+                      (
+                        a0,
+                        (
+                          b0,
+                          (
+                            omega arith,
+                            (
+                              omega arith,
+                              (
+                                omega arith,
+                                (
+                                  omega arith,
+                                  (
+                                    omega arith,
+                                    (
+                                      a1,
+                                      (
+                                        b1,
+                                        (
+                                          omega arith,
+                                          (
+                                            omega arith,
+                                            (
+                                              omega arith,
+                                              (
+                                                omega arith,
+                                                (
+                                                  omega arith,
+                                                  (
+                                                    a2,
+                                                    (
+                                                      b2,
+                                                      (
+                                                        omega arith,
+                                                        (
+                                                          omega arith,
+                                                          (
+                                                            omega arith,
+                                                            (
+                                                              omega arith,
+                                                              (
+                                                                omega arith,
+                                                                (
+                                                                  a3,
+                                                                  (
+                                                                    b3,
+                                                                    (
+                                                                      omega arith,
+                                                                      (
+                                                                        omega arith,
+                                                                        (
+                                                                          omega arith,
+                                                                          (
+                                                                            m,
+                                                                            (
+                                                                              n,
+                                                                              (
+                                                                                a4,
+                                                                                (
+                                                                                  b4,
+                                                                                  (omega arith, (u, (v, (omega arith, (omega arith, (a5, (b5, tt))))))),
+                                                                                ),
+                                                                              ),
+                                                                            ),
+                                                                          ),
+                                                                        ),
+                                                                      ),
+                                                                    ),
+                                                                  ),
+                                                                ),
+                                                              ),
+                                                            ),
+                                                          ),
+                                                        ),
+                                                      ),
+                                                    ),
+                                                  ),
+                                                ),
+                                              ),
+                                            ),
+                                          ),
+                                        ),
+                                      ),
+                                    ),
+                                  ),
+                                ),
+                              ),
+                            ),
+                          ),
+                        ),
+                      ),
+                    ),
+                  ),
+                ),
+              ),
+            ),
+          ),
+        ),
+      )
 
 pub contents-under : (form : Form) (p : ℕ) (s : List ℕ) → p ≤ 16777216 → ((k : ℕ) → getD s k 0 < 2 ^ 32) → Under 65536 (contentsOf form p s)
 contents-under One zero s h small = subst (Under 65536) (one-empty s) one-under-empty
@@ -119,16 +459,36 @@ module _ (b : Bodies) (s : SizedBodies b) (file : List ℕ) where
     at0 = start
 
     at1 : drop (bodyPlaceOf form (length (b .pak)) 1) file ≡ b .drawing ++ (b .wram ++ (b .vram ++ (b .pak ++ lastOf form (b .hardware))))
-    at1 = behind (bodyPlaceOf form (length (b .pak)) 0) 172 (bodyPlaceOf form (length (b .pak)) 1) file (b .processor) (b .drawing ++ (b .wram ++ (b .vram ++ (b .pak ++ lastOf form (b .hardware))))) at0 (s .processor) (second form (length (b .pak)))
+    at1 = behind (bodyPlaceOf form (length (b .pak)) 0) 172 (bodyPlaceOf form (length (b .pak)) 1) file (b .processor)
+        (b .drawing ++ (b .wram ++ (b .vram ++ (b .pak ++ lastOf form (b .hardware))))) at0 (s .processor) (second form
+        (length (b .pak)))
 
     at2 : drop (bodyPlaceOf form (length (b .pak)) 2) file ≡ b .wram ++ (b .vram ++ (b .pak ++ lastOf form (b .hardware)))
-    at2 = behind (bodyPlaceOf form (length (b .pak)) 1) 26 (bodyPlaceOf form (length (b .pak)) 2) file (b .drawing) (b .wram ++ (b .vram ++ (b .pak ++ lastOf form (b .hardware)))) at1 (s .drawing) (omega (arith, second form (length (b .pak)), third form (length (b .pak))))
+    at2 = behind (bodyPlaceOf form (length (b .pak)) 1) 26 (bodyPlaceOf form (length (b .pak)) 2) file (b .drawing)
+        (b .wram ++ (b .vram ++ (b .pak ++ lastOf form (b .hardware)))) at1 (s .drawing) (omega (
+          arith,
+          second form
+              (length (b .pak)),
+          third form (length (b .pak)),
+        ))
 
     at3 : drop (bodyPlaceOf form (length (b .pak)) 3) file ≡ b .vram ++ (b .pak ++ lastOf form (b .hardware))
-    at3 = behind (bodyPlaceOf form (length (b .pak)) 2) 65536 (bodyPlaceOf form (length (b .pak)) 3) file (b .wram) (b .vram ++ (b .pak ++ lastOf form (b .hardware))) at2 (s .wram) (omega (arith, third form (length (b .pak)), fourth form (length (b .pak))))
+    at3 = behind (bodyPlaceOf form (length (b .pak)) 2) 65536 (bodyPlaceOf form (length (b .pak)) 3) file (b .wram)
+        (b .vram ++ (b .pak ++ lastOf form (b .hardware))) at2 (s .wram) (omega (
+          arith,
+          third form (length
+              (b .pak)),
+          fourth form (length (b .pak)),
+        ))
 
     at4 : drop (bodyPlaceOf form (length (b .pak)) 4) file ≡ b .pak ++ lastOf form (b .hardware)
-    at4 = behind (bodyPlaceOf form (length (b .pak)) 3) 262144 (bodyPlaceOf form (length (b .pak)) 4) file (b .vram) (b .pak ++ lastOf form (b .hardware)) at3 (s .vram) (omega (arith, fourth form (length (b .pak)), fifth form (length (b .pak))))
+    at4 = behind (bodyPlaceOf form (length (b .pak)) 3) 262144 (bodyPlaceOf form (length (b .pak)) 4) file (b .vram)
+        (b .pak ++ lastOf form (b .hardware)) at3 (s .vram) (omega (
+          arith,
+          fourth form (length (b .pak)),
+          fifth form
+              (length (b .pak)),
+        ))
 
     at5 : (n : ℕ) → n ≡ bodyPlaceOf form (length (b .pak)) 4 + (length (b .pak)) → drop n file ≡ lastOf form (b .hardware)
     at5 n e = behind (bodyPlaceOf form (length (b .pak)) 4) (length (b .pak)) n file (b .pak) (lastOf form (b .hardware)) at4 refl e
@@ -137,7 +497,8 @@ module _ (b : Bodies) (s : SizedBodies b) (file : List ℕ) where
     unfolding bodiesIn
     held e =
         bodies-same
-        (here (bodyPlaceOf form (length (b .pak)) 0) 172 file (b .processor) (b .drawing ++ (b .wram ++ (b .vram ++ (b .pak ++ lastOf form (b .hardware))))) at0 (s .processor))
+        (here (bodyPlaceOf form (length (b .pak)) 0) 172 file (b .processor) (b .drawing ++ (b .wram ++ (b .vram ++
+        (b .pak ++ lastOf form (b .hardware))))) at0 (s .processor))
         (here (bodyPlaceOf form (length (b .pak)) 1) 26 file (b .drawing) (b .wram ++ (b .vram ++ (b .pak ++ lastOf form (b .hardware)))) at1 (s .drawing))
         (here (bodyPlaceOf form (length (b .pak)) 2) 65536 file (b .wram) (b .vram ++ (b .pak ++ lastOf form (b .hardware))) at2 (s .wram))
         (here (bodyPlaceOf form (length (b .pak)) 3) 262144 file (b .vram) (b .pak ++ lastOf form (b .hardware)) at3 (s .vram))
@@ -168,7 +529,8 @@ module _ (b : Bodies) (s : SizedBodies b) (file : List ℕ) where
   unfolding fileOf
   sealed form start =
       rw (contents-held form start)
-      (put-first file (bytesOf (contentsOf form (length (b .pak)) (sumsOf b))) (bodyPlaceOf form (length (b .pak)) 0) (length-contents form (length (b .pak)) (sumsOf b))
+      (put-first file (bytesOf (contentsOf form (length (b .pak)) (sumsOf b))) (bodyPlaceOf form (length (b .pak)) 0)
+      (length-contents form (length (b .pak)) (sumsOf b))
       ∙ ap (λ (ys : List ℕ). bytesOf (contentsOf form (length (b .pak)) (sumsOf b)) ++ ys) start)
 
 module _ (form : Form) (b : Bodies) where
@@ -197,7 +559,8 @@ module _ (b : Bodies) (s : SizedBodies b) where
       → sameOf (halvesFrom (fileOf form b) 0 (length (contentsOf form (length (b .pak)) (sumsOf b)))) (contentsOf form (length (b .pak)) (sumsOf b)) ≡ true
   unfolding fileOf
   front-same form few =
-      rw (halves-back 0 [] (contentsOf form (length (b .pak)) (sumsOf b)) (joinedOf form b) refl (contents-under form (length (b .pak)) (sumsOf b) few (sums-small b)))
+      rw (halves-back 0 [] (contentsOf form (length (b .pak)) (sumsOf b)) (joinedOf form b) refl (contents-under form
+      (length (b .pak)) (sumsOf b) few (sums-small b)))
       (same-self (contentsOf form (length (b .pak)) (sumsOf b)))
 
   pub contents-back : (form : Form) → length (b .pak) ≤ 16777216 → contentsOk form (length (b .pak)) (fileOf form b) ≡ true
@@ -211,7 +574,8 @@ next a n m xs e =
     ∙ ap (λ (ys : List ℕ). take n (drop a xs) ++ ys) (drop-drop n a xs ∙ ap (λ (k : ℕ). drop k xs) (sym e))
 
 module _ (p : ℕ) (file : List ℕ) where
-  last-part : (form : Form) → length file ≡ fileLengthOf form p → (n : ℕ) → n ≡ bodyPlaceOf form p 4 + p → drop n file ≡ lastOf form (hardwareBytesIn form p file)
+  last-part : (form : Form) → length file ≡ fileLengthOf form p →
+      (n : ℕ) → n ≡ bodyPlaceOf form p 4 + p → drop n file ≡ lastOf form (hardwareBytesIn form p file)
   last-part One whole n e = drop-of-length-le file {i = n} (omega (arith, length-is One p, fifth One p))
   last-part Two whole n e =
       let f : n ≡ lastPlaceOf p = omega (arith, last-place p, fifth Two p) in
@@ -262,8 +626,10 @@ module _ (p : ℕ) (file : List ℕ) where
       unfolding contentsOk contentsIn
       contents-part ok =
           let c = contentsOf form p (sumsOf (bodiesIn form p file)) in
-          ap bytesOf (sym (same-equal (halvesFrom file 0 (length (contentsOf form p (sumsOf (bodiesIn form p file))))) (contentsOf form p (sumsOf (bodiesIn form p file))) ok))
-          ∙ (halves-again file bytes (length (contentsOf form p (sumsOf (bodiesIn form p file)))) 0 (omega (arith, contents-end form p (sumsOf (bodiesIn form p file)), length-is form p))
+          ap bytesOf (sym (same-equal (halvesFrom file 0 (length (contentsOf form p (sumsOf (bodiesIn form p file)))))
+          (contentsOf form p (sumsOf (bodiesIn form p file))) ok))
+          ∙ (halves-again file bytes (length (contentsOf form p (sumsOf (bodiesIn form p file)))) 0 (omega
+          (arith, contents-end form p (sumsOf (bodiesIn form p file)), length-is form p))
           ∙ ap (λ (n : ℕ). take n file) (contents-end form p (sumsOf (bodiesIn form p file))))
 
       pub file-again : contentsOk form p file ≡ true → fileOf form (bodiesIn form p file) ≡ file

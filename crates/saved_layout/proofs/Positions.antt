@@ -85,7 +85,8 @@ unfolding contentsOf halvesOf
 one-empty s = refl
 
 pub one-some : (p : ℕ) → 0 < p → (s : List ℕ)
-    → 5 ∷ 1 ∷ 52 ∷ 0 ∷ 172 ∷ 0 ∷ 2 ∷ 224 ∷ 0 ∷ 26 ∷ 0 ∷ 3 ∷ 250 ∷ 0 ∷ 0 ∷ 1 ∷ 4 ∷ 250 ∷ 1 ∷ 0 ∷ 4 ∷ 5 ∷ 250 ∷ 5 ∷ p % 65536 ∷ p / 65536 ∷ [] ≡ contentsOf One p s
+    → 5 ∷ 1 ∷ 52 ∷ 0 ∷ 172 ∷ 0 ∷ 2 ∷ 224 ∷ 0 ∷ 26 ∷ 0 ∷ 3 ∷ 250 ∷ 0 ∷ 0 ∷ 1 ∷ 4 ∷ 250 ∷ 1 ∷ 0 ∷ 4 ∷ 5 ∷ 250 ∷ 5 ∷ p %
+    65536 ∷ p / 65536 ∷ [] ≡ contentsOf One p s
 unfolding contentsOf halvesOf
 one-some zero h s = absurd (omega arith)
 one-some (suc p) h s = simp (eqb·suc-zero p)
@@ -158,4 +159,5 @@ pub two-some-of : (p : ℕ) → 0 < p → (s : List ℕ) {l0 h0 l1 h1 l2 h2 l3 h
     ∷ 5 ∷ 288 ∷ 5 ∷ m ∷ n ∷ l4 ∷ h4
     ∷ 6 ∷ u ∷ v ∷ 8 ∷ 0 ∷ l5 ∷ h5
     ∷ [] ≡ contentsOf Two p s
-two-some-of p some s e0 e1 e2 e3 e4 e5 e6 e7 e8 e9 e10 e11 e12 e13 e14 e15 = rw (e0, e1, e2, e3, e4, e5, e6, e7, e8, e9, e10, e11, e12, e13, e14, e15) (two-some p some s)
+two-some-of p some s e0 e1 e2 e3 e4 e5 e6 e7 e8 e9 e10 e11 e12 e13 e14 e15 = rw
+    (e0, e1, e2, e3, e4, e5, e6, e7, e8, e9, e10, e11, e12, e13, e14, e15) (two-some p some s)

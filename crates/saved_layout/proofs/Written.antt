@@ -41,14 +41,16 @@ pub records-put : (d regs rest halves e f g : List ℕ) (at : ℕ) → at + 198 
     → g ≡ putAt d at (bytesOf (halvesOf (regs ++ rest)) ++ bytesOf halves)
 records-put d regs rest halves e f g at fits l1 l2 l3 p q r =
     put-three d (bytesOf (halvesOf regs)) (bytesOf (halvesOf rest)) (bytesOf halves) e f g at (at + 128) (at + 172)
-    (omega (arith, length-words regs, length-words rest, length-bytes halves)) (omega (arith, length-words regs)) (omega (arith, length-words regs, length-words rest)) p q r
+    (omega (arith, length-words regs, length-words rest, length-bytes halves)) (omega (arith, length-words regs)) (omega
+    (arith, length-words regs, length-words rest)) p q r
     ∙ ap (putAt d at)
     (sym (append-assoc (bytesOf (halvesOf regs)) (bytesOf (halvesOf rest)) (bytesOf halves))
     ∙ ap (λ (x : List ℕ). x ++ bytesOf halves) (sym (bytes-append regs rest)))
 
 -- a room whose bodies were put from the first place on
 module _ (regs rest halves wram vram pak hardware d : List ℕ) where
-  module _ (l1 : length regs ≡ 32) (l2 : length rest ≡ 11) (l3 : length halves ≡ 13) (l4 : length wram ≡ 65536) (l5 : length vram ≡ 262144) (l6 : length hardware ≡ 4) where
+  module _ (l1 : length regs ≡ 32) (l2 : length rest ≡ 11) (l3 : length halves ≡ 13) (l4 : length wram ≡ 65536)
+      (l5 : length vram ≡ 262144) (l6 : length hardware ≡ 4) where
     sized : SizedBodies (bodiesOf (bytesOf (halvesOf (regs ++ rest))) (bytesOf halves) wram vram pak (bytesOf hardware))
     sized =
         record {
@@ -71,7 +73,8 @@ module _ (regs rest halves wram vram pak hardware d : List ℕ) where
         → f ≡ putAt d at ((bytesOf (halvesOf (regs ++ rest)) ++ bytesOf halves) ++ (wram ++ (vram ++ pak)))
     five e f at fits p q =
         q ∙ (ap (λ (x : List ℕ). putAt x (at + 198) (wram ++ (vram ++ pak))) p
-        ∙ put-put d at (bytesOf (halvesOf (regs ++ rest)) ++ bytesOf halves) (omega (arith, length-records)) (wram ++ (vram ++ pak)) (at + 198) (omega (arith, length-records)))
+        ∙ put-put d at (bytesOf (halvesOf (regs ++ rest)) ++ bytesOf halves) (omega (arith, length-records)) (wram ++
+        (vram ++ pak)) (at + 198) (omega (arith, length-records)))
 
     length-five : length ((bytesOf (halvesOf (regs ++ rest)) ++ bytesOf halves) ++ (wram ++ (vram ++ pak))) ≡ 327878 + length pak
     length-five = length-append (bytesOf (halvesOf (regs ++ rest)) ++ bytesOf halves) (wram ++ (vram ++ pak)) ∙ (omega (arith, length-records, length-memories))
@@ -95,7 +98,8 @@ module _ (regs rest halves wram vram pak hardware d : List ℕ) where
         let w : at + (327878 + length pak) ≡ length d = omega (arith, length-is One (length pak)) in
         r ∙ sealed (bodiesOf (bytesOf (halvesOf (regs ++ rest))) (bytesOf halves) wram vram pak (bytesOf hardware)) sized f One
         (ap (λ (n : ℕ). drop n f) (sym first)
-        ∙ (ending at ((bytesOf (halvesOf (regs ++ rest)) ++ bytesOf halves) ++ (wram ++ (vram ++ pak))) f (omega (arith, length-five)) (five e f at (omega arith) p q)
+        ∙ (ending at ((bytesOf (halvesOf (regs ++ rest)) ++ bytesOf halves) ++ (wram ++ (vram ++ pak))) f (omega
+        (arith, length-five)) (five e f at (omega arith) p q)
         ∙ joined-one (bytesOf (halvesOf (regs ++ rest))) (bytesOf halves) wram vram pak))
 
     pub wrote-two : (e f g h : List ℕ) (at : ℕ) → at ≡ bodyPlaceOf Two (length pak) 0 → length d ≡ fileLengthOf Two (length pak)
@@ -109,7 +113,8 @@ module _ (regs rest halves wram vram pak hardware d : List ℕ) where
         let l : length (bytesOf hardware) ≡ 8 = omega (arith, length-bytes hardware) in
         let six : g ≡ putAt d at (((bytesOf (halvesOf (regs ++ rest)) ++ bytesOf halves) ++ (wram ++ (vram ++ pak))) ++ bytesOf hardware)
         = r ∙ (ap (λ (x : List ℕ). putAt x (at + 327878 + length pak) (bytesOf hardware)) (five e f at (omega arith) p q)
-        ∙ put-put d at ((bytesOf (halvesOf (regs ++ rest)) ++ bytesOf halves) ++ (wram ++ (vram ++ pak))) (omega (arith, length-five)) (bytesOf hardware) (at + 327878 + length pak) (omega (arith, length-five))) in
+        ∙ put-put d at ((bytesOf (halvesOf (regs ++ rest)) ++ bytesOf halves) ++ (wram ++ (vram ++ pak))) (omega
+        (arith, length-five)) (bytesOf hardware) (at + 327878 + length pak) (omega (arith, length-five))) in
         t ∙ sealed (bodiesOf (bytesOf (halvesOf (regs ++ rest))) (bytesOf halves) wram vram pak (bytesOf hardware)) sized g Two
         (ap (λ (n : ℕ). drop n g) (sym first)
         ∙ (ending at (((bytesOf (halvesOf (regs ++ rest)) ++ bytesOf halves) ++ (wram ++ (vram ++ pak))) ++ bytesOf hardware) g
@@ -149,7 +154,8 @@ pub part-copied : (n a : ℕ) (file d e : List ℕ) → a + n ≤ length file �
 part-copied n a file d e h l f =
     let k : length (take n (drop a file)) ≡ length d = simp (length-take, length-drop) (omega arith) in
     f ∙ (ap (λ (ys : List ℕ). ys ++ drop (length (take n (drop a file))) d) (take-length (take n (drop a file)))
-    ∙ (ap (λ (ys : List ℕ). take n (drop a file) ++ ys) (drop-of-length-le d {i = length (take n (drop a file))} (omega arith)) ∙ append-nil (take n (drop a file))))
+    ∙ (ap (λ (ys : List ℕ). take n (drop a file) ++ ys) (drop-of-length-le d {i = length (take n (drop a file))}
+    (omega arith)) ∙ append-nil (take n (drop a file))))
 
 -- six sums
 pub sums-are : {a1 a2 b1 b2 c1 c2 d1 d2 e1 e2 f1 f2 : List ℕ} → a1 ≡ a2 → b1 ≡ b2 → c1 ≡ c2 → d1 ≡ d2 → e1 ≡ e2 → f1 ≡ f2

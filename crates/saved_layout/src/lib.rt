@@ -1,5 +1,5 @@
 // The layout of a saved state in both forms: where its bodies stand, a file written from them, and what stands in a
-// file. These functions are `pub` for the crates of saved states; none is a call of the library's users.
+// file. These functions are `pub` for the crates of saved states: internal, not calls of the library.
 pub mod bodies;
 pub mod contents;
 pub mod places;

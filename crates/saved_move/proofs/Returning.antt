@@ -88,7 +88,8 @@ passed false n v e =
     absurd (omega arith)
 
 opened : (file room : List ℕ)
-    → unless (lengthsOk file room) FileLength (unless (fileOk (formOf file) (pakIn file) file) FileBytes (unless (holdsBodyOk (otherOf (formOf file)) (heldIn file .hardware)) NotAtReset Accepted))
+    → unless (lengthsOk file room) FileLength (unless (fileOk (formOf file) (pakIn file) file) FileBytes (unless
+    (holdsBodyOk (otherOf (formOf file)) (heldIn file .hardware)) NotAtReset Accepted))
     ≡ moveVerdictOf file room
 unfolding moveVerdictOf
 opened file room = refl
@@ -194,7 +195,8 @@ sixteen-exactly file room = record { refused = refused; only = only }
         → (lengthsOk file room ≡ true)
         × ((fileOk (formOf file) (pakIn file) file ≡ true) × ((formOf file ≡ Two) × (heldIn file .hardware ≡ hardwareReset → ⊥)))
     refused e =
-        let a = refused-last (lengthsOk file room) (fileOk (formOf file) (pakIn file) file) (holdsBodyOk (otherOf (formOf file)) (heldIn file .hardware)) (opened file room ∙ e) in
+        let a = refused-last (lengthsOk file room) (fileOk (formOf file) (pakIn file) file) (holdsBodyOk (otherOf
+        (formOf file)) (heldIn file .hardware)) (opened file room ∙ e) in
         (a .0, (a .1 .0, not-held (formOf file) (heldIn file .hardware) (a .1 .1)))
 
     only : lengthsOk file room ≡ true → fileOk (formOf file) (pakIn file) file ≡ true → formOf file ≡ Two

@@ -110,5 +110,6 @@ module _ (file room : List ℕ) (form : Form) (pak : ℕ) (f : form ≡ formOf f
   pub wrote-is : (after : List ℕ) → after ≡ fileOf (otherOf form) (bodiesIn form pak file) → after ≡ fileOf (otherOf (formOf file)) (heldIn file)
   wrote-is after e = e ∙ (ap (λ (g : Form). fileOf (otherOf g) (bodiesIn form pak file)) f ∙ ap (fileOf (otherOf (formOf file))) held-is)
 
-  pub holds-is : (s : Bool) → holdsBodyOk (otherOf form) (bodiesIn form pak file .hardware) ≡ s → holdsBodyOk (otherOf (formOf file)) (heldIn file .hardware) ≡ s
+  pub holds-is : (s : Bool) → holdsBodyOk (otherOf form) (bodiesIn form pak file .hardware) ≡ s → holdsBodyOk (otherOf
+      (formOf file)) (heldIn file .hardware) ≡ s
   holds-is s e = ap (λ (g : Form). holdsBodyOk (otherOf g) (heldIn file .hardware)) (sym f) ∙ (rw (← held-is) e)

@@ -59,7 +59,8 @@ module _ (pak : ℕ) (file : List ℕ) where
     unfolding keptFrom
     empty-from z e6 = simp (eq-eqb pak 0 z) (rw (e1, e2, e3, e4, e6))
 
-    some-from : {k5 k6 : Bool} → 0 < pak → k5 ≡ keepsOf (wordAt file 72) (b .pak) true → k6 ≡ keepsOf (wordAt file 86) (b .hardware) (hardwareBodyOk (b .hardware))
+    some-from : {k5 k6 : Bool} → 0 < pak → k5 ≡ keepsOf (wordAt file 72) (b .pak) true → k6 ≡ keepsOf (wordAt file 86)
+        (b .hardware) (hardwareBodyOk (b .hardware))
         → record { processor = k1; drawing = k2; wram = k3; vram = k4; pak = k5; hardware = k6 } ≡ keptFrom pak file b
     unfolding keptFrom
     some-from some e5 e6 = simp (ne-eqb pak 0 (λ z. omega arith)) (rw (e1, e2, e3, e4, e5, e6))

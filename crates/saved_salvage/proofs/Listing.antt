@@ -25,7 +25,13 @@ module _ (xs : List ℕ) (kind : ℕ) (few : length xs < 6) where
   unfolding addedOf listedKindsOf
   more =
       let l : length (xs ++ (kind ∷ [])) ≡ length xs + 1 = simp length-append refl in
-      rw (l, zeros-more (length xs) few, set-append-seam xs 0 (replicate (6 - (length xs + 1)) 0) kind, append-assoc xs (kind ∷ []) (replicate (6 - (length xs + 1)) 0))
+      rw (
+        l,
+        zeros-more (length xs) few,
+        set-append-seam xs 0 (replicate (6 - (length xs + 1)) 0) kind,
+        append-assoc xs
+            (kind ∷ []) (replicate (6 - (length xs + 1)) 0),
+      )
 
   kept-same : addedOf (listedKindsOf xs) kind true ≡ listedKindsOf xs
   unfolding addedOf

@@ -136,7 +136,8 @@ module _ (file output : List ℕ) (bytes : (k : ℕ) → getD file k 0 < 256) wh
       (u : Under 65536 (fiveOf place part ++ twoOf sum)) (fits : at + 14 ≤ length file) where
     five : take 10 (drop at output) ≡ bytesOf (fiveOf place part)
     five =
-        ap (take 10) (there ∙ (ap (λ (xs : List ℕ). xs ++ rest) (bytes-join (fiveOf place part) (twoOf sum)) ∙ append-assoc (bytesOf (fiveOf place part)) (bytesOf (twoOf sum)) rest))
+        ap (take 10) (there ∙ (ap (λ (xs : List ℕ). xs ++ rest) (bytes-join (fiveOf place part) (twoOf sum))
+        ∙ append-assoc (bytesOf (fiveOf place part)) (bytesOf (twoOf sum)) rest))
         ∙ take-at (bytesOf (fiveOf place part)) (bytesOf (twoOf sum) ++ rest) 10 (omega (arith, length-bytes (fiveOf place part), five-length place part))
 
     seven-length : length (fiveOf place part ++ twoOf sum) ≡ 7
@@ -176,14 +177,20 @@ module _ (file output : List ℕ) (bytes : (k : ℕ) → getD file k 0 < 256) wh
     unfolding entryDiffers partDiffers
     kept-one e = ap (λ (t : Bool). pick t false true) (ap (sameOf (take 14 (drop at file))) seven ∙ same-fourteen e)
 
-    pub entry-means : (kept : Bool) → (kept ≡ true → wordAt file (at + 10) ≡ sum) → entryDiffers at kept file output ≡ pick (entryRight at place part file) false true
+    pub entry-means : (kept : Bool) → (kept ≡ true → wordAt file
+        (at + 10) ≡ sum) → entryDiffers at kept file output ≡ pick (entryRight at place part file) false true
     entry-means true e = kept-one (e refl)
     entry-means false e = replaced
 
     pub next-entry : drop (at + 14) output ≡ rest
     next-entry =
         sym (drop-drop 14 at output)
-        ∙ (ap (drop 14) there ∙ drop-at (bytesOf (fiveOf place part ++ twoOf sum)) rest 14 (omega (arith, length-bytes (fiveOf place part ++ twoOf sum), seven-length)))
+        ∙ (ap (drop 14) there ∙ drop-at (bytesOf (fiveOf place part ++ twoOf sum)) rest 14 (omega (
+          arith,
+          length-bytes
+              (fiveOf place part ++ twoOf sum),
+          seven-length,
+        )))
 
   -- all entries
   entries-mean : (sums : List ℕ) (parts : List Part) (flags : List Bool) (at place : ℕ) (rest : List ℕ) → Matches file sums at parts flags
@@ -290,25 +297,32 @@ module _ (p : ℕ) (file sums rest : List ℕ) (few : p ≤ 16777216) (small : (
   first-means =
       ap (λ (t : Bool). pick t false true)
       (ap (sameOf (take 6 file)) six
-      ∙ rw (three-length p) at (bytes-same file bytes (three p) 0 (under-first 65536 (three p) (entries p sums) under) (omega (arith, three-length p, first-is p, length-is Two p))))
+      ∙ rw (three-length p) at (bytes-same file bytes (three p) 0 (under-first 65536 (three p) (entries p sums) under)
+      (omega (arith, three-length p, first-is p, length-is Two p))))
 
   pub contents-mean : contentsDiffer p k file (bytesOf (contentsOf Two p sums) ++ rest) ≡ pick (contentsRight p file) false true
   unfolding contentsDiffer contentsRight three entries
   contents-mean =
       rw (
         first-means,
-        entries-mean file (bytesOf (contentsOf Two p sums) ++ rest) bytes sums (partsOf Two p) (entriesKept p k) 6 (contentsEndOf Two (length (partsOf Two p))) rest m behind (under-rest 65536 (three p) (entries p sums) under) fits,
+        entries-mean file (bytesOf (contentsOf Two p sums) ++ rest) bytes sums (partsOf Two p) (entriesKept p k) 6
+            (contentsEndOf Two (length (partsOf Two p))) rest m behind (under-rest 65536 (three p)
+            (entries p sums) under) fits,
       )
-      (not-either (sameOf (halvesFrom file 0 3) (0 ∷ 2 ∷ length (partsOf Two p) ∷ [])) (entriesRight 6 (contentsEndOf Two (length (partsOf Two p))) (partsOf Two p) file))
+      (not-either (sameOf (halvesFrom file 0 3) (0 ∷ 2 ∷ length (partsOf Two p) ∷ [])) (entriesRight 6
+      (contentsEndOf Two (length (partsOf Two p))) (partsOf Two p) file))
 
 output-front : (file room : List ℕ) → salvageVerdictOf file room ≡ Accepted
     → outputOf (pakInFormTwo file) file
-    ≡ bytesOf (contentsOf Two (pakInFormTwo file) (sumsOf (keptBodiesOf (keptIn (pakInFormTwo file) file) (bodiesIn Two (pakInFormTwo file) file)))) ++ joinedOf Two (keptBodiesOf (keptIn (pakInFormTwo file) file) (bodiesIn Two (pakInFormTwo file) file))
+    ≡ bytesOf (contentsOf Two (pakInFormTwo file) (sumsOf (keptBodiesOf (keptIn (pakInFormTwo file) file) (bodiesIn Two
+    (pakInFormTwo file) file)))) ++ joinedOf Two (keptBodiesOf (keptIn (pakInFormTwo file) file) (bodiesIn Two
+    (pakInFormTwo file) file))
 unfolding outputOf fileOf
 output-front file room e = rw (size file room e)
 
 kept-matches : (file : List ℕ)
-    → Matches file (sumsOf (keptBodiesOf (keptIn (pakInFormTwo file) file) (bodiesIn Two (pakInFormTwo file) file))) 6 (partsOf Two (pakInFormTwo file)) (entriesKept (pakInFormTwo file) (keptIn (pakInFormTwo file) file))
+    → Matches file (sumsOf (keptBodiesOf (keptIn (pakInFormTwo file) file) (bodiesIn Two (pakInFormTwo file) file))) 6
+    (partsOf Two (pakInFormTwo file)) (entriesKept (pakInFormTwo file) (keptIn (pakInFormTwo file) file))
 unfolding keptIn
 kept-matches file = matches (pakInFormTwo file) file (bodiesIn Two (pakInFormTwo file) file)
 
@@ -316,5 +330,7 @@ pub contents-differ-means : ContentsDifferMeans
 contents-differ-means file room bytes e =
     sym (ap (λ (s : Salvaged). s .differ) (by-verdict file room Accepted e .0))
     ∙ (ap (contentsDiffer (pakInFormTwo file) (keptIn (pakInFormTwo file) file) file) (output-front file room e)
-    ∙ contents-mean (pakInFormTwo file) file (sumsOf (keptBodiesOf (keptIn (pakInFormTwo file) file) (bodiesIn Two (pakInFormTwo file) file))) _ (pak-small (pakInFormTwo file) (fit file room e .0))
-    (sums-small (keptBodiesOf (keptIn (pakInFormTwo file) file) (bodiesIn Two (pakInFormTwo file) file))) bytes (whole file room e) (keptIn (pakInFormTwo file) file) (kept-matches file))
+    ∙ contents-mean (pakInFormTwo file) file (sumsOf (keptBodiesOf (keptIn (pakInFormTwo file) file) (bodiesIn Two
+    (pakInFormTwo file) file))) _ (pak-small (pakInFormTwo file) (fit file room e .0))
+    (sums-small (keptBodiesOf (keptIn (pakInFormTwo file) file) (bodiesIn Two (pakInFormTwo file) file))) bytes
+    (whole file room e) (keptIn (pakInFormTwo file) file) (kept-matches file))

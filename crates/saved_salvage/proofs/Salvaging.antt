@@ -55,7 +55,8 @@ module _ (file room : List ℕ) where
   unfolding salvageVerdictOf
   verdict-accepted e f = simp (eq-eqb _ _ e, f)
 
-  refused : (n : refusal.Refusal) (l : ListedKinds) → salvageVerdictOf file room ≡ Refused n → l ≡ listedKindsOf [] → Leaves file room (toldOf (Refused n) l false) room
+  refused : (n : refusal.Refusal) (l : ListedKinds) → salvageVerdictOf file room ≡ Refused n → l ≡ listedKindsOf [] →
+      Leaves file room (toldOf (Refused n) l false) room
   refused n l e f = let v = by-verdict (Refused n) e in (ap (λ (x : ListedKinds). toldOf (Refused n) x false) f ∙ v .0, v .1)
 
   pub no-length : (l : ListedKinds) → (length room ≡ length file → ⊥) → l ≡ listedKindsOf [] → Leaves file room (toldOf (Refused FileLength) l false) room
@@ -65,7 +66,8 @@ module _ (file room : List ℕ) where
       → Leaves file room (toldOf (Refused NoLayout) l false) room
   no-layout l e g f = refused NoLayout l (layout-refused e g) f
 
-  module _ (alike : length room ≡ length file) (fits : fitsOk Two (length file) ≡ true) (pak : ℕ) (told : pak ≡ pakLengthOf Two (length file)) (kept : Kept) (k : kept ≡ keptIn pak file) where
+  module _ (alike : length room ≡ length file) (fits : fitsOk Two (length file) ≡ true) (pak : ℕ)
+      (told : pak ≡ pakLengthOf Two (length file)) (kept : Kept) (k : kept ≡ keptIn pak file) where
     output : (f g : List ℕ) → f ≡ putAt room (bodyPlaceOf Two pak 0) (joinedOf Two (keptBodiesOf kept (bodiesIn Two pak file)))
         → g ≡ putAt f 0 (bytesOf (contentsIn Two pak f)) → g ≡ outputOf pak file
     unfolding outputOf
@@ -76,7 +78,8 @@ module _ (file room : List ℕ) where
         (kept-pak kept (bodiesIn Two pak file) s ∙ length-pak-in pak file Two whole) room (alike ∙ whole) f g p q
         ∙ ap (λ (x : Kept). fileOf Two (keptBodiesOf x (bodiesIn Two pak file))) k
 
-    pub accepted : (f g : List ℕ) (l : ListedKinds) (t : Bool) → f ≡ putAt room (bodyPlaceOf Two pak 0) (joinedOf Two (keptBodiesOf kept (bodiesIn Two pak file)))
+    pub accepted : (f g : List ℕ) (l : ListedKinds) (t : Bool) → f ≡ putAt room (bodyPlaceOf Two pak 0) (joinedOf Two
+        (keptBodiesOf kept (bodiesIn Two pak file)))
         → g ≡ putAt f 0 (bytesOf (contentsIn Two pak f)) → l ≡ listedKindsOf (replacedOf kept) → t ≡ contentsDiffer pak kept file g
         → Leaves file room (toldOf Accepted l t) g
     accepted f g l t p q r u =

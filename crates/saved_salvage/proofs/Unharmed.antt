@@ -141,7 +141,8 @@ salvaged-right file room e =
       whole = ap length (output-is file room e) ∙ (file-length _ (sized file room e) Two ∙ (ap (fileLengthOf Two) (size file room e) ∙ fit file room e .1));
       right =
           rw (output-is file room e)
-          (rw (size file room e) at (written-ok (keptBodiesOf (keptIn (pakInFormTwo file) file) (bodiesIn Two (pakInFormTwo file) file)) (sized file room e) (rw (size file room e) legal) (made file room e)));
+          (rw (size file room e) at (written-ok (keptBodiesOf (keptIn (pakInFormTwo file) file) (bodiesIn Two
+          (pakInFormTwo file) file)) (sized file room e) (rw (size file room e) legal) (made file room e)));
     }
 
 -- the sums stand in the contents at their places
@@ -156,8 +157,16 @@ module _ (s rest : List ℕ) (small : (k : ℕ) → getD s k 0 < 2 ^ 32) where
       × ((wordAt (bytesOf (contentsOf Two 0 s) ++ rest) 58 ≡ getD s 3 0) × (wordAt (bytesOf (contentsOf Two 0 s) ++ rest) 72 ≡ getD s 5 0))))
   unfolding bytesOf
   stored-empty =
-      rw (← two-empty s)
-      (word-joined (getD s 0 0) (small 0), (word-joined (getD s 1 0) (small 1), (word-joined (getD s 2 0) (small 2), (word-joined (getD s 3 0) (small 3), word-joined (getD s 5 0) (small 5)))))
+      rw (← two-empty s) (
+        word-joined (getD s 0 0) (small 0),
+        (
+          word-joined (getD s 1 0) (small 1),
+          (
+            word-joined (getD s 2 0) (small 2),
+            (word-joined (getD s 3 0) (small 3), word-joined (getD s 5 0) (small 5)),
+          ),
+        ),
+      )
 
   stored-some : (p : ℕ) → 0 < p
       → (wordAt (bytesOf (contentsOf Two p s) ++ rest) 16 ≡ getD s 0 0)
@@ -167,8 +176,23 @@ module _ (s rest : List ℕ) (small : (k : ℕ) → getD s k 0 < 2 ^ 32) where
       × ((wordAt (bytesOf (contentsOf Two p s) ++ rest) 72 ≡ getD s 4 0) × (wordAt (bytesOf (contentsOf Two p s) ++ rest) 86 ≡ getD s 5 0)))))
   unfolding bytesOf
   stored-some p some =
-      rw (← two-some p some s)
-      (word-joined (getD s 0 0) (small 0), (word-joined (getD s 1 0) (small 1), (word-joined (getD s 2 0) (small 2), (word-joined (getD s 3 0) (small 3), (word-joined (getD s 4 0) (small 4), word-joined (getD s 5 0) (small 5))))))
+      rw (← two-some p some s) (
+        word-joined (getD s 0 0) (small 0),
+        (
+          word-joined (getD s 1 0) (small 1),
+          (
+            word-joined (getD s 2 0) (small 2),
+            (
+              word-joined (getD s 3 0) (small 3),
+              (
+                word-joined (getD s 4 0) (small 4),
+                word-joined (getD s 5 0)
+                    (small 5),
+              ),
+            ),
+          ),
+        ),
+      )
 
 allKept : Kept
 allKept = record { processor = true; drawing = true; wram = true; vram = true; pak = true; hardware = true }
@@ -177,7 +201,8 @@ keeps-made : (word : ℕ) (body : List ℕ) (made : Bool) → word ≡ bodySumOf
 keeps-made word body made e f = simp (eq-eqb word (bodySumOf body) e) f
 
 kept-same : {a1 a2 b1 b2 c1 c2 d1 d2 e1 e2 f1 f2 : Bool} → a1 ≡ a2 → b1 ≡ b2 → c1 ≡ c2 → d1 ≡ d2 → e1 ≡ e2 → f1 ≡ f2
-    → _≡_ {A = Kept} (record { processor = a1; drawing = b1; wram = c1; vram = d1; pak = e1; hardware = f1 }) (record { processor = a2; drawing = b2; wram = c2; vram = d2; pak = e2; hardware = f2 })
+    → _≡_ {A = Kept} (record { processor = a1; drawing = b1; wram = c1; vram = d1; pak = e1; hardware = f1 })
+    (record { processor = a2; drawing = b2; wram = c2; vram = d2; pak = e2; hardware = f2 })
 kept-same p q r s t u = rw (p, q, r, s, t, u)
 
 opened : (b : Bodies) → fileOf Two b ≡ bytesOf (contentsOf Two (length (b .pak)) (sumsOf b)) ++ joinedOf Two b
@@ -235,7 +260,8 @@ module _ (b : Bodies) (s : SizedBodies b) (legal : pakOk (length (b .pak)) ≡ t
       (keeps-made (wordAt (bytesOf (contentsOf Two (suc p) (sumsOf b)) ++ joinedOf Two b) 44) (b .wram) true (t .1 .1 .0) refl)
       (keeps-made (wordAt (bytesOf (contentsOf Two (suc p) (sumsOf b)) ++ joinedOf Two b) 58) (b .vram) true (t .1 .1 .1 .0) refl)
       (simp (eqb·suc-zero p) (keeps-made (wordAt (bytesOf (contentsOf Two (suc p) (sumsOf b)) ++ joinedOf Two b) 72) (b .pak) true (t .1 .1 .1 .1 .0) refl))
-      (simp (eqb·suc-zero p) (keeps-made (wordAt (bytesOf (contentsOf Two (suc p) (sumsOf b)) ++ joinedOf Two b) 86) (b .hardware) _ (t .1 .1 .1 .1 .1) (oks .1)))
+      (simp (eqb·suc-zero p) (keeps-made (wordAt (bytesOf (contentsOf Two (suc p) (sumsOf b)) ++ joinedOf Two b) 86)
+      (b .hardware) _ (t .1 .1 .1 .1 .1) (oks .1)))
 
   kept-all : keptIn (length (b .pak)) (fileOf Two b) ≡ allKept
   unfolding keptIn
@@ -265,12 +291,14 @@ undamaged-equal file room bytes e ok =
     let t = parts (pakInFormTwo file) file ok in
     let f : fileOf Two (bodiesIn Two (pakInFormTwo file) file) ≡ file = file-again (pakInFormTwo file) file Two w bytes (t .0) in
     let l = length-pak-in (pakInFormTwo file) file Two w in
-    rw f at (unchanged (bodiesIn Two (pakInFormTwo file) file) (sized-in (pakInFormTwo file) file Two w) (rw l (fit file room e .0)) (t .1) room (rw f (all-passed file room e .0)))
+    rw f at (unchanged (bodiesIn Two (pakInFormTwo file) file) (sized-in (pakInFormTwo file) file Two w) (rw l
+    (fit file room e .0)) (t .1) room (rw f (all-passed file room e .0)))
 
 pub salvage-again : SalvageAgain
 salvage-again file room again e l =
     rw (output-is file room e)
-    (unchanged (keptBodiesOf (keptIn (pakInFormTwo file) file) (bodiesIn Two (pakInFormTwo file) file)) (sized file room e) (rw (size file room e) (fit file room e .0)) (made file room e) again
+    (unchanged (keptBodiesOf (keptIn (pakInFormTwo file) file) (bodiesIn Two (pakInFormTwo file) file))
+    (sized file room e) (rw (size file room e) (fit file room e .0)) (made file room e) again
     (l ∙ (sym (salvaged-right file room e .whole) ∙ ap length (output-is file room e))))
 
 -- which kinds are listed
@@ -298,27 +326,57 @@ hit n xs false e = member-last n xs e
 module _ (k : Kept) where
   lists-1 : listsOf k 1 (k .processor)
   unfolding replacedOf
-  lists-1 = skip 1 (withKind (withKind (withKind (withKind (withKind [] 1 (k .processor)) 2 (k .drawing)) 3 (k .wram)) 4 (k .vram)) 5 (k .pak)) 6 (k .hardware) refl ∙ (skip 1 (withKind (withKind (withKind (withKind [] 1 (k .processor)) 2 (k .drawing)) 3 (k .wram)) 4 (k .vram)) 5 (k .pak) refl ∙ (skip 1 (withKind (withKind (withKind [] 1 (k .processor)) 2 (k .drawing)) 3 (k .wram)) 4 (k .vram) refl ∙ (skip 1 (withKind (withKind [] 1 (k .processor)) 2 (k .drawing)) 3 (k .wram) refl ∙ (skip 1 (withKind [] 1 (k .processor)) 2 (k .drawing) refl ∙ (hit 1 [] (k .processor) refl)))))
+  lists-1 = skip 1 (withKind (withKind (withKind (withKind (withKind [] 1 (k .processor)) 2 (k .drawing)) 3 (k .wram)) 4
+      (k .vram)) 5 (k .pak)) 6 (k .hardware) refl ∙ (skip 1 (withKind (withKind (withKind (withKind [] 1
+      (k .processor)) 2 (k .drawing)) 3 (k .wram)) 4 (k .vram)) 5 (k .pak) refl ∙ (skip 1 (withKind (withKind
+      (withKind [] 1 (k .processor)) 2 (k .drawing)) 3 (k .wram)) 4 (k .vram) refl ∙ (skip 1 (withKind (withKind [] 1
+      (k .processor)) 2 (k .drawing)) 3 (k .wram) refl ∙ (skip 1 (withKind [] 1 (k .processor)) 2 (k .drawing) refl ∙
+      (hit 1 [] (k .processor) refl)))))
 
   lists-2 : listsOf k 2 (k .drawing)
   unfolding replacedOf
-  lists-2 = skip 2 (withKind (withKind (withKind (withKind (withKind [] 1 (k .processor)) 2 (k .drawing)) 3 (k .wram)) 4 (k .vram)) 5 (k .pak)) 6 (k .hardware) refl ∙ (skip 2 (withKind (withKind (withKind (withKind [] 1 (k .processor)) 2 (k .drawing)) 3 (k .wram)) 4 (k .vram)) 5 (k .pak) refl ∙ (skip 2 (withKind (withKind (withKind [] 1 (k .processor)) 2 (k .drawing)) 3 (k .wram)) 4 (k .vram) refl ∙ (skip 2 (withKind (withKind [] 1 (k .processor)) 2 (k .drawing)) 3 (k .wram) refl ∙ (hit 2 (withKind [] 1 (k .processor)) (k .drawing) (skip 2 [] 1 (k .processor) refl ∙ refl)))))
+  lists-2 = skip 2 (withKind (withKind (withKind (withKind (withKind [] 1 (k .processor)) 2 (k .drawing)) 3 (k .wram)) 4
+      (k .vram)) 5 (k .pak)) 6 (k .hardware) refl ∙ (skip 2 (withKind (withKind (withKind (withKind [] 1
+      (k .processor)) 2 (k .drawing)) 3 (k .wram)) 4 (k .vram)) 5 (k .pak) refl ∙ (skip 2 (withKind (withKind
+      (withKind [] 1 (k .processor)) 2 (k .drawing)) 3 (k .wram)) 4 (k .vram) refl ∙ (skip 2 (withKind (withKind [] 1
+      (k .processor)) 2 (k .drawing)) 3 (k .wram) refl ∙ (hit 2 (withKind [] 1 (k .processor)) (k .drawing) (skip 2 [] 1
+      (k .processor) refl ∙ refl)))))
 
   lists-3 : listsOf k 3 (k .wram)
   unfolding replacedOf
-  lists-3 = skip 3 (withKind (withKind (withKind (withKind (withKind [] 1 (k .processor)) 2 (k .drawing)) 3 (k .wram)) 4 (k .vram)) 5 (k .pak)) 6 (k .hardware) refl ∙ (skip 3 (withKind (withKind (withKind (withKind [] 1 (k .processor)) 2 (k .drawing)) 3 (k .wram)) 4 (k .vram)) 5 (k .pak) refl ∙ (skip 3 (withKind (withKind (withKind [] 1 (k .processor)) 2 (k .drawing)) 3 (k .wram)) 4 (k .vram) refl ∙ (hit 3 (withKind (withKind [] 1 (k .processor)) 2 (k .drawing)) (k .wram) (skip 3 (withKind [] 1 (k .processor)) 2 (k .drawing) refl ∙ (skip 3 [] 1 (k .processor) refl ∙ refl)))))
+  lists-3 = skip 3 (withKind (withKind (withKind (withKind (withKind [] 1 (k .processor)) 2 (k .drawing)) 3 (k .wram)) 4
+      (k .vram)) 5 (k .pak)) 6 (k .hardware) refl ∙ (skip 3 (withKind (withKind (withKind (withKind [] 1
+      (k .processor)) 2 (k .drawing)) 3 (k .wram)) 4 (k .vram)) 5 (k .pak) refl ∙ (skip 3 (withKind (withKind
+      (withKind [] 1 (k .processor)) 2 (k .drawing)) 3 (k .wram)) 4 (k .vram) refl ∙ (hit 3 (withKind (withKind [] 1
+      (k .processor)) 2 (k .drawing)) (k .wram) (skip 3 (withKind [] 1 (k .processor)) 2 (k .drawing) refl ∙
+      (skip 3 [] 1 (k .processor) refl ∙ refl)))))
 
   lists-4 : listsOf k 4 (k .vram)
   unfolding replacedOf
-  lists-4 = skip 4 (withKind (withKind (withKind (withKind (withKind [] 1 (k .processor)) 2 (k .drawing)) 3 (k .wram)) 4 (k .vram)) 5 (k .pak)) 6 (k .hardware) refl ∙ (skip 4 (withKind (withKind (withKind (withKind [] 1 (k .processor)) 2 (k .drawing)) 3 (k .wram)) 4 (k .vram)) 5 (k .pak) refl ∙ (hit 4 (withKind (withKind (withKind [] 1 (k .processor)) 2 (k .drawing)) 3 (k .wram)) (k .vram) (skip 4 (withKind (withKind [] 1 (k .processor)) 2 (k .drawing)) 3 (k .wram) refl ∙ (skip 4 (withKind [] 1 (k .processor)) 2 (k .drawing) refl ∙ (skip 4 [] 1 (k .processor) refl ∙ refl)))))
+  lists-4 = skip 4 (withKind (withKind (withKind (withKind (withKind [] 1 (k .processor)) 2 (k .drawing)) 3 (k .wram)) 4
+      (k .vram)) 5 (k .pak)) 6 (k .hardware) refl ∙ (skip 4 (withKind (withKind (withKind (withKind [] 1
+      (k .processor)) 2 (k .drawing)) 3 (k .wram)) 4 (k .vram)) 5 (k .pak) refl ∙ (hit 4 (withKind (withKind
+      (withKind [] 1 (k .processor)) 2 (k .drawing)) 3 (k .wram)) (k .vram) (skip 4 (withKind (withKind [] 1
+      (k .processor)) 2 (k .drawing)) 3 (k .wram) refl ∙ (skip 4 (withKind [] 1 (k .processor)) 2 (k .drawing) refl ∙
+      (skip 4 [] 1 (k .processor) refl ∙ refl)))))
 
   lists-5 : listsOf k 5 (k .pak)
   unfolding replacedOf
-  lists-5 = skip 5 (withKind (withKind (withKind (withKind (withKind [] 1 (k .processor)) 2 (k .drawing)) 3 (k .wram)) 4 (k .vram)) 5 (k .pak)) 6 (k .hardware) refl ∙ (hit 5 (withKind (withKind (withKind (withKind [] 1 (k .processor)) 2 (k .drawing)) 3 (k .wram)) 4 (k .vram)) (k .pak) (skip 5 (withKind (withKind (withKind [] 1 (k .processor)) 2 (k .drawing)) 3 (k .wram)) 4 (k .vram) refl ∙ (skip 5 (withKind (withKind [] 1 (k .processor)) 2 (k .drawing)) 3 (k .wram) refl ∙ (skip 5 (withKind [] 1 (k .processor)) 2 (k .drawing) refl ∙ (skip 5 [] 1 (k .processor) refl ∙ refl)))))
+  lists-5 = skip 5 (withKind (withKind (withKind (withKind (withKind [] 1 (k .processor)) 2 (k .drawing)) 3 (k .wram)) 4
+      (k .vram)) 5 (k .pak)) 6 (k .hardware) refl ∙ (hit 5 (withKind (withKind (withKind (withKind [] 1
+      (k .processor)) 2 (k .drawing)) 3 (k .wram)) 4 (k .vram)) (k .pak) (skip 5 (withKind (withKind (withKind [] 1
+      (k .processor)) 2 (k .drawing)) 3 (k .wram)) 4 (k .vram) refl ∙ (skip 5 (withKind (withKind [] 1 (k .processor)) 2
+      (k .drawing)) 3 (k .wram) refl ∙ (skip 5 (withKind [] 1 (k .processor)) 2 (k .drawing) refl ∙ (skip 5 [] 1
+      (k .processor) refl ∙ refl)))))
 
   lists-6 : listsOf k 6 (k .hardware)
   unfolding replacedOf
-  lists-6 = hit 6 (withKind (withKind (withKind (withKind (withKind [] 1 (k .processor)) 2 (k .drawing)) 3 (k .wram)) 4 (k .vram)) 5 (k .pak)) (k .hardware) (skip 6 (withKind (withKind (withKind (withKind [] 1 (k .processor)) 2 (k .drawing)) 3 (k .wram)) 4 (k .vram)) 5 (k .pak) refl ∙ (skip 6 (withKind (withKind (withKind [] 1 (k .processor)) 2 (k .drawing)) 3 (k .wram)) 4 (k .vram) refl ∙ (skip 6 (withKind (withKind [] 1 (k .processor)) 2 (k .drawing)) 3 (k .wram) refl ∙ (skip 6 (withKind [] 1 (k .processor)) 2 (k .drawing) refl ∙ (skip 6 [] 1 (k .processor) refl ∙ refl)))))
+  lists-6 = hit 6 (withKind (withKind (withKind (withKind (withKind [] 1 (k .processor)) 2 (k .drawing)) 3 (k .wram)) 4
+      (k .vram)) 5 (k .pak)) (k .hardware) (skip 6 (withKind (withKind (withKind (withKind [] 1 (k .processor)) 2
+      (k .drawing)) 3 (k .wram)) 4 (k .vram)) 5 (k .pak) refl ∙ (skip 6 (withKind (withKind (withKind [] 1
+      (k .processor)) 2 (k .drawing)) 3 (k .wram)) 4 (k .vram) refl ∙ (skip 6 (withKind (withKind [] 1 (k .processor)) 2
+      (k .drawing)) 3 (k .wram) refl ∙ (skip 6 (withKind [] 1 (k .processor)) 2 (k .drawing) refl ∙ (skip 6 [] 1
+      (k .processor) refl ∙ refl)))))
 
 pub kept-exactly : KeptExactlyAll
 kept-exactly file room e =
@@ -326,7 +384,8 @@ kept-exactly file room e =
     record {
       bodies =
           rw (output-is file room e)
-          (rw (size file room e) at (file-held (keptBodiesOf (keptIn (pakInFormTwo file) file) (bodiesIn Two (pakInFormTwo file) file)) (sized file room e) Two tt));
+          (rw (size file room e) at (file-held (keptBodiesOf (keptIn (pakInFormTwo file) file) (bodiesIn Two
+          (pakInFormTwo file) file)) (sized file room e) Two tt));
       processor = lists-1 (keptIn (pakInFormTwo file) file);
       drawing = lists-2 (keptIn (pakInFormTwo file) file);
       wram = lists-3 (keptIn (pakInFormTwo file) file);

@@ -1,4 +1,4 @@
-// A damaged saved state in form 2: what can be kept of it, with the rest at reset, written as a right file.
+// A damaged saved state in form 2: what can be kept of it, with the rest at reset, written as a valid file.
 mod compare;
 mod keep;
 mod replace;

@@ -25,8 +25,17 @@ access-requires : tie.Need-access-requires Inv-loop μ-loop
 access-requires c κs =
     let pre = c .before .before .before .before .before .before .before .before .before .before .before .before .pre .0 in
     let i = c .before .before .before .before .before .before .loop .inv in
-    let less = c .before .before .before .before .before .loop-test .taken in
-    (record { rom-ok = pre .rom-ok; wram-ok = i .1 ∙ pre .wram-ok; vram-ok = i .2 ∙ pre .vram-ok; pak-ok = rw (i .3) (pre .pak-ok) }, omega (arith, i .4, less), i .0 .sizes _ less)
+    let less = c .before .before .before .before .before .loop-test .taken in (
+      record {
+        rom-ok = pre .rom-ok;
+        wram-ok = i .1 ∙ pre .wram-ok;
+        vram-ok = i .2 ∙ pre .vram-ok;
+        pak-ok = rw (i .3)
+            (pre .pak-ok);
+      },
+      omega (arith, i .4, less),
+      i .0 .sizes _ less,
+    )
 
 add-k : tie.Need-add-k Inv-loop μ-loop
 add-k c = omega arith
@@ -37,8 +46,15 @@ loop-less c = omega arith
 loop-again : tie.Need-loop-again Inv-loop μ-loop
 loop-again c =
     let i = c .before .before .before .before .before .before .before .before .before .before .before .before .before .before .before .loop .inv in
-    let done = c .before .before .before .before .before .before .before .before .access in
-    (follows-next _ _ _ _ _ _ (i .0) (c .before .before .before .before .before .before .before .before .before .before .before .before .before .before .loop-test .taken) _ (done .ensures), done .kept .1 .0 ∙ i .1, done .kept .1 .1 .0 ∙ i .2, done .kept .1 .1 .1 .0 ∙ i .3, done .kept .1 .1 .1 .1 .1 .0 ∙ i .4)
+    let done = c .before .before .before .before .before .before .before .before .access in (
+      follows-next _ _ _ _ _ _ (i .0) (c .before .before .before .before .before .before .before .before .before .before
+          .before .before .before .before .loop-test .taken) _ (done .ensures),
+      done .kept .1 .0
+          ∙ i .1,
+      done .kept .1 .1 .0 ∙ i .2,
+      done .kept .1 .1 .1 .0 ∙ i .3,
+      done .kept .1 .1 .1 .1 .1 .0 ∙ i .4,
+    )
 
 same-length : tie.Need-same-length Inv-loop μ-loop
 same-length c = c .before .loop .inv .1

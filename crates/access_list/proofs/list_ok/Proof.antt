@@ -8,11 +8,8 @@ use Rattle.access_list.proofs.list_ok.Tie as tie
 returns : tie.Need-returns
 returns c = sym (list-many _ (c .if1 .taken))
 
-sizes-ok-requires : tie.Need-sizes-ok-requires
-sizes-ok-requires c κs = search needs
-
 returns-2 : tie.Need-returns-2
 returns-2 c = c .sizes-ok .ensures ∙ sym (list-few _ (c .before .if1 .left))
 
 pub list-ok-spec : {M : Type 1} → statement M
-list-ok-spec = tie.close (tie.spec returns sizes-ok-requires returns-2)
+list-ok-spec = tie.close (tie.spec returns (λ c κs. search needs) returns-2)

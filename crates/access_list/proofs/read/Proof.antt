@@ -12,7 +12,8 @@ returns-2 c = rw (c .before .before .if2 .taken) (c .half2 .ensures .means, c .b
 
 returns-3 : tie.Need-returns-3
 returns-3 c =
-    let four = four-left _ (c .before .before .before .before .before .before .before .before .pre .1) (c .before .before .before .if1 .left) (c .before .before .if2 .left) in
+    let four = four-left _ (c .before .before .before .before .before .before .before .before .pre .1)
+    (c .before .before .before .if1 .left) (c .before .before .if2 .left) in
     rw four (c .word2 .ensures .means, c .before .word .ensures _)
 
 pub read-spec : {M : Type 1} → statement M

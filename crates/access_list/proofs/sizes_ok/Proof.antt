@@ -32,7 +32,8 @@ size-ok-requires c κs = search needs
 returns : tie.Need-returns Inv-loop μ-loop
 returns c =
     let l = c .before .before .before .before .loop in
-    sym (l .inv .1 ∙ sizes-not _ (l .k) _ (c .before .before .before .loop-test .taken) _ (c .before .before .word-at .ensures) _ (c .before .size-ok .ensures) (c .if1 .taken))
+    sym (l .inv .1 ∙ sizes-not _ (l .k) _ (c .before .before .before .loop-test .taken) _
+    (c .before .before .word-at .ensures) _ (c .before .size-ok .ensures) (c .if1 .taken))
 
 add-k : tie.Need-add-k Inv-loop μ-loop
 add-k c = omega arith
@@ -42,8 +43,11 @@ loop-less c = omega arith
 
 loop-again : tie.Need-loop-again Inv-loop μ-loop
 loop-again c =
-    let l = c .before .before .before .before .loop in
-    (omega arith, l .inv .1 ∙ sizes-next _ (l .k) _ (c .before .before .before .loop-test .taken) _ (c .before .before .word-at .ensures) _ (c .before .size-ok .ensures) (c .if1 .left))
+    let l = c .before .before .before .before .loop in (
+      omega arith,
+      l .inv .1 ∙ sizes-next _ (l .k) _ (c .before .before .before .loop-test .taken) _
+          (c .before .before .word-at .ensures) _ (c .before .size-ok .ensures) (c .if1 .left),
+    )
 
 returns-2 : tie.Need-returns-2 Inv-loop μ-loop
 returns-2 c = sym (c .before .loop .inv .1 ∙ sizes-none _ _ _ (c .loop-test .left))

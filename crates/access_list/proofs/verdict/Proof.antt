@@ -4,28 +4,18 @@ use Rattle.access_list.proofs.Tested.{bus-refused, list-refused, list-a
 use Rattle.access_list.proofs.verdict.Statement.{statement}
 use Rattle.access_list.proofs.verdict.Tie as tie
 
-call-verdict-requires : tie.Need-call-verdict-requires
-call-verdict-requires c κs = search needs
-
-enum-known-n : tie.Need-enum-known-n
-enum-known-n c = search needs
-
-enum-told : tie.Need-enum-told
-enum-told c = search needs
-
-list-ok-requires : tie.Need-list-ok-requires
-list-ok-requires c κs = search needs
-
 returns : tie.Need-returns
-returns c = list-refused _ _ _ _ _ _ _ (c .before .before .before .before .call-verdict .ensures) (c .before .before .enum-told .given .1) _ (c .before .list-ok .ensures) (c .if1 .taken)
+returns c = list-refused _ _ _ _ _ _ _ (c .before .before .before .before .call-verdict .ensures)
+    (c .before .before .enum-told .given .1) _ (c .before .list-ok .ensures) (c .if1 .taken)
 
 returns-2 : tie.Need-returns-2
 returns-2 c = bus-refused _ _ _ _ _ _ _ (c .before .before .before .call-verdict .ensures) _ (c .before .n .given .1)
 
 returns-3 : tie.Need-returns-3
-returns-3 c = list-accepted _ _ _ _ _ _ _ (c .before .before .before .before .call-verdict .ensures) (c .before .before .enum-told .given .1) _ (c .before .list-ok .ensures) (c .if1 .left)
+returns-3 c = list-accepted _ _ _ _ _ _ _ (c .before .before .before .before .call-verdict .ensures)
+    (c .before .before .enum-told .given .1) _ (c .before .list-ok .ensures) (c .if1 .left)
 
 pub verdict-spec : {M : Type 1} → statement M
 verdict-spec =
     tie.close
-    (tie.spec call-verdict-requires enum-known-n enum-told list-ok-requires returns returns-2 returns-3)
+    (tie.spec (λ c κs. search needs) (λ c. search needs) (λ c. search needs) (λ c κs. search needs) returns returns-2 returns-3)

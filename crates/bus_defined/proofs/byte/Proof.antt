@@ -5,11 +5,8 @@ use Rattle.bus_defined.proofs.Masks.{byte-undefined}
 use Rattle.bus_defined.proofs.byte.Statement.{statement}
 use Rattle.bus_defined.proofs.byte.Tie as tie
 
-half-requires : tie.Need-half-requires
-half-requires c κs = search needs
-
 returns : tie.Need-returns
 returns c = λ m. rw (c .half .ensures .0 m) (byte-undefined m (c .before .args .address))
 
 pub byte-spec : {M : Type 1} → statement M
-byte-spec = tie.close (tie.spec half-requires returns)
+byte-spec = tie.close (tie.spec (λ c κs. search needs) returns)

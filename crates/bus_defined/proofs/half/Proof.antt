@@ -22,12 +22,6 @@ returns-3 c =
     let a = c .before .before .before .args .address in
     (λ m. sym (half-defined m a (defined-mirror a (c .before .before .if1 .left) (c .if3 .taken))), omega arith)
 
-sub-listed : tie.Need-sub-listed
-sub-listed c = search needs
-
-listed-requires : tie.Need-listed-requires
-listed-requires c κs = search needs
-
 returns-4 : tie.Need-returns-4
 returns-4 c =
     let a = c .before .before .before .before .before .args .address in
@@ -42,4 +36,4 @@ returns-5 c =
 
 pub half-spec : {M : Type 1} → statement M
 half-spec =
-    tie.close (tie.spec returns returns-2 returns-3 sub-listed listed-requires returns-4 returns-5)
+    tie.close (tie.spec returns returns-2 returns-3 (λ c. search needs) (λ c κs. search needs) returns-4 returns-5)

@@ -24,15 +24,11 @@ returns-5 c = display-high _ _ _ _ (c .before .before .before .before .before .b
 returns-6 : tie.Need-returns-6
 returns-6 c = display-room _ _ _ _ (c .before .before .before .before .before .before .before .before .before .if1 .left) (omega arith) (c .if6 .taken)
 
-show-requires : tie.Need-show-requires
-show-requires c κs = search needs
-
-same-length : tie.Need-same-length
-same-length c = search needs
-
 returns-7 : tie.Need-returns-7
 returns-7 c = let a = c .before .before .before .before .before .before .before .before .before .before .before .before .before .before .before .before .args in
-    let p = display-accepted (a .vram .now) (a .room .now) (a .view) (a .durations) (c .before .before .before .before .before .before .before .before .before .before .before .before .before .if1 .left) (omega arith) (omega arith) (omega arith) (omega arith) (c .before .before .before .before .if6 .left) in
+    let p = display-accepted (a .vram .now) (a .room .now) (a .view) (a .durations)
+    (c .before .before .before .before .before .before .before .before .before .before .before .before .before .if1
+    .left) (omega arith) (omega arith) (omega arith) (omega arith) (c .before .before .before .before .if6 .left) in
     (p .0, c .before .before .show .ensures ∙ p .1)
 
 pub display-spec : {M : Type 1} → statement M
@@ -45,6 +41,6 @@ display-spec =
     returns-4
     returns-5
     returns-6
-    show-requires
-    same-length
+    (λ c κs. search needs)
+    (λ c. search needs)
     returns-7)

@@ -8,15 +8,9 @@ use Rattle.display.proofs.load_column_table.Tie as tie
 returns : tie.Need-returns
 returns c = load-length _ (c .if1 .taken)
 
-load-requires : tie.Need-load-requires
-load-requires c κs = search needs
-
-same-length : tie.Need-same-length
-same-length c = search needs
-
 returns-2 : tie.Need-returns-2
 returns-2 c = let p = load-accepted (c .before .before .before .before .before .before .args .vram .now) (c .before .before .before .before .if1 .left) in
     (p .0, c .before .before .load .ensures ∙ p .1)
 
 pub load-column-table-spec : {M : Type 1} → statement M
-load-column-table-spec = tie.close (tie.spec returns load-requires same-length returns-2)
+load-column-table-spec = tie.close (tie.spec returns (λ c κs. search needs) (λ c. search needs) returns-2)

@@ -8,17 +8,11 @@ use Prim.Native.Nat.{_+_, _-_}
 use mathlib.Core.Path.{_≡_, refl, _∙_}
 use Rattle.drawing.proofs.Verdicts.{character-length, character-index, character-accepted, refused-apart}
 
-slice-aggregate-result : tie.Need-slice-aggregate-result
-slice-aggregate-result c = search needs
-
 returns : tie.Need-returns
 returns c =
     let a = c .before .before .before .args in
     let r = character-length (a .vram .now) (a .c) (c .before .if1 .taken) in
     (r .1, λ e. absurd (refused-apart _ (r .0 ∙ e)))
-
-slice-aggregate-result-2 : tie.Need-slice-aggregate-result-2
-slice-aggregate-result-2 c = search needs
 
 returns-2 : tie.Need-returns-2
 returns-2 c =
@@ -26,37 +20,29 @@ returns-2 c =
     let r = character-index (a .vram .now) (a .c) (c .before .before .if1 .left) (c .before .if2 .taken) in
     (r .1, λ e. absurd (refused-apart _ (r .0 ∙ e)))
 
-character-address-requires : tie.Need-character-address-requires
-character-address-requires c κs = search needs
-
-add-end : tie.Need-add-end
-add-end c = search needs
-
-sub-result : tie.Need-sub-result
-sub-result c = search needs
-
-part-result-start : tie.Need-part-result-start
-part-result-start c = search needs
-
-part-result-end : tie.Need-part-result-end
-part-result-end c = search needs
-
 returns-3 : tie.Need-returns-3
 returns-3 c = let a = c .before .before .before .before .before .args in
-    let e : c .before .character-address .result + 16 - c .before .character-address .result ≡ 16 = omega arith in
-    (rw (e, c .before .character-address .ensures .0) (character-accepted (a .vram .now) (a .c) (c .before .before .before .if1 .left) (omega arith) .1), λ _. (refl, rw (c .before .character-address .ensures .0) (add-comm _ _)))
+    let e : c .before .character-address .result + 16 - c .before .character-address .result ≡ 16 = omega arith in (
+      rw (e, c .before .character-address .ensures .0) (character-accepted (a .vram .now) (a .c)
+          (c .before .before .before .if1 .left) (omega arith) .1),
+      λ _. (
+        refl,
+        rw
+            (c .before .character-address .ensures .0) (add-comm _ _),
+      ),
+    )
 
 pub character-spec : {M : Type 1} → statement M
 character-spec =
     tie.close
     (tie.spec
-    slice-aggregate-result
+    (λ c. search needs)
     returns
-    slice-aggregate-result-2
+    (λ c. search needs)
     returns-2
-    character-address-requires
-    add-end
-    sub-result
-    part-result-start
-    part-result-end
+    (λ c κs. search needs)
+    (λ c. search needs)
+    (λ c. search needs)
+    (λ c. search needs)
+    (λ c. search needs)
     returns-3)

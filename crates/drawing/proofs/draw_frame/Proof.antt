@@ -11,25 +11,23 @@ use Rattle.drawing.proofs.Widths.{spt-within, bkcol-within}
 returns : tie.Need-returns
 returns c = frame-length _ _ _ 0 (c .if1 .taken)
 
-drawing-ok-requires : tie.Need-drawing-ok-requires
-drawing-ok-requires c κs = search needs
-
 returns-2 : tie.Need-returns-2
 returns-2 c = frame-state _ _ _ 0 (c .before .before .before .if1 .left) (sym (c .before .drawing-ok .ensures) ∙ not-true _ (c .if2 .taken))
 
 returns-3 : tie.Need-returns-3
-returns-3 c = frame-frame _ _ _ 0 (c .before .before .before .before .if1 .left) (sym (c .before .before .drawing-ok .ensures) ∙ not-false _ (c .before .if2 .left)) (c .if3 .taken)
+returns-3 c = frame-frame _ _ _ 0 (c .before .before .before .before .if1 .left) (sym
+    (c .before .before .drawing-ok .ensures) ∙ not-false _ (c .before .if2 .left)) (c .if3 .taken)
 
 draw-all-requires : tie.Need-draw-all-requires
 draw-all-requires c κs = let r = (sym (c .before .before .before .before .drawing-ok .ensures) ∙ not-false _ (c .before .before .before .if2 .left)) in
     ((c .before .before .before .before .before .before .if1 .left, omega arith), (spt-within _ r, bkcol-within _ r))
 
-same-length : tie.Need-same-length
-same-length c = search needs
-
 returns-4 : tie.Need-returns-4
 returns-4 c = let a = c .before .before .before .before .before .before .before .before .before .before .before .before .args in
-    let p = frame-accepted (a .vram .now) (a .drawing .regs) (a .frame) 0 (c .before .before .before .before .before .before .before .before .before .if1 .left) (sym (c .before .before .before .before .before .before .before .drawing-ok .ensures) ∙ not-false _ (c .before .before .before .before .before .before .if2 .left)) (omega arith) in
+    let p = frame-accepted (a .vram .now) (a .drawing .regs) (a .frame) 0
+    (c .before .before .before .before .before .before .before .before .before .if1 .left) (sym
+    (c .before .before .before .before .before .before .before .drawing-ok .ensures) ∙ not-false _
+    (c .before .before .before .before .before .before .if2 .left)) (omega arith) in
     (p .0, c .before .before .draw-all .ensures ∙ p .1)
 
 pub draw-frame-spec : {M : Type 1} → statement M
@@ -37,9 +35,9 @@ draw-frame-spec =
     tie.close
     (tie.spec
     returns
-    drawing-ok-requires
+    (λ c κs. search needs)
     returns-2
     returns-3
     draw-all-requires
-    same-length
+    (λ c. search needs)
     returns-4)

@@ -46,7 +46,11 @@ loop-less : tie.Need-loop-less Inv-loop μ-loop
 loop-less c = omega arith
 
 loop-again : tie.Need-loop-again Inv-loop μ-loop
-loop-again c = (omega arith, group-more _ _ _ _ _ _ _ _ _ _ _ (c .before .before .loop-test .taken) (c .before .before .before .loop .inv .1) (c .paint-object .ensures))
+loop-again c = (
+  omega arith,
+  group-more _ _ _ _ _ _ _ _ _ _ _ (c .before .before .loop-test .taken)
+      (c .before .before .before .loop .inv .1) (c .paint-object .ensures),
+)
 
 returns : tie.Need-returns Inv-loop μ-loop
 returns c = group-done _ _ _ _ _ _ _ _ _ _ (omega arith) (c .before .loop .inv .1)

@@ -14,7 +14,8 @@ use Rattle.drawing_pixel.proofs.Windows.{object-hidden}
 use Rattle.drawing_objects.proofs.Squares.{square-outside, square-empty}
 
 abbrev Inv-loop : tie.InvT-loop
-Inv-loop vram registers w o buffer₀ eye strip left from to r₀ buffer r = (r ≤ 8) × Rows r (λ x q. objectPixelOf vram registers w o eye x (8 * strip + q)) buffer₀ buffer
+Inv-loop vram registers w o buffer₀ eye strip left from to r₀ buffer r = (r ≤ 8) × Rows r
+    (λ x q. objectPixelOf vram registers w o eye x (8 * strip + q)) buffer₀ buffer
 
 abbrev μ-loop : tie.MeasureT-loop
 μ-loop vram registers w o buffer₀ eye strip left from to r₀ buffer r = 8 - r
@@ -24,7 +25,8 @@ shown-requires c κs = search needs
 
 returns : tie.Need-returns Inv-loop μ-loop
 returns c = let a = c .before .before .before .args in
-    strip-kept _ _ (λ x r v u q. object-hidden (a .vram .now) (a .registers .now) (a .w .now) (a .o .now) (a .eye) x (8 * a .strip + r) v (sym (c .before .shown .ensures) ∙ not-true _ (c .if1 .taken)))
+    strip-kept _ _ (λ x r v u q. object-hidden (a .vram .now) (a .registers .now) (a .w .now) (a .o .now) (a .eye) x
+    (8 * a .strip + r) v (sym (c .before .shown .ensures) ∙ not-true _ (c .if1 .taken)))
 
 object-left-requires : tie.Need-object-left-requires Inv-loop μ-loop
 object-left-requires c κs = search needs
@@ -51,7 +53,11 @@ object-span-requires c κs = (
   omega (arith, c .before .before .loop .inv .1 .size),
   (
     (omega arith, (omega arith, (omega arith, (omega arith, omega arith)))),
-    (sym (c .before .before .before .before .before .before .before .before .shown .ensures) ∙ not-false _ (c .before .before .before .before .before .before .before .if1 .left), (omega arith, omega arith)),
+    (
+      sym (c .before .before .before .before .before .before .before .before .shown .ensures) ∙ not-false _
+          (c .before .before .before .before .before .before .before .if1 .left),
+      (omega arith, omega arith),
+    ),
   ),
 )
 
@@ -67,7 +73,8 @@ loop-again c = let a = c .before .before .before .before .before .before .before
   rows-more _ _ _ _ _ _ _ (c .before .before .loop-test .taken)
       (λ x v h. object-small (a .vram .now) (a .registers .now) (a .w .now) (a .o .now) (a .eye) x _ v h)
       (λ x v u. square-outside (a .vram .now) (a .registers .now) (a .w .now) (a .o .now) (a .eye) x _ v _ _ u
-      (omega (arith, c .before .before .before .before .before .before .clipped .ensures)) (omega (arith, c .before .before .before .before .before .clipped2 .ensures)))
+      (omega (arith, c .before .before .before .before .before .before .clipped .ensures)) (omega
+      (arith, c .before .before .before .before .before .clipped2 .ensures)))
       (c .before .before .before .loop .inv .1) (c .object-span .ensures),
 )
 

@@ -38,8 +38,10 @@ wide-requires c κs = search needs
 returns : tie.Need-returns Inv-loop μ-loop
 returns c = let a = c .before .before .before .before .before .before .args in
     let n = c .before .before .before .before .loop .n in
-    let f : c .before .wide .result ≡ getD (worldOf (a .vram .now) (n - 1)) 0 0 = c .before .wide .ensures .0 ∙ (c .before .before .half .ensures ∙ world-flags (a .vram .now) (n - 1)) in
-    worlds-ended _ _ _ _ _ _ _ _ (c .before .before .before .loop-test .taken) (eq-eqb (getD (worldOf (a .vram .now) (n - 1)) 0 0 / 64 % 2) 1 (omega arith)) (c .before .before .before .before .loop .inv .1 .1)
+    let f : c .before .wide .result ≡ getD (worldOf (a .vram .now) (n - 1)) 0 0 = c .before .wide .ensures .0 ∙
+    (c .before .before .half .ensures ∙ world-flags (a .vram .now) (n - 1)) in
+    worlds-ended _ _ _ _ _ _ _ _ (c .before .before .before .loop-test .taken) (eq-eqb (getD (worldOf (a .vram .now)
+    (n - 1)) 0 0 / 64 % 2) 1 (omega arith)) (c .before .before .before .before .loop .inv .1 .1)
 
 sub-paint-world : tie.Need-sub-paint-world Inv-loop μ-loop
 sub-paint-world c = omega arith
@@ -59,7 +61,9 @@ loop-less c = omega arith
 loop-again : tie.Need-loop-again Inv-loop μ-loop
 loop-again c = let a = c .before .before .before .before .before .before .before .before .args in
     let n = c .before .before .before .before .before .before .loop .n in
-    let f : c .before .before .before .wide .result ≡ getD (worldOf (a .vram .now) (n - 1)) 0 0 = c .before .before .before .wide .ensures .0 ∙ (c .before .before .before .before .half .ensures ∙ world-flags (a .vram .now) (n - 1)) in (
+    let f : c .before .before .before .wide .result ≡ getD (worldOf (a .vram .now)
+    (n - 1)) 0 0 = c .before .before .before .wide .ensures .0 ∙ (c .before .before .before .before .half .ensures
+    ∙ world-flags (a .vram .now) (n - 1)) in (
       omega arith,
       (
         c .paint-world .ensures .0 .1,

@@ -60,7 +60,8 @@ loop-less c = omega arith
 loop-again : tie.Need-loop-again Inv-loop μ-loop
 loop-again c = (
   omega arith,
-  stored-more _ _ _ _ _ _ (omega arith) (omega (arith, c .before .before .before .loop .inv .1 .size)) _ _ (omega arith) (c .wide .ensures .0) (c .before .before .before .loop .inv .1),
+  stored-more _ _ _ _ _ _ (omega arith) (omega (arith, c .before .before .before .loop .inv .1 .size)) _ _ (omega arith)
+      (c .wide .ensures .0) (c .before .before .before .loop .inv .1),
 )
 
 same-length : tie.Need-same-length Inv-loop μ-loop

@@ -9,18 +9,6 @@ use borrow.Author.Needs.{needs}
 use Rattle.probe.proofs.probe_byte.Statement.{statement}
 use Rattle.probe.proofs.probe_byte.Tie as tie
 
-vram-index-requires : tie.Need-vram-index-requires
-vram-index-requires c κs = search needs
-
-verdict-requires : tie.Need-verdict-requires
-verdict-requires c κs = search needs
-
-enum-told : tie.Need-enum-told
-enum-told c = search needs
-
-cast-vram : tie.Need-cast-vram
-cast-vram c = search needs
-
 slice-write-vram : tie.Need-slice-write-vram
 slice-write-vram c =
     let a = c .before .before .before .before .before .before .before .before .args in
@@ -30,12 +18,6 @@ slice-write-vram c =
     let r = room _ _ (found-allowed 1 (a .rom .now) (a .wram .now) (a .vram .now) (a .pak .now) (a .address)
     (index .result) (found .result) t (found .ensures) (c .enum-told .given .1)) in
     omega arith
-
-enum-known-verdict : tie.Need-enum-known-verdict
-enum-known-verdict c = search needs
-
-same-length : tie.Need-same-length
-same-length c = search needs
 
 returns : tie.Need-returns
 unfolding putBytes
@@ -66,12 +48,12 @@ pub probe-byte-spec : {M : Type 1} → statement M
 probe-byte-spec =
     tie.close
     (tie.spec
-    vram-index-requires
-    verdict-requires
-    enum-told
-    cast-vram
+    (λ c κs. search needs)
+    (λ c κs. search needs)
+    (λ c. search needs)
+    (λ c. search needs)
     slice-write-vram
-    enum-known-verdict
-    same-length
+    (λ c. search needs)
+    (λ c. search needs)
     returns
     returns-2)

@@ -9,18 +9,6 @@ use borrow.Author.Needs.{needs}
 use Rattle.probe.proofs.probe_half.Statement.{statement}
 use Rattle.probe.proofs.probe_half.Tie as tie
 
-sub-vram-index : tie.Need-sub-vram-index
-sub-vram-index c = search needs
-
-vram-index-requires : tie.Need-vram-index-requires
-vram-index-requires c κs = search needs
-
-verdict-requires : tie.Need-verdict-requires
-verdict-requires c κs = search needs
-
-enum-told : tie.Need-enum-told
-enum-told c = search needs
-
 put-half-requires : tie.Need-put-half-requires
 put-half-requires c κs =
     let a = c .before .before .before .before .before .before .before .before .before .args in
@@ -30,12 +18,6 @@ put-half-requires c κs =
     let r = room _ _ (found-allowed 2 (a .rom .now) (a .wram .now) (a .vram .now) (a .pak .now) (a .address)
     (index .result) (found .result) t (found .ensures) (c .before .enum-told .given .1)) in
     omega arith
-
-enum-known-verdict : tie.Need-enum-known-verdict
-enum-known-verdict c = search needs
-
-same-length : tie.Need-same-length
-same-length c = search needs
 
 returns : tie.Need-returns
 unfolding putBytes
@@ -66,12 +48,12 @@ pub probe-half-spec : {M : Type 1} → statement M
 probe-half-spec =
     tie.close
     (tie.spec
-    sub-vram-index
-    vram-index-requires
-    verdict-requires
-    enum-told
+    (λ c. search needs)
+    (λ c κs. search needs)
+    (λ c κs. search needs)
+    (λ c. search needs)
     put-half-requires
-    enum-known-verdict
-    same-length
+    (λ c. search needs)
+    (λ c. search needs)
     returns
     returns-2)

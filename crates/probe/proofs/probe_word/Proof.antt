@@ -10,18 +10,6 @@ use borrow.Author.Needs.{needs}
 use Rattle.probe.proofs.probe_word.Statement.{statement}
 use Rattle.probe.proofs.probe_word.Tie as tie
 
-sub-vram-index : tie.Need-sub-vram-index
-sub-vram-index c = search needs
-
-vram-index-requires : tie.Need-vram-index-requires
-vram-index-requires c κs = search needs
-
-verdict-requires : tie.Need-verdict-requires
-verdict-requires c κs = search needs
-
-enum-told : tie.Need-enum-told
-enum-told c = search needs
-
 put-word-requires : tie.Need-put-word-requires
 put-word-requires c κs =
     let a = c .before .before .before .before .before .before .before .before .before .args in
@@ -32,12 +20,6 @@ put-word-requires c κs =
     (index .result) (found .result) t (found .ensures) (c .before .enum-told .given .1)) in
     omega arith
 
-enum-known-verdict : tie.Need-enum-known-verdict
-enum-known-verdict c = search needs
-
-same-length : tie.Need-same-length
-same-length c = search needs
-
 returns : tie.Need-returns
 returns c =
     let a = c .before .before .before .before .before .before .before .before .before .before .before .before .args in
@@ -46,7 +28,8 @@ returns c =
     let t = target-word _ _ _ _ (index .ensures (length (a .rom .now)) (length (a .pak .now))) in (
       sym (c .before .before .before .before .enum-told .given .1) ∙ verdict-found 4 (a .rom .now) (a .wram .now) (a .vram .now) (a .pak .now) (a .address)
           (index .result) (found .result) t (found .ensures),
-      c .before .before .put-word .ensures ∙ sym (put-bytes-word (a .vram .now) (index .result) (a .value)) ∙ vram-accepted 4 (a .rom .now) (a .wram .now) (a .vram .now) (a .pak .now) (a .address)
+      c .before .before .put-word .ensures ∙ sym (put-bytes-word (a .vram .now) (index .result) (a .value))
+          ∙ vram-accepted 4 (a .rom .now) (a .wram .now) (a .vram .now) (a .pak .now) (a .address)
           (index .result) (found .result) t (found .ensures) (c .before .before .before .before .enum-told .given .1) (a .value),
     )
 
@@ -66,12 +49,12 @@ pub probe-word-spec : {M : Type 1} → statement M
 probe-word-spec =
     tie.close
     (tie.spec
-    sub-vram-index
-    vram-index-requires
-    verdict-requires
-    enum-told
+    (λ c. search needs)
+    (λ c κs. search needs)
+    (λ c κs. search needs)
+    (λ c. search needs)
     put-word-requires
-    enum-known-verdict
-    same-length
+    (λ c. search needs)
+    (λ c. search needs)
     returns
     returns-2)

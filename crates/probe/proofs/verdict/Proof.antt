@@ -8,15 +8,6 @@ use Rattle.probe.specs.Probe.{probeVerdictAt}
 use Rattle.probe.proofs.verdict.Statement.{statement}
 use Rattle.probe.proofs.verdict.Tie as tie
 
-rom-ok-requires : tie.Need-rom-ok-requires
-rom-ok-requires c κs = search needs
-
-pak-ok-requires : tie.Need-pak-ok-requires
-pak-ok-requires c κs = search needs
-
-in-ranges-requires : tie.Need-in-ranges-requires
-in-ranges-requires c κs = search needs
-
 returns : tie.Need-returns
 unfolding probeVerdictAt wramOk vramOk
 returns c = simp (sym (c .before .rom-ok .ensures) ∙ not-true _ (c .if1 .taken))
@@ -74,12 +65,12 @@ pub verdict-spec : {M : Type 1} → statement M
 verdict-spec =
     tie.close
     (tie.spec
-    rom-ok-requires
+    (λ c κs. search needs)
     returns
     returns-2
     returns-3
-    pak-ok-requires
+    (λ c κs. search needs)
     returns-4
-    in-ranges-requires
+    (λ c κs. search needs)
     returns-5
     returns-6)

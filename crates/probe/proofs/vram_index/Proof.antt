@@ -10,26 +10,11 @@ use Rattle.probe.proofs.Targets.{elsewhere, low, between, mirrored}
 returns : tie.Need-returns
 returns c rom pak = sym (elsewhere rom pak _ (c .if1 .taken))
 
-cast-result : tie.Need-cast-result
-cast-result c = search needs
-
 returns-2 : tie.Need-returns-2
 returns-2 c rom pak = sym (low rom pak _ (omega arith) (omega arith))
 
 returns-3 : tie.Need-returns-3
 returns-3 c rom pak = sym (between rom pak _ (omega arith) (omega arith) (omega arith))
-
-mul-result : tie.Need-mul-result
-mul-result c = search needs
-
-add-result : tie.Need-add-result
-add-result c = search needs
-
-add-result-2 : tie.Need-add-result-2
-add-result-2 c = search needs
-
-cast-result-2 : tie.Need-cast-result-2
-cast-result-2 c = search needs
 
 returns-4 : tie.Need-returns-4
 unfolding mirrorOf
@@ -40,11 +25,11 @@ vram-index-spec =
     tie.close
     (tie.spec
     returns
-    cast-result
+    (λ c. search needs)
     returns-2
     returns-3
-    mul-result
-    add-result
-    add-result-2
-    cast-result-2
+    (λ c. search needs)
+    (λ c. search needs)
+    (λ c. search needs)
+    (λ c. search needs)
     returns-4)

@@ -6,24 +6,15 @@ use Rattle.processor_decode.proofs.Rows.{short-row, branch-row, long-ro
 use Rattle.processor_decode.proofs.decode.Statement.{statement}
 use Rattle.processor_decode.proofs.decode.Tie as tie
 
-short-requires : tie.Need-short-requires
-short-requires c κs = search needs
-
 returns : tie.Need-returns
 returns c =
     let a = c .before .before .args in
     rw (short-row (a .first) (a .second) (omega arith)) (c .short .ensures)
 
-branch-requires : tie.Need-branch-requires
-branch-requires c κs = search needs
-
 returns-2 : tie.Need-returns-2
 returns-2 c =
     let a = c .before .before .before .args in
     rw (branch-row (a .first) (a .second) (omega arith) (omega arith)) (c .branch .ensures)
-
-long-form-requires : tie.Need-long-form-requires
-long-form-requires c κs = search needs
 
 returns-3 : tie.Need-returns-3
 returns-3 c =
@@ -33,4 +24,4 @@ returns-3 c =
 pub decode-spec : {M : Type 1} → statement M
 decode-spec =
     tie.close
-    (tie.spec short-requires returns branch-requires returns-2 long-form-requires returns-3)
+    (tie.spec (λ c κs. search needs) returns (λ c κs. search needs) returns-2 (λ c κs. search needs) returns-3)

@@ -7,69 +7,6 @@ use Rattle.processor_decode.specs.Opcode.{longRows}
 use Rattle.processor_decode.proofs.long_form.Statement.{statement}
 use Rattle.processor_decode.proofs.long_form.Tie as tie
 
-long-signed-requires : tie.Need-long-signed-requires
-long-signed-requires c κs = search needs
-
-long-signed-requires-2 : tie.Need-long-signed-requires-2
-long-signed-requires-2 c κs = search needs
-
-jr-requires : tie.Need-jr-requires
-jr-requires c κs = search needs
-
-jal-requires : tie.Need-jal-requires
-jal-requires c κs = search needs
-
-long-unsigned-requires : tie.Need-long-unsigned-requires
-long-unsigned-requires c κs = search needs
-
-long-unsigned-requires-2 : tie.Need-long-unsigned-requires-2
-long-unsigned-requires-2 c κs = search needs
-
-long-unsigned-requires-3 : tie.Need-long-unsigned-requires-3
-long-unsigned-requires-3 c κs = search needs
-
-long-unsigned-requires-4 : tie.Need-long-unsigned-requires-4
-long-unsigned-requires-4 c κs = search needs
-
-load-requires : tie.Need-load-requires
-load-requires c κs = search needs
-
-load-requires-2 : tie.Need-load-requires-2
-load-requires-2 c κs = search needs
-
-load-requires-3 : tie.Need-load-requires-3
-load-requires-3 c κs = search needs
-
-store-requires : tie.Need-store-requires
-store-requires c κs = search needs
-
-store-requires-2 : tie.Need-store-requires-2
-store-requires-2 c κs = search needs
-
-store-requires-3 : tie.Need-store-requires-3
-store-requires-3 c κs = search needs
-
-input-requires : tie.Need-input-requires
-input-requires c κs = search needs
-
-input-requires-2 : tie.Need-input-requires-2
-input-requires-2 c κs = search needs
-
-input-requires-3 : tie.Need-input-requires-3
-input-requires-3 c κs = search needs
-
-output-requires : tie.Need-output-requires
-output-requires c κs = search needs
-
-output-requires-2 : tie.Need-output-requires-2
-output-requires-2 c κs = search needs
-
-extended-requires : tie.Need-extended-requires
-extended-requires c κs = search needs
-
-output-requires-3 : tie.Need-output-requires-3
-output-requires-3 c κs = search needs
-
 returns : tie.Need-returns
 unfolding longRows
 returns c = rw (c .before .match .keys1) (c .long-signed .ensures)
@@ -175,27 +112,27 @@ pub long-form-spec : {M : Type 1} → statement M
 long-form-spec =
     tie.close
     (tie.spec
-    long-signed-requires
-    long-signed-requires-2
-    jr-requires
-    jal-requires
-    long-unsigned-requires
-    long-unsigned-requires-2
-    long-unsigned-requires-3
-    long-unsigned-requires-4
-    load-requires
-    load-requires-2
-    load-requires-3
-    store-requires
-    store-requires-2
-    store-requires-3
-    input-requires
-    input-requires-2
-    input-requires-3
-    output-requires
-    output-requires-2
-    extended-requires
-    output-requires-3
+    (λ c κs. search needs)
+    (λ c κs. search needs)
+    (λ c κs. search needs)
+    (λ c κs. search needs)
+    (λ c κs. search needs)
+    (λ c κs. search needs)
+    (λ c κs. search needs)
+    (λ c κs. search needs)
+    (λ c κs. search needs)
+    (λ c κs. search needs)
+    (λ c κs. search needs)
+    (λ c κs. search needs)
+    (λ c κs. search needs)
+    (λ c κs. search needs)
+    (λ c κs. search needs)
+    (λ c κs. search needs)
+    (λ c κs. search needs)
+    (λ c κs. search needs)
+    (λ c κs. search needs)
+    (λ c κs. search needs)
+    (λ c κs. search needs)
     returns
     returns-2
     returns-3

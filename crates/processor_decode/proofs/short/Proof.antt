@@ -7,66 +7,6 @@ use Rattle.processor_decode.specs.Opcode.{shortRows}
 use Rattle.processor_decode.proofs.short.Statement.{statement}
 use Rattle.processor_decode.proofs.short.Tie as tie
 
-register-requires : tie.Need-register-requires
-register-requires c κs = search needs
-
-register-requires-2 : tie.Need-register-requires-2
-register-requires-2 c κs = search needs
-
-register-requires-3 : tie.Need-register-requires-3
-register-requires-3 c κs = search needs
-
-register-requires-4 : tie.Need-register-requires-4
-register-requires-4 c κs = search needs
-
-register-requires-5 : tie.Need-register-requires-5
-register-requires-5 c κs = search needs
-
-register-requires-6 : tie.Need-register-requires-6
-register-requires-6 c κs = search needs
-
-register-requires-7 : tie.Need-register-requires-7
-register-requires-7 c κs = search needs
-
-register-requires-8 : tie.Need-register-requires-8
-register-requires-8 c κs = search needs
-
-register-requires-9 : tie.Need-register-requires-9
-register-requires-9 c κs = search needs
-
-register-requires-10 : tie.Need-register-requires-10
-register-requires-10 c κs = search needs
-
-register-requires-11 : tie.Need-register-requires-11
-register-requires-11 c κs = search needs
-
-signed-requires : tie.Need-signed-requires
-signed-requires c κs = search needs
-
-signed-requires-2 : tie.Need-signed-requires-2
-signed-requires-2 c κs = search needs
-
-setf-requires : tie.Need-setf-requires
-setf-requires c κs = search needs
-
-signed-requires-3 : tie.Need-signed-requires-3
-signed-requires-3 c κs = search needs
-
-unsigned-requires : tie.Need-unsigned-requires
-unsigned-requires c κs = search needs
-
-unsigned-requires-2 : tie.Need-unsigned-requires-2
-unsigned-requires-2 c κs = search needs
-
-unsigned-requires-3 : tie.Need-unsigned-requires-3
-unsigned-requires-3 c κs = search needs
-
-ldsr-requires : tie.Need-ldsr-requires
-ldsr-requires c κs = search needs
-
-stsr-requires : tie.Need-stsr-requires
-stsr-requires c κs = search needs
-
 returns : tie.Need-returns
 unfolding shortRows
 returns c = rw (c .before .match .keys1) (c .register .ensures)
@@ -204,26 +144,26 @@ pub short-spec : {M : Type 1} → statement M
 short-spec =
     tie.close
     (tie.spec
-    register-requires
-    register-requires-2
-    register-requires-3
-    register-requires-4
-    register-requires-5
-    register-requires-6
-    register-requires-7
-    register-requires-8
-    register-requires-9
-    register-requires-10
-    register-requires-11
-    signed-requires
-    signed-requires-2
-    setf-requires
-    signed-requires-3
-    unsigned-requires
-    unsigned-requires-2
-    unsigned-requires-3
-    ldsr-requires
-    stsr-requires
+    (λ c κs. search needs)
+    (λ c κs. search needs)
+    (λ c κs. search needs)
+    (λ c κs. search needs)
+    (λ c κs. search needs)
+    (λ c κs. search needs)
+    (λ c κs. search needs)
+    (λ c κs. search needs)
+    (λ c κs. search needs)
+    (λ c κs. search needs)
+    (λ c κs. search needs)
+    (λ c κs. search needs)
+    (λ c κs. search needs)
+    (λ c κs. search needs)
+    (λ c κs. search needs)
+    (λ c κs. search needs)
+    (λ c κs. search needs)
+    (λ c κs. search needs)
+    (λ c κs. search needs)
+    (λ c κs. search needs)
     returns
     returns-2
     returns-3

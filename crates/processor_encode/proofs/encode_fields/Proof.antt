@@ -6,21 +6,13 @@ use borrow.Author.Needs.{needs}
 use Rattle.processor_encode.proofs.encode_fields.Statement.{statement}
 use Rattle.processor_encode.proofs.encode_fields.Tie as tie
 
-format-of-requires : tie.Need-format-of-requires
-format-of-requires c κs = search needs
-
-fits-requires : tie.Need-fits-requires
-fits-requires c κs = search needs
-
 returns : tie.Need-returns
 returns c = sym (encoded-refused _ _ _ (c .before .before .format-of .ensures) (c .before .fits2 .ensures) (not-true _ (c .if1 .taken)))
 
-halfwords-requires : tie.Need-halfwords-requires
-halfwords-requires c κs = search needs
-
 returns-2 : tie.Need-returns-2
-returns-2 c = sym (encoded-placed _ _ _ _ (c .before .before .before .format-of .ensures) (c .before .before .fits2 .ensures) (not-false _ (c .before .if1 .left)) (c .halfwords .ensures))
+returns-2 c = sym (encoded-placed _ _ _ _ (c .before .before .before .format-of .ensures)
+    (c .before .before .fits2 .ensures) (not-false _ (c .before .if1 .left)) (c .halfwords .ensures))
 
 pub encode-fields-spec : {M : Type 1} → statement M
 encode-fields-spec =
-    tie.close (tie.spec format-of-requires fits-requires returns halfwords-requires returns-2)
+    tie.close (tie.spec (λ c κs. search needs) (λ c κs. search needs) returns (λ c κs. search needs) returns-2)

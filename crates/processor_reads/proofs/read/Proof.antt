@@ -4,15 +4,6 @@ use denote.Ref.{now}
 use Rattle.processor_reads.proofs.read.Statement.{statement}
 use Rattle.processor_reads.proofs.read.Tie as tie
 
-half-requires : tie.Need-half-requires
-half-requires c κs = search needs
-
-second-requires : tie.Need-second-requires
-second-requires c κs = search needs
-
-load-requires : tie.Need-load-requires
-load-requires c κs = search needs
-
 returns : tie.Need-returns
 returns c =
     let a = c .before .before .before .args in
@@ -20,4 +11,4 @@ returns c =
     rw (c .before .before .half .ensures .0 m, c .before .second .ensures m, c .load .ensures sys (a .pc) psw mode m)
 
 pub read-spec : {M : Type 1} → statement M
-read-spec = tie.close (tie.spec half-requires second-requires load-requires returns)
+read-spec = tie.close (tie.spec (λ c κs. search needs) (λ c κs. search needs) (λ c κs. search needs) returns)

@@ -5,26 +5,22 @@ use Rattle.processor_reads.specs.Reads.{secondUndefinedOf}
 use Rattle.processor_reads.proofs.second.Statement.{statement}
 use Rattle.processor_reads.proofs.second.Tie as tie
 
-two-requires : tie.Need-two-requires
-two-requires c κs = search needs
-
 returns : tie.Need-returns
 unfolding secondUndefinedOf
 returns c = λ m. rw (← c .before .two .ensures, not-true (c .before .two .result) (c .if1 .taken))
-
-wrapping-add-u32-requires : tie.Need-wrapping-add-u32-requires
-wrapping-add-u32-requires c κs = search needs
-
-half-requires : tie.Need-half-requires
-half-requires c κs = search needs
 
 returns-2 : tie.Need-returns-2
 unfolding secondUndefinedOf
 returns-2 c =
     λ m.
-    rw (← c .before .before .before .two .ensures, not-false (c .before .before .before .two .result) (c .before .before .if1 .left), ← c .before .wrapping-add-u32 .ensures)
+    rw (
+      ← c .before .before .before .two .ensures,
+      not-false (c .before .before .before .two .result)
+          (c .before .before .if1 .left),
+      ← c .before .wrapping-add-u32 .ensures,
+    )
     (c .half .ensures .0 m)
 
 pub second-spec : {M : Type 1} → statement M
 second-spec =
-    tie.close (tie.spec two-requires returns wrapping-add-u32-requires half-requires returns-2)
+    tie.close (tie.spec (λ c κs. search needs) returns (λ c κs. search needs) (λ c κs. search needs) returns-2)

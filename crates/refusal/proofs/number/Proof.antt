@@ -6,73 +6,22 @@ use Rattle.refusal.proofs.number.Reads as reads
 use Rattle.refusal.proofs.number.Lts as lts
 
 -- src/lib.rt:37:31
-enum-told : tie.Need-enum-told
-enum-told c = search needs
-
 -- src/lib.rt:38:32
-enum-told-2 : tie.Need-enum-told-2
-enum-told-2 c = search needs
-
 -- src/lib.rt:39:32
-enum-told-3 : tie.Need-enum-told-3
-enum-told-3 c = search needs
-
 -- src/lib.rt:40:31
-enum-told-4 : tie.Need-enum-told-4
-enum-told-4 c = search needs
-
 -- src/lib.rt:41:27
-enum-told-5 : tie.Need-enum-told-5
-enum-told-5 c = search needs
-
 -- src/lib.rt:42:33
-enum-told-6 : tie.Need-enum-told-6
-enum-told-6 c = search needs
-
 -- src/lib.rt:43:27
-enum-told-7 : tie.Need-enum-told-7
-enum-told-7 c = search needs
-
 -- src/lib.rt:44:27
-enum-told-8 : tie.Need-enum-told-8
-enum-told-8 c = search needs
-
 -- src/lib.rt:45:32
-enum-told-9 : tie.Need-enum-told-9
-enum-told-9 c = search needs
-
 -- src/lib.rt:46:31
-enum-told-10 : tie.Need-enum-told-10
-enum-told-10 c = search needs
-
 -- src/lib.rt:47:32
-enum-told-11 : tie.Need-enum-told-11
-enum-told-11 c = search needs
-
 -- src/lib.rt:48:30
-enum-told-12 : tie.Need-enum-told-12
-enum-told-12 c = search needs
-
 -- src/lib.rt:49:33
-enum-told-13 : tie.Need-enum-told-13
-enum-told-13 c = search needs
-
 -- src/lib.rt:50:33
-enum-told-14 : tie.Need-enum-told-14
-enum-told-14 c = search needs
-
 -- src/lib.rt:51:29
-enum-told-15 : tie.Need-enum-told-15
-enum-told-15 c = search needs
-
 -- src/lib.rt:52:32
-enum-told-16 : tie.Need-enum-told-16
-enum-told-16 c = search needs
-
 -- src/lib.rt:53:30
-enum-told-17 : tie.Need-enum-told-17
-enum-told-17 c = search needs
-
 -- src/lib.rt:33:1
 returns : tie.Need-returns
 returns c = rw (c .enum-told .given .1)
@@ -145,23 +94,23 @@ pub number-spec : {M : Type 1} → statement M
 number-spec =
     tie.close
     (tie.spec
-    enum-told
-    enum-told-2
-    enum-told-3
-    enum-told-4
-    enum-told-5
-    enum-told-6
-    enum-told-7
-    enum-told-8
-    enum-told-9
-    enum-told-10
-    enum-told-11
-    enum-told-12
-    enum-told-13
-    enum-told-14
-    enum-told-15
-    enum-told-16
-    enum-told-17
+    (λ c. search needs)
+    (λ c. search needs)
+    (λ c. search needs)
+    (λ c. search needs)
+    (λ c. search needs)
+    (λ c. search needs)
+    (λ c. search needs)
+    (λ c. search needs)
+    (λ c. search needs)
+    (λ c. search needs)
+    (λ c. search needs)
+    (λ c. search needs)
+    (λ c. search needs)
+    (λ c. search needs)
+    (λ c. search needs)
+    (λ c. search needs)
+    (λ c. search needs)
     returns
     returns-2
     returns-3

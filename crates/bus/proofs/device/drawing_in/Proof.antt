@@ -5,45 +5,6 @@ use borrow.Author.Needs.{needs}
 use Rattle.bus.proofs.device.drawing_in.Statement.{statement}
 use Rattle.bus.proofs.device.drawing_in.Tie as tie
 
-element-copy-out-t4 : tie.Need-element-copy-out-t4
-element-copy-out-t4 c = search needs
-
-element-copy-out-t7 : tie.Need-element-copy-out-t7
-element-copy-out-t7 c = search needs
-
-element-copy-out-t10 : tie.Need-element-copy-out-t10
-element-copy-out-t10 c = search needs
-
-element-copy-out-t13 : tie.Need-element-copy-out-t13
-element-copy-out-t13 c = search needs
-
-element-copy-out-t16 : tie.Need-element-copy-out-t16
-element-copy-out-t16 c = search needs
-
-element-copy-out-t19 : tie.Need-element-copy-out-t19
-element-copy-out-t19 c = search needs
-
-element-copy-out-t22 : tie.Need-element-copy-out-t22
-element-copy-out-t22 c = search needs
-
-element-copy-out-t25 : tie.Need-element-copy-out-t25
-element-copy-out-t25 c = search needs
-
-element-copy-out-t28 : tie.Need-element-copy-out-t28
-element-copy-out-t28 c = search needs
-
-element-copy-out-t31 : tie.Need-element-copy-out-t31
-element-copy-out-t31 c = search needs
-
-element-copy-out-t34 : tie.Need-element-copy-out-t34
-element-copy-out-t34 c = search needs
-
-element-copy-out-t37 : tie.Need-element-copy-out-t37
-element-copy-out-t37 c = search needs
-
-element-copy-out-t40 : tie.Need-element-copy-out-t40
-element-copy-out-t40 c = search needs
-
 returns : tie.Need-returns
 unfolding drawingIn
 returns c = refl
@@ -52,17 +13,17 @@ pub drawing-in-spec : {M : Type 1} → statement M
 drawing-in-spec =
     tie.close
     (tie.spec
-    element-copy-out-t4
-    element-copy-out-t7
-    element-copy-out-t10
-    element-copy-out-t13
-    element-copy-out-t16
-    element-copy-out-t19
-    element-copy-out-t22
-    element-copy-out-t25
-    element-copy-out-t28
-    element-copy-out-t31
-    element-copy-out-t34
-    element-copy-out-t37
-    element-copy-out-t40
+    (λ c. search needs)
+    (λ c. search needs)
+    (λ c. search needs)
+    (λ c. search needs)
+    (λ c. search needs)
+    (λ c. search needs)
+    (λ c. search needs)
+    (λ c. search needs)
+    (λ c. search needs)
+    (λ c. search needs)
+    (λ c. search needs)
+    (λ c. search needs)
+    (λ c. search needs)
     returns)

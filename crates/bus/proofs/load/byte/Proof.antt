@@ -13,12 +13,6 @@ use denote.Ref.{now}
 use Rattle.bus.proofs.Power.{rom-power, rom-as-pak, power-pos, power-room}
 use Rattle.bus.proofs.Accesses.{found, missed, wram-byte, rom-byte}
 
-cast-i : tie.Need-cast-i
-cast-i c = search needs
-
-byte-at-requires : tie.Need-byte-at-requires
-byte-at-requires c κs = search needs
-
 returns : tie.Need-returns
 returns c =
     let b = c .before .before .before .before .before .before in
@@ -35,9 +29,6 @@ wrapped-requires c κs =
     let b = c .before .before .before .before .before .before in
     let n = length (now (b .args .rom)) in
     (rom-as-pak n (b .pre .rom-ok), power-pos 2 n (rom-power n (b .pre .rom-ok)))
-
-byte-at-requires-2 : tie.Need-byte-at-requires-2
-byte-at-requires-2 c κs = search needs
 
 returns-2 : tie.Need-returns-2
 returns-2 c =
@@ -66,11 +57,11 @@ pub byte-spec : {M : Type 1} → statement M
 byte-spec =
     tie.close
     (tie.spec
-    cast-i
-    byte-at-requires
+    (λ c. search needs)
+    (λ c κs. search needs)
     returns
     wrapped-requires
-    byte-at-requires-2
+    (λ c κs. search needs)
     returns-2
     elsewhere-requires
     returns-3)

@@ -7,29 +7,17 @@ use native.Mathlib.Omega.{arith}
 use Rattle.bus.proofs.load.elsewhere.Statement.{statement}
 use Rattle.bus.proofs.load.elsewhere.Tie as tie
 
-sub-more : tie.Need-sub-more
-sub-more c = search needs
-
-byte-elsewhere-requires : tie.Need-byte-elsewhere-requires
-byte-elsewhere-requires c κs = search needs
-
 returns : tie.Need-returns
 returns c =
     let a = c .before .before .before .before .args in
     let e : a .last - a .address + 1 ≡ 1 = omega arith in
     λ rom wram. rw e (c .byte-elsewhere .ensures rom wram)
 
-half-elsewhere-requires : tie.Need-half-elsewhere-requires
-half-elsewhere-requires c κs = search needs
-
 returns-2 : tie.Need-returns-2
 returns-2 c =
     let a = c .before .before .before .before .before .args in
     let e : a .last - a .address + 1 ≡ 2 = omega arith in
     λ rom wram. rw e (c .half-elsewhere .ensures rom wram)
-
-word-elsewhere-requires : tie.Need-word-elsewhere-requires
-word-elsewhere-requires c κs = search needs
 
 returns-3 : tie.Need-returns-3
 returns-3 c =
@@ -41,10 +29,10 @@ pub elsewhere-spec : {M : Type 1} → statement M
 elsewhere-spec =
     tie.close
     (tie.spec
-    sub-more
-    byte-elsewhere-requires
+    (λ c. search needs)
+    (λ c κs. search needs)
     returns
-    half-elsewhere-requires
+    (λ c κs. search needs)
     returns-2
-    word-elsewhere-requires
+    (λ c κs. search needs)
     returns-3)

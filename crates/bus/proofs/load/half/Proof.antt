@@ -9,24 +9,15 @@ use Rattle.bus.proofs.Accesses.{missed}
 use Rattle.bus.proofs.load.half.Statement.{statement}
 use Rattle.bus.proofs.load.half.Tie as tie
 
-wram-half-requires : tie.Need-wram-half-requires
-wram-half-requires c κs = search needs
-
 returns : tie.Need-returns
 returns c =
     let a = c .before .before .before .before .before .before .args in
     c .wram-half .ensures .0 (now (a .rom)) (now (a .vram)) (now (a .pak)) (now (a .regs))
 
-rom-half-requires : tie.Need-rom-half-requires
-rom-half-requires c κs = search needs
-
 returns-2 : tie.Need-returns-2
 returns-2 c =
     let a = c .before .before .before .before .before .before .before .args in
     c .rom-half .ensures .0 (now (a .wram)) (now (a .vram)) (now (a .pak)) (now (a .regs))
-
-add-elsewhere : tie.Need-add-elsewhere
-add-elsewhere c = search needs
 
 elsewhere-requires : tie.Need-elsewhere-requires
 elsewhere-requires c κs =
@@ -44,10 +35,10 @@ pub half-spec : {M : Type 1} → statement M
 half-spec =
     tie.close
     (tie.spec
-    wram-half-requires
+    (λ c κs. search needs)
     returns
-    rom-half-requires
+    (λ c κs. search needs)
     returns-2
-    add-elsewhere
+    (λ c. search needs)
     elsewhere-requires
     returns-3)

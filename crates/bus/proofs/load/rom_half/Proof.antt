@@ -14,9 +14,6 @@ use Rattle.bus.proofs.Accesses.{found}
 use Rattle.bus.proofs.load.rom_half.Statement.{statement}
 use Rattle.bus.proofs.load.rom_half.Tie as tie
 
-sub-wrapped : tie.Need-sub-wrapped
-sub-wrapped c = search needs
-
 wrapped-requires : tie.Need-wrapped-requires
 wrapped-requires c κs =
     let b = c .before in
@@ -38,11 +35,13 @@ returns c =
     let fits = c .half-at .ensures .1 in (
       λ wram vram pak regs.
           record {
-            means = c .half-at .ensures .0 ∙ rw (c .before .wrapped .ensures .0) (sym (span-half (memoryOf (now (a .rom)) wram vram pak regs) (a .address) romAt _ (rom-span-half (memoryOf (now (a .rom)) wram vram pak regs) (a .address) here (b .pre .0))));
+            means = c .half-at .ensures .0 ∙ rw (c .before .wrapped .ensures .0) (sym (span-half (memoryOf (now
+                (a .rom)) wram vram pak regs) (a .address) romAt _ (rom-span-half (memoryOf (now
+                (a .rom)) wram vram pak regs) (a .address) here (b .pre .0))));
             fits = fits;
           },
       fits,
     )
 
 pub rom-half-spec : {M : Type 1} → statement M
-rom-half-spec = tie.close (tie.spec sub-wrapped wrapped-requires half-at-requires returns)
+rom-half-spec = tie.close (tie.spec (λ c. search needs) wrapped-requires half-at-requires returns)

@@ -14,15 +14,6 @@ use Rattle.bus.specs.Place.{wramAt, romAt, regionOf}
 use Rattle.bus.proofs.Spans.{span-word, wram-span-word, rom-span-word}
 use Rattle.bus.proofs.Accesses.{found, missed}
 
-sub-i : tie.Need-sub-i
-sub-i c = search needs
-
-cast-i : tie.Need-cast-i
-cast-i c = search needs
-
-word-at-requires : tie.Need-word-at-requires
-word-at-requires c κs = search needs
-
 returns : tie.Need-returns
 returns c =
     let b = c .before .before .before .before .before .before in
@@ -33,9 +24,6 @@ returns c =
       means = c .word-at .ensures ∙ sym (span-word m (a .address) wramAt _ (wram-span-word m (a .address) here));
       fits = omega arith;
     }
-
-sub-wrapped : tie.Need-sub-wrapped
-sub-wrapped c = search needs
 
 wrapped-requires : tie.Need-wrapped-requires
 wrapped-requires c κs =
@@ -57,12 +45,10 @@ returns-2 c =
     let here = found (a .address) 7 (c .before .before .if2 .taken) in
     let m = memoryOf (now (a .rom)) (now (a .wram)) (now (a .vram)) (now (a .pak)) (now (a .regs)) in
     record {
-      means = c .word-at2 .ensures ∙ rw (c .before .wrapped .ensures .0) (sym (span-word m (a .address) romAt _ (rom-span-word m (a .address) here (b .pre .rom-ok))));
+      means = c .word-at2 .ensures ∙ rw (c .before .wrapped .ensures .0) (sym (span-word m (a .address) romAt _
+          (rom-span-word m (a .address) here (b .pre .rom-ok))));
       fits = omega arith;
     }
-
-add-elsewhere : tie.Need-add-elsewhere
-add-elsewhere c = search needs
 
 elsewhere-requires : tie.Need-elsewhere-requires
 elsewhere-requires c κs =
@@ -80,14 +66,14 @@ pub word-spec : {M : Type 1} → statement M
 word-spec =
     tie.close
     (tie.spec
-    sub-i
-    cast-i
-    word-at-requires
+    (λ c. search needs)
+    (λ c. search needs)
+    (λ c κs. search needs)
     returns
-    sub-wrapped
+    (λ c. search needs)
     wrapped-requires
     word-at-requires-2
     returns-2
-    add-elsewhere
+    (λ c. search needs)
     elsewhere-requires
     returns-3)

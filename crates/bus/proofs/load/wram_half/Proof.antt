@@ -11,15 +11,6 @@ use Rattle.bus.proofs.Accesses.{found}
 use Rattle.bus.proofs.load.wram_half.Statement.{statement}
 use Rattle.bus.proofs.load.wram_half.Tie as tie
 
-sub-i : tie.Need-sub-i
-sub-i c = search needs
-
-cast-i : tie.Need-cast-i
-cast-i c = search needs
-
-half-at-requires : tie.Need-half-at-requires
-half-at-requires c κs = search needs
-
 returns : tie.Need-returns
 returns c =
     let b = c .before .before in
@@ -28,11 +19,12 @@ returns c =
     let fits = c .half-at .ensures .1 in (
       λ rom vram pak regs.
           record {
-            means = c .half-at .ensures .0 ∙ sym (span-half (memoryOf rom (now (a .wram)) vram pak regs) (a .address) wramAt _ (wram-span-half (memoryOf rom (now (a .wram)) vram pak regs) (a .address) here));
+            means = c .half-at .ensures .0 ∙ sym (span-half (memoryOf rom (now (a .wram)) vram pak regs)
+                (a .address) wramAt _ (wram-span-half (memoryOf rom (now (a .wram)) vram pak regs) (a .address) here));
             fits = fits;
           },
       fits,
     )
 
 pub wram-half-spec : {M : Type 1} → statement M
-wram-half-spec = tie.close (tie.spec sub-i cast-i half-at-requires returns)
+wram-half-spec = tie.close (tie.spec (λ c. search needs) (λ c. search needs) (λ c κs. search needs) returns)

@@ -34,7 +34,11 @@ returns-2 c =
     let here = found (a .address) 7 (c .before .before .if2 .taken) in
     λ vram regs.
     let m = memoryOf (now (a .rom)) (now (a .wram)) vram (now (a .pak)) regs in
-    record { means = c .byte-at2 .ensures .0 ∙ rw (c .before .wrapped .ensures .0) (sym (rom-byte m (a .address) here (b .pre .0))); fits = c .byte-at2 .ensures .1 }
+    record {
+      means = c .byte-at2 .ensures .0 ∙ rw (c .before .wrapped .ensures .0) (sym (rom-byte m (a .address) here
+          (b .pre .0)));
+      fits = c .byte-at2 .ensures .1;
+    }
 
 byte-requires : tie.Need-byte-requires
 byte-requires c κs =

@@ -43,7 +43,11 @@ returns-2 c =
     let here = found (a .address) 7 (c .before .before .if2 .taken) in
     λ vram regs.
     let m = memoryOf (now (a .rom)) (now (a .wram)) vram (now (a .pak)) regs in
-    record { means = c .word-at2 .ensures ∙ rw (c .before .wrapped .ensures .0) (sym (span-word m (a .address) romAt _ (rom-span-word m (a .address) here (b .pre .0)))); fits = omega arith }
+    record {
+      means = c .word-at2 .ensures ∙ rw (c .before .wrapped .ensures .0) (sym (span-word m (a .address) romAt _
+          (rom-span-word m (a .address) here (b .pre .0))));
+      fits = omega arith;
+    }
 
 word-requires : tie.Need-word-requires
 word-requires c κs =

@@ -20,12 +20,6 @@ returns c =
       fits = omega arith;
     }
 
-wrapped-requires : tie.Need-wrapped-requires
-wrapped-requires c κs = search needs
-
-byte-at-requires : tie.Need-byte-at-requires
-byte-at-requires c κs = search needs
-
 returns-2 : tie.Need-returns-2
 returns-2 c =
     let a = c .before .before .before .before .args in
@@ -35,9 +29,10 @@ returns-2 c =
       means =
           c .byte-at .ensures .0
           ∙ rw (c .before .wrapped .ensures .0)
-          (sym (pak-read (memoryOf rom wram vram (now (a .pak)) regs) (a .address) (c .before .before .before .before .pre .0) (c .before .before .before .before .pre .1) filled));
+          (sym (pak-read (memoryOf rom wram vram (now (a .pak)) regs) (a .address)
+          (c .before .before .before .before .pre .0) (c .before .before .before .before .pre .1) filled));
       fits = c .byte-at .ensures .1;
     }
 
 pub byte-spec : {M : Type 1} → statement M
-byte-spec = tie.close (tie.spec returns wrapped-requires byte-at-requires returns-2)
+byte-spec = tie.close (tie.spec returns (λ c κs. search needs) (λ c κs. search needs) returns-2)

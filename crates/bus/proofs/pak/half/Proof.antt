@@ -13,14 +13,8 @@ use mathlib.Core.List.{[]}
 use Rattle.bus.proofs.Places.{region-half, region-half-start}
 use Rattle.bus.proofs.Halfwords.{reads-half}
 
-sub-a : tie.Need-sub-a
-sub-a c = search needs
-
 byte-requires : tie.Need-byte-requires
 byte-requires c κs = (region-half-start (c .before .args .address) ∙ c .before .pre .0, c .before .pre .1)
-
-add-byte : tie.Need-add-byte
-add-byte c = search needs
 
 byte-requires-2 : tie.Need-byte-requires-2
 byte-requires-2 c κs = (region-half (c .before .before .args .address) 1 (omega arith) ∙ c .before .before .pre .0, c .before .before .pre .1)
@@ -35,8 +29,9 @@ returns : tie.Need-returns
 returns c =
     let a = c .before .before .before .args in
     λ rom wram vram regs.
-    reads-half (memoryOf rom wram vram (now (a .pak)) regs) (a .address) (c .before .byte .result) (c .byte2 .result) (c .before .byte .ensures rom wram vram regs) (c .byte2 .ensures rom wram vram regs)
+    reads-half (memoryOf rom wram vram (now (a .pak)) regs) (a .address) (c .before .byte .result) (c .byte2 .result)
+    (c .before .byte .ensures rom wram vram regs) (c .byte2 .ensures rom wram vram regs)
 
 pub half-spec : {M : Type 1} → statement M
 half-spec =
-    tie.close (tie.spec sub-a byte-requires add-byte byte-requires-2 mul-result add-result returns)
+    tie.close (tie.spec (λ c. search needs) byte-requires (λ c. search needs) byte-requires-2 mul-result add-result returns)

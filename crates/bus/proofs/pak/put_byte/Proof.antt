@@ -17,25 +17,14 @@ returns c =
     λ rom wram vram regs.
     sym (pak-put-empty (memoryOf rom wram vram (now (a .pak)) regs) (a .address) (c .before .before .pre .0) (a .value) (c .if1 .taken))
 
-wrapped-requires : tie.Need-wrapped-requires
-wrapped-requires c κs = search needs
-
-cast-pak : tie.Need-cast-pak
-cast-pak c = search needs
-
-slice-write-pak : tie.Need-slice-write-pak
-slice-write-pak c = search needs
-
-same-length : tie.Need-same-length
-same-length c = search needs
-
 returns-2 : tie.Need-returns-2
 returns-2 c =
     let a = c .before .before .before .args in
     let filled : 0 < length (now (a .pak)) = omega arith in
     λ rom wram vram regs.
-    sym (pak-put (memoryOf rom wram vram (now (a .pak)) regs) (a .address) (c .before .before .before .pre .0) (a .value) (c .before .before .before .pre .1) filled ∙ rw (← c .wrapped .ensures .0))
+    sym (pak-put (memoryOf rom wram vram (now (a .pak)) regs) (a .address) (c .before .before .before .pre .0)
+    (a .value) (c .before .before .before .pre .1) filled ∙ rw (← c .wrapped .ensures .0))
 
 pub put-byte-spec : {M : Type 1} → statement M
 put-byte-spec =
-    tie.close (tie.spec returns wrapped-requires cast-pak slice-write-pak same-length returns-2)
+    tie.close (tie.spec returns (λ c κs. search needs) (λ c. search needs) (λ c. search needs) (λ c. search needs) returns-2)

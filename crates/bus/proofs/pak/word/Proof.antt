@@ -13,14 +13,8 @@ use mathlib.Core.List.{[]}
 use Rattle.bus.proofs.Places.{region-word, region-word-start}
 use Rattle.bus.proofs.Halfwords.{reads-word}
 
-sub-a : tie.Need-sub-a
-sub-a c = search needs
-
 half-requires : tie.Need-half-requires
 half-requires c κs = (region-word-start (c .before .args .address) ∙ c .before .pre .0, c .before .pre .1)
-
-add-half : tie.Need-add-half
-add-half c = search needs
 
 half-requires-2 : tie.Need-half-requires-2
 half-requires-2 c κs = (region-word (c .before .before .args .address) 2 (omega arith) ∙ c .before .before .pre .0, c .before .before .pre .1)
@@ -35,8 +29,9 @@ returns : tie.Need-returns
 returns c =
     let a = c .before .before .before .args in
     λ rom wram vram regs.
-    reads-word (memoryOf rom wram vram (now (a .pak)) regs) (a .address) (c .before .half .result) (c .half2 .result) (c .before .half .ensures rom wram vram regs) (c .half2 .ensures rom wram vram regs)
+    reads-word (memoryOf rom wram vram (now (a .pak)) regs) (a .address) (c .before .half .result) (c .half2 .result)
+    (c .before .half .ensures rom wram vram regs) (c .half2 .ensures rom wram vram regs)
 
 pub word-spec : {M : Type 1} → statement M
 word-spec =
-    tie.close (tie.spec sub-a half-requires add-half half-requires-2 mul-result add-result returns)
+    tie.close (tie.spec (λ c. search needs) half-requires (λ c. search needs) half-requires-2 mul-result add-result returns)

@@ -8,12 +8,6 @@ use borrow.Author.Needs.{needs}
 use Rattle.bus.proofs.ports.byte.Statement.{statement}
 use Rattle.bus.proofs.ports.byte.Tie as tie
 
-hardware-in-requires : tie.Need-hardware-in-requires
-hardware-in-requires c κs = search needs
-
-read-requires : tie.Need-read-requires
-read-requires c κs = search needs
-
 returns : tie.Need-returns
 unfolding hardwareOffsetOf
 returns c =
@@ -24,4 +18,4 @@ returns c =
     (c .read .ensures .0 ∙ rw (c .before .hardware-in .ensures)) (c .read .ensures .1)
 
 pub byte-spec : {M : Type 1} → statement M
-byte-spec = tie.close (tie.spec hardware-in-requires read-requires returns)
+byte-spec = tie.close (tie.spec (λ c κs. search needs) (λ c κs. search needs) returns)

@@ -8,9 +8,6 @@ use borrow.Author.Needs.{needs}
 use Rattle.bus.proofs.ports.half.Statement.{statement}
 use Rattle.bus.proofs.ports.half.Tie as tie
 
-sub-byte : tie.Need-sub-byte
-sub-byte c = search needs
-
 byte-requires : tie.Need-byte-requires
 byte-requires c κs = region-half-start (c .args .address) ∙ c .pre
 
@@ -22,4 +19,4 @@ returns c =
     port-reads-half (memoryOf rom wram vram pak (now (a .regs))) (a .address) _ (b .pre) (c .byte .ensures rom wram vram pak)
 
 pub half-spec : {M : Type 1} → statement M
-half-spec = tie.close (tie.spec sub-byte byte-requires returns)
+half-spec = tie.close (tie.spec (λ c. search needs) byte-requires returns)

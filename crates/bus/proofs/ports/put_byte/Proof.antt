@@ -8,15 +8,6 @@ use borrow.Author.Needs.{needs}
 use Rattle.bus.proofs.ports.put_byte.Statement.{statement}
 use Rattle.bus.proofs.ports.put_byte.Tie as tie
 
-hardware-in-requires : tie.Need-hardware-in-requires
-hardware-in-requires c κs = search needs
-
-write-requires : tie.Need-write-requires
-write-requires c κs = search needs
-
-put-hardware-requires : tie.Need-put-hardware-requires
-put-hardware-requires c κs = search needs
-
 returns : tie.Need-returns
 unfolding hardwareOffsetOf
 returns c =
@@ -28,4 +19,4 @@ returns c =
 
 pub put-byte-spec : {M : Type 1} → statement M
 put-byte-spec =
-    tie.close (tie.spec hardware-in-requires write-requires put-hardware-requires returns)
+    tie.close (tie.spec (λ c κs. search needs) (λ c κs. search needs) (λ c κs. search needs) returns)

@@ -8,9 +8,6 @@ use borrow.Author.Needs.{needs}
 use Rattle.bus.proofs.ports.put_half.Statement.{statement}
 use Rattle.bus.proofs.ports.put_half.Tie as tie
 
-sub-put-byte : tie.Need-sub-put-byte
-sub-put-byte c = search needs
-
 put-byte-requires : tie.Need-put-byte-requires
 put-byte-requires c κs = region-half-start (c .before .args .address) ∙ c .before .pre
 
@@ -23,4 +20,4 @@ returns c =
     ∙ sym (port-half-store (memoryOf rom wram vram pak (now (a .regs))) (a .address) (a .value) (b .pre))
 
 pub put-half-spec : {M : Type 1} → statement M
-put-half-spec = tie.close (tie.spec sub-put-byte put-byte-requires returns)
+put-half-spec = tie.close (tie.spec (λ c. search needs) put-byte-requires returns)

@@ -8,9 +8,6 @@ use borrow.Author.Needs.{needs}
 use Rattle.bus.proofs.ports.put_word.Statement.{statement}
 use Rattle.bus.proofs.ports.put_word.Tie as tie
 
-sub-put-byte : tie.Need-sub-put-byte
-sub-put-byte c = search needs
-
 put-byte-requires : tie.Need-put-byte-requires
 put-byte-requires c κs = region-word-start (c .before .args .address) ∙ c .before .pre
 
@@ -23,4 +20,4 @@ returns c =
     ∙ sym (port-word-store (memoryOf rom wram vram pak (now (a .regs))) (a .address) (a .value) (b .pre))
 
 pub put-word-spec : {M : Type 1} → statement M
-put-word-spec = tie.close (tie.spec sub-put-byte put-byte-requires returns)
+put-word-spec = tie.close (tie.spec (λ c. search needs) put-byte-requires returns)

@@ -8,9 +8,6 @@ use borrow.Author.Needs.{needs}
 use Rattle.bus.proofs.ports.word.Statement.{statement}
 use Rattle.bus.proofs.ports.word.Tie as tie
 
-sub-byte : tie.Need-sub-byte
-sub-byte c = search needs
-
 byte-requires : tie.Need-byte-requires
 byte-requires c κs = region-word-start (c .args .address) ∙ c .pre
 
@@ -22,4 +19,4 @@ returns c =
     port-reads-word (memoryOf rom wram vram pak (now (a .regs))) (a .address) _ (b .pre) (c .byte .ensures rom wram vram pak)
 
 pub word-spec : {M : Type 1} → statement M
-word-spec = tie.close (tie.spec sub-byte byte-requires returns)
+word-spec = tie.close (tie.spec (λ c. search needs) byte-requires returns)

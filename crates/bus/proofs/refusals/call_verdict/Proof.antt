@@ -5,15 +5,9 @@ use borrow.Author.Needs.{needs}
 use Rattle.bus.proofs.refusals.call_verdict.Statement.{statement}
 use Rattle.bus.proofs.refusals.call_verdict.Tie as tie
 
-records-ok-requires : tie.Need-records-ok-requires
-records-ok-requires c κs = search needs
-
-first-requires : tie.Need-first-requires
-first-requires c κs = search needs
-
 returns : tie.Need-returns
 unfolding verdictAt
 returns c = c .first .ensures ∙ rw (c .before .records-ok .ensures)
 
 pub call-verdict-spec : {M : Type 1} → statement M
-call-verdict-spec = tie.close (tie.spec records-ok-requires first-requires returns)
+call-verdict-spec = tie.close (tie.spec (λ c κs. search needs) (λ c κs. search needs) returns)

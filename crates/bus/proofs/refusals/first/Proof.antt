@@ -7,12 +7,6 @@ use Rattle.bus.specs.Refusal.{wramOk, vramOk}
 use Rattle.bus.proofs.refusals.first.Statement.{statement}
 use Rattle.bus.proofs.refusals.first.Tie as tie
 
-rom-ok-requires : tie.Need-rom-ok-requires
-rom-ok-requires c κs = search needs
-
-pak-ok-requires : tie.Need-pak-ok-requires
-pak-ok-requires c κs = search needs
-
 returns : tie.Need-returns
 unfolding wramOk vramOk
 returns c = simp (sym (c .before .rom-ok .ensures) ∙ not-true _ (c .if1 .taken))
@@ -23,29 +17,61 @@ returns-2 c = simp (sym (c .before .before .rom-ok .ensures) ∙ not-false _ (c 
 
 returns-3 : tie.Need-returns-3
 unfolding wramOk vramOk
-returns-3 c = simp (sym (c .before .before .before .rom-ok .ensures) ∙ not-false _ (c .before .before .if1 .left), eq-eqb _ _ (c .before .if2 .left), ne-eqb _ _ (c .if3 .taken))
+returns-3 c = simp (
+  sym (c .before .before .before .rom-ok .ensures) ∙ not-false _
+      (c .before .before .if1 .left),
+  eq-eqb _ _ (c .before .if2 .left),
+  ne-eqb _ _ (c .if3 .taken),
+)
 
 returns-4 : tie.Need-returns-4
 unfolding wramOk vramOk
-returns-4 c = simp (sym (c .before .before .before .before .before .rom-ok .ensures) ∙ not-false _ (c .before .before .before .before .if1 .left), eq-eqb _ _ (c .before .before .before .if2 .left), eq-eqb _ _ (c .before .before .if3 .left), sym (c .before .pak-ok .ensures) ∙ not-true _ (c .if4 .taken))
+returns-4 c = simp (
+  sym (c .before .before .before .before .before .rom-ok .ensures) ∙ not-false _
+      (c .before .before .before .before .if1 .left),
+  eq-eqb _ _ (c .before .before .before .if2 .left),
+  eq-eqb _ _
+      (c .before .before .if3 .left),
+  sym (c .before .pak-ok .ensures) ∙ not-true _ (c .if4 .taken),
+)
 
 returns-5 : tie.Need-returns-5
 unfolding wramOk vramOk
-returns-5 c = simp (sym (c .before .before .before .before .before .before .rom-ok .ensures) ∙ not-false _ (c .before .before .before .before .before .if1 .left), eq-eqb _ _ (c .before .before .before .before .if2 .left), eq-eqb _ _ (c .before .before .before .if3 .left), sym (c .before .before .pak-ok .ensures) ∙ not-false _ (c .before .if4 .left), not-true (c .before .before .before .before .before .before .before .args .state) (c .if5 .taken))
+returns-5 c = simp (
+  sym (c .before .before .before .before .before .before .rom-ok .ensures) ∙ not-false _
+      (c .before .before .before .before .before .if1 .left),
+  eq-eqb _ _
+      (c .before .before .before .before .if2 .left),
+  eq-eqb _ _ (c .before .before .before .if3 .left),
+  sym
+      (c .before .before .pak-ok .ensures) ∙ not-false _ (c .before .if4 .left),
+  not-true
+      (c .before .before .before .before .before .before .before .args .state) (c .if5 .taken),
+)
 
 returns-6 : tie.Need-returns-6
 unfolding wramOk vramOk
-returns-6 c = simp (sym (c .before .before .before .before .before .before .rom-ok .ensures) ∙ not-false _ (c .before .before .before .before .before .if1 .left), eq-eqb _ _ (c .before .before .before .before .if2 .left), eq-eqb _ _ (c .before .before .before .if3 .left), sym (c .before .before .pak-ok .ensures) ∙ not-false _ (c .before .if4 .left), not-false (c .before .before .before .before .before .before .before .args .state) (c .if5 .left))
+returns-6 c = simp (
+  sym (c .before .before .before .before .before .before .rom-ok .ensures) ∙ not-false _
+      (c .before .before .before .before .before .if1 .left),
+  eq-eqb _ _
+      (c .before .before .before .before .if2 .left),
+  eq-eqb _ _ (c .before .before .before .if3 .left),
+  sym
+      (c .before .before .pak-ok .ensures) ∙ not-false _ (c .before .if4 .left),
+  not-false
+      (c .before .before .before .before .before .before .before .args .state) (c .if5 .left),
+)
 
 pub first-spec : {M : Type 1} → statement M
 first-spec =
     tie.close
     (tie.spec
-    rom-ok-requires
+    (λ c κs. search needs)
     returns
     returns-2
     returns-3
-    pak-ok-requires
+    (λ c κs. search needs)
     returns-4
     returns-5
     returns-6)

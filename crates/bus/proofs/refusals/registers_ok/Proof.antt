@@ -5,15 +5,6 @@ use borrow.Author.Needs.{needs}
 use Rattle.bus.proofs.refusals.registers_ok.Statement.{statement}
 use Rattle.bus.proofs.refusals.registers_ok.Tie as tie
 
-drawing-in-requires : tie.Need-drawing-in-requires
-drawing-in-requires c κs = search needs
-
-hardware-in-requires : tie.Need-hardware-in-requires
-hardware-in-requires c κs = search needs
-
-records-ok-requires : tie.Need-records-ok-requires
-records-ok-requires c κs = search needs
-
 returns : tie.Need-returns
 returns c =
     c .records-ok .ensures
@@ -21,4 +12,4 @@ returns c =
 
 pub registers-ok-spec : {M : Type 1} → statement M
 registers-ok-spec =
-    tie.close (tie.spec drawing-in-requires hardware-in-requires records-ok-requires returns)
+    tie.close (tie.spec (λ c κs. search needs) (λ c κs. search needs) (λ c κs. search needs) returns)

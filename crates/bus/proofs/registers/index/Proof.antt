@@ -9,20 +9,11 @@ use Rattle.bus.proofs.Indices.{index-before, index-first, index-between
 returns : tie.Need-returns
 returns c = sym (index-before (c .before .args .h) (c .if1 .taken))
 
-cast-result : tie.Need-cast-result
-cast-result c = search needs
-
 returns-2 : tie.Need-returns-2
 returns-2 c = sym (index-first (c .before .before .args .h) (c .before .before .pre) (c .before .if1 .left) (c .if2 .taken))
 
 returns-3 : tie.Need-returns-3
 returns-3 c = sym (index-between (c .before .before .before .args .h) (c .before .if2 .left) (c .if3 .taken))
-
-add-result : tie.Need-add-result
-add-result c = search needs
-
-cast-result-2 : tie.Need-cast-result-2
-cast-result-2 c = search needs
 
 returns-4 : tie.Need-returns-4
 returns-4 c = sym (index-second (c .before .before .before .before .args .h) (c .before .before .before .before .pre) (c .before .if3 .left) (c .if4 .taken))
@@ -33,4 +24,4 @@ returns-5 c = sym (index-after (c .before .before .before .before .args .h) (c .
 pub index-spec : {M : Type 1} → statement M
 index-spec =
     tie.close
-    (tie.spec returns cast-result returns-2 returns-3 add-result cast-result-2 returns-4 returns-5)
+    (tie.spec returns (λ c. search needs) returns-2 returns-3 (λ c. search needs) (λ c. search needs) returns-4 returns-5)

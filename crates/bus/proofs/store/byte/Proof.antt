@@ -13,7 +13,8 @@ returns : tie.Need-returns
 returns c =
     let b = c .before .before .before .before .before in
     let a = b .args in
-    sym (wram-put (memoryOf (now (a .rom)) (now (a .wram)) (now (a .vram)) (now (a .pak)) (now (a .regs))) (a .address) (a .value) (found (a .address) 5 (c .if1 .taken)))
+    sym (wram-put (memoryOf (now (a .rom)) (now (a .wram)) (now (a .vram)) (now (a .pak)) (now (a .regs))) (a .address)
+    (a .value) (found (a .address) 5 (c .if1 .taken)))
 
 elsewhere-requires : tie.Need-elsewhere-requires
 elsewhere-requires c κs =

@@ -12,12 +12,6 @@ use denote.Ref.{now}
 use Rattle.bus.proofs.Places.{region-half-start}
 use Rattle.bus.proofs.VipAccess.{vram-byte, register-byte-low, register-byte-high}
 
-vram-index-requires : tie.Need-vram-index-requires
-vram-index-requires c κs = search needs
-
-byte-at-requires : tie.Need-byte-at-requires
-byte-at-requires c κs = search needs
-
 returns : tie.Need-returns
 returns c =
     let b = c .before .before .before .before in
@@ -31,9 +25,6 @@ returns c =
       fits = c .byte-at .ensures .1;
     }
 
-sub-register : tie.Need-sub-register
-sub-register c = search needs
-
 register-requires : tie.Need-register-requires
 register-requires c κs =
     let b = c .before .before .before in
@@ -46,7 +37,8 @@ returns-2 c =
     let a = b .args in
     let o = c .before .before .before .vram-index .ensures .1 .1 (c .before .before .if1 .left) in
     λ rom wram pak.
-    register-byte-low (memoryOf rom wram (now (a .vram)) pak (now (a .regs))) (a .address) (c .before .register .result) (b .pre .0) (o .0) (o .1) (c .before .register .ensures rom wram (now (a .vram)) pak) (c .if2 .taken)
+    register-byte-low (memoryOf rom wram (now (a .vram)) pak (now (a .regs))) (a .address) (c .before .register .result)
+    (b .pre .0) (o .0) (o .1) (c .before .register .ensures rom wram (now (a .vram)) pak) (c .if2 .taken)
 
 returns-3 : tie.Need-returns-3
 returns-3 c =
@@ -54,16 +46,18 @@ returns-3 c =
     let a = b .args in
     let o = c .before .before .before .vram-index .ensures .1 .1 (c .before .before .if1 .left) in
     λ rom wram pak.
-    register-byte-high (memoryOf rom wram (now (a .vram)) pak (now (a .regs))) (a .address) (c .before .register .result) (b .pre .0) (o .0) (o .1) (c .before .register .ensures rom wram (now (a .vram)) pak) (c .if2 .left)
+    register-byte-high (memoryOf rom wram (now (a .vram)) pak (now (a .regs))) (a .address)
+    (c .before .register .result) (b .pre .0) (o .0) (o .1) (c .before .register .ensures rom wram (now
+    (a .vram)) pak) (c .if2 .left)
 
 pub byte-spec : {M : Type 1} → statement M
 byte-spec =
     tie.close
     (tie.spec
-    vram-index-requires
-    byte-at-requires
+    (λ c κs. search needs)
+    (λ c κs. search needs)
     returns
-    sub-register
+    (λ c. search needs)
     register-requires
     returns-2
     returns-3)

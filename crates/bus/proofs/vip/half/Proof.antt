@@ -14,15 +14,6 @@ use Rattle.bus.proofs.Spans.{span-half, vip-span-half}
 use Rattle.bus.proofs.Places.{region-half-start}
 use Rattle.bus.proofs.VipAccess.{reads-start}
 
-sub-a : tie.Need-sub-a
-sub-a c = search needs
-
-vram-index-requires : tie.Need-vram-index-requires
-vram-index-requires c κs = search needs
-
-half-at-requires : tie.Need-half-at-requires
-half-at-requires c κs = search needs
-
 returns : tie.Need-returns
 returns c =
     let b = c .before .before .before .before in
@@ -31,7 +22,8 @@ returns c =
     λ rom wram pak.
     let m = memoryOf rom wram (now (a .vram)) pak (now (a .regs)) in
     record {
-      means = c .half-at .ensures .0 ∙ sym (span-half m (a .address) vramAt i (vip-span-half m (a .address) i (b .pre .0) (c .before .before .vram-index .ensures .0 (c .before .if1 .taken))));
+      means = c .half-at .ensures .0 ∙ sym (span-half m (a .address) vramAt i (vip-span-half m (a .address) i
+          (b .pre .0) (c .before .before .vram-index .ensures .0 (c .before .if1 .taken))));
       fits = c .half-at .ensures .1;
     }
 
@@ -51,4 +43,4 @@ returns-2 c =
 pub half-spec : {M : Type 1} → statement M
 half-spec =
     tie.close
-    (tie.spec sub-a vram-index-requires half-at-requires returns register-requires returns-2)
+    (tie.spec (λ c. search needs) (λ c κs. search needs) (λ c κs. search needs) returns register-requires returns-2)

@@ -11,24 +11,13 @@ use lib.ListN.{length, getD, set}
 use denote.Ref.{now}
 use Rattle.bus.proofs.Accesses.{vram-put, between-byte}
 
-vram-index-requires : tie.Need-vram-index-requires
-vram-index-requires c κs = search needs
-
-cast-vram : tie.Need-cast-vram
-cast-vram c = search needs
-
-slice-write-vram : tie.Need-slice-write-vram
-slice-write-vram c = search needs
-
-same-length : tie.Need-same-length
-same-length c = search needs
-
 returns : tie.Need-returns
 returns c =
     let b = c .before .before .before in
     let a = b .args in
     λ rom wram pak.
-    sym (vram-put (memoryOf rom wram (now (a .vram)) pak (now (a .regs))) (a .address) (c .before .vram-index .result) (a .value) (b .pre .0) (c .before .vram-index .ensures .0 (c .if1 .taken)))
+    sym (vram-put (memoryOf rom wram (now (a .vram)) pak (now (a .regs))) (a .address) (c .before .vram-index .result)
+    (a .value) (b .pre .0) (c .before .vram-index .ensures .0 (c .if1 .taken)))
 
 put-register-requires : tie.Need-put-register-requires
 put-register-requires c κs =
@@ -42,16 +31,17 @@ returns-2 c =
     let a = b .args in
     let o = c .before .before .before .vram-index .ensures .1 .1 (c .before .before .if1 .left) in
     λ rom wram pak.
-    c .put-register .ensures rom wram (now (a .vram)) pak ∙ sym (between-byte (memoryOf rom wram (now (a .vram)) pak (now (a .regs))) (a .address) (a .value) (b .pre .0) (o .0) (o .1))
+    c .put-register .ensures rom wram (now (a .vram)) pak ∙ sym (between-byte (memoryOf rom wram (now (a .vram)) pak
+    (now (a .regs))) (a .address) (a .value) (b .pre .0) (o .0) (o .1))
 
 pub put-byte-spec : {M : Type 1} → statement M
 put-byte-spec =
     tie.close
     (tie.spec
-    vram-index-requires
-    cast-vram
-    slice-write-vram
-    same-length
+    (λ c κs. search needs)
+    (λ c. search needs)
+    (λ c. search needs)
+    (λ c. search needs)
     returns
     put-register-requires
     returns-2)

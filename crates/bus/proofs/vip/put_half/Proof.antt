@@ -13,18 +13,6 @@ use Rattle.bus.proofs.Places.{region-half-start}
 use Rattle.bus.proofs.Spans.{half-vram, vip-span-half}
 use Rattle.bus.proofs.Accesses.{between-half}
 
-sub-a : tie.Need-sub-a
-sub-a c = search needs
-
-vram-index-requires : tie.Need-vram-index-requires
-vram-index-requires c κs = search needs
-
-put-half-requires : tie.Need-put-half-requires
-put-half-requires c κs = search needs
-
-same-length : tie.Need-same-length
-same-length c = search needs
-
 returns : tie.Need-returns
 returns c =
     let b = c .before .before .before .before .before .before .before in
@@ -33,7 +21,9 @@ returns c =
     λ rom wram pak.
     let m = memoryOf rom wram (now (a .vram)) pak (now (a .regs)) in
     rw (c .before .before .put-half .ensures)
-    (sym (half-vram m (a .address) i (a .value) (vip-span-half m (a .address) i (b .pre .0) (c .before .before .before .before .before .vram-index .ensures .0 (c .before .before .before .before .if1 .taken)))))
+    (sym (half-vram m (a .address) i (a .value) (vip-span-half m (a .address) i (b .pre .0)
+    (c .before .before .before .before .before .vram-index .ensures .0
+    (c .before .before .before .before .if1 .taken)))))
 
 put-register-requires : tie.Need-put-register-requires
 put-register-requires c κs =
@@ -47,16 +37,17 @@ returns-2 c =
     let a = b .args in
     let o = c .before .before .before .vram-index .ensures .1 .1 (c .before .before .if1 .left) in
     λ rom wram pak.
-    c .put-register .ensures rom wram (now (a .vram)) pak ∙ sym (between-half (memoryOf rom wram (now (a .vram)) pak (now (a .regs))) (a .address) (a .value) (b .pre .0) (o .0) (o .1))
+    c .put-register .ensures rom wram (now (a .vram)) pak ∙ sym (between-half (memoryOf rom wram (now (a .vram)) pak
+    (now (a .regs))) (a .address) (a .value) (b .pre .0) (o .0) (o .1))
 
 pub put-half-spec : {M : Type 1} → statement M
 put-half-spec =
     tie.close
     (tie.spec
-    sub-a
-    vram-index-requires
-    put-half-requires
-    same-length
+    (λ c. search needs)
+    (λ c κs. search needs)
+    (λ c κs. search needs)
+    (λ c. search needs)
     returns
     put-register-requires
     returns-2)

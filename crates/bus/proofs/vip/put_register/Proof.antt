@@ -12,22 +12,8 @@ use denote.Ref.{now}
 use Rattle.word.specs.Choose.{indexOf}
 use Rattle.bus.specs.Registers.{drawingAddresses, keptOf}
 use Rattle.bus.proofs.VipPlaces.{register-load, register-store, read-drawing, read-version, read-quiet, write-drawing, write-nothing}
-use Rattle.bus.proofs.VipPlaces.{register-load, register-store, register-byte, read-drawing, read-version, read-quiet, write-drawing, write-nothing, kept-low}
-
-sub-index : tie.Need-sub-index
-sub-index c = search needs
-
-index-requires : tie.Need-index-requires
-index-requires c κs = search needs
-
-kept-requires : tie.Need-kept-requires
-kept-requires c κs = search needs
-
-mul-regs : tie.Need-mul-regs
-mul-regs c = search needs
-
-element-write-regs : tie.Need-element-write-regs
-element-write-regs c = search needs
+use Rattle.bus.proofs.VipPlaces.{register-load, register-store, register-byte, read-drawing, read-version}
+use Rattle.bus.proofs.VipPlaces.{read-quiet, write-drawing, write-nothing, kept-low}
 
 returns : tie.Need-returns
 returns c =
@@ -56,4 +42,4 @@ returns-2 c =
 pub put-register-spec : {M : Type 1} → statement M
 put-register-spec =
     tie.close
-    (tie.spec sub-index index-requires kept-requires mul-regs element-write-regs returns returns-2)
+    (tie.spec (λ c. search needs) (λ c κs. search needs) (λ c κs. search needs) (λ c. search needs) (λ c. search needs) returns returns-2)

@@ -14,18 +14,6 @@ use Rattle.bus.proofs.Places.{region-word, region-word-start}
 use Rattle.bus.proofs.Spans.{word-vram, vip-span-word}
 use Rattle.bus.proofs.Accesses.{between-word}
 
-sub-a : tie.Need-sub-a
-sub-a c = search needs
-
-vram-index-requires : tie.Need-vram-index-requires
-vram-index-requires c κs = search needs
-
-put-word-requires : tie.Need-put-word-requires
-put-word-requires c κs = search needs
-
-same-length : tie.Need-same-length
-same-length c = search needs
-
 returns : tie.Need-returns
 returns c =
     let b = c .before .before .before .before .before .before .before in
@@ -34,16 +22,15 @@ returns c =
     λ rom wram pak.
     let m = memoryOf rom wram (now (a .vram)) pak (now (a .regs)) in
     rw (c .before .before .put-word .ensures)
-    (sym (word-vram m (a .address) i (a .value) (vip-span-word m (a .address) i (b .pre .0) (c .before .before .before .before .before .vram-index .ensures .0 (c .before .before .before .before .if1 .taken)))))
+    (sym (word-vram m (a .address) i (a .value) (vip-span-word m (a .address) i (b .pre .0)
+    (c .before .before .before .before .before .vram-index .ensures .0
+    (c .before .before .before .before .if1 .taken)))))
 
 put-register-requires : tie.Need-put-register-requires
 put-register-requires c κs =
     let b = c .before .before .before .before in
     let o = c .before .before .vram-index .ensures .1 .1 (c .before .if1 .left) in
     (region-word-start (b .args .address) ∙ b .pre .0, o .0, o .1)
-
-add-put-register : tie.Need-add-put-register
-add-put-register c = search needs
 
 put-register-requires-2 : tie.Need-put-register-requires-2
 put-register-requires-2 c κs =
@@ -66,12 +53,12 @@ pub put-word-spec : {M : Type 1} → statement M
 put-word-spec =
     tie.close
     (tie.spec
-    sub-a
-    vram-index-requires
-    put-word-requires
-    same-length
+    (λ c. search needs)
+    (λ c κs. search needs)
+    (λ c κs. search needs)
+    (λ c. search needs)
     returns
     put-register-requires
-    add-put-register
+    (λ c. search needs)
     put-register-requires-2
     returns-2)

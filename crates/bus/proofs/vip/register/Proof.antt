@@ -13,18 +13,6 @@ use Rattle.word.specs.Choose.{indexOf}
 use Rattle.bus.specs.Registers.{drawingAddresses}
 use Rattle.bus.proofs.VipPlaces.{register-load, register-store, read-drawing, read-version, read-quiet, write-drawing, write-nothing}
 
-index-requires : tie.Need-index-requires
-index-requires c κs = search needs
-
-mul-wide : tie.Need-mul-wide
-mul-wide c = search needs
-
-element-copy-out-wide : tie.Need-element-copy-out-wide
-element-copy-out-wide c = search needs
-
-wide-requires : tie.Need-wide-requires
-wide-requires c κs = search needs
-
 returns : tie.Need-returns
 returns c =
     let b = c .before .before .before .before in
@@ -37,7 +25,8 @@ returns c =
     let m = memoryOf rom wram vram pak (now (a .regs)) in
     let w : c .wide .result ≡ getD (now (a .regs)) (indexOf h drawingAddresses) 0 = c .wide .ensures .0 ∙ rw i in
     record {
-      means = w ∙ sym (register-load m (a .address) (b .pre .0) (b .pre .1) (b .pre .2) (b .pre .3) ∙ read-drawing h even m k (omega (arith, w, c .wide .ensures .1)));
+      means = w ∙ sym (register-load m (a .address) (b .pre .0) (b .pre .1) (b .pre .2) (b .pre .3)
+          ∙ read-drawing h even m k (omega (arith, w, c .wide .ensures .1)));
       fits = c .wide .ensures .1;
     }
 
@@ -75,10 +64,10 @@ pub register-spec : {M : Type 1} → statement M
 register-spec =
     tie.close
     (tie.spec
-    index-requires
-    mul-wide
-    element-copy-out-wide
-    wide-requires
+    (λ c κs. search needs)
+    (λ c. search needs)
+    (λ c. search needs)
+    (λ c κs. search needs)
     returns
     returns-2
     returns-3)

@@ -14,26 +14,8 @@ returns c =
     let v = c .before .args .v in
     ((λ h j near. vip-low (v + j) (omega arith)), (refl, λ h. absurd (omega arith)))
 
-add-result : tie.Need-add-result
-add-result c = search needs
-
-cast-result : tie.Need-cast-result
-cast-result c = search needs
-
 returns-2 : tie.Need-returns-2
 returns-2 c = ((λ h j near. absurd (omega arith)), (omega arith, λ h. (omega arith, omega arith)))
-
-mul-result : tie.Need-mul-result
-mul-result c = search needs
-
-add-result-2 : tie.Need-add-result-2
-add-result-2 c = search needs
-
-add-result-3 : tie.Need-add-result-3
-add-result-3 c = search needs
-
-cast-result-2 : tie.Need-cast-result-2
-cast-result-2 c = search needs
 
 returns-3 : tie.Need-returns-3
 unfolding mirrorOf
@@ -50,11 +32,11 @@ vram-index-spec =
     tie.close
     (tie.spec
     returns
-    add-result
-    cast-result
+    (λ c. search needs)
+    (λ c. search needs)
     returns-2
-    mul-result
-    add-result-2
-    add-result-3
-    cast-result-2
+    (λ c. search needs)
+    (λ c. search needs)
+    (λ c. search needs)
+    (λ c. search needs)
     returns-3)

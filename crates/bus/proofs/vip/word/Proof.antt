@@ -15,15 +15,6 @@ use Rattle.bus.proofs.Places.{region-word, region-word-start}
 use Rattle.bus.proofs.Spans.{span-word, vip-span-word}
 use Rattle.bus.proofs.Halfwords.{reads-word}
 
-sub-a : tie.Need-sub-a
-sub-a c = search needs
-
-vram-index-requires : tie.Need-vram-index-requires
-vram-index-requires c κs = search needs
-
-word-at-requires : tie.Need-word-at-requires
-word-at-requires c κs = search needs
-
 returns : tie.Need-returns
 returns c =
     let b = c .before .before .before .before in
@@ -32,7 +23,8 @@ returns c =
     λ rom wram pak.
     let m = memoryOf rom wram (now (a .vram)) pak (now (a .regs)) in
     record {
-      means = c .word-at .ensures ∙ sym (span-word m (a .address) vramAt i (vip-span-word m (a .address) i (b .pre .0) (c .before .before .vram-index .ensures .0 (c .before .if1 .taken))));
+      means = c .word-at .ensures ∙ sym (span-word m (a .address) vramAt i (vip-span-word m (a .address) i (b .pre .0)
+          (c .before .before .vram-index .ensures .0 (c .before .if1 .taken))));
       fits = omega arith;
     }
 
@@ -41,9 +33,6 @@ register-requires c κs =
     let b = c .before .before .before in
     let o = c .before .vram-index .ensures .1 .1 (c .if1 .left) in
     (region-word-start (b .args .address) ∙ b .pre .0, o .0, o .1, omega arith)
-
-add-register : tie.Need-add-register
-add-register c = search needs
 
 register-requires-2 : tie.Need-register-requires-2
 register-requires-2 c κs =
@@ -62,18 +51,20 @@ returns-2 c =
     let b = c .before .before .before .before .before in
     let a = b .args in
     λ rom wram pak.
-    reads-word (memoryOf rom wram (now (a .vram)) pak (now (a .regs))) (a .address) (c .before .register .result) (c .register2 .result) (c .before .register .ensures rom wram (now (a .vram)) pak) (c .register2 .ensures rom wram (now (a .vram)) pak)
+    reads-word (memoryOf rom wram (now (a .vram)) pak (now (a .regs))) (a .address) (c .before .register .result)
+    (c .register2 .result) (c .before .register .ensures rom wram (now (a .vram)) pak)
+    (c .register2 .ensures rom wram (now (a .vram)) pak)
 
 pub word-spec : {M : Type 1} → statement M
 word-spec =
     tie.close
     (tie.spec
-    sub-a
-    vram-index-requires
-    word-at-requires
+    (λ c. search needs)
+    (λ c κs. search needs)
+    (λ c κs. search needs)
     returns
     register-requires
-    add-register
+    (λ c. search needs)
     register-requires-2
     mul-result
     add-result

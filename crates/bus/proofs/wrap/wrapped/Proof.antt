@@ -8,9 +8,6 @@ use Prim.Native.Nat.{ℕ, _+_, _-_, _*_, _/_, _%_, _<_, _≤_}
 use native.Mathlib.Nat.{mod-lt}
 use Rattle.bus.proofs.Power.{pak-power, power-mask}
 
-sub-result : tie.Need-sub-result
-sub-result c = search needs
-
 returns : tie.Need-returns
 returns c =
     let n = c .args .length in
@@ -19,4 +16,4 @@ returns c =
     (e, subst (λ (k : ℕ). k < n) (sym e) (mod-lt a (c .pre .1)))
 
 pub wrapped-spec : {M : Type 1} → statement M
-wrapped-spec = tie.close (tie.spec sub-result returns)
+wrapped-spec = tie.close (tie.spec (λ c. search needs) returns)

@@ -5,14 +5,8 @@ use borrow.Author.Needs.{needs}
 use Rattle.bus_timer.proofs.ports.control_bits.Statement.{statement}
 use Rattle.bus_timer.proofs.ports.control_bits.Tie as tie
 
-mul-result : tie.Need-mul-result
-mul-result c = search needs
-
-add-result : tie.Need-add-result
-add-result c = search needs
-
 returns : tie.Need-returns
 returns c = sym (control-sum _)
 
 pub control-bits-spec : {M : Type 1} → statement M
-control-bits-spec = tie.close (tie.spec mul-result add-result returns)
+control-bits-spec = tie.close (tie.spec (λ c. search needs) (λ c. search needs) returns)

@@ -5,9 +5,6 @@ use borrow.Author.Needs.{needs}
 use Rattle.bus_timer.proofs.ports.line_after_control.Statement.{statement}
 use Rattle.bus_timer.proofs.ports.line_after_control.Tie as tie
 
-clear-second-requires : tie.Need-clear-second-requires
-clear-second-requires c κs = search needs
-
 returns : tie.Need-returns
 unfolding lineAfterControl
 returns c = rw (c .clear-second .ensures) (simp (eq-eqb _ _ (c .before .if1 .taken)))
@@ -16,13 +13,10 @@ returns-2 : tie.Need-returns-2
 unfolding lineAfterControl
 returns-2 c = simp (ne-eqb _ _ (c .before .if1 .left), eq-eqb _ _ (c .if2 .taken))
 
-clear-second-requires-2 : tie.Need-clear-second-requires-2
-clear-second-requires-2 c κs = search needs
-
 returns-3 : tie.Need-returns-3
 unfolding lineAfterControl
 returns-3 c = rw (c .clear-second2 .ensures) (simp (ne-eqb _ _ (c .before .before .if1 .left), ne-eqb _ _ (c .before .if2 .left)))
 
 pub line-after-control-spec : {M : Type 1} → statement M
 line-after-control-spec =
-    tie.close (tie.spec clear-second-requires returns returns-2 clear-second-requires-2 returns-3)
+    tie.close (tie.spec (λ c κs. search needs) returns returns-2 (λ c κs. search needs) returns-3)

@@ -9,12 +9,9 @@ returns : tie.Need-returns
 unfolding hardwareOk
 returns c = simp (le-ltb _ _ (c .if1 .taken))
 
-control-bits-requires : tie.Need-control-bits-requires
-control-bits-requires c κs = search needs
-
 returns-2 : tie.Need-returns-2
 unfolding hardwareOk
 returns-2 c = rw (c .before .control-bits .ensures) (simp (lt-ltb _ _ (c .before .before .if1 .left)))
 
 pub ok-spec : {M : Type 1} → statement M
-ok-spec = tie.close (tie.spec returns control-bits-requires returns-2)
+ok-spec = tie.close (tie.spec returns (λ c κs. search needs) returns-2)

@@ -9,32 +9,37 @@ use borrow.Author.Needs.{needs}
 use Rattle.bus_timer.proofs.ports.read.Statement.{statement}
 use Rattle.bus_timer.proofs.ports.read.Tie as tie
 
-cast-result : tie.Need-cast-result
-cast-result c = search needs
-
 returns : tie.Need-returns
 unfolding portByteOf
 returns c = (simp (eq-eqb _ _ (c .before .if1 .taken)), omega arith)
 
-cast-result-2 : tie.Need-cast-result-2
-cast-result-2 c = search needs
-
 returns-2 : tie.Need-returns-2
 unfolding portByteOf
-returns-2 c = let h = c .before .before .before .args .h in let small : h .count / 256 < 256 = omega (arith, c .struct-known2 .given) in let same : h .count / 256 ≡ h .count / 256 % 256 = omega arith in (simp (ne-eqb _ _ (c .before .before .if1 .left), eq-eqb _ _ (c .before .if2 .taken)) same, small)
-
-control-bits-requires : tie.Need-control-bits-requires
-control-bits-requires c κs = search needs
+returns-2 c = let h = c .before .before .before .args .h in let small : h .count / 256 < 256 = omega
+    (arith, c .struct-known2 .given) in let same : h .count / 256 ≡ h .count / 256 % 256 = omega arith in (
+      simp
+          (ne-eqb _ _ (c .before .before .if1 .left), eq-eqb _ _ (c .before .if2 .taken)) same,
+      small,
+    )
 
 add-result : tie.Need-add-result
 add-result c = omega (arith, simp control-sum at (c .control-bits .ensures))
 
-cast-result-3 : tie.Need-cast-result-3
-cast-result-3 c = search needs
-
 returns-3 : tie.Need-returns-3
 unfolding portByteOf
-returns-3 c = (rw (c .control-bits .ensures) (simp (ne-eqb _ _ (c .before .before .before .if1 .left), ne-eqb _ _ (c .before .before .if2 .left), eq-eqb _ _ (c .before .if3 .taken))), omega (arith, simp control-sum at (c .control-bits .ensures)))
+returns-3 c = (
+  rw (c .control-bits .ensures) (simp (
+    ne-eqb _ _ (c .before .before .before .if1 .left),
+    ne-eqb _ _
+        (c .before .before .if2 .left),
+    eq-eqb _ _ (c .before .if3 .taken),
+  )),
+  omega (
+    arith,
+    simp control-sum at
+        (c .control-bits .ensures),
+  ),
+)
 
 returns-4 : tie.Need-returns-4
 unfolding portByteOf
@@ -44,12 +49,12 @@ pub read-spec : {M : Type 1} → statement M
 read-spec =
     tie.close
     (tie.spec
-    cast-result
+    (λ c. search needs)
     returns
-    cast-result-2
+    (λ c. search needs)
     returns-2
-    control-bits-requires
+    (λ c κs. search needs)
     add-result
-    cast-result-3
+    (λ c. search needs)
     returns-3
     returns-4)

@@ -12,26 +12,18 @@ returns : tie.Need-returns
 unfolding tickOf
 returns c = let h = c .before .before .args .h in let off : h .control / 1 % 2 ≡ 1 → ⊥ = λ e. omega (arith, e, c .if1 .taken) in simp (ne-eqb _ _ off)
 
-start-requires : tie.Need-start-requires
-start-requires c κs = search needs
-
-reached-zero-requires : tie.Need-reached-zero-requires
-reached-zero-requires c κs = search needs
-
 returns-2 : tie.Need-returns-2
 unfolding tickOf countedOf tickedCountOf
-returns-2 c = let h = c .before .before .before .before .before .args .h in let on : h .control / 1 % 2 ≡ 1 = omega arith in let zero : startOf h - 1 ≡ 0 = omega (arith, c .before .before .start .ensures) in rw (c .reached-zero .ensures) (simp (eq-eqb _ _ on, eq-eqb _ _ zero))
-
-sub-with-count : tie.Need-sub-with-count
-sub-with-count c = search needs
-
-with-count-requires : tie.Need-with-count-requires
-with-count-requires c κs = search needs
+returns-2 c = let h = c .before .before .before .before .before .args .h in let on : h .control / 1 % 2 ≡ 1 = omega
+    arith in let zero : startOf h - 1 ≡ 0 = omega (arith, c .before .before .start .ensures) in rw
+    (c .reached-zero .ensures) (simp (eq-eqb _ _ on, eq-eqb _ _ zero))
 
 returns-3 : tie.Need-returns-3
 unfolding tickOf countedOf tickedCountOf
-returns-3 c = let h = c .before .before .before .before .before .args .h in let on : h .control / 1 % 2 ≡ 1 = omega arith in let more : startOf h - 1 ≡ 0 → ⊥ = λ e. omega (arith, e, c .before .before .start .ensures) in rw (c .with-count .ensures, c .before .before .start .ensures) (simp (eq-eqb _ _ on, ne-eqb _ _ more))
+returns-3 c = let h = c .before .before .before .before .before .args .h in let on : h .control / 1 % 2 ≡ 1 = omega
+    arith in let more : startOf h - 1 ≡ 0 → ⊥ = λ e. omega (arith, e, c .before .before .start .ensures) in rw
+    (c .with-count .ensures, c .before .before .start .ensures) (simp (eq-eqb _ _ on, ne-eqb _ _ more))
 
 pub tick-spec : {M : Type 1} → statement M
 tick-spec =
-    tie.close (tie.spec returns start-requires reached-zero-requires returns-2 sub-with-count with-count-requires returns-3)
+    tie.close (tie.spec returns (λ c κs. search needs) (λ c κs. search needs) returns-2 (λ c. search needs) (λ c κs. search needs) returns-3)

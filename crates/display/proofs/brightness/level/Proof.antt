@@ -5,23 +5,11 @@ use Rattle.display.proofs.Levels.{light-small, level-full, level-less}
 use Rattle.display.proofs.brightness.level.Statement.{statement}
 use Rattle.display.proofs.brightness.level.Tie as tie
 
-time-requires : tie.Need-time-requires
-time-requires c κs = search needs
-
-wide-requires : tie.Need-wide-requires
-wide-requires c κs = search needs
-
-add-light : tie.Need-add-light
-add-light c = search needs
-
 mul-light : tie.Need-mul-light
 mul-light c = record { fits = omega (arith, light-small _ _ (c .before .time .ensures .1) (c .wide .ensures .1)) }
 
 returns : tie.Need-returns
 returns c = level-full _ _ _ _ _ (c .before .before .time .ensures .0) (c .before .wide .ensures .0) (c .if1 .taken)
-
-cast-result : tie.Need-cast-result
-cast-result c = search needs
 
 returns-2 : tie.Need-returns-2
 returns-2 c = level-less _ _ _ _ _ (c .before .before .time .ensures .0) (c .before .wide .ensures .0) (omega arith)
@@ -29,4 +17,4 @@ returns-2 c = level-less _ _ _ _ _ (c .before .before .time .ensures .0) (c .bef
 pub level-spec : {M : Type 1} → statement M
 level-spec =
     tie.close
-    (tie.spec time-requires wide-requires add-light mul-light returns cast-result returns-2)
+    (tie.spec (λ c κs. search needs) (λ c κs. search needs) (λ c. search needs) mul-light returns (λ c. search needs) returns-2)

@@ -5,24 +5,12 @@ use Rattle.display.proofs.Loading.{byte-low, byte-high}
 use Rattle.display.proofs.column_table.byte.Statement.{statement}
 use Rattle.display.proofs.column_table.byte.Tie as tie
 
-entry-requires : tie.Need-entry-requires
-entry-requires c κs = search needs
-
-wide-requires : tie.Need-wide-requires
-wide-requires c κs = search needs
-
-cast-result : tie.Need-cast-result
-cast-result c = search needs
-
 returns : tie.Need-returns
 returns c = byte-low _ _ _ _ (c .before .before .entry .ensures) (c .before .wide .ensures .0) (c .if1 .taken)
-
-cast-result-2 : tie.Need-cast-result-2
-cast-result-2 c = search needs
 
 returns-2 : tie.Need-returns-2
 returns-2 c = byte-high _ _ _ _ (c .before .before .entry .ensures) (c .before .wide .ensures .0) (omega arith)
 
 pub byte-spec : {M : Type 1} → statement M
 byte-spec =
-    tie.close (tie.spec entry-requires wide-requires cast-result returns cast-result-2 returns-2)
+    tie.close (tie.spec (λ c κs. search needs) (λ c κs. search needs) (λ c. search needs) returns (λ c. search needs) returns-2)

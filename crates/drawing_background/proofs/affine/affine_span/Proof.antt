@@ -18,8 +18,11 @@ Inv-loop vram registers w buffer₀ run course mask maps last₀ px₀ py₀ x�
     × ((x ≤ run .to)
     × ((CellAt vram registers w (last .u) (last .v) (last .cell) (last .palette) (last .character)
     × Inked (run .row) (last .cell) (last .palette) (last .across) (last .down) (last .inks))
-    × (Span (run .row) (run .from) x (λ y. sourcePixelOf vram registers w (affineFloorOf (course .mx) (course .dx) (course .n + (y - run .from))) (affineFloorOf (course .my) (course .dy) (course .n + (y - run .from)))) buffer₀ buffer
-    × ((px ≡ affineSumOf (course .mx) (course .dx) (course .n + (x - run .from))) × (py ≡ affineSumOf (course .my) (course .dy) (course .n + (x - run .from)))))))
+    × (Span (run .row) (run .from) x (λ y. sourcePixelOf vram registers w (affineFloorOf (course .mx) (course .dx)
+    (course .n + (y - run .from))) (affineFloorOf (course .my) (course .dy) (course .n +
+    (y - run .from)))) buffer₀ buffer
+    × ((px ≡ affineSumOf (course .mx) (course .dx) (course .n + (x - run .from))) × (py ≡ affineSumOf (course .my)
+    (course .dy) (course .n + (x - run .from)))))))
 
 abbrev μ-loop : tie.MeasureT-loop
 μ-loop vram registers w buffer₀ run course mask maps last₀ px₀ py₀ x₀ buffer last px py x = run .to - x
@@ -34,25 +37,63 @@ read-requires : tie.Need-read-requires Inv-loop μ-loop
 read-requires c κs = let pre = c .before .before .before .pre in (pre .1 .0, (pre .1 .1 .1 .1 .0, c .maps-of .ensures))
 
 affine-sum-requires : tie.Need-affine-sum-requires Inv-loop μ-loop
-affine-sum-requires c κs = let pre = c .before .before .before .before .pre in (pre .1 .1 .1 .1 .1 .0, (pre .1 .1 .1 .1 .1 .1 .1 .0, omega (arith, pre .1 .1 .1 .1 .1 .1 .1 .1 .1)))
+affine-sum-requires c κs = let pre = c .before .before .before .before .pre in (
+  pre .1 .1 .1 .1 .1 .0,
+  (pre .1 .1 .1 .1 .1 .1 .1 .0, omega (arith, pre .1 .1 .1 .1 .1 .1 .1 .1 .1)),
+)
 
 affine-sum-requires-2 : tie.Need-affine-sum-requires-2 Inv-loop μ-loop
-affine-sum-requires-2 c κs = let pre = c .before .before .before .before .before .pre in (pre .1 .1 .1 .1 .1 .1 .0, (pre .1 .1 .1 .1 .1 .1 .1 .1 .0, omega (arith, pre .1 .1 .1 .1 .1 .1 .1 .1 .1)))
+affine-sum-requires-2 c κs = let pre = c .before .before .before .before .before .pre in (
+  pre .1 .1 .1 .1 .1 .1 .0,
+  (pre .1 .1 .1 .1 .1 .1 .1 .1 .0, omega (arith, pre .1 .1 .1 .1 .1 .1 .1 .1 .1)),
+)
 
 loop-holds : tie.Need-loop-holds Inv-loop μ-loop
 loop-holds c =
     let a = c .before .before .before .before .before .before .args in
-    let e : a .course .n + (a .run .from - a .run .from) ≡ a .course .n = omega arith in
-    (omega arith, (omega arith, (c .before .before .read .ensures .1 .1, (span-none _ _ _ _, (rw e (c .before .affine-sum .ensures), rw e (c .affine-sum2 .ensures))))))
+    let e : a .course .n + (a .run .from - a .run .from) ≡ a .course .n = omega arith in (
+      omega arith,
+      (
+        omega arith,
+        (
+          c .before .before .read .ensures .1 .1,
+          (
+            span-none _ _ _ _,
+            (
+              rw e
+                  (c .before .affine-sum .ensures),
+              rw e (c .affine-sum2 .ensures),
+            ),
+          ),
+        ),
+      ),
+    )
 
 held-requires : tie.Need-held-requires Inv-loop μ-loop
-held-requires c κs = let pre = c .before .before .before .before .before .before .before .before .before .pre in (pre .1 .0, (pre .1 .1 .1 .1 .0, (c .before .before .before .before .before .before .maps-of .ensures, c .before .before .loop .inv .1 .1 .0)))
+held-requires c κs = let pre = c .before .before .before .before .before .before .before .before .before .pre in (
+  pre .1 .0,
+  (
+    pre .1 .1 .1 .1 .0,
+    (
+      c .before .before .before .before .before .before .maps-of .ensures,
+      c .before
+          .before .loop .inv .1 .1 .0,
+    ),
+  ),
+)
 
 mul-cell-shaded : tie.Need-mul-cell-shaded Inv-loop μ-loop
 mul-cell-shaded c = omega (arith, c .before .before .before .before .before .before .before .before .before .before .pre .1 .1 .1 .0, c .before .if1 .taken)
 
 element-copy-out-cell-shaded : tie.Need-element-copy-out-cell-shaded Inv-loop μ-loop
-element-copy-out-cell-shaded c = omega (arith, c .before .before .before .before .before .before .before .before .before .before .pre .0, c .before .before .before .before .before .before .before .before .before .before .pre .1 .1 .1 .0, c .before .if1 .taken, c .before .before .before .loop .inv .1 .1 .1 .0 .size)
+element-copy-out-cell-shaded c = omega (
+  arith,
+  c .before .before .before .before .before .before .before .before .before
+      .before .pre .0,
+  c .before .before .before .before .before .before .before .before .before .before .pre .1 .1 .1 .0,
+  c .before .if1 .taken,
+  c .before .before .before .loop .inv .1 .1 .1 .0 .size,
+)
 
 cell-shaded-requires : tie.Need-cell-shaded-requires Inv-loop μ-loop
 cell-shaded-requires c κs =
@@ -73,7 +114,14 @@ affine-on-requires c κs =
     let l = c .before .before .before .before .before .loop in
     let k = a .course .n + (l .x - a .run .from) in
     let h : k < 65536 = omega (arith, pre .1 .1 .1 .1 .1 .1 .1 .1 .1, pre .1 .1 .1 .0, l .inv .1 .0) in
-    rw (l .inv .1 .1 .1 .1 .0) (sum-least (a .course .mx) (a .course .dx) k h, (sum-most (a .course .mx) (a .course .dx) k (pre .1 .1 .1 .1 .1 .0) (pre .1 .1 .1 .1 .1 .1 .1 .0) h, pre .1 .1 .1 .1 .1 .1 .1 .0))
+    rw (l .inv .1 .1 .1 .1 .0) (
+      sum-least (a .course .mx) (a .course .dx) k h,
+      (
+        sum-most (a .course .mx)
+            (a .course .dx) k (pre .1 .1 .1 .1 .1 .0) (pre .1 .1 .1 .1 .1 .1 .1 .0) h,
+        pre .1 .1 .1 .1 .1 .1 .1 .0,
+      ),
+    )
 
 affine-on-requires-2 : tie.Need-affine-on-requires-2 Inv-loop μ-loop
 affine-on-requires-2 c κs =
@@ -82,7 +130,15 @@ affine-on-requires-2 c κs =
     let l = c .before .before .before .before .before .before .loop in
     let k = a .course .n + (l .x - a .run .from) in
     let h : k < 65536 = omega (arith, pre .1 .1 .1 .1 .1 .1 .1 .1 .1, pre .1 .1 .1 .0, l .inv .1 .0) in
-    rw (l .inv .1 .1 .1 .1 .1) (sum-least (a .course .my) (a .course .dy) k h, (sum-most (a .course .my) (a .course .dy) k (pre .1 .1 .1 .1 .1 .1 .0) (pre .1 .1 .1 .1 .1 .1 .1 .1 .0) h, pre .1 .1 .1 .1 .1 .1 .1 .1 .0))
+    rw (l .inv .1 .1 .1 .1 .1) (
+      sum-least (a .course .my) (a .course .dy) k h,
+      (
+        sum-most (a .course .my)
+            (a .course .dy) k (pre .1 .1 .1 .1 .1 .1 .0)
+            (pre .1 .1 .1 .1 .1 .1 .1 .1 .0) h,
+        pre .1 .1 .1 .1 .1 .1 .1 .1 .0,
+      ),
+    )
 
 add-x : tie.Need-add-x Inv-loop μ-loop
 add-x c = omega arith
@@ -102,8 +158,10 @@ loop-again c =
     let next : a .course .n + (l .x + 1 - a .run .from) ≡ k + 1 = omega (arith, inv .0) in
     let fx : l .px / 512 ≡ affineFloorOf (a .course .mx) (a .course .dx) k = floor-sum (a .course .mx) (a .course .dx) k (l .px) (inv .1 .1 .1 .1 .0) in
     let fy : l .py / 512 ≡ affineFloorOf (a .course .my) (a .course .dy) k = floor-sum (a .course .my) (a .course .dy) k (l .py) (inv .1 .1 .1 .1 .1) in
-    let e : c .before .before .cell-shaded .result ≡ repaintedOf (a .run .row) (sourcePixelOf (a .vram .now) (a .registers .now) (a .w .now) (l .px / 512) (l .py / 512)) (getD (l .buffer) (l .x) 0) =
-    c .before .before .cell-shaded .ensures ∙ source-repainted (a .vram .now) (a .registers .now) (a .w .now) (a .run .row) _ _ _ _ _ _ _ _ (h .0) (h .1 .0) (h .1 .1 .0)
+    let e : c .before .before .cell-shaded .result ≡ repaintedOf (a .run .row) (sourcePixelOf (a .vram .now)
+    (a .registers .now) (a .w .now) (l .px / 512) (l .py / 512)) (getD (l .buffer) (l .x) 0) =
+    c .before .before .cell-shaded .ensures ∙ source-repainted (a .vram .now) (a .registers .now) (a .w .now)
+    (a .run .row) _ _ _ _ _ _ _ _ (h .0) (h .1 .0) (h .1 .1 .0)
     in (
       omega arith,
       (

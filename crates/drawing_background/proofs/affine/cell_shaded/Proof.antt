@@ -16,65 +16,63 @@ turned-requires : tie.Need-turned-requires
 turned-requires c κs =
     (omega arith, rw (c .before .pre .1 .1 .1 .1 .turned) (bits-small (bitSet 12 (c .before .args .c .cell))))
 
-mul-half : tie.Need-mul-half
-mul-half c = search needs
-
-add-half : tie.Need-add-half
-add-half c = search needs
-
-half-requires : tie.Need-half-requires
-half-requires c κs = search needs
-
-wide-requires : tie.Need-wide-requires
-wide-requires c κs = search needs
-
 turned-requires-2 : tie.Need-turned-requires-2
-turned-requires-2 c κs =
-    (omega arith, rw (c .before .before .before .before .before .pre .1 .1 .1 .1 .mirrored) (bits-small (bitSet 13 (c .before .before .before .before .before .args .c .cell))))
-
-pair-requires : tie.Need-pair-requires
-pair-requires c κs = search needs
-
-ink-requires : tie.Need-ink-requires
-ink-requires c κs = search needs
+turned-requires-2 c κs = (
+  omega arith,
+  rw (c .before .before .before .before .before .pre .1 .1 .1 .1 .mirrored) (bits-small (bitSet 13
+      (c .before .before .before .before .before .args .c .cell))),
+)
 
 sub-result : tie.Need-sub-result
 sub-result c = and-le-l _ _
-
-ink-requires-2 : tie.Need-ink-requires-2
-ink-requires-2 c κs = search needs
 
 returns : tie.Need-returns
 returns c =
     let a = c .before .before .before .before .before .before .before .before .before .args in
     let pre = c .before .before .before .before .before .before .before .before .before .pre in
-    let value : c .before .before .pair .result ≡ pixelValueOf (a .c .cell) (halfAt (a .vram .now) (a .c .character + 2 * flippedOf (bitSet 12 (a .c .cell)) (a .sy % 8))) (a .sx % 8) =
+    let value : c .before .before .pair .result ≡ pixelValueOf (a .c .cell) (halfAt (a .vram .now)
+    (a .c .character + 2 * flippedOf (bitSet 12 (a .c .cell)) (a .sy % 8))) (a .sx % 8) =
     c .before .before .pair .ensures .0
-    ∙ rw (c .before .before .before .turned2 .ensures .1 (bitSet 13 (a .c .cell)) (pre .1 .1 .1 .1 .mirrored), c .before .before .before .before .wide .ensures .0, c .before .before .before .before .before .half .ensures, c .before .before .before .before .before .before .before .turned .ensures .1 (bitSet 12 (a .c .cell)) (pre .1 .1 .1 .1 .turned))
+    ∙ rw (
+      c .before .before .before .turned2 .ensures .1 (bitSet 13 (a .c .cell))
+          (pre .1 .1 .1 .1 .mirrored),
+      c .before .before .before .before .wide .ensures .0,
+      c .before .before .before
+          .before .before .half .ensures,
+      c .before .before .before .before .before .before .before .turned .ensures .1
+          (bitSet 12 (a .c .cell)) (pre .1 .1 .1 .1 .turned),
+    )
     (value-turned (a .c .cell) _ (a .sx % 8))
     in
     rw (← value)
-    (inked-of (a .h) (a .r) (a .c .palette) (c .before .before .pair .result) (a .mask) (a .c .inks) _ _ (pre .1 .0) (c .before .before .pair .ensures .1) (pre .1 .1 .0) (pre .1 .1 .1 .1 .shades) (c .before .ink .ensures) (c .ink2 .ensures))
+    (inked-of (a .h) (a .r) (a .c .palette) (c .before .before .pair .result) (a .mask) (a .c .inks) _ _ (pre .1 .0)
+    (c .before .before .pair .ensures .1) (pre .1 .1 .0) (pre .1 .1 .1 .1 .shades) (c .before .ink .ensures)
+    (c .ink2 .ensures))
 
 add-result : tie.Need-add-result
 add-result c =
     let a = c .before .before .before .before .before .before .before .before .before .args in
     let pre = c .before .before .before .before .before .before .before .before .before .pre in
-    omega (arith, inked-fits (a .h) (a .r) (a .c .palette) (c .before .before .pair .result) (a .mask) (a .c .inks) _ _ (pre .1 .0) (c .before .before .pair .ensures .1) (pre .1 .1 .0) (pre .1 .1 .1 .1 .shades) (c .before .ink .ensures) (c .ink2 .ensures) (search needs))
+    omega (
+      arith,
+      inked-fits (a .h) (a .r) (a .c .palette) (c .before .before .pair .result) (a .mask) (a .c .inks) _ _
+          (pre .1 .0) (c .before .before .pair .ensures .1) (pre .1 .1 .0) (pre .1 .1 .1 .1 .shades)
+          (c .before .ink .ensures) (c .ink2 .ensures) (search needs),
+    )
 
 pub cell-shaded-spec : {M : Type 1} → statement M
 cell-shaded-spec =
     tie.close
     (tie.spec
     turned-requires
-    mul-half
-    add-half
-    half-requires
-    wide-requires
+    (λ c. search needs)
+    (λ c. search needs)
+    (λ c κs. search needs)
+    (λ c κs. search needs)
     turned-requires-2
-    pair-requires
-    ink-requires
+    (λ c κs. search needs)
+    (λ c κs. search needs)
     sub-result
-    ink-requires-2
+    (λ c κs. search needs)
     add-result
     returns)

@@ -8,16 +8,11 @@ use mathlib.Core.Path.{_∙_}
 use Rattle.drawing_pixel.proofs.Spans.{span-change}
 use Rattle.drawing_background.proofs.Sources.{level-low, level-pixel, level-steps}
 
-affine-floor-requires : tie.Need-affine-floor-requires
-affine-floor-requires c κs = search needs
-
-affine-floor-requires-2 : tie.Need-affine-floor-requires-2
-affine-floor-requires-2 c κs = search needs
-
 plain-span-requires : tie.Need-plain-span-requires
 plain-span-requires c κs =
     let pre = c .before .before .before .before .pre in
-    let low : c .before .before .affine-floor .result < 33554432 = rw (c .before .before .affine-floor .ensures) (level-low _ _ (pre .1 .1 .1 .1 .1 .0) (omega arith)) in
+    let low : c .before .before .affine-floor .result < 33554432 = rw (c .before .before .affine-floor .ensures)
+    (level-low _ _ (pre .1 .1 .1 .1 .1 .0) (omega arith)) in
     omega (arith, low)
 
 returns : tie.Need-returns
@@ -27,9 +22,10 @@ returns c =
     (λ x v l h. level-pixel (a .vram .now) (a .registers .now) (a .w .now) (a .course .mx) (a .course .my) (a .course .n) (x - a .run .from) _ _ v
     (c .before .before .before .affine-floor .ensures)
     (c .before .before .affine-floor2 .ensures)
-    ∙ level-steps (a .vram .now) (a .registers .now) (a .w .now) (a .course .mx) (a .course .my) (a .course .dx) (a .course .dy) (a .course .n + (x - a .run .from)) v
+    ∙ level-steps (a .vram .now) (a .registers .now) (a .w .now) (a .course .mx) (a .course .my) (a .course .dx)
+    (a .course .dy) (a .course .n + (x - a .run .from)) v
     (c .before .before .before .before .before .pre .1 .1 .1 .1 .1 .1 .1 .0) (c .before .before .before .before .before .pre .1 .1 .1 .1 .1 .1 .1 .1 .0))
     (c .plain-span .ensures)
 
 pub level-span-spec : {M : Type 1} → statement M
-level-span-spec = tie.close (tie.spec affine-floor-requires affine-floor-requires-2 plain-span-requires returns)
+level-span-spec = tie.close (tie.spec (λ c κs. search needs) (λ c κs. search needs) plain-span-requires returns)

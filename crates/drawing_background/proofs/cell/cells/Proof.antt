@@ -5,11 +5,8 @@ use Rattle.drawing_background.proofs.cell.cells.Tie as tie
 use native.Mathlib.Omega.{arith}
 use Rattle.drawing_background.proofs.Powers.{shifted-cells, cells-le}
 
-shl-result : tie.Need-shl-result
-shl-result c = search needs
-
 returns : tie.Need-returns
 returns c = (shifted-cells (c .args .sc) (omega arith), rw (shifted-cells (c .args .sc) (omega arith)) (cells-le (c .args .sc) (c .pre)))
 
 pub cells-spec : {M : Type 1} → statement M
-cells-spec = tie.close (tie.spec shl-result returns)
+cells-spec = tie.close (tie.spec (λ c. search needs) returns)

@@ -5,63 +5,48 @@ use Rattle.drawing_background.proofs.paint.cell_block.Tie as tie
 use native.Mathlib.Omega.{arith}
 use Rattle.drawing_background.proofs.Sources.{block-of-whole, block-of-part}
 
-cell-address-requires : tie.Need-cell-address-requires
-cell-address-requires c κs = search needs
-
-half-requires : tie.Need-half-requires
-half-requires c κs = search needs
-
-wide-requires : tie.Need-wide-requires
-wide-requires c κs = search needs
-
-add-wide : tie.Need-add-wide
-add-wide c = search needs
-
-mul-wide : tie.Need-mul-wide
-mul-wide c = search needs
-
-element-copy-out-wide : tie.Need-element-copy-out-wide
-element-copy-out-wide c = search needs
-
-wide-requires-2 : tie.Need-wide-requires-2
-wide-requires-2 c κs = search needs
-
-add-if1 : tie.Need-add-if1
-add-if1 c = search needs
-
-whole-rows-requires : tie.Need-whole-rows-requires
-whole-rows-requires c κs = search needs
-
 returns : tie.Need-returns
 returns c =
     let a = c .before .before .before .before .before .before .before .before .before .before .before .before .before .before .args in
-    block-of-whole (a .vram .now) (a .registers .now) (a .w .now) (a .area .top) (a .area .bottom) (a .area .from) (a .area .to) (a .source .x) (a .source .y) _ _ _ _ _ _
-    (c .before .before .before .before .before .before .before .before .wide .ensures .0) (c .before .before .before .before .before .before .before .before .before .half .ensures) (c .before .before .before .before .before .before .before .before .before .before .cell-address .ensures .0) (c .before .before .before .before .before .before .wide2 .ensures .0) (c .before .before .before .before .before .before .before .before .before .before .before .before .before .before .pre .1 .1 .1 .1 .1 .1 .0) (c .before .before .before .before .before .before .before .before .before .before .before .before .before .before .pre .1 .1 .1 .1 .1 .1 .1)
+    block-of-whole (a .vram .now) (a .registers .now) (a .w .now) (a .area .top) (a .area .bottom) (a .area .from)
+    (a .area .to) (a .source .x) (a .source .y) _ _ _ _ _ _
+    (c .before .before .before .before .before .before .before .before .wide .ensures .0)
+    (c .before .before .before .before .before .before .before .before .before .half .ensures)
+    (c .before .before .before .before .before .before .before .before .before .before .cell-address .ensures .0)
+    (c .before .before .before .before .before .before .wide2 .ensures .0)
+    (c .before .before .before .before .before .before .before .before .before .before .before .before .before
+    .before .pre .1 .1 .1 .1 .1 .1 .0) (c .before .before .before .before .before .before .before .before .before
+    .before .before .before .before .before .pre .1 .1 .1 .1 .1 .1 .1)
     (c .before .before .before .if1 .taken) (c .whole-rows .ensures)
-
-part-rows-requires : tie.Need-part-rows-requires
-part-rows-requires c κs = search needs
 
 returns-2 : tie.Need-returns-2
 returns-2 c =
     let a = c .before .before .before .before .before .before .before .before .before .before .before .before .before .before .before .args in
-    block-of-part (a .vram .now) (a .registers .now) (a .w .now) (a .area .top) (a .area .bottom) (a .area .from) (a .area .to) (a .source .x) (a .source .y) _ _ _ _ _ _
-    (c .before .before .before .before .before .before .before .before .before .wide .ensures .0) (c .before .before .before .before .before .before .before .before .before .before .half .ensures) (c .before .before .before .before .before .before .before .before .before .before .before .cell-address .ensures .0) (c .before .before .before .before .before .before .before .wide2 .ensures .0) (c .before .before .before .before .before .before .before .before .before .before .before .before .before .before .before .pre .1 .1 .1 .1 .1 .1 .0) (c .before .before .before .before .before .before .before .before .before .before .before .before .before .before .before .pre .1 .1 .1 .1 .1 .1 .1)
+    block-of-part (a .vram .now) (a .registers .now) (a .w .now) (a .area .top) (a .area .bottom) (a .area .from)
+    (a .area .to) (a .source .x) (a .source .y) _ _ _ _ _ _
+    (c .before .before .before .before .before .before .before .before .before .wide .ensures .0)
+    (c .before .before .before .before .before .before .before .before .before .before .half .ensures)
+    (c .before .before .before .before .before .before .before .before .before .before .before .cell-address
+    .ensures .0) (c .before .before .before .before .before .before .before .wide2 .ensures .0)
+    (c .before .before .before .before .before .before .before .before .before .before .before .before .before
+    .before .before .pre .1 .1 .1 .1 .1 .1 .0)
+    (c .before .before .before .before .before .before .before .before .before .before .before .before .before
+    .before .before .pre .1 .1 .1 .1 .1 .1 .1)
     (c .part-rows .ensures)
 
 pub cell-block-spec : {M : Type 1} → statement M
 cell-block-spec =
     tie.close
     (tie.spec
-    cell-address-requires
-    half-requires
-    wide-requires
-    add-wide
-    mul-wide
-    element-copy-out-wide
-    wide-requires-2
-    add-if1
-    whole-rows-requires
+    (λ c κs. search needs)
+    (λ c κs. search needs)
+    (λ c κs. search needs)
+    (λ c. search needs)
+    (λ c. search needs)
+    (λ c. search needs)
+    (λ c κs. search needs)
+    (λ c. search needs)
+    (λ c κs. search needs)
     returns
-    part-rows-requires
+    (λ c κs. search needs)
     returns-2)

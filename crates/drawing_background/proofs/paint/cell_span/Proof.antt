@@ -7,12 +7,6 @@ use Prim.Native.Nat.{_-_}
 use Rattle.drawing_pixel.proofs.Spans.{span-change}
 use Rattle.drawing_background.proofs.Sources.{source-pixel-along}
 
-fetch-requires : tie.Need-fetch-requires
-fetch-requires c κs = search needs
-
-span-requires : tie.Need-span-requires
-span-requires c κs = search needs
-
 returns : tie.Need-returns
 returns c = let f = c .before .before .before .fetch .ensures in
     span-change _ _ _ _ _ _ _
@@ -20,4 +14,4 @@ returns c = let f = c .before .before .before .fetch .ensures in
     (c .span .ensures)
 
 pub cell-span-spec : {M : Type 1} → statement M
-cell-span-spec = tie.close (tie.spec fetch-requires span-requires returns)
+cell-span-spec = tie.close (tie.spec (λ c κs. search needs) (λ c κs. search needs) returns)

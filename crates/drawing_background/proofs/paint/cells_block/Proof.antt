@@ -12,7 +12,8 @@ use Rattle.drawing_pixel.proofs.Blocks.{block-no-column, block-beside, block-ch
 abbrev Inv-loop : tie.InvT-loop
 Inv-loop vram registers w buffer₀ area source x₀ buffer x =
     (area .from ≤ x)
-    × ((x ≤ area .to) × Block (area .top) (area .bottom) (area .from) x (λ z r. sourcePixelOf vram registers w (source .x + (z - area .from)) (source .y + (r - area .top))) buffer₀ buffer)
+    × ((x ≤ area .to) × Block (area .top) (area .bottom) (area .from) x (λ z r. sourcePixelOf vram registers w
+    (source .x + (z - area .from)) (source .y + (r - area .top))) buffer₀ buffer)
 
 abbrev μ-loop : tie.MeasureT-loop
 μ-loop vram registers w buffer₀ area source x₀ buffer x = area .to - x

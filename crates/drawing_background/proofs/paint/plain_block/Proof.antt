@@ -8,29 +8,8 @@ use mathlib.Core.Path.{_≡_, ap}
 use Rattle.drawing_pixel.specs.Background.{sourcePixelOf}
 use Rattle.drawing_pixel.proofs.Blocks.{block-under, block-change}
 
-sub-least : tie.Need-sub-least
-sub-least c = search needs
-
-add-least : tie.Need-add-least
-add-least c = search needs
-
-least-requires : tie.Need-least-requires
-least-requires c κs = search needs
-
-cells-block-requires : tie.Need-cells-block-requires
-cells-block-requires c κs = search needs
-
 returns : tie.Need-returns
 returns c = rw (c .if1 .taken) at (c .before .before .cells-block .ensures)
-
-sub-y : tie.Need-sub-y
-sub-y c = search needs
-
-add-y : tie.Need-add-y
-add-y c = search needs
-
-cells-block-requires-2 : tie.Need-cells-block-requires-2
-cells-block-requires-2 c κs = search needs
 
 returns-2 : tie.Need-returns-2
 returns-2 c =
@@ -38,7 +17,9 @@ returns-2 c =
     let mid = c .before .before .before .before .before .before .before .before .least .result in
     let pre = c .before .before .before .before .before .before .before .before .before .before .before .before .pre in
     let below = c .before .before .before .before .before .before .before .before .least .ensures in
-    block-under _ mid _ _ _ _ _ _ _ (omega (arith, pre .1 .1 .1 .1 .0, below)) (omega (arith, pre .1 .1 .1 .1 .0, below)) (omega (arith, pre .1 .1 .1 .1 .1 .0)) (c .before .before .before .before .before .before .cells-block .ensures)
+    block-under _ mid _ _ _ _ _ _ _ (omega (arith, pre .1 .1 .1 .1 .0, below)) (omega
+    (arith, pre .1 .1 .1 .1 .0, below)) (omega (arith, pre .1 .1 .1 .1 .1 .0))
+    (c .before .before .before .before .before .before .cells-block .ensures)
     (block-change _ _ _ _ _ _ _ _
     (λ x r v l h t u.
     let e : a .source .y + (mid - a .area .top) + (r - mid) ≡ a .source .y + (r - a .area .top) = omega (arith, t, pre .1 .1 .1 .1 .0, below) in
@@ -49,12 +30,12 @@ pub plain-block-spec : {M : Type 1} → statement M
 plain-block-spec =
     tie.close
     (tie.spec
-    sub-least
-    add-least
-    least-requires
-    cells-block-requires
+    (λ c. search needs)
+    (λ c. search needs)
+    (λ c κs. search needs)
+    (λ c κs. search needs)
     returns
-    sub-y
-    add-y
-    cells-block-requires-2
+    (λ c. search needs)
+    (λ c. search needs)
+    (λ c κs. search needs)
     returns-2)

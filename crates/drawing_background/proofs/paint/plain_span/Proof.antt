@@ -10,7 +10,8 @@ use Rattle.drawing_pixel.proofs.Spans.{span-none, span-join, span-change}
 use borrow.Author.Needs.{needs}
 
 abbrev Inv-loop : tie.InvT-loop
-Inv-loop vram registers w buffer₀ run source x₀ buffer x = (run .from ≤ x) × ((x ≤ run .to) × Span (run .row) (run .from) x (λ y. sourcePixelOf vram registers w (source .x + (y - run .from)) (source .y)) buffer₀ buffer)
+Inv-loop vram registers w buffer₀ run source x₀ buffer x = (run .from ≤ x) × ((x ≤ run .to) × Span (run .row)
+    (run .from) x (λ y. sourcePixelOf vram registers w (source .x + (y - run .from)) (source .y)) buffer₀ buffer)
 
 abbrev μ-loop : tie.MeasureT-loop
 μ-loop vram registers w buffer₀ run source x₀ buffer x = run .to - x

@@ -6,9 +6,6 @@ use native.Mathlib.Omega.{arith}
 use borrow.Author.Tests.{eq-eqb, ne-eqb}
 use Rattle.drawing_pixel.specs.Background.{affineShiftOf}
 
-sub-result : tie.Need-sub-result
-sub-result c = search needs
-
 returns : tie.Need-returns
 unfolding affineShiftOf
 returns c = (simp (eq-eqb _ _ (c .before .if1 .taken)), omega arith)
@@ -26,4 +23,4 @@ unfolding affineShiftOf
 returns-4 c = (simp (ne-eqb _ _ (c .before .if1 .left)), omega arith)
 
 pub affine-shift-spec : {M : Type 1} → statement M
-affine-shift-spec = tie.close (tie.spec sub-result returns returns-2 returns-3 returns-4)
+affine-shift-spec = tie.close (tie.spec (λ c. search needs) returns returns-2 returns-3 returns-4)

@@ -7,9 +7,6 @@ use mathlib.Core.Path.{refl}
 use Rattle.drawing_background.specs.Row.{affineSumOf}
 use Rattle.drawing_background.proofs.Powers.{product-lt}
 
-mul-result : tie.Need-mul-result
-mul-result c = search needs
-
 mul-result-2 : tie.Need-mul-result-2
 mul-result-2 c = omega (arith, product-lt (c .args .d) (c .args .n) (c .pre .1 .0) (c .pre .1 .1))
 
@@ -19,12 +16,6 @@ add-result c = omega (arith, product-lt (c .args .d) (c .args .n) (c .pre .1 .0)
 add-result-2 : tie.Need-add-result-2
 add-result-2 c = omega (arith, product-lt (c .args .d) (c .args .n) (c .pre .1 .0) (c .pre .1 .1))
 
-mul-result-3 : tie.Need-mul-result-3
-mul-result-3 c = search needs
-
-sub-result : tie.Need-sub-result
-sub-result c = search needs
-
 returns : tie.Need-returns
 unfolding affineSumOf
 returns c = refl
@@ -32,4 +23,4 @@ returns c = refl
 pub affine-sum-spec : {M : Type 1} → statement M
 affine-sum-spec =
     tie.close
-    (tie.spec mul-result mul-result-2 add-result add-result-2 mul-result-3 sub-result returns)
+    (tie.spec (λ c. search needs) mul-result-2 add-result add-result-2 (λ c. search needs) (λ c. search needs) returns)

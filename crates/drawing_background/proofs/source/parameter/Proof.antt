@@ -4,15 +4,6 @@ use Rattle.drawing_background.proofs.source.parameter.Statement.{statem
 use Rattle.drawing_background.proofs.source.parameter.Tie as tie
 use Rattle.drawing_pixel.specs.Background.{parameterOf}
 
-parameter-address-requires : tie.Need-parameter-address-requires
-parameter-address-requires c κs = search needs
-
-half-requires : tie.Need-half-requires
-half-requires c κs = search needs
-
-wide-requires : tie.Need-wide-requires
-wide-requires c κs = search needs
-
 returns : tie.Need-returns
 unfolding parameterOf
 returns c = (
@@ -21,4 +12,4 @@ returns c = (
 )
 
 pub parameter-spec : {M : Type 1} → statement M
-parameter-spec = tie.close (tie.spec parameter-address-requires half-requires wide-requires returns)
+parameter-spec = tie.close (tie.spec (λ c κs. search needs) (λ c κs. search needs) (λ c κs. search needs) returns)

@@ -6,30 +6,6 @@ use Prim.Native.Nat.{_-_}
 use Rattle.drawing_pixel.proofs.Spans.{span-change}
 use Rattle.drawing_background.proofs.Modes.{affine-pixel}
 
-affine-parameter-requires : tie.Need-affine-parameter-requires
-affine-parameter-requires c κs = search needs
-
-affine-parameter-requires-2 : tie.Need-affine-parameter-requires-2
-affine-parameter-requires-2 c κs = search needs
-
-affine-parameter-requires-3 : tie.Need-affine-parameter-requires-3
-affine-parameter-requires-3 c κs = search needs
-
-affine-parameter-requires-4 : tie.Need-affine-parameter-requires-4
-affine-parameter-requires-4 c κs = search needs
-
-affine-parameter-requires-5 : tie.Need-affine-parameter-requires-5
-affine-parameter-requires-5 c κs = search needs
-
-affine-shift-requires : tie.Need-affine-shift-requires
-affine-shift-requires c κs = search needs
-
-add-n : tie.Need-add-n
-add-n c = search needs
-
-along-span-requires : tie.Need-along-span-requires
-along-span-requires c κs = search needs
-
 returns : tie.Need-returns
 returns c = let a = c .before .before .before .before .before .before .before .before .before .before .args in
     let pre = c .before .before .before .before .before .before .before .before .before .before .pre in
@@ -48,12 +24,12 @@ pub affine-row-spec : {M : Type 1} → statement M
 affine-row-spec =
     tie.close
     (tie.spec
-    affine-parameter-requires
-    affine-parameter-requires-2
-    affine-parameter-requires-3
-    affine-parameter-requires-4
-    affine-parameter-requires-5
-    affine-shift-requires
-    add-n
-    along-span-requires
+    (λ c κs. search needs)
+    (λ c κs. search needs)
+    (λ c κs. search needs)
+    (λ c κs. search needs)
+    (λ c κs. search needs)
+    (λ c κs. search needs)
+    (λ c. search needs)
+    (λ c κs. search needs)
     returns)

@@ -6,18 +6,6 @@ use native.Mathlib.Omega.{arith}
 use borrow.Author.Tests.{eq-eqb, ne-eqb}
 use Rattle.drawing_background.specs.Row.{rowBiasOf}
 
-element-copy-out-if1 : tie.Need-element-copy-out-if1
-element-copy-out-if1 c = search needs
-
-bias-index-requires : tie.Need-bias-index-requires
-bias-index-requires c κs = search needs
-
-parameter-requires : tie.Need-parameter-requires
-parameter-requires c κs = search needs
-
-add-result : tie.Need-add-result
-add-result c = search needs
-
 returns : tie.Need-returns
 unfolding rowBiasOf
 returns c = (simp (eq-eqb _ _ (c .before .before .if1 .taken)) (rw (c .parameter .ensures .0, c .before .bias-index .ensures)), omega arith)
@@ -30,9 +18,9 @@ pub row-bias-spec : {M : Type 1} → statement M
 row-bias-spec =
     tie.close
     (tie.spec
-    element-copy-out-if1
-    bias-index-requires
-    parameter-requires
-    add-result
+    (λ c. search needs)
+    (λ c κs. search needs)
+    (λ c κs. search needs)
+    (λ c. search needs)
     returns
     returns-2)

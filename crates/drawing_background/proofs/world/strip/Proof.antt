@@ -18,7 +18,8 @@ use Rattle.drawing_background.proofs.Clipping.{clipped-outside, clipped
 use mathlib.Core.Path.{_≡_}
 
 abbrev Inv-loop : tie.InvT-loop
-Inv-loop vram registers w buffer₀ eye strip left from to r₀ buffer r = (r ≤ 8) × Rows r (λ x q. backgroundPixelOf vram registers w eye x (8 * strip + q)) buffer₀ buffer
+Inv-loop vram registers w buffer₀ eye strip left from to r₀ buffer r = (r ≤ 8) × Rows r
+    (λ x q. backgroundPixelOf vram registers w eye x (8 * strip + q)) buffer₀ buffer
 
 abbrev μ-loop : tie.MeasureT-loop
 μ-loop vram registers w buffer₀ eye strip left from to r₀ buffer r = 8 - r
@@ -32,7 +33,8 @@ flag-requires c κs = search needs
 returns : tie.Need-returns Inv-loop μ-loop
 unfolding worldShownOf
 returns c = let a = c .before .before .before .before .args in
-    strip-kept _ _ (λ x r v u q. background-hidden (a .vram .now) (a .registers .now) (a .w .now) (a .eye) x (8 * a .strip + r) v (sym (c .before .flag .ensures) ∙ not-true _ (c .if1 .taken)))
+    strip-kept _ _ (λ x r v u q. background-hidden (a .vram .now) (a .registers .now) (a .w .now) (a .eye) x
+    (8 * a .strip + r) v (sym (c .before .flag .ensures) ∙ not-true _ (c .if1 .taken)))
 
 window-left-requires : tie.Need-window-left-requires Inv-loop μ-loop
 window-left-requires c κs = search needs
@@ -63,7 +65,11 @@ normal-block-requires c κs = (
   omega arith,
   (
     (omega arith, (omega arith, (omega arith, (omega arith, c .before .if3 .taken)))),
-    (sym (c .before .before .before .before .before .before .before .before .before .flag .ensures) ∙ not-false _ (c .before .before .before .before .before .before .before .before .if1 .left), (omega arith, omega arith)),
+    (
+      sym (c .before .before .before .before .before .before .before .before .before .flag .ensures) ∙ not-false _
+          (c .before .before .before .before .before .before .before .before .if1 .left),
+      (omega arith, omega arith),
+    ),
   ),
 )
 
@@ -72,7 +78,8 @@ returns-3 c =
     let a = c .before .before .before .before .before .before .before .before .before .before .before .before .before .args in
     block-strip _ _ _ _ _
     (λ x r v u. clipped-outside (a .vram .now) (a .registers .now) (a .w .now) (a .eye) x (8 * a .strip + r) v _ _ u
-    (omega (arith, c .before .before .before .before .before .before .before .clipped .ensures)) (omega (arith, c .before .before .before .before .before .clipped2 .ensures)))
+    (omega (arith, c .before .before .before .before .before .before .before .clipped .ensures)) (omega
+    (arith, c .before .before .before .before .before .clipped2 .ensures)))
     (c .normal-block .ensures)
 
 loop-holds : tie.Need-loop-holds Inv-loop μ-loop
@@ -84,7 +91,11 @@ strip-row-requires c κs = (
   omega (arith, c .before .before .loop .inv .1 .size),
   (
     (omega arith, (omega arith, (omega arith, (omega arith, omega arith)))),
-    (sym (c .before .before .before .before .before .before .before .before .before .before .before .flag .ensures) ∙ not-false _ (c .before .before .before .before .before .before .before .before .before .before .if1 .left), (omega arith, omega arith)),
+    (
+      sym (c .before .before .before .before .before .before .before .before .before .before .before .flag .ensures)
+          ∙ not-false _ (c .before .before .before .before .before .before .before .before .before .before .if1 .left),
+      (omega arith, omega arith),
+    ),
   ),
 )
 
@@ -100,7 +111,8 @@ loop-again c = let a = c .before .before .before .before .before .before .before
   rows-more _ _ _ _ _ _ _ (c .before .before .loop-test .taken)
       (λ x v h. background-small (a .vram .now) (a .registers .now) (a .w .now) (a .eye) x _ v h)
       (λ x v u. clipped-outside (a .vram .now) (a .registers .now) (a .w .now) (a .eye) x _ v _ _ u
-      (omega (arith, c .before .before .before .before .before .before .before .before .before .clipped .ensures)) (omega (arith, c .before .before .before .before .before .before .before .clipped2 .ensures)))
+      (omega (arith, c .before .before .before .before .before .before .before .before .before .clipped .ensures))
+      (omega (arith, c .before .before .before .before .before .before .before .clipped2 .ensures)))
       (c .before .before .before .loop .inv .1) (c .strip-row .ensures),
 )
 

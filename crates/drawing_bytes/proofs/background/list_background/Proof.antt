@@ -10,81 +10,87 @@ use Rattle.drawing_bytes.proofs.Listings.{listing-none, listing-more, l
 use Rattle.drawing_bytes.proofs.Covering.{world-left, world-top}
 use Rattle.drawing_bytes.proofs.Sources.{background-none, background-there, cell-length}
 
-covers-requires : tie.Need-covers-requires
-covers-requires c κs = search needs
-
 returns : tie.Need-returns
-returns c =
-    (listing-as _ _ _ _ _ _ (background-none (c .before .before .before .before .args .vram .now) (c .before .before .before .before .args .w .now) (c .before .before .before .before .args .eye) (c .before .before .before .before .args .x) (c .before .before .before .before .args .y) (sym (c .before .covers .ensures) ∙ not-true _ (c .if1 .taken))) (listing-none _ _), omega arith)
-
-add-i : tie.Need-add-i
-add-i c = search needs
-
-window-left-requires : tie.Need-window-left-requires
-window-left-requires c κs = search needs
+returns c = (
+  listing-as _ _ _ _ _ _ (background-none (c .before .before .before .before .args .vram .now)
+      (c .before .before .before .before .args .w .now) (c .before .before .before .before .args .eye)
+      (c .before .before .before .before .args .x) (c .before .before .before .before .args .y) (sym
+      (c .before .covers .ensures) ∙ not-true _ (c .if1 .taken))) (listing-none _ _),
+  omega arith,
+)
 
 sub-i : tie.Need-sub-i
-sub-i c = omega (arith, world-left (c .before .before .before .before .before .args .w .now) (c .before .before .before .before .before .args .eye) (c .before .before .before .before .before .args .x) (c .before .before .before .before .before .args .y) (sym (c .before .before .covers .ensures) ∙ not-false _ (c .before .if1 .left)), c .window-left .ensures .0)
-
-add-j : tie.Need-add-j
-add-j c = search needs
-
-element-copy-out-wide : tie.Need-element-copy-out-wide
-element-copy-out-wide c = search needs
-
-wide-requires : tie.Need-wide-requires
-wide-requires c κs = search needs
-
-add-j-2 : tie.Need-add-j-2
-add-j-2 c = search needs
+sub-i c = omega (
+  arith,
+  world-left (c .before .before .before .before .before .args .w .now)
+      (c .before .before .before .before .before .args .eye) (c .before .before .before .before .before .args .x)
+      (c .before .before .before .before .before .args .y) (sym (c .before .before .covers .ensures) ∙ not-false _
+      (c .before .if1 .left)),
+  c .window-left .ensures .0,
+)
 
 sub-j : tie.Need-sub-j
-sub-j c = omega (arith, world-top (c .before .before .before .before .before .before .before .args .w .now) (c .before .before .before .before .before .before .before .args .eye) (c .before .before .before .before .before .before .before .args .x) (c .before .before .before .before .before .before .before .args .y) (sym (c .before .before .before .before .covers .ensures) ∙ not-false _ (c .before .before .before .if1 .left)), c .wide .ensures .0)
-
-list-parameters-requires : tie.Need-list-parameters-requires
-list-parameters-requires c κs = search needs
-
-source-x-requires : tie.Need-source-x-requires
-source-x-requires c κs = search needs
-
-source-y-requires : tie.Need-source-y-requires
-source-y-requires c κs = search needs
-
-list-cell-requires : tie.Need-list-cell-requires
-list-cell-requires c κs = search needs
-
-same-length : tie.Need-same-length
-same-length c = search needs
+sub-j c = omega (
+  arith,
+  world-top (c .before .before .before .before .before .before .before .args .w .now)
+      (c .before .before .before .before .before .before .before .args .eye)
+      (c .before .before .before .before .before .before .before .args .x)
+      (c .before .before .before .before .before .before .before .args .y) (sym
+      (c .before .before .before .before .covers .ensures) ∙ not-false _
+      (c .before .before .before .if1 .left)),
+  c .wide .ensures .0,
+)
 
 returns-2 : tie.Need-returns-2
 returns-2 c =
     let a = c .before .before .before .before .before .before .before .before .before .before .before .before .before .before .before .before .before .args in
     let i = a .x + 1024 - c .before .before .before .before .before .before .before .before .before .before .before .before .window-left .result in
     let j = a .y + 32768 - (c .before .before .before .before .before .before .before .before .before .before .wide .result + 32768) % 65536 in
-    let covered = sym (c .before .before .before .before .before .before .before .before .before .before .before .before .before .before .covers .ensures) ∙ not-false _ (c .before .before .before .before .before .before .before .before .before .before .before .before .before .if1 .left) in (
+    let covered = sym (c .before .before .before .before .before .before .before .before .before .before .before .before
+    .before .before .covers .ensures) ∙ not-false _
+    (c .before .before .before .before .before .before .before .before .before .before .before .before .before .if1
+    .left) in (
       listing-as _ _ _ _ _ _
-          (background-there (a .vram .now) (a .w .now) (a .eye) (a .x) (a .y) i j _ _ covered (omega (arith, c .before .before .before .before .before .before .before .before .before .before .before .before .window-left .ensures .0)) (omega (arith, c .before .before .before .before .before .before .before .before .before .before .wide .ensures .0)) (c .before .before .before .before .source-x .ensures) (c .before .before .before .source-y .ensures))
-          (listing-more _ _ _ _ _ _ _ _ (c .before .before .before .before .before .before .before .before .list-parameters .ensures .0) (c .before .before .list-cell .ensures)),
-      omega (arith, c .before .before .list-cell .ensures .count, cell-length (a .vram .now) (a .w .now) (c .before .before .before .before .source-x .result) (c .before .before .before .source-y .result), c .before .before .before .before .before .before .before .before .list-parameters .ensures .1),
+          (background-there (a .vram .now) (a .w .now) (a .eye) (a .x) (a .y) i j _ _ covered (omega (
+            arith,
+            c .before .before .before .before .before .before .before .before .before .before .before .before
+                .window-left .ensures .0,
+          )) (omega (
+            arith,
+            c .before .before .before .before .before .before .before
+                .before .before .before .wide .ensures .0,
+          )) (c .before .before .before .before .source-x .ensures)
+          (c .before .before .before .source-y .ensures))
+          (listing-more _ _ _ _ _ _ _ _ (c .before .before .before .before .before .before .before .before
+          .list-parameters .ensures .0) (c .before .before .list-cell .ensures)),
+      omega (
+        arith,
+        c .before .before .list-cell .ensures .count,
+        cell-length (a .vram .now) (a .w .now)
+            (c .before .before .before .before .source-x .result)
+            (c .before .before .before .source-y .result),
+        c .before .before .before .before .before .before .before
+            .before .list-parameters .ensures .1,
+      ),
     )
 
 pub list-background-spec : {M : Type 1} → statement M
 list-background-spec =
     tie.close
     (tie.spec
-    covers-requires
+    (λ c κs. search needs)
     returns
-    add-i
-    window-left-requires
+    (λ c. search needs)
+    (λ c κs. search needs)
     sub-i
-    add-j
-    element-copy-out-wide
-    wide-requires
-    add-j-2
+    (λ c. search needs)
+    (λ c. search needs)
+    (λ c κs. search needs)
+    (λ c. search needs)
     sub-j
-    list-parameters-requires
-    source-x-requires
-    source-y-requires
-    list-cell-requires
-    same-length
+    (λ c κs. search needs)
+    (λ c κs. search needs)
+    (λ c κs. search needs)
+    (λ c κs. search needs)
+    (λ c. search needs)
     returns-2)

@@ -5,42 +5,29 @@ use Rattle.drawing_bytes.proofs.background.list_cell.Tie as tie
 use mathlib.Core.Path.{_∙_}
 use Rattle.drawing_bytes.proofs.Sources.{cell-listing}
 
-cell-address-requires : tie.Need-cell-address-requires
-cell-address-requires c κs = search needs
-
-half-requires : tie.Need-half-requires
-half-requires c κs = search needs
-
-wide-requires : tie.Need-wide-requires
-wide-requires c κs = search needs
-
-put-half-requires : tie.Need-put-half-requires
-put-half-requires c κs = search needs
-
-row-address-requires : tie.Need-row-address-requires
-row-address-requires c κs = search needs
-
-put-half-requires-2 : tie.Need-put-half-requires-2
-put-half-requires-2 c κs = search needs
-
-same-length : tie.Need-same-length
-same-length c = search needs
-
 returns : tie.Need-returns
 returns c =
-    cell-listing (c .before .before .before .before .before .before .before .before .before .before .before .before .before .before .args .vram .now) (c .before .before .before .before .before .before .before .before .before .before .before .before .before .before .args .w .now) (c .before .before .before .before .before .before .before .before .before .before .before .before .before .before .args .sx) (c .before .before .before .before .before .before .before .before .before .before .before .before .before .before .args .sy) _ _ _ _ _ _ _ _ _
-    (c .before .before .before .before .before .before .before .before .before .before .before .cell-address .ensures .0) (c .before .before .before .before .before .before .before .before .before .wide .ensures .0 ∙ c .before .before .before .before .before .before .before .before .before .before .half .ensures) (c .before .before .before .row-address .ensures .0)
+    cell-listing (c .before .before .before .before .before .before .before .before .before .before .before .before
+    .before .before .args .vram .now) (c .before .before .before .before .before .before .before .before .before
+    .before .before .before .before .before .args .w .now)
+    (c .before .before .before .before .before .before .before .before .before .before .before .before .before
+    .before .args .sx) (c .before .before .before .before .before .before .before .before .before .before .before
+    .before .before .before .args .sy) _ _ _ _ _ _ _ _ _
+    (c .before .before .before .before .before .before .before .before .before .before .before .cell-address .ensures
+    .0) (c .before .before .before .before .before .before .before .before .before .wide .ensures .0
+    ∙ c .before .before .before .before .before .before .before .before .before .before .half .ensures)
+    (c .before .before .before .row-address .ensures .0)
     (c .before .before .before .before .before .before .before .put-half .ensures) (c .before .before .put-half2 .ensures)
 
 pub list-cell-spec : {M : Type 1} → statement M
 list-cell-spec =
     tie.close
     (tie.spec
-    cell-address-requires
-    half-requires
-    wide-requires
-    put-half-requires
-    row-address-requires
-    put-half-requires-2
-    same-length
+    (λ c κs. search needs)
+    (λ c κs. search needs)
+    (λ c κs. search needs)
+    (λ c κs. search needs)
+    (λ c κs. search needs)
+    (λ c κs. search needs)
+    (λ c. search needs)
     returns)

@@ -12,40 +12,30 @@ use Rattle.drawing_strip.proofs.Worlds.{flags-skipped, flags-shown}
 use Rattle.drawing_bytes.proofs.Listings.{listing-none, listing-as}
 use Rattle.drawing_bytes.proofs.Sources.{world-skipped, world-objects, world-background}
 
-world-requires : tie.Need-world-requires
-world-requires c κs = search needs
-
-array-read-wide : tie.Need-array-read-wide
-array-read-wide c = search needs
-
-wide-requires : tie.Need-wide-requires
-wide-requires c κs = search needs
-
 returns : tie.Need-returns
 returns c =
     let a = c .before .before .before .before .before .args in
-    let f : c .before .wide .result ≡ getD (worldOf (a .vram .now) (a .k)) 0 0 = c .before .wide .ensures .0 ∙ ap (λ (w : List ℕ). getD w 0 0) (c .before .before .world .ensures) in
+    let f : c .before .wide .result ≡ getD (worldOf (a .vram .now) (a .k)) 0 0 = c .before .wide .ensures .0 ∙ ap (λ
+    (w : List ℕ). getD w 0 0) (c .before .before .world .ensures) in
     let s = flags-skipped (worldOf (a .vram .now) (a .k)) (omega arith) in
     (listing-as _ _ _ _ _ _ (world-skipped (a .vram .now) (worldOf (a .vram .now) (a .k)) (a .eye) (a .x) (a .y) s) (listing-none _ _), omega arith)
 
 returns-2 : tie.Need-returns-2
 returns-2 c =
     let a = c .before .before .before .before .before .before .args in
-    let f : c .before .before .wide .result ≡ getD (worldOf (a .vram .now) (a .k)) 0 0 = c .before .before .wide .ensures .0 ∙ ap (λ (w : List ℕ). getD w 0 0) (c .before .before .before .world .ensures) in
+    let f : c .before .before .wide .result ≡ getD (worldOf (a .vram .now)
+    (a .k)) 0 0 = c .before .before .wide .ensures .0 ∙ ap (λ (w : List ℕ). getD w 0 0)
+    (c .before .before .before .world .ensures) in
     let s = flags-shown (worldOf (a .vram .now) (a .k)) (omega arith) (omega arith) in
     let g : bgmOf (worldOf (a .vram .now) (a .k)) ≡ 3 = omega arith in
     (listing-as _ _ _ _ _ _ (world-objects (a .vram .now) (worldOf (a .vram .now) (a .k)) (a .eye) (a .x) (a .y) s g) (listing-none _ _), omega arith)
 
-list-background-requires : tie.Need-list-background-requires
-list-background-requires c κs = search needs
-
-same-length : tie.Need-same-length
-same-length c = search needs
-
 returns-3 : tie.Need-returns-3
 returns-3 c =
     let a = c .before .before .before .before .before .before .before .before .before .before .before .args in
-    let f : c .before .before .before .before .before .before .before .wide .result ≡ getD (worldOf (a .vram .now) (a .k)) 0 0 = c .before .before .before .before .before .before .before .wide .ensures .0 ∙ ap (λ (w : List ℕ). getD w 0 0) (c .before .before .before .before .before .before .before .before .world .ensures) in
+    let f : c .before .before .before .before .before .before .before .wide .result ≡ getD (worldOf (a .vram .now)
+    (a .k)) 0 0 = c .before .before .before .before .before .before .before .wide .ensures .0 ∙ ap (λ
+    (w : List ℕ). getD w 0 0) (c .before .before .before .before .before .before .before .before .world .ensures) in
     let s = flags-shown (worldOf (a .vram .now) (a .k)) (omega arith) (omega arith) in
     let g : (bgmOf (worldOf (a .vram .now) (a .k)) ≡ 3 → ⊥) = (λ e. c .before .before .before .before .before .if2 .left (omega arith)) in
     let done = rw (c .before .before .before .before .before .before .before .before .world .ensures) at (c .before .before .list-background .ensures) in
@@ -55,11 +45,11 @@ pub list-world-spec : {M : Type 1} → statement M
 list-world-spec =
     tie.close
     (tie.spec
-    world-requires
-    array-read-wide
-    wide-requires
+    (λ c κs. search needs)
+    (λ c. search needs)
+    (λ c κs. search needs)
     returns
     returns-2
-    list-background-requires
-    same-length
+    (λ c κs. search needs)
+    (λ c. search needs)
     returns-3)

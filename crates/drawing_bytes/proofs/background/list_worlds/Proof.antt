@@ -46,8 +46,11 @@ returns : tie.Need-returns Inv-loop μ-loop
 returns c =
     let a = c .before .before .before .before .before .before .before .args in
     let k = c .before .before .before .before .loop .k in
-    let f : c .before .wide .result ≡ getD (worldOf (a .vram .now) (k - 1)) 0 0 = c .before .wide .ensures .0 ∙ (c .before .before .half .ensures ∙ world-flags (a .vram .now) (k - 1)) in (
-      left-done _ _ _ _ _ _ (worlds-ended (a .vram .now) (a .eye) (a .x) (a .y) k (c .before .before .before .loop-test .taken) (eq-eqb (getD (worldOf (a .vram .now) (k - 1)) 0 0 / 64 % 2) 1 (omega arith))) (c .before .before .before .before .loop .inv .1 .1),
+    let f : c .before .wide .result ≡ getD (worldOf (a .vram .now) (k - 1)) 0 0 = c .before .wide .ensures .0 ∙
+    (c .before .before .half .ensures ∙ world-flags (a .vram .now) (k - 1)) in (
+      left-done _ _ _ _ _ _ (worlds-ended (a .vram .now) (a .eye) (a .x) (a .y) k
+          (c .before .before .before .loop-test .taken) (eq-eqb (getD (worldOf (a .vram .now) (k - 1)) 0 0 / 64 % 2) 1
+          (omega arith))) (c .before .before .before .before .loop .inv .1 .1),
       omega arith,
     )
 
@@ -67,12 +70,17 @@ loop-again : tie.Need-loop-again Inv-loop μ-loop
 loop-again c =
     let a = c .before .before .before .before .before .before .before .before .before .before .before .args in
     let k = c .before .before .before .before .before .before .before .before .loop .k in
-    let f : c .before .before .before .before .before .wide .result ≡ getD (worldOf (a .vram .now) (k - 1)) 0 0 = c .before .before .before .before .before .wide .ensures .0 ∙ (c .before .before .before .before .before .before .half .ensures ∙ world-flags (a .vram .now) (k - 1)) in (
+    let f : c .before .before .before .before .before .wide .result ≡ getD (worldOf (a .vram .now)
+    (k - 1)) 0 0 = c .before .before .before .before .before .wide .ensures .0 ∙
+    (c .before .before .before .before .before .before .half .ensures ∙ world-flags (a .vram .now) (k - 1)) in (
       omega arith,
       (
         omega (arith, c .before .before .list-world .ensures .1),
         left-more _ _ _ _ _ _ _ _ _ _
-            (worlds-step (a .vram .now) (a .eye) (a .x) (a .y) k (c .before .before .before .before .before .before .before .loop-test .taken) (ne-eqb (getD (worldOf (a .vram .now) (k - 1)) 0 0 / 64 % 2) 1 (λ e. c .before .before .before .before .if1 .left (omega arith))))
+            (worlds-step (a .vram .now) (a .eye) (a .x) (a .y) k
+            (c .before .before .before .before .before .before .before .loop-test .taken) (ne-eqb (getD (worldOf
+            (a .vram .now) (k - 1)) 0 0 / 64 % 2) 1 (λ e. c .before .before .before .before .if1 .left
+            (omega arith))))
             (c .before .before .before .before .before .before .before .before .loop .inv .1 .1) (c .before .before .list-world .ensures .0),
       ),
     )
@@ -81,7 +89,13 @@ same-length-2 : tie.Need-same-length-2 Inv-loop μ-loop
 same-length-2 c = left-size _ _ _ _ _ _ (c .before .loop .inv .1 .1)
 
 returns-2 : tie.Need-returns-2 Inv-loop μ-loop
-returns-2 c = (left-done _ _ _ _ _ _ (worlds-none (c .before .before .before .before .args .vram .now) (c .before .before .before .before .args .eye) (c .before .before .before .before .args .x) (c .before .before .before .before .args .y) (c .before .loop .k) (omega arith)) (c .before .loop .inv .1 .1), omega arith)
+returns-2 c = (
+  left-done _ _ _ _ _ _ (worlds-none (c .before .before .before .before .args .vram .now)
+      (c .before .before .before .before .args .eye) (c .before .before .before .before .args .x)
+      (c .before .before .before .before .args .y) (c .before .loop .k) (omega arith))
+      (c .before .loop .inv .1 .1),
+  omega arith,
+)
 
 pub list-worlds-spec : {M : Type 1} → statement M
 list-worlds-spec =

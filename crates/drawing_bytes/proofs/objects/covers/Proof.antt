@@ -7,53 +7,44 @@ use mathlib.Core.Path.{sym, _∙_}
 use borrow.Author.Tests.{not-true, not-false}
 use Rattle.drawing_bytes.proofs.Covering.{object-hidden, object-elsewhere, object-right, object-there}
 
-element-copy-out-flag : tie.Need-element-copy-out-flag
-element-copy-out-flag c = search needs
-
-flag-requires : tie.Need-flag-requires
-flag-requires c κs = search needs
-
 returns : tie.Need-returns
-returns c = object-hidden (c .before .before .before .args .o .now) (c .before .before .before .args .eye) (c .before .before .before .args .x) (c .before .before .before .args .y) (sym (c .before .flag .ensures) ∙ not-true _ (c .if1 .taken))
-
-object-row-requires : tie.Need-object-row-requires
-object-row-requires c κs = search needs
+returns c = object-hidden (c .before .before .before .args .o .now) (c .before .before .before .args .eye)
+    (c .before .before .before .args .x) (c .before .before .before .args .y) (sym (c .before .flag .ensures)
+    ∙ not-true _ (c .if1 .taken))
 
 returns-2 : tie.Need-returns-2
-returns-2 c = object-elsewhere (c .before .before .before .before .before .args .o .now) (c .before .before .before .before .before .args .eye) (c .before .before .before .before .before .args .x) (c .before .before .before .before .before .args .y) (omega arith)
-
-object-left-requires : tie.Need-object-left-requires
-object-left-requires c κs = search needs
-
-add-if3 : tie.Need-add-if3
-add-if3 c = search needs
+returns-2 c = object-elsewhere (c .before .before .before .before .before .args .o .now)
+    (c .before .before .before .before .before .args .eye) (c .before .before .before .before .before .args .x)
+    (c .before .before .before .before .before .args .y) (omega arith)
 
 returns-3 : tie.Need-returns-3
-returns-3 c = object-right (c .before .before .before .before .before .before .before .args .o .now) (c .before .before .before .before .before .before .before .args .eye) (c .before .before .before .before .before .before .before .args .x) (c .before .before .before .before .before .before .before .args .y) (omega arith)
-
-add-result : tie.Need-add-result
-add-result c = search needs
-
-add-result-2 : tie.Need-add-result-2
-add-result-2 c = search needs
+returns-3 c = object-right (c .before .before .before .before .before .before .before .args .o .now)
+    (c .before .before .before .before .before .before .before .args .eye)
+    (c .before .before .before .before .before .before .before .args .x)
+    (c .before .before .before .before .before .before .before .args .y) (omega arith)
 
 returns-4 : tie.Need-returns-4
 returns-4 c =
     rw (c .before .object-left .ensures .0)
-    (object-there (c .before .before .before .before .before .before .before .args .o .now) (c .before .before .before .before .before .before .before .args .eye) (c .before .before .before .before .before .before .before .args .x) (c .before .before .before .before .before .before .before .args .y) (sym (c .before .before .before .before .before .flag .ensures) ∙ not-false _ (c .before .before .before .before .if1 .left)) (omega arith) (omega arith))
+    (object-there (c .before .before .before .before .before .before .before .args .o .now)
+    (c .before .before .before .before .before .before .before .args .eye)
+    (c .before .before .before .before .before .before .before .args .x)
+    (c .before .before .before .before .before .before .before .args .y) (sym
+    (c .before .before .before .before .before .flag .ensures) ∙ not-false _
+    (c .before .before .before .before .if1 .left)) (omega arith) (omega arith))
 
 pub covers-spec : {M : Type 1} → statement M
 covers-spec =
     tie.close
     (tie.spec
-    element-copy-out-flag
-    flag-requires
+    (λ c. search needs)
+    (λ c κs. search needs)
     returns
-    object-row-requires
+    (λ c κs. search needs)
     returns-2
-    object-left-requires
-    add-if3
+    (λ c κs. search needs)
+    (λ c. search needs)
     returns-3
-    add-result
-    add-result-2
+    (λ c. search needs)
+    (λ c. search needs)
     returns-4)

@@ -23,7 +23,10 @@ in-group-requires c κs = search needs
 
 returns : tie.Need-returns Inv-loop μ-loop
 returns c =
-    groups-found (c .before .before .before .before .args .registers .now) (c .before .before .before .before .args .k) (c .before .before .before .loop .left) (c .before .before .before .loop .group) (c .before .before .loop-test .taken) (c .before .before .before .loop .inv .1 .0) (sym (c .before .in-group .ensures) ∙ c .if1 .taken)
+    groups-found (c .before .before .before .before .args .registers .now) (c .before .before .before .before .args .k)
+    (c .before .before .before .loop .left) (c .before .before .before .loop .group)
+    (c .before .before .loop-test .taken) (c .before .before .before .loop .inv .1 .0) (sym
+    (c .before .in-group .ensures) ∙ c .if1 .taken)
     ∙ c .before .before .before .loop .inv .1 .1
 
 add-group : tie.Need-add-group Inv-loop μ-loop
@@ -40,13 +43,17 @@ loop-again c = (
   omega arith,
   (
     omega arith,
-    groups-on (c .before .before .before .before .args .registers .now) (c .before .before .before .before .args .k) (c .before .before .before .loop .left) (c .before .before .before .loop .group) (c .before .before .loop-test .taken) (c .before .before .before .loop .inv .1 .0) (sym (c .before .in-group .ensures) ∙ c .if1 .left)
+    groups-on (c .before .before .before .before .args .registers .now) (c .before .before .before .before .args .k)
+        (c .before .before .before .loop .left) (c .before .before .before .loop .group)
+        (c .before .before .loop-test .taken) (c .before .before .before .loop .inv .1 .0) (sym
+        (c .before .in-group .ensures) ∙ c .if1 .left)
         ∙ c .before .before .before .loop .inv .1 .1,
   ),
 )
 
 returns-2 : tie.Need-returns-2 Inv-loop μ-loop
-returns-2 c = groups-none (c .before .before .args .registers .now) (c .before .before .args .k) (c .before .loop .left) (c .before .loop .group) (omega arith) ∙ c .before .loop .inv .1 .1
+returns-2 c = groups-none (c .before .before .args .registers .now) (c .before .before .args .k) (c .before .loop .left)
+    (c .before .loop .group) (omega arith) ∙ c .before .loop .inv .1 .1
 
 pub in-groups-spec : {M : Type 1} → statement M
 in-groups-spec =

@@ -11,7 +11,8 @@ use Rattle.drawing_bytes.proofs.Drawn.{objects-step, objects-none}
 
 abbrev Inv-loop : tie.InvT-loop
 Inv-loop vram registers room₀ start worlds pixel n₀ k₀ room n k =
-    (k ≤ 1024) × ((n ≤ start + 2 * (1024 - k)) × Left start (objectsBytesOf vram registers (pixel .eye) (pixel .x) (pixel .y) 1024) n (objectsBytesOf vram registers (pixel .eye) (pixel .x) (pixel .y) k) room₀ room)
+    (k ≤ 1024) × ((n ≤ start + 2 * (1024 - k)) × Left start (objectsBytesOf vram registers (pixel .eye) (pixel .x)
+    (pixel .y) 1024) n (objectsBytesOf vram registers (pixel .eye) (pixel .x) (pixel .y) k) room₀ room)
 
 abbrev μ-loop : tie.MeasureT-loop
 μ-loop vram registers room₀ start worlds pixel n₀ k₀ room n k = k
@@ -37,7 +38,9 @@ loop-again c =
       omega arith,
       (
         omega (arith, c .before .before .list-object .ensures .1),
-        left-more _ _ _ _ _ _ _ _ _ _ (objects-step (a .vram .now) (a .registers .now) (a .pixel .eye) (a .pixel .x) (a .pixel .y) (c .before .before .before .before .before .loop .k) (c .before .before .before .before .loop-test .taken))
+        left-more _ _ _ _ _ _ _ _ _ _ (objects-step (a .vram .now) (a .registers .now) (a .pixel .eye) (a .pixel .x)
+            (a .pixel .y) (c .before .before .before .before .before .loop .k)
+            (c .before .before .before .before .loop-test .taken))
             (c .before .before .before .before .before .loop .inv .1 .1) (c .before .before .list-object .ensures .0),
       ),
     )
@@ -46,7 +49,10 @@ same-length : tie.Need-same-length Inv-loop μ-loop
 same-length c = left-size _ _ _ _ _ _ (c .before .loop .inv .1 .1)
 
 returns : tie.Need-returns Inv-loop μ-loop
-returns c = left-done _ _ _ _ _ _ (objects-none (c .before .before .before .before .args .vram .now) (c .before .before .before .before .args .registers .now) (c .before .before .before .before .args .pixel .eye) (c .before .before .before .before .args .pixel .x) (c .before .before .before .before .args .pixel .y) (c .before .loop .k) (omega arith)) (c .before .loop .inv .1 .1)
+returns c = left-done _ _ _ _ _ _ (objects-none (c .before .before .before .before .args .vram .now)
+    (c .before .before .before .before .args .registers .now) (c .before .before .before .before .args .pixel .eye)
+    (c .before .before .before .before .args .pixel .x) (c .before .before .before .before .args .pixel .y)
+    (c .before .loop .k) (omega arith)) (c .before .loop .inv .1 .1)
 
 pub list-objects-spec : {M : Type 1} → statement M
 list-objects-spec =

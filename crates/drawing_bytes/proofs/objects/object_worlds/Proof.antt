@@ -60,8 +60,10 @@ loop-again : tie.Need-loop-again Inv-loop μ-loop
 loop-again c =
     let v = c .before .before .before .before .before .before .before .args .vram .now in
     let k = c .before .before .before .before .before .loop .k in
-    let f : c .before .before .wide .result ≡ getD (worldOf v (k - 1)) 0 0 = c .before .before .wide .ensures .0 ∙ (c .before .before .before .half .ensures ∙ world-flags v (k - 1)) in
-    let step = reached-step v k (c .before .before .before .before .loop-test .taken) (ne-eqb (getD (worldOf v (k - 1)) 0 0 / 64 % 2) 1 (λ e. c .before .if1 .left (omega arith))) in
+    let f : c .before .before .wide .result ≡ getD (worldOf v (k - 1)) 0 0 = c .before .before .wide .ensures .0 ∙
+    (c .before .before .before .half .ensures ∙ world-flags v (k - 1)) in
+    let step = reached-step v k (c .before .before .before .before .loop-test .taken) (ne-eqb (getD (worldOf v
+    (k - 1)) 0 0 / 64 % 2) 1 (λ e. c .before .if1 .left (omega arith))) in
     let more = c .draws-objects .ensures .0 (worldOf v (k - 1)) f in
     (omega arith, (omega (arith, c .draws-objects .ensures .1), omega arith))
 

@@ -5,9 +5,6 @@ use Rattle.drawing_pixel.proofs.character.flipped.Tie as tie
 use native.Mathlib.Omega.{arith}
 use Rattle.drawing_pixel.specs.Character.{flippedOf}
 
-sub-result : tie.Need-sub-result
-sub-result c = search needs
-
 returns : tie.Need-returns
 unfolding flippedOf
 returns c = (rw (c .if1 .taken), omega arith)
@@ -17,4 +14,4 @@ unfolding flippedOf
 returns-2 c = (rw (c .if1 .left), omega arith)
 
 pub flipped-spec : {M : Type 1} → statement M
-flipped-spec = tie.close (tie.spec sub-result returns returns-2)
+flipped-spec = tie.close (tie.spec (λ c. search needs) returns returns-2)

@@ -4,16 +4,10 @@ use Rattle.drawing_pixel.proofs.character.picked.Statement.{statement}
 use Rattle.drawing_pixel.proofs.character.picked.Tie as tie
 use Rattle.drawing_pixel.proofs.RowBits.{bits-picked}
 
-flipped-requires : tie.Need-flipped-requires
-flipped-requires c κs = search needs
-
-pair-requires : tie.Need-pair-requires
-pair-requires c κs = search needs
-
 returns : tie.Need-returns
 returns c =
     let a = c .before .before .args in
     rw (c .pair .ensures .0, c .before .flipped .ensures .0) (bits-picked (a .row) (a .column) (a .flip))
 
 pub picked-spec : {M : Type 1} → statement M
-picked-spec = tie.close (tie.spec flipped-requires pair-requires returns)
+picked-spec = tie.close (tie.spec (λ c κs. search needs) (λ c κs. search needs) returns)

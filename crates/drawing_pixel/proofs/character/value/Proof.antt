@@ -5,9 +5,6 @@ use Rattle.drawing_pixel.proofs.character.value.Tie as tie
 use Rattle.drawing_pixel.proofs.RowBits.{picked-value}
 use Rattle.drawing_pixel.proofs.Pairs.{value-small}
 
-picked-requires : tie.Need-picked-requires
-picked-requires c κs = search needs
-
 returns : tie.Need-returns
 returns c =
     let a = c .before .args in
@@ -15,4 +12,4 @@ returns c =
     (e, rw e (value-small (a .cell) (a .row) (a .column)))
 
 pub value-spec : {M : Type 1} → statement M
-value-spec = tie.close (tie.spec picked-requires returns)
+value-spec = tie.close (tie.spec (λ c κs. search needs) returns)

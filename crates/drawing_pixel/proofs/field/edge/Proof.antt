@@ -6,22 +6,13 @@ use borrow.Author.Tests.{eq-eqb, ne-eqb}
 use Rattle.drawing_pixel.specs.Signed.{edgeOf}
 use native.Mathlib.Omega.{arith}
 
-add-result : tie.Need-add-result
-add-result c = search needs
-
-sub-result : tie.Need-sub-result
-sub-result c = search needs
-
 returns : tie.Need-returns
 unfolding edgeOf
 returns c = (simp (eq-eqb _ _ (c .if1 .taken)), omega arith)
-
-add-result-2 : tie.Need-add-result-2
-add-result-2 c = search needs
 
 returns-2 : tie.Need-returns-2
 unfolding edgeOf
 returns-2 c = (simp (ne-eqb _ _ (c .if1 .left)), omega arith)
 
 pub edge-spec : {M : Type 1} → statement M
-edge-spec = tie.close (tie.spec add-result sub-result returns add-result-2 returns-2)
+edge-spec = tie.close (tie.spec (λ c. search needs) (λ c. search needs) returns (λ c. search needs) returns-2)

@@ -6,15 +6,9 @@ use native.Mathlib.Omega.{arith}
 use mathlib.Core.Path.{refl}
 use Rattle.drawing_pixel.specs.Character.{twoBitsOf}
 
-mul-result : tie.Need-mul-result
-mul-result c = search needs
-
-shr-result : tie.Need-shr-result
-shr-result c = search needs
-
 returns : tie.Need-returns
 unfolding twoBitsOf
 returns c = (refl, omega arith)
 
 pub pair-spec : {M : Type 1} → statement M
-pair-spec = tie.close (tie.spec mul-result shr-result returns)
+pair-spec = tie.close (tie.spec (λ c. search needs) (λ c. search needs) returns)

@@ -42,7 +42,8 @@ place-requires c κs = omega arith
 painted-requires : tie.Need-painted-requires Inv-loop μ-loop
 painted-requires c κs = (
   omega arith,
-  unit-placed (c .before .before .before .before .before .args .cell) (c .before .before .before .loop .k) (omega arith) (c .before .before .before .before .mirror .ensures) (c .place .ensures),
+  unit-placed (c .before .before .before .before .before .args .cell) (c .before .before .before .loop .k) (omega arith)
+      (c .before .before .before .before .mirror .ensures) (c .place .ensures),
 )
 
 add-buffer : tie.Need-add-buffer Inv-loop μ-loop
@@ -71,7 +72,8 @@ loop-again c =
     ap (pixelValueOf (a .cell) (a .row)) e ∙ value-placed (a .cell) (a .row) k (omega arith)
     in (
       omega arith,
-      rw (c .painted .ensures (flippedOf flip k) (flipped-small flip k (omega arith)) (c .before .place .ensures flip (c .before .before .before .before .before .mirror .ensures)))
+      rw (c .painted .ensures (flippedOf flip k) (flipped-small flip k (omega arith)) (c .before .place .ensures flip
+          (c .before .before .before .before .before .mirror .ensures)))
           (span-next _ _ _ _ _ _ _ (inv .1) (omega (arith, inv .1 .size)) (ap (shadeOf (a .palette)) v)),
     )
 

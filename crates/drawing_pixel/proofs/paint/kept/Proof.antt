@@ -6,9 +6,6 @@ use native.Mathlib.Omega.{arith}
 use lib.Bits.{and-le-l}
 use Rattle.drawing_pixel.proofs.Masks.{choice-small, kept-of}
 
-choice-requires : tie.Need-choice-requires
-choice-requires c κs = search needs
-
 placed-requires : tie.Need-placed-requires
 placed-requires c κs = (rw (c .choice .ensures) (choice-small (c .before .args .blank) 0 3 (omega arith) (omega arith)), c .before .pre)
 
@@ -21,4 +18,4 @@ returns c =
     rw (c .placed .ensures, c .before .choice .ensures) (kept-of (a .h) (a .r) (a .blank) (c .before .before .pre))
 
 pub kept-spec : {M : Type 1} → statement M
-kept-spec = tie.close (tie.spec choice-requires placed-requires sub-result returns)
+kept-spec = tie.close (tie.spec (λ c κs. search needs) placed-requires sub-result returns)

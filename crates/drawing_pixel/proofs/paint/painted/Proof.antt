@@ -6,18 +6,6 @@ use native.Mathlib.Omega.{arith}
 use Rattle.drawing_pixel.specs.Character.{twoBitsOf}
 use Rattle.drawing_pixel.proofs.Masks.{repainted-sum, repainted-fits}
 
-holds-requires : tie.Need-holds-requires
-holds-requires c κs = search needs
-
-kept-requires : tie.Need-kept-requires
-kept-requires c κs = search needs
-
-tint-requires : tie.Need-tint-requires
-tint-requires c κs = search needs
-
-placed-requires : tie.Need-placed-requires
-placed-requires c κs = search needs
-
 returns : tie.Need-returns
 returns c p l e =
     let a = c .before .before .before .before .args in
@@ -28,9 +16,14 @@ add-result : tie.Need-add-result
 add-result c =
     let a = c .before .before .before .before .args in
     let u = c .before .before .before .before .pre .1 in
-    omega (arith, returns c (u .place) (u .inRow) (u .is), repainted-fits (a .h) (a .r) (a .palette) (twoBitsOf (a .row) (u .place)) (search needs) (c .before .before .before .before .pre .0))
+    omega (
+      arith,
+      returns c (u .place) (u .inRow) (u .is),
+      repainted-fits (a .h) (a .r) (a .palette) (twoBitsOf (a .row)
+          (u .place)) (search needs) (c .before .before .before .before .pre .0),
+    )
 
 pub painted-spec : {M : Type 1} → statement M
 painted-spec =
     tie.close
-    (tie.spec holds-requires kept-requires tint-requires placed-requires add-result returns)
+    (tie.spec (λ c κs. search needs) (λ c κs. search needs) (λ c κs. search needs) (λ c κs. search needs) add-result returns)

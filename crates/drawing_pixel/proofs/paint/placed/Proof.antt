@@ -4,17 +4,8 @@ use Rattle.drawing_pixel.proofs.paint.placed.Statement.{statement}
 use Rattle.drawing_pixel.proofs.paint.placed.Tie as tie
 use Rattle.drawing_pixel.proofs.Masks.{placed-same}
 
-mul-result : tie.Need-mul-result
-mul-result c = search needs
-
-cast-result : tie.Need-cast-result
-cast-result c = search needs
-
-shl-result : tie.Need-shl-result
-shl-result c = search needs
-
 returns : tie.Need-returns
 returns c = placed-same (c .args .v) (c .pre .0) (c .args .r) (c .pre .1)
 
 pub placed-spec : {M : Type 1} → statement M
-placed-spec = tie.close (tie.spec mul-result cast-result shl-result returns)
+placed-spec = tie.close (tie.spec (λ c. search needs) (λ c. search needs) (λ c. search needs) returns)

@@ -6,15 +6,6 @@ use native.Mathlib.Omega.{arith}
 use lib.Dec.{eqb}
 use Rattle.drawing_pixel.proofs.Masks.{choice-small, repainted-sum, repainted-fits}
 
-kept-requires : tie.Need-kept-requires
-kept-requires c κs = search needs
-
-shade-requires : tie.Need-shade-requires
-shade-requires c κs = search needs
-
-choice-requires : tie.Need-choice-requires
-choice-requires c κs = search needs
-
 placed-requires : tie.Need-placed-requires
 placed-requires c κs =
     let a = c .before .before .before .args in (
@@ -36,4 +27,4 @@ add-result c =
 pub shaded-spec : {M : Type 1} → statement M
 shaded-spec =
     tie.close
-    (tie.spec kept-requires shade-requires choice-requires placed-requires add-result returns)
+    (tie.spec (λ c κs. search needs) (λ c κs. search needs) (λ c κs. search needs) placed-requires add-result returns)

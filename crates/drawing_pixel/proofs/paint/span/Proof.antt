@@ -27,7 +27,8 @@ returns : tie.Need-returns Inv-loop μ-loop
 returns c =
     let a = c .before .before .before .before .before .args in
     span-change _ _ _ _ _ _ _
-    (λ x v l h. let e : x - a .run .from ≡ a .column + (x - a .run .from) = omega arith in ap (λ n. shadeOf (a .palette) (pixelValueOf (a .cell) (a .row) n) v) e)
+    (λ x v l h. let e : x - a .run .from ≡ a .column + (x - a .run .from) = omega arith in ap (λ n. shadeOf (a .palette)
+    (pixelValueOf (a .cell) (a .row) n) v) e)
     (rw (c .before .before .if1 .taken) at (c .eight .ensures))
 
 loop-holds : tie.Need-loop-holds Inv-loop μ-loop

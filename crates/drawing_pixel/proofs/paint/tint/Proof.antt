@@ -8,45 +8,38 @@ use Rattle.drawing_pixel.specs.Character.{twoBitsOf}
 use Rattle.drawing_pixel.proofs.Pairs.{pair-lt}
 use Rattle.drawing_pixel.proofs.Masks.{choice-small, three-small, one-of-three}
 
-holds-requires : tie.Need-holds-requires
-holds-requires c κs = search needs
-
-shade-requires : tie.Need-shade-requires
-shade-requires c κs = search needs
-
-choice-requires : tie.Need-choice-requires
-choice-requires c κs = search needs
-
-holds-requires-2 : tie.Need-holds-requires-2
-holds-requires-2 c κs = search needs
-
-shade-requires-2 : tie.Need-shade-requires-2
-shade-requires-2 c κs = search needs
-
-choice-requires-2 : tie.Need-choice-requires-2
-choice-requires-2 c κs = search needs
-
-holds-requires-3 : tie.Need-holds-requires-3
-holds-requires-3 c κs = search needs
-
-shade-requires-3 : tie.Need-shade-requires-3
-shade-requires-3 c κs = search needs
-
-choice-requires-3 : tie.Need-choice-requires-3
-choice-requires-3 c κs = search needs
-
 returns : tie.Need-returns
 returns c =
     let a = c .before .before .before .before .before .before .before .before .before .args in
     let one : c .before .before .before .before .before .before .choice .result < 4 =
-    rw (c .before .before .before .before .before .before .choice .ensures) (choice-small (c .before .before .before .before .before .before .before .before .holds .result) (c .before .before .before .before .before .before .before .shade .result) 0 (c .before .before .before .before .before .before .before .shade .ensures .1) (omega arith)) in
+    rw (c .before .before .before .before .before .before .choice .ensures) (choice-small
+    (c .before .before .before .before .before .before .before .before .holds .result)
+    (c .before .before .before .before .before .before .before .shade .result) 0
+    (c .before .before .before .before .before .before .before .shade .ensures .1) (omega arith)) in
     let two : c .before .before .before .choice2 .result < 4 =
-    rw (c .before .before .before .choice2 .ensures) (choice-small (c .before .before .before .before .before .holds2 .result) (c .before .before .before .before .shade2 .result) 0 (c .before .before .before .before .shade2 .ensures .1) (omega arith)) in
+    rw (c .before .before .before .choice2 .ensures) (choice-small
+    (c .before .before .before .before .before .holds2 .result)
+    (c .before .before .before .before .shade2 .result) 0 (c .before .before .before .before .shade2 .ensures .1)
+    (omega arith)) in
     let three : c .choice3 .result < 4 =
     rw (c .choice3 .ensures) (choice-small (c .before .before .holds3 .result) (c .before .shade3 .result) 0 (c .before .shade3 .ensures .1) (omega arith)) in (
       three-small _ _ _ one two three,
       λ p l e.
-          rw (c .choice3 .ensures, c .before .shade3 .ensures .0, c .before .before .holds3 .ensures p l e, c .before .before .before .choice2 .ensures, c .before .before .before .before .shade2 .ensures .0, c .before .before .before .before .before .holds2 .ensures p l e, c .before .before .before .before .before .before .choice .ensures, c .before .before .before .before .before .before .before .shade .ensures .0, c .before .before .before .before .before .before .before .before .holds .ensures p l e)
+          rw (
+            c .choice3 .ensures,
+            c .before .shade3 .ensures .0,
+            c .before .before .holds3 .ensures p l e,
+            c .before
+                .before .before .choice2 .ensures,
+            c .before .before .before .before .shade2 .ensures .0,
+            c .before
+                .before .before .before .before .holds2 .ensures p l e,
+            c .before .before .before .before .before .before
+                .choice .ensures,
+            c .before .before .before .before .before .before .before .shade .ensures .0,
+            c .before
+                .before .before .before .before .before .before .before .holds .ensures p l e,
+          )
           (one-of-three (a .palette) (twoBitsOf (a .row) p) (pair-lt (a .row) p)),
     )
 
@@ -54,13 +47,13 @@ pub tint-spec : {M : Type 1} → statement M
 tint-spec =
     tie.close
     (tie.spec
-    holds-requires
-    shade-requires
-    choice-requires
-    holds-requires-2
-    shade-requires-2
-    choice-requires-2
-    holds-requires-3
-    shade-requires-3
-    choice-requires-3
+    (λ c κs. search needs)
+    (λ c κs. search needs)
+    (λ c κs. search needs)
+    (λ c κs. search needs)
+    (λ c κs. search needs)
+    (λ c κs. search needs)
+    (λ c κs. search needs)
+    (λ c κs. search needs)
+    (λ c κs. search needs)
     returns)

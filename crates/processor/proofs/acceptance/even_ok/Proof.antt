@@ -9,35 +9,31 @@ returns : tie.Need-returns
 unfolding evenOk
 returns c = simp (ne-eqb _ _ (c .if1 .taken))
 
-element-copy-out-if2 : tie.Need-element-copy-out-if2
-element-copy-out-if2 c = search needs
-
 returns-2 : tie.Need-returns-2
 unfolding evenOk
 returns-2 c = simp (eq-eqb _ _ (c .before .before .if1 .left), ne-eqb _ _ (c .if2 .taken))
-
-element-copy-out-if3 : tie.Need-element-copy-out-if3
-element-copy-out-if3 c = search needs
 
 returns-3 : tie.Need-returns-3
 unfolding evenOk
 returns-3 c = simp (eq-eqb _ _ (c .before .before .before .before .if1 .left), eq-eqb _ _ (c .before .before .if2 .left), ne-eqb _ _ (c .if3 .taken))
 
-element-copy-out-result : tie.Need-element-copy-out-result
-element-copy-out-result c = search needs
-
 returns-4 : tie.Need-returns-4
 unfolding evenOk
-returns-4 c = rw (eq-eqb _ _ (c .before .before .before .before .before .if1 .left), eq-eqb _ _ (c .before .before .before .if2 .left), eq-eqb _ _ (c .before .if3 .left))
+returns-4 c = rw (
+  eq-eqb _ _ (c .before .before .before .before .before .if1 .left),
+  eq-eqb _ _
+      (c .before .before .before .if2 .left),
+  eq-eqb _ _ (c .before .if3 .left),
+)
 
 pub even-ok-spec : {M : Type 1} → statement M
 even-ok-spec =
     tie.close
     (tie.spec
     returns
-    element-copy-out-if2
+    (λ c. search needs)
     returns-2
-    element-copy-out-if3
+    (λ c. search needs)
     returns-3
-    element-copy-out-result
+    (λ c. search needs)
     returns-4)

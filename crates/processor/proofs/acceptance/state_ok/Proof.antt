@@ -5,43 +5,43 @@ use Rattle.processor.specs.Acceptance.{stateOk}
 use Rattle.processor.proofs.acceptance.state_ok.Statement.{statement}
 use Rattle.processor.proofs.acceptance.state_ok.Tie as tie
 
-element-copy-out-if1 : tie.Need-element-copy-out-if1
-element-copy-out-if1 c = search needs
-
 returns : tie.Need-returns
 unfolding stateOk
 returns c = simp (ne-eqb _ _ (c .if1 .taken))
-
-even-ok-requires : tie.Need-even-ok-requires
-even-ok-requires c κs = search needs
 
 returns-2 : tie.Need-returns-2
 unfolding stateOk
 returns-2 c = rw (← c .before .even-ok .ensures) (simp (eq-eqb _ _ (c .before .before .if1 .left), not-true (c .before .even-ok .result) (c .if2 .taken)))
 
-formats-ok-requires : tie.Need-formats-ok-requires
-formats-ok-requires c κs = search needs
-
 returns-3 : tie.Need-returns-3
 unfolding stateOk
-returns-3 c = rw (← c .before .before .before .even-ok .ensures, ← c .before .formats-ok .ensures) (simp (eq-eqb _ _ (c .before .before .before .before .if1 .left), not-false (c .before .before .before .even-ok .result) (c .before .before .if2 .left), not-true (c .before .formats-ok .result) (c .if3 .taken)))
-
-element-copy-out-result : tie.Need-element-copy-out-result
-element-copy-out-result c = search needs
+returns-3 c = rw (← c .before .before .before .even-ok .ensures, ← c .before .formats-ok .ensures) (simp (
+  eq-eqb _ _
+      (c .before .before .before .before .if1 .left),
+  not-false (c .before .before .before .even-ok .result)
+      (c .before .before .if2 .left),
+  not-true (c .before .formats-ok .result) (c .if3 .taken),
+))
 
 returns-4 : tie.Need-returns-4
 unfolding stateOk
-returns-4 c = rw (← c .before .before .before .before .even-ok .ensures, ← c .before .before .formats-ok .ensures) (simp (eq-eqb _ _ (c .before .before .before .before .before .if1 .left), not-false (c .before .before .before .before .even-ok .result) (c .before .before .before .if2 .left), not-false (c .before .before .formats-ok .result) (c .before .if3 .left)))
+returns-4 c = rw (← c .before .before .before .before .even-ok .ensures, ← c .before .before .formats-ok .ensures) (simp (
+  eq-eqb _ _ (c .before .before .before .before .before .if1 .left),
+  not-false
+      (c .before .before .before .before .even-ok .result) (c .before .before .before .if2 .left),
+  not-false
+      (c .before .before .formats-ok .result) (c .before .if3 .left),
+))
 
 pub state-ok-spec : {M : Type 1} → statement M
 state-ok-spec =
     tie.close
     (tie.spec
-    element-copy-out-if1
+    (λ c. search needs)
     returns
-    even-ok-requires
+    (λ c κs. search needs)
     returns-2
-    formats-ok-requires
+    (λ c κs. search needs)
     returns-3
-    element-copy-out-result
+    (λ c. search needs)
     returns-4)

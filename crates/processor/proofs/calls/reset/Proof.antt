@@ -5,12 +5,9 @@ use Rattle.processor.specs.Calls.{resetOf}
 use Rattle.processor.proofs.calls.reset.Statement.{statement}
 use Rattle.processor.proofs.calls.reset.Tie as tie
 
-reset-requires : tie.Need-reset-requires
-reset-requires c κs = search needs
-
 returns : tie.Need-returns
 unfolding resetOf hardwareIn
 returns c = rw (c .reset .ensures)
 
 pub reset-spec : {M : Type 1} → statement M
-reset-spec = tie.close (tie.spec reset-requires returns)
+reset-spec = tie.close (tie.spec (λ c κs. search needs) returns)

@@ -9,12 +9,6 @@ use Rattle.processor.proofs.run.quick.Tie as tie
 enum-told : tie.Need-enum-told
 enum-told c = c .match .keys1
 
-element-copy-out-accepts : tie.Need-element-copy-out-accepts
-element-copy-out-accepts c = search needs
-
-accepts-requires : tie.Need-accepts-requires
-accepts-requires c κs = tt
-
 returns : tie.Need-returns
 returns c = follows-start _ _ _
 
@@ -35,10 +29,12 @@ same-length-2 c = c .before .before .before .before .stretch .kept .1 .1 .0
 
 returns-2 : tie.Need-returns-2
 returns-2 c =
-    let a = c .before .before .before .before .before .before .before .before .before .before .before .before .before .before .before .before .before .before .args in
+    let a = c .before .before .before .before .before .before .before .before .before .before .before .before .before
+    .before .before .before .before .before .args in
     let mode = c .before .before .before .before .before .before .before .before .before .before .before .before .enum-told .given .1 in
     let t = c .before .before .before .before .stretch .ensures in
-    let none = rw mode at (sym (c .before .before .before .before .before .before .before .before .before .before .accepts .ensures) ∙ c .before .before .before .before .before .before .before .before .before .if1 .left) in
+    let none = rw mode at (sym (c .before .before .before .before .before .before .before .before .before .before
+    .accepts .ensures) ∙ c .before .before .before .before .before .before .before .before .before .if1 .left) in
     rw mode (follows-leads _ _ none (a .budget) _ _ _ (t .within) (t .leads))
 
 returns-3 : tie.Need-returns-3
@@ -52,8 +48,8 @@ quick-spec =
     tie.close
     (tie.spec
     enum-told
-    element-copy-out-accepts
-    accepts-requires
+    (λ c. search needs)
+    (λ c κs. tt)
     returns
     stretch-requires
     enum-told-2

@@ -4,12 +4,9 @@ use Rattle.processor_arithmetic.specs.Bitwise.{andOf}
 use Rattle.processor_arithmetic.proofs.bitwise.and.Statement.{statement}
 use Rattle.processor_arithmetic.proofs.bitwise.and.Tie as tie
 
-keep-carry-requires : tie.Need-keep-carry-requires
-keep-carry-requires c κs = search needs
-
 returns : tie.Need-returns
 unfolding andOf
 returns c = rw (c .keep-carry .ensures)
 
 pub and-spec : {M : Type 1} → statement M
-and-spec = tie.close (tie.spec keep-carry-requires returns)
+and-spec = tie.close (tie.spec (λ c κs. search needs) returns)

@@ -4,15 +4,9 @@ use Rattle.processor_arithmetic.specs.Bitwise.{notOf}
 use Rattle.processor_arithmetic.proofs.bitwise.not.Statement.{statement}
 use Rattle.processor_arithmetic.proofs.bitwise.not.Tie as tie
 
-sub-value : tie.Need-sub-value
-sub-value c = search needs
-
-keep-carry-requires : tie.Need-keep-carry-requires
-keep-carry-requires c κs = search needs
-
 returns : tie.Need-returns
 unfolding notOf
 returns c = rw (c .keep-carry .ensures)
 
 pub not-spec : {M : Type 1} → statement M
-not-spec = tie.close (tie.spec sub-value keep-carry-requires returns)
+not-spec = tie.close (tie.spec (λ c. search needs) (λ c κs. search needs) returns)

@@ -4,12 +4,9 @@ use Rattle.processor_arithmetic.specs.Bitwise.{orOf}
 use Rattle.processor_arithmetic.proofs.bitwise.or.Statement.{statement}
 use Rattle.processor_arithmetic.proofs.bitwise.or.Tie as tie
 
-keep-carry-requires : tie.Need-keep-carry-requires
-keep-carry-requires c κs = search needs
-
 returns : tie.Need-returns
 unfolding orOf
 returns c = rw (c .keep-carry .ensures)
 
 pub or-spec : {M : Type 1} → statement M
-or-spec = tie.close (tie.spec keep-carry-requires returns)
+or-spec = tie.close (tie.spec (λ c κs. search needs) returns)

@@ -4,12 +4,9 @@ use Rattle.processor_arithmetic.specs.Bitwise.{xorOf}
 use Rattle.processor_arithmetic.proofs.bitwise.xor.Statement.{statement}
 use Rattle.processor_arithmetic.proofs.bitwise.xor.Tie as tie
 
-keep-carry-requires : tie.Need-keep-carry-requires
-keep-carry-requires c κs = search needs
-
 returns : tie.Need-returns
 unfolding xorOf
 returns c = rw (c .keep-carry .ensures)
 
 pub xor-spec : {M : Type 1} → statement M
-xor-spec = tie.close (tie.spec keep-carry-requires returns)
+xor-spec = tie.close (tie.spec (λ c κs. search needs) returns)

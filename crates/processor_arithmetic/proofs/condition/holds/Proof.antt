@@ -6,16 +6,10 @@ use Rattle.processor_arithmetic.proofs.Table.{condition-low}
 use Rattle.processor_arithmetic.proofs.condition.holds.Statement.{statement}
 use Rattle.processor_arithmetic.proofs.condition.holds.Tie as tie
 
-row-requires : tie.Need-row-requires
-row-requires c κs = search needs
-
-shr-result : tie.Need-shr-result
-shr-result c = search needs
-
 returns : tie.Need-returns
 returns c =
     let a = c .before .args in
     c .row .ensures _ (omega arith) ∙ condition-low (a .cond) (a .psw)
 
 pub holds-spec : {M : Type 1} → statement M
-holds-spec = tie.close (tie.spec row-requires shr-result returns)
+holds-spec = tie.close (tie.spec (λ c κs. search needs) (λ c. search needs) returns)

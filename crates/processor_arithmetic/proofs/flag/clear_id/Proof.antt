@@ -5,15 +5,9 @@ use Rattle.processor_arithmetic.specs.Flag.{clearIdOf}
 use Rattle.processor_arithmetic.proofs.flag.clear_id.Statement.{statement}
 use Rattle.processor_arithmetic.proofs.flag.clear_id.Tie as tie
 
-mul-result : tie.Need-mul-result
-mul-result c = search needs
-
-sub-result : tie.Need-sub-result
-sub-result c = search needs
-
 returns : tie.Need-returns
 unfolding clearIdOf
 returns c = omega arith
 
 pub clear-id-spec : {M : Type 1} → statement M
-clear-id-spec = tie.close (tie.spec mul-result sub-result returns)
+clear-id-spec = tie.close (tie.spec (λ c. search needs) (λ c. search needs) returns)

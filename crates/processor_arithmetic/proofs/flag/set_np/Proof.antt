@@ -5,18 +5,9 @@ use Rattle.processor_arithmetic.specs.Flag.{setNpOf}
 use Rattle.processor_arithmetic.proofs.flag.set_np.Statement.{statement}
 use Rattle.processor_arithmetic.proofs.flag.set_np.Tie as tie
 
-mul-result : tie.Need-mul-result
-mul-result c = search needs
-
-sub-result : tie.Need-sub-result
-sub-result c = search needs
-
-add-result : tie.Need-add-result
-add-result c = search needs
-
 returns : tie.Need-returns
 unfolding setNpOf
 returns c = omega arith
 
 pub set-np-spec : {M : Type 1} → statement M
-set-np-spec = tie.close (tie.spec mul-result sub-result add-result returns)
+set-np-spec = tie.close (tie.spec (λ c. search needs) (λ c. search needs) (λ c. search needs) returns)

@@ -9,12 +9,9 @@ returns : tie.Need-returns
 unfolding extend64Of
 returns c = simp (lt-ltb _ _ (c .if1 .taken))
 
-add-result : tie.Need-add-result
-add-result c = search needs
-
 returns-2 : tie.Need-returns-2
 unfolding extend64Of
 returns-2 c = simp (le-ltb _ _ (c .if1 .left))
 
 pub extend64-spec : {M : Type 1} → statement M
-extend64-spec = tie.close (tie.spec returns add-result returns-2)
+extend64-spec = tie.close (tie.spec returns (λ c. search needs) returns-2)

@@ -10,15 +10,9 @@ returns : tie.Need-returns
 unfolding magnitudeOf
 returns c = (simp (lt-ltb _ _ (c .if1 .taken)), omega arith)
 
-sub-result : tie.Need-sub-result
-sub-result c = search needs
-
-add-result : tie.Need-add-result
-add-result c = search needs
-
 returns-2 : tie.Need-returns-2
 unfolding magnitudeOf
 returns-2 c = (simp (le-ltb _ _ (c .if1 .left)) (omega arith), omega arith)
 
 pub magnitude-spec : {M : Type 1} → statement M
-magnitude-spec = tie.close (tie.spec returns sub-result add-result returns-2)
+magnitude-spec = tie.close (tie.spec returns (λ c. search needs) (λ c. search needs) returns-2)

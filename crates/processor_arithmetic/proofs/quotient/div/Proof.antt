@@ -8,47 +8,43 @@ use Rattle.processor_arithmetic.specs.Quotient.{divideOf}
 use Rattle.processor_arithmetic.proofs.quotient.div.Statement.{statement}
 use Rattle.processor_arithmetic.proofs.quotient.div.Tie as tie
 
-magnitude-requires : tie.Need-magnitude-requires
-magnitude-requires c κs = search needs
-
-magnitude-requires-2 : tie.Need-magnitude-requires-2
-magnitude-requires-2 c κs = search needs
-
 div-signed : tie.Need-div-signed
 div-signed c = rw (c .magnitude2 .ensures .0) (magnitude-positive _ (omega arith) (omega arith))
 
-signed-requires : tie.Need-signed-requires
-signed-requires c κs = search needs
-
 rem-signed : tie.Need-rem-signed
 rem-signed c = rw (c .before .magnitude2 .ensures .0) (magnitude-positive _ (omega arith) (omega arith))
-
-signed-requires-2 : tie.Need-signed-requires-2
-signed-requires-2 c κs = search needs
-
-overflows-requires : tie.Need-overflows-requires
-overflows-requires c κs = search needs
-
-keep-carry-requires : tie.Need-keep-carry-requires
-keep-carry-requires c κs = search needs
 
 returns : tie.Need-returns
 unfolding divideOf signsQuotientOf signsRemainderOf quotientOverflowsOf
 returns c =
     let x = c .before .before .before .before .before .before .args in
     let s = by-signs (x .a) (x .b) (omega arith) (omega arith) (λ e. omega arith) in
-    rw (s .quotient, s .remainder, s .overflow, c .keep-carry .ensures, c .before .overflows .ensures .0, c .before .before .signed2 .ensures, c .before .before .before .signed .ensures, c .before .before .before .before .magnitude2 .ensures .0, c .before .before .before .before .before .magnitude .ensures .0, pick-not, pick-leb)
+    rw (
+      s .quotient,
+      s .remainder,
+      s .overflow,
+      c .keep-carry .ensures,
+      c .before .overflows .ensures .0,
+      c .before
+          .before .signed2 .ensures,
+      c .before .before .before .signed .ensures,
+      c .before .before .before .before
+          .magnitude2 .ensures .0,
+      c .before .before .before .before .before .magnitude .ensures .0,
+      pick-not,
+      pick-leb,
+    )
 
 pub div-spec : {M : Type 1} → statement M
 div-spec =
     tie.close
     (tie.spec
-    magnitude-requires
-    magnitude-requires-2
+    (λ c κs. search needs)
+    (λ c κs. search needs)
     div-signed
-    signed-requires
+    (λ c κs. search needs)
     rem-signed
-    signed-requires-2
-    overflows-requires
-    keep-carry-requires
+    (λ c κs. search needs)
+    (λ c κs. search needs)
+    (λ c κs. search needs)
     returns)

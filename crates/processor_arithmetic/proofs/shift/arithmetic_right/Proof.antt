@@ -7,17 +7,8 @@ use Rattle.processor_arithmetic.proofs.Floor.{sar-low, sar-high}
 use Rattle.processor_arithmetic.proofs.shift.arithmetic_right.Statement.{statement}
 use Rattle.processor_arithmetic.proofs.shift.arithmetic_right.Tie as tie
 
-shr-result : tie.Need-shr-result
-shr-result c = search needs
-
 returns : tie.Need-returns
 returns c = rw (sar-low (c .before .args .a) (c .before .args .n) (c .if1 .taken))
-
-sub-result : tie.Need-sub-result
-sub-result c = search needs
-
-shr-result-2 : tie.Need-shr-result-2
-shr-result-2 c = search needs
 
 sub-result-2 : tie.Need-sub-result-2
 sub-result-2 c = omega (arith, shr-le (4294967295 - c .before .args .a) (c .before .args .n))
@@ -27,4 +18,4 @@ returns-2 c = rw (sar-high (c .before .args .a) (c .before .args .n) (omega arit
 
 pub arithmetic-right-spec : {M : Type 1} → statement M
 arithmetic-right-spec =
-    tie.close (tie.spec shr-result returns sub-result shr-result-2 sub-result-2 returns-2)
+    tie.close (tie.spec (λ c. search needs) returns (λ c. search needs) (λ c. search needs) sub-result-2 returns-2)

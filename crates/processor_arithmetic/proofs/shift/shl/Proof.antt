@@ -9,21 +9,6 @@ use Rattle.processor_arithmetic.proofs.Floor.{left-out}
 use Rattle.processor_arithmetic.proofs.shift.shl.Statement.{statement}
 use Rattle.processor_arithmetic.proofs.shift.shl.Tie as tie
 
-cast-w : tie.Need-cast-w
-cast-w c = search needs
-
-shl-w : tie.Need-shl-w
-shl-w c = search needs
-
-cast-value : tie.Need-cast-value
-cast-value c = search needs
-
-cast-cy : tie.Need-cast-cy
-cast-cy c = search needs
-
-flags-requires : tie.Need-flags-requires
-flags-requires c κs = search needs
-
 returns : tie.Need-returns
 unfolding shiftLeftOf
 returns c =
@@ -33,4 +18,4 @@ returns c =
     rw (c .flags .ensures, e, left-out (a .a) n (omega arith) (omega arith))
 
 pub shl-spec : {M : Type 1} → statement M
-shl-spec = tie.close (tie.spec cast-w shl-w cast-value cast-cy flags-requires returns)
+shl-spec = tie.close (tie.spec (λ c. search needs) (λ c. search needs) (λ c. search needs) (λ c. search needs) (λ c κs. search needs) returns)

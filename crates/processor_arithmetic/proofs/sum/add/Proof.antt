@@ -6,30 +6,25 @@ use Rattle.processor_arithmetic.specs.Sum.{sumOf}
 use Rattle.processor_arithmetic.proofs.sum.add.Statement.{statement}
 use Rattle.processor_arithmetic.proofs.sum.add.Tie as tie
 
-wrapping-add-u32-requires : tie.Need-wrapping-add-u32-requires
-wrapping-add-u32-requires c κs = search needs
-
-bit-requires : tie.Need-bit-requires
-bit-requires c κs = search needs
-
-overflow-requires : tie.Need-overflow-requires
-overflow-requires c κs = search needs
-
-flags-requires : tie.Need-flags-requires
-flags-requires c κs = search needs
-
 returns : tie.Need-returns
 unfolding sumOf
 returns c =
     let a = c .before .before .before .before .args in
-    rw (c .flags .ensures, c .before .overflow .ensures .0, c .before .before .bit .ensures .0, c .before .before .before .wrapping-add-u32 .ensures, sum-carry (a .a) (a .b) (omega arith) (omega arith))
+    rw (
+      c .flags .ensures,
+      c .before .overflow .ensures .0,
+      c .before .before .bit .ensures .0,
+      c .before .before
+          .before .wrapping-add-u32 .ensures,
+      sum-carry (a .a) (a .b) (omega arith) (omega arith),
+    )
 
 pub add-spec : {M : Type 1} → statement M
 add-spec =
     tie.close
     (tie.spec
-    wrapping-add-u32-requires
-    bit-requires
-    overflow-requires
-    flags-requires
+    (λ c κs. search needs)
+    (λ c κs. search needs)
+    (λ c κs. search needs)
+    (λ c κs. search needs)
     returns)

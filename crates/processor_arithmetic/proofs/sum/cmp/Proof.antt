@@ -4,12 +4,9 @@ use Rattle.processor_arithmetic.specs.Sum.{compareOf}
 use Rattle.processor_arithmetic.proofs.sum.cmp.Statement.{statement}
 use Rattle.processor_arithmetic.proofs.sum.cmp.Tie as tie
 
-sub-requires : tie.Need-sub-requires
-sub-requires c κs = search needs
-
 returns : tie.Need-returns
 unfolding compareOf
 returns c = rw (c .sub .ensures)
 
 pub cmp-spec : {M : Type 1} → statement M
-cmp-spec = tie.close (tie.spec sub-requires returns)
+cmp-spec = tie.close (tie.spec (λ c κs. search needs) returns)

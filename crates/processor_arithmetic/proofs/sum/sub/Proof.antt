@@ -8,31 +8,25 @@ use Rattle.processor_arithmetic.specs.Sum.{differenceOf}
 use Rattle.processor_arithmetic.proofs.sum.sub.Statement.{statement}
 use Rattle.processor_arithmetic.proofs.sum.sub.Tie as tie
 
-wrapping-sub-u32-requires : tie.Need-wrapping-sub-u32-requires
-wrapping-sub-u32-requires c κs = search needs
-
-bit-requires : tie.Need-bit-requires
-bit-requires c κs = search needs
-
-overflow-requires : tie.Need-overflow-requires
-overflow-requires c κs = search needs
-
-flags-requires : tie.Need-flags-requires
-flags-requires c κs = search needs
-
 returns : tie.Need-returns
 unfolding differenceOf
 returns c =
     let a = c .before .before .before .before .args in
     let e : c .before .before .before .wrapping-sub-u32 .result ≡ (a .a + (2 ^ 32 - a .b)) % 2 ^ 32 = omega arith in
-    rw (c .flags .ensures, c .before .overflow .ensures .0, c .before .before .bit .ensures .0, e, difference-sum-outside (a .a) (a .b) (omega arith) (omega arith))
+    rw (
+      c .flags .ensures,
+      c .before .overflow .ensures .0,
+      c .before .before .bit .ensures .0,
+      e,
+      difference-sum-outside (a .a) (a .b) (omega arith) (omega arith),
+    )
 
 pub sub-spec : {M : Type 1} → statement M
 sub-spec =
     tie.close
     (tie.spec
-    wrapping-sub-u32-requires
-    bit-requires
-    overflow-requires
-    flags-requires
+    (λ c κs. search needs)
+    (λ c κs. search needs)
+    (λ c κs. search needs)
+    (λ c κs. search needs)
     returns)

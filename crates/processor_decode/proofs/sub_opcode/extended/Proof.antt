@@ -8,42 +8,6 @@ use borrow.Author.Needs.{needs}
 use Rattle.processor_decode.proofs.sub_opcode.extended.Statement.{statement}
 use Rattle.processor_decode.proofs.sub_opcode.extended.Tie as tie
 
-cmpf-requires : tie.Need-cmpf-requires
-cmpf-requires c κs = search needs
-
-floating-requires : tie.Need-floating-requires
-floating-requires c κs = search needs
-
-floating-requires-2 : tie.Need-floating-requires-2
-floating-requires-2 c κs = search needs
-
-floating-requires-3 : tie.Need-floating-requires-3
-floating-requires-3 c κs = search needs
-
-floating-requires-4 : tie.Need-floating-requires-4
-floating-requires-4 c κs = search needs
-
-floating-requires-5 : tie.Need-floating-requires-5
-floating-requires-5 c κs = search needs
-
-floating-requires-6 : tie.Need-floating-requires-6
-floating-requires-6 c κs = search needs
-
-exchange-requires : tie.Need-exchange-requires
-exchange-requires c κs = search needs
-
-exchange-requires-2 : tie.Need-exchange-requires-2
-exchange-requires-2 c κs = search needs
-
-nintendo-requires : tie.Need-nintendo-requires
-nintendo-requires c κs = search needs
-
-floating-requires-7 : tie.Need-floating-requires-7
-floating-requires-7 c κs = search needs
-
-nintendo-requires-2 : tie.Need-nintendo-requires-2
-nintendo-requires-2 c κs = search needs
-
 returns : tie.Need-returns
 unfolding subRows extendedOf
 returns c = rw (c .before .match .keys1) (c .cmpf .ensures)
@@ -104,18 +68,18 @@ pub extended-spec : {M : Type 1} → statement M
 extended-spec =
     tie.close
     (tie.spec
-    cmpf-requires
-    floating-requires
-    floating-requires-2
-    floating-requires-3
-    floating-requires-4
-    floating-requires-5
-    floating-requires-6
-    exchange-requires
-    exchange-requires-2
-    nintendo-requires
-    floating-requires-7
-    nintendo-requires-2
+    (λ c κs. search needs)
+    (λ c κs. search needs)
+    (λ c κs. search needs)
+    (λ c κs. search needs)
+    (λ c κs. search needs)
+    (λ c κs. search needs)
+    (λ c κs. search needs)
+    (λ c κs. search needs)
+    (λ c κs. search needs)
+    (λ c κs. search needs)
+    (λ c κs. search needs)
+    (λ c κs. search needs)
     returns
     returns-2
     returns-3

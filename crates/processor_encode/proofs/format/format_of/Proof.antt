@@ -5,22 +5,13 @@ use borrow.Author.Needs.{needs}
 use Rattle.processor_encode.proofs.format.format_of.Statement.{statement}
 use Rattle.processor_encode.proofs.format.format_of.Tie as tie
 
-short-requires : tie.Need-short-requires
-short-requires c κs = search needs
-
 returns : tie.Need-returns
 unfolding formatOf
 returns c = simp (lt-ltb _ _ (c .before .if1 .taken)) (c .short .ensures)
 
-long-requires : tie.Need-long-requires
-long-requires c κs = search needs
-
 returns-2 : tie.Need-returns-2
 unfolding formatOf
 returns-2 c = simp (le-ltb _ _ (c .before .before .if1 .left), lt-ltb _ _ (c .before .if2 .taken)) (c .long .ensures)
-
-extended-requires : tie.Need-extended-requires
-extended-requires c κs = search needs
 
 returns-3 : tie.Need-returns-3
 unfolding formatOf
@@ -28,4 +19,4 @@ returns-3 c = simp (le-ltb _ _ (c .before .before .if1 .left), le-ltb _ _ (c .be
 
 pub format-of-spec : {M : Type 1} → statement M
 format-of-spec =
-    tie.close (tie.spec short-requires returns long-requires returns-2 extended-requires returns-3)
+    tie.close (tie.spec (λ c κs. search needs) returns (λ c κs. search needs) returns-2 (λ c κs. search needs) returns-3)

@@ -3,108 +3,6 @@ use borrow.Author.Needs.{needs}
 use Rattle.processor_encode.proofs.place.halfwords.Statement.{statement}
 use Rattle.processor_encode.proofs.place.halfwords.Tie as tie
 
-enum-told : tie.Need-enum-told
-enum-told c = search needs
-
-placed-requires : tie.Need-placed-requires
-placed-requires c κs = search needs
-
-enum-told-2 : tie.Need-enum-told-2
-enum-told-2 c = search needs
-
-placed-requires-2 : tie.Need-placed-requires-2
-placed-requires-2 c κs = search needs
-
-enum-told-3 : tie.Need-enum-told-3
-enum-told-3 c = search needs
-
-placed-requires-3 : tie.Need-placed-requires-3
-placed-requires-3 c κs = search needs
-
-enum-told-4 : tie.Need-enum-told-4
-enum-told-4 c = search needs
-
-placed-requires-4 : tie.Need-placed-requires-4
-placed-requires-4 c κs = search needs
-
-enum-told-5 : tie.Need-enum-told-5
-enum-told-5 c = search needs
-
-placed-requires-5 : tie.Need-placed-requires-5
-placed-requires-5 c κs = search needs
-
-enum-told-6 : tie.Need-enum-told-6
-enum-told-6 c = search needs
-
-placed-requires-6 : tie.Need-placed-requires-6
-placed-requires-6 c κs = search needs
-
-enum-told-7 : tie.Need-enum-told-7
-enum-told-7 c = search needs
-
-placed-requires-7 : tie.Need-placed-requires-7
-placed-requires-7 c κs = search needs
-
-enum-told-8 : tie.Need-enum-told-8
-enum-told-8 c = search needs
-
-placed-requires-8 : tie.Need-placed-requires-8
-placed-requires-8 c κs = search needs
-
-enum-told-9 : tie.Need-enum-told-9
-enum-told-9 c = search needs
-
-branch-placed-requires : tie.Need-branch-placed-requires
-branch-placed-requires c κs = search needs
-
-enum-told-10 : tie.Need-enum-told-10
-enum-told-10 c = search needs
-
-jump-placed-requires : tie.Need-jump-placed-requires
-jump-placed-requires c κs = search needs
-
-low-half-requires : tie.Need-low-half-requires
-low-half-requires c κs = search needs
-
-enum-told-11 : tie.Need-enum-told-11
-enum-told-11 c = search needs
-
-placed-requires-9 : tie.Need-placed-requires-9
-placed-requires-9 c κs = search needs
-
-low-half-requires-2 : tie.Need-low-half-requires-2
-low-half-requires-2 c κs = search needs
-
-enum-told-12 : tie.Need-enum-told-12
-enum-told-12 c = search needs
-
-placed-requires-10 : tie.Need-placed-requires-10
-placed-requires-10 c κs = search needs
-
-low-half-requires-3 : tie.Need-low-half-requires-3
-low-half-requires-3 c κs = search needs
-
-enum-told-13 : tie.Need-enum-told-13
-enum-told-13 c = search needs
-
-placed-requires-11 : tie.Need-placed-requires-11
-placed-requires-11 c κs = search needs
-
-sub-opcode-requires : tie.Need-sub-opcode-requires
-sub-opcode-requires c κs = search needs
-
-enum-told-14 : tie.Need-enum-told-14
-enum-told-14 c = search needs
-
-placed-requires-12 : tie.Need-placed-requires-12
-placed-requires-12 c κs = search needs
-
-sub-opcode-requires-2 : tie.Need-sub-opcode-requires-2
-sub-opcode-requires-2 c κs = search needs
-
-enum-told-15 : tie.Need-enum-told-15
-enum-told-15 c = search needs
-
 returns : tie.Need-returns
 returns c = rw (c .before .enum-told .given .1, c .placed .ensures)
 
@@ -154,40 +52,40 @@ pub halfwords-spec : {M : Type 1} → statement M
 halfwords-spec =
     tie.close
     (tie.spec
-    enum-told
-    placed-requires
-    enum-told-2
-    placed-requires-2
-    enum-told-3
-    placed-requires-3
-    enum-told-4
-    placed-requires-4
-    enum-told-5
-    placed-requires-5
-    enum-told-6
-    placed-requires-6
-    enum-told-7
-    placed-requires-7
-    enum-told-8
-    placed-requires-8
-    enum-told-9
-    branch-placed-requires
-    enum-told-10
-    jump-placed-requires
-    low-half-requires
-    enum-told-11
-    placed-requires-9
-    low-half-requires-2
-    enum-told-12
-    placed-requires-10
-    low-half-requires-3
-    enum-told-13
-    placed-requires-11
-    sub-opcode-requires
-    enum-told-14
-    placed-requires-12
-    sub-opcode-requires-2
-    enum-told-15
+    (λ c. search needs)
+    (λ c κs. search needs)
+    (λ c. search needs)
+    (λ c κs. search needs)
+    (λ c. search needs)
+    (λ c κs. search needs)
+    (λ c. search needs)
+    (λ c κs. search needs)
+    (λ c. search needs)
+    (λ c κs. search needs)
+    (λ c. search needs)
+    (λ c κs. search needs)
+    (λ c. search needs)
+    (λ c κs. search needs)
+    (λ c. search needs)
+    (λ c κs. search needs)
+    (λ c. search needs)
+    (λ c κs. search needs)
+    (λ c. search needs)
+    (λ c κs. search needs)
+    (λ c κs. search needs)
+    (λ c. search needs)
+    (λ c κs. search needs)
+    (λ c κs. search needs)
+    (λ c. search needs)
+    (λ c κs. search needs)
+    (λ c κs. search needs)
+    (λ c. search needs)
+    (λ c κs. search needs)
+    (λ c κs. search needs)
+    (λ c. search needs)
+    (λ c κs. search needs)
+    (λ c κs. search needs)
+    (λ c. search needs)
     returns
     returns-2
     returns-3

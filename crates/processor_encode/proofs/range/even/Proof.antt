@@ -11,12 +11,9 @@ returns : tie.Need-returns
 unfolding evenIn
 returns c = simp (ne-eqb (c .before .args .x % 2) 0 (omega arith))
 
-signed-requires : tie.Need-signed-requires
-signed-requires c κs = search needs
-
 returns-2 : tie.Need-returns-2
 unfolding evenIn
 returns-2 c = simp (eq-eqb (c .before .before .args .x % 2) 0 (omega arith)) (c .signed .ensures)
 
 pub even-spec : {M : Type 1} → statement M
-even-spec = tie.close (tie.spec returns signed-requires returns-2)
+even-spec = tie.close (tie.spec returns (λ c κs. search needs) returns-2)

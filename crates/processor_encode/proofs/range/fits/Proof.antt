@@ -3,135 +3,6 @@ use borrow.Author.Needs.{needs}
 use Rattle.processor_encode.proofs.range.fits.Statement.{statement}
 use Rattle.processor_encode.proofs.range.fits.Tie as tie
 
-enum-told : tie.Need-enum-told
-enum-told c = search needs
-
-below-requires : tie.Need-below-requires
-below-requires c κs = search needs
-
-within-requires : tie.Need-within-requires
-within-requires c κs = search needs
-
-enum-told-2 : tie.Need-enum-told-2
-enum-told-2 c = search needs
-
-below-requires-2 : tie.Need-below-requires-2
-below-requires-2 c κs = search needs
-
-within-requires-2 : tie.Need-within-requires-2
-within-requires-2 c κs = search needs
-
-enum-told-3 : tie.Need-enum-told-3
-enum-told-3 c = search needs
-
-signed-requires : tie.Need-signed-requires
-signed-requires c κs = search needs
-
-within-requires-3 : tie.Need-within-requires-3
-within-requires-3 c κs = search needs
-
-enum-told-4 : tie.Need-enum-told-4
-enum-told-4 c = search needs
-
-below-requires-3 : tie.Need-below-requires-3
-below-requires-3 c κs = search needs
-
-within-requires-4 : tie.Need-within-requires-4
-within-requires-4 c κs = search needs
-
-enum-told-5 : tie.Need-enum-told-5
-enum-told-5 c = search needs
-
-below-requires-4 : tie.Need-below-requires-4
-below-requires-4 c κs = search needs
-
-within-requires-5 : tie.Need-within-requires-5
-within-requires-5 c κs = search needs
-
-enum-told-6 : tie.Need-enum-told-6
-enum-told-6 c = search needs
-
-below-requires-5 : tie.Need-below-requires-5
-below-requires-5 c κs = search needs
-
-within-requires-6 : tie.Need-within-requires-6
-within-requires-6 c κs = search needs
-
-enum-told-7 : tie.Need-enum-told-7
-enum-told-7 c = search needs
-
-below-requires-6 : tie.Need-below-requires-6
-below-requires-6 c κs = search needs
-
-within-requires-7 : tie.Need-within-requires-7
-within-requires-7 c κs = search needs
-
-enum-told-8 : tie.Need-enum-told-8
-enum-told-8 c = search needs
-
-system-requires : tie.Need-system-requires
-system-requires c κs = search needs
-
-within-requires-8 : tie.Need-within-requires-8
-within-requires-8 c κs = search needs
-
-enum-told-9 : tie.Need-enum-told-9
-enum-told-9 c = search needs
-
-even-requires : tie.Need-even-requires
-even-requires c κs = search needs
-
-within-requires-9 : tie.Need-within-requires-9
-within-requires-9 c κs = search needs
-
-enum-told-10 : tie.Need-enum-told-10
-enum-told-10 c = search needs
-
-even-requires-2 : tie.Need-even-requires-2
-even-requires-2 c κs = search needs
-
-within-requires-10 : tie.Need-within-requires-10
-within-requires-10 c κs = search needs
-
-enum-told-11 : tie.Need-enum-told-11
-enum-told-11 c = search needs
-
-signed-requires-2 : tie.Need-signed-requires-2
-signed-requires-2 c κs = search needs
-
-within-requires-11 : tie.Need-within-requires-11
-within-requires-11 c κs = search needs
-
-enum-told-12 : tie.Need-enum-told-12
-enum-told-12 c = search needs
-
-below-requires-7 : tie.Need-below-requires-7
-below-requires-7 c κs = search needs
-
-within-requires-12 : tie.Need-within-requires-12
-within-requires-12 c κs = search needs
-
-enum-told-13 : tie.Need-enum-told-13
-enum-told-13 c = search needs
-
-below-requires-8 : tie.Need-below-requires-8
-below-requires-8 c κs = search needs
-
-within-requires-13 : tie.Need-within-requires-13
-within-requires-13 c κs = search needs
-
-enum-told-14 : tie.Need-enum-told-14
-enum-told-14 c = search needs
-
-below-requires-9 : tie.Need-below-requires-9
-below-requires-9 c κs = search needs
-
-within-requires-14 : tie.Need-within-requires-14
-within-requires-14 c κs = search needs
-
-enum-told-15 : tie.Need-enum-told-15
-enum-told-15 c = search needs
-
 returns : tie.Need-returns
 returns c = rw (c .before .before .enum-told .given .1, c .within .ensures, c .before .below .ensures)
 
@@ -181,49 +52,49 @@ pub fits-spec : {M : Type 1} → statement M
 fits-spec =
     tie.close
     (tie.spec
-    enum-told
-    below-requires
-    within-requires
-    enum-told-2
-    below-requires-2
-    within-requires-2
-    enum-told-3
-    signed-requires
-    within-requires-3
-    enum-told-4
-    below-requires-3
-    within-requires-4
-    enum-told-5
-    below-requires-4
-    within-requires-5
-    enum-told-6
-    below-requires-5
-    within-requires-6
-    enum-told-7
-    below-requires-6
-    within-requires-7
-    enum-told-8
-    system-requires
-    within-requires-8
-    enum-told-9
-    even-requires
-    within-requires-9
-    enum-told-10
-    even-requires-2
-    within-requires-10
-    enum-told-11
-    signed-requires-2
-    within-requires-11
-    enum-told-12
-    below-requires-7
-    within-requires-12
-    enum-told-13
-    below-requires-8
-    within-requires-13
-    enum-told-14
-    below-requires-9
-    within-requires-14
-    enum-told-15
+    (λ c. search needs)
+    (λ c κs. search needs)
+    (λ c κs. search needs)
+    (λ c. search needs)
+    (λ c κs. search needs)
+    (λ c κs. search needs)
+    (λ c. search needs)
+    (λ c κs. search needs)
+    (λ c κs. search needs)
+    (λ c. search needs)
+    (λ c κs. search needs)
+    (λ c κs. search needs)
+    (λ c. search needs)
+    (λ c κs. search needs)
+    (λ c κs. search needs)
+    (λ c. search needs)
+    (λ c κs. search needs)
+    (λ c κs. search needs)
+    (λ c. search needs)
+    (λ c κs. search needs)
+    (λ c κs. search needs)
+    (λ c. search needs)
+    (λ c κs. search needs)
+    (λ c κs. search needs)
+    (λ c. search needs)
+    (λ c κs. search needs)
+    (λ c κs. search needs)
+    (λ c. search needs)
+    (λ c κs. search needs)
+    (λ c κs. search needs)
+    (λ c. search needs)
+    (λ c κs. search needs)
+    (λ c κs. search needs)
+    (λ c. search needs)
+    (λ c κs. search needs)
+    (λ c κs. search needs)
+    (λ c. search needs)
+    (λ c κs. search needs)
+    (λ c κs. search needs)
+    (λ c. search needs)
+    (λ c κs. search needs)
+    (λ c κs. search needs)
+    (λ c. search needs)
     returns
     returns-2
     returns-3

@@ -10,11 +10,8 @@ use Rattle.processor_encode.proofs.range.signed.Tie as tie
 returns : tie.Need-returns
 returns c = sym (signed-low _ _ (c .if1 .taken))
 
-sub-result : tie.Need-sub-result
-sub-result c = search needs
-
 returns-2 : tie.Need-returns-2
 returns-2 c = sym (signed-high _ _ (c .before .pre) (c .if1 .left) (omega arith))
 
 pub signed-spec : {M : Type 1} → statement M
-signed-spec = tie.close (tie.spec returns sub-result returns-2)
+signed-spec = tie.close (tie.spec returns (λ c. search needs) returns-2)

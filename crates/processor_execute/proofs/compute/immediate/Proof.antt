@@ -4,22 +4,16 @@ use Rattle.processor_execute.specs.Execute.{executeOf}
 use Rattle.processor_execute.proofs.compute.immediate.Statement.{statement}
 use Rattle.processor_execute.proofs.compute.immediate.Tie as tie
 
-get-requires : tie.Need-get-requires
-get-requires c κs = search needs
-
-immediate-requires : tie.Need-immediate-requires
-immediate-requires c κs = search needs
-
-put-requires : tie.Need-put-requires
-put-requires c κs = search needs
-
-ended-requires : tie.Need-ended-requires
-ended-requires c κs = search needs
-
 returns : tie.Need-returns
 unfolding executeOf
-returns c = λ pc sys m. rw (c .ended .ensures, c .before .put .ensures, c .before .before .before .immediate .ensures, c .before .before .before .before .get .ensures)
+returns c = λ pc sys m. rw (
+  c .ended .ensures,
+  c .before .put .ensures,
+  c .before .before .before .immediate .ensures,
+  c
+      .before .before .before .before .get .ensures,
+)
 
 pub immediate-spec : {M : Type 1} → statement M
 immediate-spec =
-    tie.close (tie.spec get-requires immediate-requires put-requires ended-requires returns)
+    tie.close (tie.spec (λ c κs. search needs) (λ c κs. search needs) (λ c κs. search needs) (λ c κs. search needs) returns)

@@ -4,21 +4,15 @@ use Rattle.processor_execute.specs.Execute.{executeOf}
 use Rattle.processor_execute.proofs.compute.long.Statement.{statement}
 use Rattle.processor_execute.proofs.compute.long.Tie as tie
 
-get-requires : tie.Need-get-requires
-get-requires c κs = search needs
-
-long-requires : tie.Need-long-requires
-long-requires c κs = search needs
-
-put-requires : tie.Need-put-requires
-put-requires c κs = search needs
-
-ended-requires : tie.Need-ended-requires
-ended-requires c κs = search needs
-
 returns : tie.Need-returns
 unfolding executeOf
-returns c = λ pc sys m. rw (c .ended .ensures, c .before .put .ensures, c .before .before .before .long .ensures, c .before .before .before .before .get .ensures)
+returns c = λ pc sys m. rw (
+  c .ended .ensures,
+  c .before .put .ensures,
+  c .before .before .before .long .ensures,
+  c
+      .before .before .before .before .get .ensures,
+)
 
 pub long-spec : {M : Type 1} → statement M
-long-spec = tie.close (tie.spec get-requires long-requires put-requires ended-requires returns)
+long-spec = tie.close (tie.spec (λ c κs. search needs) (λ c κs. search needs) (λ c κs. search needs) (λ c κs. search needs) returns)

@@ -6,7 +6,16 @@ use Rattle.processor_execute.proofs.compute.mul.Tie as tie
 
 returns : tie.Need-returns
 unfolding executeOf
-returns c = λ pc sys m. rw (c .ended .ensures, c .before .put2 .ensures, c .before .before .before .put .ensures, c .before .before .before .before .before .mul .ensures, c .before .before .before .before .before .before .get2 .ensures, c .before .before .before .before .before .before .before .before .get .ensures)
+returns c = λ pc sys m. rw (
+  c .ended .ensures,
+  c .before .put2 .ensures,
+  c .before .before .before .put .ensures,
+  c
+      .before .before .before .before .before .mul .ensures,
+  c .before .before .before .before .before .before .get2
+      .ensures,
+  c .before .before .before .before .before .before .before .before .get .ensures,
+)
 
 pub mul-spec : {M : Type 1} → statement M
 mul-spec =

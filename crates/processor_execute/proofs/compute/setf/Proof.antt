@@ -4,21 +4,15 @@ use Rattle.processor_execute.specs.Execute.{executeOf}
 use Rattle.processor_execute.proofs.compute.setf.Statement.{statement}
 use Rattle.processor_execute.proofs.compute.setf.Tie as tie
 
-holds-requires : tie.Need-holds-requires
-holds-requires c κs = search needs
-
-bit-requires : tie.Need-bit-requires
-bit-requires c κs = search needs
-
-put-requires : tie.Need-put-requires
-put-requires c κs = search needs
-
-ended-requires : tie.Need-ended-requires
-ended-requires c κs = search needs
-
 returns : tie.Need-returns
 unfolding executeOf
-returns c = λ pc sys m. rw (c .ended .ensures, c .before .put .ensures, c .before .before .before .bit .ensures .0, c .before .before .before .before .holds .ensures)
+returns c = λ pc sys m. rw (
+  c .ended .ensures,
+  c .before .put .ensures,
+  c .before .before .before .bit .ensures .0,
+  c
+      .before .before .before .before .holds .ensures,
+)
 
 pub setf-spec : {M : Type 1} → statement M
-setf-spec = tie.close (tie.spec holds-requires bit-requires put-requires ended-requires returns)
+setf-spec = tie.close (tie.spec (λ c κs. search needs) (λ c κs. search needs) (λ c κs. search needs) (λ c κs. search needs) returns)

@@ -9,21 +9,13 @@ use Rattle.processor_execute.specs.Execute.{executeOf}
 use Rattle.processor_execute.proofs.control.ldsr.Statement.{statement}
 use Rattle.processor_execute.proofs.control.ldsr.Tie as tie
 
-get-requires : tie.Need-get-requires
-get-requires c κs = search needs
-
-write-requires : tie.Need-write-requires
-write-requires c κs = search needs
-
-ended-requires : tie.Need-ended-requires
-ended-requires c κs = search needs
-
 returns : tie.Need-returns
 unfolding executeOf
 returns c =
     λ pc m.
     rw (c .ended .ensures, ← c .before .before .before .get .ensures)
-    (ap (λ (w : Status). steppedOf Ended (stateOf (c .before .before .before .before .args .regs .now) (w .sys) (c .before .before .before .before .args .next) (w .psw) Running) m) (c .before .write .ensures))
+    (ap (λ (w : Status). steppedOf Ended (stateOf (c .before .before .before .before .args .regs .now) (w .sys)
+    (c .before .before .before .before .args .next) (w .psw) Running) m) (c .before .write .ensures))
 
 pub ldsr-spec : {M : Type 1} → statement M
-ldsr-spec = tie.close (tie.spec get-requires write-requires ended-requires returns)
+ldsr-spec = tie.close (tie.spec (λ c κs. search needs) (λ c κs. search needs) (λ c κs. search needs) returns)

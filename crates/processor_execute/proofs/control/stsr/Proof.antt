@@ -4,18 +4,9 @@ use Rattle.processor_execute.specs.Execute.{executeOf}
 use Rattle.processor_execute.proofs.control.stsr.Statement.{statement}
 use Rattle.processor_execute.proofs.control.stsr.Tie as tie
 
-read-requires : tie.Need-read-requires
-read-requires c κs = search needs
-
-put-requires : tie.Need-put-requires
-put-requires c κs = search needs
-
-ended-requires : tie.Need-ended-requires
-ended-requires c κs = search needs
-
 returns : tie.Need-returns
 unfolding executeOf
 returns c = λ pc m. rw (c .ended .ensures, c .before .put .ensures, c .before .before .before .read .ensures)
 
 pub stsr-spec : {M : Type 1} → statement M
-stsr-spec = tie.close (tie.spec read-requires put-requires ended-requires returns)
+stsr-spec = tie.close (tie.spec (λ c κs. search needs) (λ c κs. search needs) (λ c κs. search needs) returns)

@@ -4,12 +4,9 @@ use Rattle.processor_execute.specs.Execute.{executeOf}
 use Rattle.processor_execute.proofs.control.trap.Statement.{statement}
 use Rattle.processor_execute.proofs.control.trap.Tie as tie
 
-raise-requires : tie.Need-raise-requires
-raise-requires c κs = search needs
-
 returns : tie.Need-returns
 unfolding executeOf
 returns c = λ regs m. c .raise .ensures regs m
 
 pub trap-spec : {M : Type 1} → statement M
-trap-spec = tie.close (tie.spec raise-requires returns)
+trap-spec = tie.close (tie.spec (λ c κs. search needs) returns)

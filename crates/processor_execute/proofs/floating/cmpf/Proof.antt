@@ -4,22 +4,16 @@ use borrow.Author.Needs.{needs}
 use Rattle.processor_execute.proofs.floating.cmpf.Statement.{statement}
 use Rattle.processor_execute.proofs.floating.cmpf.Tie as tie
 
-get-requires : tie.Need-get-requires
-get-requires c κs = search needs
-
-get-requires-2 : tie.Need-get-requires-2
-get-requires-2 c κs = search needs
-
-compare-requires : tie.Need-compare-requires
-compare-requires c κs = search needs
-
-compares-requires : tie.Need-compares-requires
-compares-requires c κs = search needs
-
 returns : tie.Need-returns
 unfolding executeOf
-returns c = λ m. rw (c .compares .ensures _ m, c .before .before .compare .ensures, c .before .before .before .get2 .ensures, c .before .before .before .before .get .ensures)
+returns c = λ m. rw (
+  c .compares .ensures _ m,
+  c .before .before .compare .ensures,
+  c .before .before .before .get2
+      .ensures,
+  c .before .before .before .before .get .ensures,
+)
 
 pub cmpf-spec : {M : Type 1} → statement M
 cmpf-spec =
-    tie.close (tie.spec get-requires get-requires-2 compare-requires compares-requires returns)
+    tie.close (tie.spec (λ c κs. search needs) (λ c κs. search needs) (λ c κs. search needs) (λ c κs. search needs) returns)

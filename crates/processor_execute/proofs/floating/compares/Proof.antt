@@ -3,39 +3,6 @@ use borrow.Author.Needs.{needs}
 use Rattle.processor_execute.proofs.floating.compares.Statement.{statement}
 use Rattle.processor_execute.proofs.floating.compares.Tie as tie
 
-enum-told : tie.Need-enum-told
-enum-told c = search needs
-
-comparison-flags-requires : tie.Need-comparison-flags-requires
-comparison-flags-requires c κs = search needs
-
-ended-requires : tie.Need-ended-requires
-ended-requires c κs = search needs
-
-enum-told-2 : tie.Need-enum-told-2
-enum-told-2 c = search needs
-
-comparison-flags-requires-2 : tie.Need-comparison-flags-requires-2
-comparison-flags-requires-2 c κs = search needs
-
-ended-requires-2 : tie.Need-ended-requires-2
-ended-requires-2 c κs = search needs
-
-enum-told-3 : tie.Need-enum-told-3
-enum-told-3 c = search needs
-
-comparison-flags-requires-3 : tie.Need-comparison-flags-requires-3
-comparison-flags-requires-3 c κs = search needs
-
-ended-requires-3 : tie.Need-ended-requires-3
-ended-requires-3 c κs = search needs
-
-enum-told-4 : tie.Need-enum-told-4
-enum-told-4 c = search needs
-
-raise-requires : tie.Need-raise-requires
-raise-requires c κs = search needs
-
 returns : tie.Need-returns
 returns c = λ regs m. rw (c .ended .ensures, c .before .comparison-flags .ensures, c .before .before .enum-told .given .1)
 
@@ -52,17 +19,17 @@ pub compares-spec : {M : Type 1} → statement M
 compares-spec =
     tie.close
     (tie.spec
-    enum-told
-    comparison-flags-requires
-    ended-requires
-    enum-told-2
-    comparison-flags-requires-2
-    ended-requires-2
-    enum-told-3
-    comparison-flags-requires-3
-    ended-requires-3
-    enum-told-4
-    raise-requires
+    (λ c. search needs)
+    (λ c κs. search needs)
+    (λ c κs. search needs)
+    (λ c. search needs)
+    (λ c κs. search needs)
+    (λ c κs. search needs)
+    (λ c. search needs)
+    (λ c κs. search needs)
+    (λ c κs. search needs)
+    (λ c. search needs)
+    (λ c κs. search needs)
     returns
     returns-2
     returns-3

@@ -3,48 +3,6 @@ use borrow.Author.Needs.{needs}
 use Rattle.processor_execute.proofs.floating.outcome.Statement.{statement}
 use Rattle.processor_execute.proofs.floating.outcome.Tie as tie
 
-enum-told : tie.Need-enum-told
-enum-told c = search needs
-
-float-of-requires : tie.Need-float-of-requires
-float-of-requires c κs = search needs
-
-enum-told-2 : tie.Need-enum-told-2
-enum-told-2 c = search needs
-
-nearest-requires : tie.Need-nearest-requires
-nearest-requires c κs = search needs
-
-enum-told-3 : tie.Need-enum-told-3
-enum-told-3 c = search needs
-
-operate-requires : tie.Need-operate-requires
-operate-requires c κs = search needs
-
-enum-told-4 : tie.Need-enum-told-4
-enum-told-4 c = search needs
-
-operate-requires-2 : tie.Need-operate-requires-2
-operate-requires-2 c κs = search needs
-
-enum-told-5 : tie.Need-enum-told-5
-enum-told-5 c = search needs
-
-operate-requires-3 : tie.Need-operate-requires-3
-operate-requires-3 c κs = search needs
-
-enum-told-6 : tie.Need-enum-told-6
-enum-told-6 c = search needs
-
-operate-requires-4 : tie.Need-operate-requires-4
-operate-requires-4 c κs = search needs
-
-enum-told-7 : tie.Need-enum-told-7
-enum-told-7 c = search needs
-
-truncated-requires : tie.Need-truncated-requires
-truncated-requires c κs = search needs
-
 returns : tie.Need-returns
 returns c = rw (c .before .enum-told .given .1, c .float-of .ensures)
 
@@ -70,20 +28,20 @@ pub outcome-spec : {M : Type 1} → statement M
 outcome-spec =
     tie.close
     (tie.spec
-    enum-told
-    float-of-requires
-    enum-told-2
-    nearest-requires
-    enum-told-3
-    operate-requires
-    enum-told-4
-    operate-requires-2
-    enum-told-5
-    operate-requires-3
-    enum-told-6
-    operate-requires-4
-    enum-told-7
-    truncated-requires
+    (λ c. search needs)
+    (λ c κs. search needs)
+    (λ c. search needs)
+    (λ c κs. search needs)
+    (λ c. search needs)
+    (λ c κs. search needs)
+    (λ c. search needs)
+    (λ c κs. search needs)
+    (λ c. search needs)
+    (λ c κs. search needs)
+    (λ c. search needs)
+    (λ c κs. search needs)
+    (λ c. search needs)
+    (λ c κs. search needs)
     returns
     returns-2
     returns-3

@@ -3,30 +3,6 @@ use borrow.Author.Needs.{needs}
 use Rattle.processor_execute.proofs.floating.rearranged.Statement.{statement}
 use Rattle.processor_execute.proofs.floating.rearranged.Tie as tie
 
-enum-told : tie.Need-enum-told
-enum-told c = search needs
-
-xb-requires : tie.Need-xb-requires
-xb-requires c κs = search needs
-
-enum-told-2 : tie.Need-enum-told-2
-enum-told-2 c = search needs
-
-xh-requires : tie.Need-xh-requires
-xh-requires c κs = search needs
-
-enum-told-3 : tie.Need-enum-told-3
-enum-told-3 c = search needs
-
-rev-requires : tie.Need-rev-requires
-rev-requires c κs = search needs
-
-enum-told-4 : tie.Need-enum-told-4
-enum-told-4 c = search needs
-
-mpyhw-requires : tie.Need-mpyhw-requires
-mpyhw-requires c κs = search needs
-
 returns : tie.Need-returns
 returns c = rw (c .before .enum-told .given .1) (c .xb .ensures)
 
@@ -43,14 +19,14 @@ pub rearranged-spec : {M : Type 1} → statement M
 rearranged-spec =
     tie.close
     (tie.spec
-    enum-told
-    xb-requires
-    enum-told-2
-    xh-requires
-    enum-told-3
-    rev-requires
-    enum-told-4
-    mpyhw-requires
+    (λ c. search needs)
+    (λ c κs. search needs)
+    (λ c. search needs)
+    (λ c κs. search needs)
+    (λ c. search needs)
+    (λ c κs. search needs)
+    (λ c. search needs)
+    (λ c κs. search needs)
     returns
     returns-2
     returns-3

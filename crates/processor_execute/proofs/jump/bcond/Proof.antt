@@ -6,46 +6,34 @@ use Rattle.processor_execute.specs.Execute.{executeOf}
 use Rattle.processor_execute.proofs.jump.bcond.Statement.{statement}
 use Rattle.processor_execute.proofs.jump.bcond.Tie as tie
 
-target-requires : tie.Need-target-requires
-target-requires c κs = search needs
-
-ended-requires : tie.Need-ended-requires
-ended-requires c κs = search needs
-
 returns : tie.Need-returns
 unfolding executeOf conditionOf
 returns c = λ regs sys m. rw (c .ended .ensures, c .before .target .ensures, c .before .before .if1 .taken)
-
-holds-requires : tie.Need-holds-requires
-holds-requires c κs = search needs
-
-ended-requires-2 : tie.Need-ended-requires-2
-ended-requires-2 c κs = search needs
 
 returns-2 : tie.Need-returns-2
 unfolding executeOf
 returns-2 c = λ regs sys m. rw (c .ended2 .ensures, ← c .before .before .holds .ensures, not-true (c .before .before .holds .result) (c .before .if2 .taken))
 
-target-requires-2 : tie.Need-target-requires-2
-target-requires-2 c κs = search needs
-
-ended-requires-3 : tie.Need-ended-requires-3
-ended-requires-3 c κs = search needs
-
 returns-3 : tie.Need-returns-3
 unfolding executeOf
-returns-3 c = λ regs sys m. rw (c .ended3 .ensures, c .before .target2 .ensures, ← c .before .before .before .holds .ensures, not-false (c .before .before .before .holds .result) (c .before .before .if2 .left))
+returns-3 c = λ regs sys m. rw (
+  c .ended3 .ensures,
+  c .before .target2 .ensures,
+  ← c .before .before .before .holds
+      .ensures,
+  not-false (c .before .before .before .holds .result) (c .before .before .if2 .left),
+)
 
 pub bcond-spec : {M : Type 1} → statement M
 bcond-spec =
     tie.close
     (tie.spec
-    target-requires
-    ended-requires
+    (λ c κs. search needs)
+    (λ c κs. search needs)
     returns
-    holds-requires
-    ended-requires-2
+    (λ c κs. search needs)
+    (λ c κs. search needs)
     returns-2
-    target-requires-2
-    ended-requires-3
+    (λ c κs. search needs)
+    (λ c κs. search needs)
     returns-3)

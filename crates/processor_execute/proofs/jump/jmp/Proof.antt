@@ -4,18 +4,9 @@ use Rattle.processor_execute.specs.Execute.{executeOf}
 use Rattle.processor_execute.proofs.jump.jmp.Statement.{statement}
 use Rattle.processor_execute.proofs.jump.jmp.Tie as tie
 
-get-requires : tie.Need-get-requires
-get-requires c κs = search needs
-
-sub-ended : tie.Need-sub-ended
-sub-ended c = search needs
-
-ended-requires : tie.Need-ended-requires
-ended-requires c κs = search needs
-
 returns : tie.Need-returns
 unfolding executeOf
 returns c = λ pc next sys m. rw (c .ended .ensures, c .before .get .ensures)
 
 pub jmp-spec : {M : Type 1} → statement M
-jmp-spec = tie.close (tie.spec get-requires sub-ended ended-requires returns)
+jmp-spec = tie.close (tie.spec (λ c κs. search needs) (λ c. search needs) (λ c κs. search needs) returns)

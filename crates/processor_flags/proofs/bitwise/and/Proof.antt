@@ -4,12 +4,9 @@ use borrow.Author.Needs.{needs}
 use Rattle.processor_flags.proofs.bitwise.and.Statement.{statement}
 use Rattle.processor_flags.proofs.bitwise.and.Tie as tie
 
-value-requires : tie.Need-value-requires
-value-requires c κs = search needs
-
 returns : tie.Need-returns
 unfolding andOf
 returns c = c .value .ensures
 
 pub and-spec : {M : Type 1} → statement M
-and-spec = tie.close (tie.spec value-requires returns)
+and-spec = tie.close (tie.spec (λ c κs. search needs) returns)

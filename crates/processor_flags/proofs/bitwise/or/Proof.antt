@@ -4,12 +4,9 @@ use borrow.Author.Needs.{needs}
 use Rattle.processor_flags.proofs.bitwise.or.Statement.{statement}
 use Rattle.processor_flags.proofs.bitwise.or.Tie as tie
 
-value-requires : tie.Need-value-requires
-value-requires c κs = search needs
-
 returns : tie.Need-returns
 unfolding orOf
 returns c = c .value .ensures
 
 pub or-spec : {M : Type 1} → statement M
-or-spec = tie.close (tie.spec value-requires returns)
+or-spec = tie.close (tie.spec (λ c κs. search needs) returns)

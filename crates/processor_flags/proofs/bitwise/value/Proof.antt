@@ -7,11 +7,8 @@ use borrow.Author.Needs.{needs}
 use Rattle.processor_flags.proofs.bitwise.value.Statement.{statement}
 use Rattle.processor_flags.proofs.bitwise.value.Tie as tie
 
-kept-requires : tie.Need-kept-requires
-kept-requires c κs = search needs
-
 returns : tie.Need-returns
 returns c = λ psw. gives-kept psw (c .before .args .flags) _ _ _ (omega (arith, c .kept .ensures)) (omega (arith, c .kept .ensures)) refl
 
 pub value-spec : {M : Type 1} → statement M
-value-spec = tie.close (tie.spec kept-requires returns)
+value-spec = tie.close (tie.spec (λ c κs. search needs) returns)

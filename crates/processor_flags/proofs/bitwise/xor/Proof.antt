@@ -4,12 +4,9 @@ use borrow.Author.Needs.{needs}
 use Rattle.processor_flags.proofs.bitwise.xor.Statement.{statement}
 use Rattle.processor_flags.proofs.bitwise.xor.Tie as tie
 
-value-requires : tie.Need-value-requires
-value-requires c κs = search needs
-
 returns : tie.Need-returns
 unfolding xorOf
 returns c = c .value .ensures
 
 pub xor-spec : {M : Type 1} → statement M
-xor-spec = tie.close (tie.spec value-requires returns)
+xor-spec = tie.close (tie.spec (λ c κs. search needs) returns)

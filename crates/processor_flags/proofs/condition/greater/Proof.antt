@@ -6,17 +6,11 @@ use borrow.Author.Needs.{needs}
 use Rattle.processor_flags.proofs.condition.greater.Statement.{statement}
 use Rattle.processor_flags.proofs.condition.greater.Tie as tie
 
-zero-requires : tie.Need-zero-requires
-zero-requires c κs = search needs
-
 returns : tie.Need-returns
 returns c = λ psw. greater-zero (packedOf psw _) (sym (c .before .zero .ensures psw) ∙ c .if1 .taken)
-
-less-requires : tie.Need-less-requires
-less-requires c κs = search needs
 
 returns-2 : tie.Need-returns-2
 returns-2 c = λ psw. rw (c .less .ensures psw) (greater-none (packedOf psw _) (sym (c .before .before .zero .ensures psw) ∙ c .before .if1 .left))
 
 pub greater-spec : {M : Type 1} → statement M
-greater-spec = tie.close (tie.spec zero-requires returns less-requires returns-2)
+greater-spec = tie.close (tie.spec (λ c κs. search needs) returns (λ c κs. search needs) returns-2)

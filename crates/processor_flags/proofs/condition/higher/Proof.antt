@@ -7,17 +7,11 @@ use borrow.Author.Needs.{needs}
 use Rattle.processor_flags.proofs.condition.higher.Statement.{statement}
 use Rattle.processor_flags.proofs.condition.higher.Tie as tie
 
-carry-requires : tie.Need-carry-requires
-carry-requires c κs = search needs
-
 returns : tie.Need-returns
 returns c = λ psw. higher-carry (packedOf psw _) (sym (c .before .carry .ensures psw) ∙ c .if1 .taken)
-
-zero-requires : tie.Need-zero-requires
-zero-requires c κs = search needs
 
 returns-2 : tie.Need-returns-2
 returns-2 c = λ psw. rw (c .zero .ensures psw) (higher-none (packedOf psw _) (sym (c .before .before .carry .ensures psw) ∙ c .before .if1 .left))
 
 pub higher-spec : {M : Type 1} → statement M
-higher-spec = tie.close (tie.spec carry-requires returns zero-requires returns-2)
+higher-spec = tie.close (tie.spec (λ c κs. search needs) returns (λ c κs. search needs) returns-2)

@@ -6,17 +6,23 @@ use borrow.Author.Needs.{needs}
 use Rattle.processor_flags.proofs.condition.holds.Statement.{statement}
 use Rattle.processor_flags.proofs.condition.holds.Tie as tie
 
-packed-requires : tie.Need-packed-requires
-packed-requires c κs = search needs
-
-holds-requires : tie.Need-holds-requires
-holds-requires c κs = search needs
-
 returns : tie.Need-returns
 unfolding conditionOf
 returns c = λ psw.
     let g = c .before .before .args .flags in
-    rw (c .holds .ensures, c .before .packed .ensures, carry-bit psw g, overflow-bit psw g, sign-bit psw g, zero-bit psw g, carry-bit 0 g, overflow-bit 0 g, sign-bit 0 g, zero-bit 0 g)
+    rw (
+      c .holds .ensures,
+      c .before .packed .ensures,
+      carry-bit psw g,
+      overflow-bit psw g,
+      sign-bit psw g,
+      zero-bit psw
+          g,
+      carry-bit 0 g,
+      overflow-bit 0 g,
+      sign-bit 0 g,
+      zero-bit 0 g,
+    )
 
 pub holds-spec : {M : Type 1} → statement M
-holds-spec = tie.close (tie.spec packed-requires holds-requires returns)
+holds-spec = tie.close (tie.spec (λ c κs. search needs) (λ c κs. search needs) returns)

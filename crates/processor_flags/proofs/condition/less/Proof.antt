@@ -7,12 +7,15 @@ use borrow.Author.Needs.{needs}
 use Rattle.processor_flags.proofs.condition.less.Statement.{statement}
 use Rattle.processor_flags.proofs.condition.less.Tie as tie
 
-low-requires : tie.Need-low-requires
-low-requires c κs = search needs
-
 returns : tie.Need-returns
 unfolding conditionOf
-returns c = λ psw. rw (overflow-bit psw (c .before .before .args .flags), sign-bit psw (c .before .before .args .flags), ← c .before .low .ensures) (top-differ (c .before .low .result) (c .before .before .args .flags .ov) (omega arith) (omega arith))
+returns c = λ psw. rw (
+  overflow-bit psw (c .before .before .args .flags),
+  sign-bit psw
+      (c .before .before .args .flags),
+  ← c .before .low .ensures,
+) (top-differ (c .before .low .result)
+    (c .before .before .args .flags .ov) (omega arith) (omega arith))
 
 pub less-spec : {M : Type 1} → statement M
-less-spec = tie.close (tie.spec low-requires returns)
+less-spec = tie.close (tie.spec (λ c κs. search needs) returns)

@@ -7,12 +7,9 @@ use borrow.Author.Needs.{needs}
 use Rattle.processor_flags.proofs.condition.negative.Statement.{statement}
 use Rattle.processor_flags.proofs.condition.negative.Tie as tie
 
-low-requires : tie.Need-low-requires
-low-requires c κs = search needs
-
 returns : tie.Need-returns
 unfolding conditionOf
 returns c = λ psw. rw (sign-bit psw (c .before .args .flags), ← c .low .ensures) (top-bit (c .low .result) (omega arith))
 
 pub negative-spec : {M : Type 1} → statement M
-negative-spec = tie.close (tie.spec low-requires returns)
+negative-spec = tie.close (tie.spec (λ c κs. search needs) returns)

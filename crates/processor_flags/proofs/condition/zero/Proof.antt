@@ -6,12 +6,9 @@ use borrow.Author.Needs.{needs}
 use Rattle.processor_flags.proofs.condition.zero.Statement.{statement}
 use Rattle.processor_flags.proofs.condition.zero.Tie as tie
 
-low-requires : tie.Need-low-requires
-low-requires c κs = search needs
-
 returns : tie.Need-returns
 unfolding conditionOf
 returns c = λ psw. rw (zero-bit psw (c .before .args .flags), bit-one, c .low .ensures)
 
 pub zero-spec : {M : Type 1} → statement M
-zero-spec = tie.close (tie.spec low-requires returns)
+zero-spec = tie.close (tie.spec (λ c κs. search needs) returns)

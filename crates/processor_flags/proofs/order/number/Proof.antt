@@ -7,24 +7,15 @@ use borrow.Author.Needs.{needs}
 use Rattle.processor_flags.proofs.order.number.Statement.{statement}
 use Rattle.processor_flags.proofs.order.number.Tie as tie
 
-equal-requires : tie.Need-equal-requires
-equal-requires c κs = search needs
-
 returns : tie.Need-returns
 returns c = λ psw. simp (eq-eqb _ _ (c .before .if1 .taken), le-ltb 2147483648 (c .before .before .args .w) (omega arith)) (c .equal .ensures psw)
 
-lower-requires : tie.Need-lower-requires
-lower-requires c κs = search needs
-
 returns-2 : tie.Need-returns-2
 returns-2 c = λ psw. simp (ne-eqb _ _ (c .before .before .if1 .left), lt-ltb _ _ (c .before .if2 .taken)) (c .lower .ensures psw)
-
-higher-requires : tie.Need-higher-requires
-higher-requires c κs = search needs
 
 returns-3 : tie.Need-returns-3
 returns-3 c = λ psw. simp (ne-eqb _ _ (c .before .before .if1 .left), le-ltb _ _ (c .before .if2 .left)) (c .higher .ensures psw)
 
 pub number-spec : {M : Type 1} → statement M
 number-spec =
-    tie.close (tie.spec equal-requires returns lower-requires returns-2 higher-requires returns-3)
+    tie.close (tie.spec (λ c κs. search needs) returns (λ c κs. search needs) returns-2 (λ c κs. search needs) returns-3)

@@ -7,9 +7,6 @@ use borrow.Author.Needs.{needs}
 use Rattle.processor_flags.proofs.product.overflow.Statement.{statement}
 use Rattle.processor_flags.proofs.product.overflow.Tie as tie
 
-mul-if1 : tie.Need-mul-if1
-mul-if1 c = search needs
-
 returns : tie.Need-returns
 returns c = sym (overflow-none _ _ (omega arith) (c .if1 .taken))
 
@@ -17,4 +14,4 @@ returns-2 : tie.Need-returns-2
 returns-2 c = sym (overflow-some _ _ (omega arith) (c .if1 .left))
 
 pub overflow-spec : {M : Type 1} → statement M
-overflow-spec = tie.close (tie.spec mul-if1 returns returns-2)
+overflow-spec = tie.close (tie.spec (λ c. search needs) returns returns-2)

@@ -13,14 +13,8 @@ mul-u c = record { fits = product-below 32 (omega arith) (omega arith) }
 returns : tie.Need-returns
 returns c = plain-product (c .before .before .args .a) (c .before .before .args .b) (omega arith) (omega arith)
 
-cast-over : tie.Need-cast-over
-cast-over c = search needs
-
 mul-over : tie.Need-mul-over
 mul-over c = record { fits = product-below 32 (omega arith) (omega arith) }
-
-cast-over-2 : tie.Need-cast-over-2
-cast-over-2 c = search needs
 
 mul-over-2 : tie.Need-mul-over-2
 mul-over-2 c = record { fits = product-below 32 (omega arith) (omega arith) }
@@ -30,14 +24,9 @@ add-over c =
     let a = c .before .args in
     omega (arith, bit-times (a .a / 2 ^ 31) (a .b) (omega arith) (omega arith), bit-times (a .b / 2 ^ 31) (a .a) (omega arith) (omega arith))
 
-mul-wrapping-sub-u64 : tie.Need-mul-wrapping-sub-u64
-mul-wrapping-sub-u64 c = search needs
-
-wrapping-sub-u64-requires : tie.Need-wrapping-sub-u64-requires
-wrapping-sub-u64-requires c κs = search needs
-
 returns-2 : tie.Need-returns-2
-returns-2 c = signed-product (c .before .before .args .a) (c .before .before .args .b) _ (omega arith) (omega arith) (omega arith) (c .wrapping-sub-u64 .ensures)
+returns-2 c = signed-product (c .before .before .args .a) (c .before .before .args .b) _ (omega arith) (omega arith)
+    (omega arith) (c .wrapping-sub-u64 .ensures)
 
 pub signed-spec : {M : Type 1} → statement M
 signed-spec =
@@ -45,11 +34,11 @@ signed-spec =
     (tie.spec
     mul-u
     returns
-    cast-over
+    (λ c. search needs)
     mul-over
-    cast-over-2
+    (λ c. search needs)
     mul-over-2
     add-over
-    mul-wrapping-sub-u64
-    wrapping-sub-u64-requires
+    (λ c. search needs)
+    (λ c κs. search needs)
     returns-2)

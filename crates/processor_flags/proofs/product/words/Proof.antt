@@ -9,23 +9,12 @@ use borrow.Author.Needs.{needs}
 use Rattle.processor_flags.proofs.product.words.Statement.{statement}
 use Rattle.processor_flags.proofs.product.words.Tie as tie
 
-cast-low : tie.Need-cast-low
-cast-low c = search needs
-
-cast-r30 : tie.Need-cast-r30
-cast-r30 c = search needs
-
-overflow-requires : tie.Need-overflow-requires
-overflow-requires c κs = search needs
-
-kept-requires : tie.Need-kept-requires
-kept-requires c κs = search needs
-
 returns : tie.Need-returns
 unfolding wordsOf
 returns c = λ psw.
     let a = c .before .before .args in
-    gives-pair psw (a .flags) _ _ _ _ refl (omega (arith, c .kept .ensures)) (omega (arith, c .kept .ensures)) (rw (div-add-mod' (a .w) 4294967296) at (c .before .overflow .ensures))
+    gives-pair psw (a .flags) _ _ _ _ refl (omega (arith, c .kept .ensures)) (omega (arith, c .kept .ensures)) (rw
+    (div-add-mod' (a .w) 4294967296) at (c .before .overflow .ensures))
 
 pub words-spec : {M : Type 1} → statement M
-words-spec = tie.close (tie.spec cast-low cast-r30 overflow-requires kept-requires returns)
+words-spec = tie.close (tie.spec (λ c. search needs) (λ c. search needs) (λ c κs. search needs) (λ c κs. search needs) returns)

@@ -16,25 +16,10 @@ use borrow.Author.Needs.{needs}
 use Rattle.processor_flags.proofs.quotient.div.Statement.{statement}
 use Rattle.processor_flags.proofs.quotient.div.Tie as tie
 
-divu-requires : tie.Need-divu-requires
-divu-requires c κs = search needs
-
 returns : tie.Need-returns
 returns c =
     let a = c .before .before .before .args in
     λ psw. rw (← divide-plain (a .a) (a .b) (packedOf psw (a .flags)) (omega arith) (omega arith)) (c .divu .ensures psw)
-
-packed-requires : tie.Need-packed-requires
-packed-requires c κs = search needs
-
-div-requires : tie.Need-div-requires
-div-requires c κs = search needs
-
-kept-requires : tie.Need-kept-requires
-kept-requires c κs = search needs
-
-mul-ov : tie.Need-mul-ov
-mul-ov c = search needs
 
 returns-2 : tie.Need-returns-2
 unfolding divideOf
@@ -53,4 +38,4 @@ returns-2 c = λ psw.
 pub div-spec : {M : Type 1} → statement M
 div-spec =
     tie.close
-    (tie.spec divu-requires returns packed-requires div-requires kept-requires mul-ov returns-2)
+    (tie.spec (λ c κs. search needs) returns (λ c κs. search needs) (λ c κs. search needs) (λ c κs. search needs) (λ c. search needs) returns-2)

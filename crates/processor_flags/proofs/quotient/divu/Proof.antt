@@ -9,15 +9,6 @@ use borrow.Author.Needs.{needs}
 use Rattle.processor_flags.proofs.quotient.divu.Statement.{statement}
 use Rattle.processor_flags.proofs.quotient.divu.Tie as tie
 
-rem-r30 : tie.Need-rem-r30
-rem-r30 c = search needs
-
-div-kept : tie.Need-div-kept
-div-kept c = search needs
-
-kept-requires : tie.Need-kept-requires
-kept-requires c κs = search needs
-
 returns : tie.Need-returns
 unfolding divideUnsignedOf
 returns c = λ psw.
@@ -26,4 +17,4 @@ returns c = λ psw.
     gives-pair psw (a .flags) _ _ _ _ refl (omega (arith, c .kept .ensures)) (omega (arith, c .kept .ensures)) refl
 
 pub divu-spec : {M : Type 1} → statement M
-divu-spec = tie.close (tie.spec rem-r30 div-kept kept-requires returns)
+divu-spec = tie.close (tie.spec (λ c. search needs) (λ c. search needs) (λ c κs. search needs) returns)

@@ -5,17 +5,8 @@ use borrow.Author.Needs.{needs}
 use Rattle.processor_flags.proofs.shift.out.Statement.{statement}
 use Rattle.processor_flags.proofs.shift.out.Tie as tie
 
-mul-result : tie.Need-mul-result
-mul-result c = search needs
-
-shr-result : tie.Need-shr-result
-shr-result c = search needs
-
-cast-result : tie.Need-cast-result
-cast-result c = search needs
-
 returns : tie.Need-returns
 returns c = omega (arith, right-out (c .args .a) (c .args .n))
 
 pub out-spec : {M : Type 1} → statement M
-out-spec = tie.close (tie.spec mul-result shr-result cast-result returns)
+out-spec = tie.close (tie.spec (λ c. search needs) (λ c. search needs) (λ c. search needs) returns)

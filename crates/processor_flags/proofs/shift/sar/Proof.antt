@@ -8,15 +8,6 @@ use borrow.Author.Needs.{needs}
 use Rattle.processor_flags.proofs.shift.sar.Statement.{statement}
 use Rattle.processor_flags.proofs.shift.sar.Tie as tie
 
-out-requires : tie.Need-out-requires
-out-requires c κs = search needs
-
-arithmetic-right-requires : tie.Need-arithmetic-right-requires
-arithmetic-right-requires c κs = search needs
-
-joined-requires : tie.Need-joined-requires
-joined-requires c κs = search needs
-
 returns : tie.Need-returns
 unfolding shiftArithmeticOf
 returns c = λ psw g.
@@ -25,4 +16,4 @@ returns c = λ psw g.
     gives-flags psw g _ _ _ _ (omega (arith, c .joined .ensures, v)) (omega (arith, c .joined .ensures, o .0, o .1)) refl
 
 pub sar-spec : {M : Type 1} → statement M
-sar-spec = tie.close (tie.spec out-requires arithmetic-right-requires joined-requires returns)
+sar-spec = tie.close (tie.spec (λ c κs. search needs) (λ c κs. search needs) (λ c κs. search needs) returns)

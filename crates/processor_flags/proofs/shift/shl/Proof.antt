@@ -10,12 +10,6 @@ use borrow.Author.Needs.{needs}
 use Rattle.processor_flags.proofs.shift.shl.Statement.{statement}
 use Rattle.processor_flags.proofs.shift.shl.Tie as tie
 
-cast-wide : tie.Need-cast-wide
-cast-wide c = search needs
-
-shl-wide : tie.Need-shl-wide
-shl-wide c = search needs
-
 returns : tie.Need-returns
 unfolding shiftLeftOf
 returns c = λ psw g.
@@ -24,4 +18,4 @@ returns c = λ psw g.
     gives-flags psw g _ _ _ _ (rw e refl) (rw (e, left-out (a .a) (a .b % 32) (omega arith) (omega arith)) refl) refl
 
 pub shl-spec : {M : Type 1} → statement M
-shl-spec = tie.close (tie.spec cast-wide shl-wide returns)
+shl-spec = tie.close (tie.spec (λ c. search needs) (λ c. search needs) returns)

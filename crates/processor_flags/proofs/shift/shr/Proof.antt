@@ -9,21 +9,13 @@ use borrow.Author.Needs.{needs}
 use Rattle.processor_flags.proofs.shift.shr.Statement.{statement}
 use Rattle.processor_flags.proofs.shift.shr.Tie as tie
 
-out-requires : tie.Need-out-requires
-out-requires c κs = search needs
-
-shr-joined : tie.Need-shr-joined
-shr-joined c = search needs
-
-joined-requires : tie.Need-joined-requires
-joined-requires c κs = search needs
-
 returns : tie.Need-returns
 unfolding shiftRightOf
 returns c = λ psw g.
     let o = c .before .out .ensures in
     let a = c .before .before .args in
-    gives-flags psw g _ _ _ _ (omega (arith, c .joined .ensures, shr-le (a .a) (a .b % 32))) (omega (arith, c .joined .ensures, o .0, o .1, shr-le (a .a) (a .b % 32))) refl
+    gives-flags psw g _ _ _ _ (omega (arith, c .joined .ensures, shr-le (a .a) (a .b % 32))) (omega
+    (arith, c .joined .ensures, o .0, o .1, shr-le (a .a) (a .b % 32))) refl
 
 pub shr-spec : {M : Type 1} → statement M
-shr-spec = tie.close (tie.spec out-requires shr-joined joined-requires returns)
+shr-spec = tie.close (tie.spec (λ c κs. search needs) (λ c. search needs) (λ c κs. search needs) returns)

@@ -9,15 +9,6 @@ use borrow.Author.Needs.{needs}
 use Rattle.processor_flags.proofs.status.unpacked.Statement.{statement}
 use Rattle.processor_flags.proofs.status.unpacked.Tie as tie
 
-value-requires : tie.Need-value-requires
-value-requires c κs = search needs
-
-joined-requires : tie.Need-joined-requires
-joined-requires c κs = search needs
-
-mul-t8 : tie.Need-mul-t8
-mul-t8 c = search needs
-
 returns : tie.Need-returns
 unfolding packedOf flagsOf
 returns c =
@@ -30,4 +21,4 @@ returns c =
     rw (e, cy, ov) (omega (arith, v .ensures .0))
 
 pub unpacked-spec : {M : Type 1} → statement M
-unpacked-spec = tie.close (tie.spec value-requires joined-requires mul-t8 returns)
+unpacked-spec = tie.close (tie.spec (λ c κs. search needs) (λ c κs. search needs) (λ c. search needs) returns)

@@ -8,15 +8,6 @@ use borrow.Author.Needs.{needs}
 use Rattle.processor_flags.proofs.status.value.Statement.{statement}
 use Rattle.processor_flags.proofs.status.value.Tie as tie
 
-returns : tie.Need-returns
-returns c = search needs
-
-mul-result : tie.Need-mul-result
-mul-result c = search needs
-
-add-result : tie.Need-add-result
-add-result c = search needs
-
 returns-2 : tie.Need-returns-2
 returns-2 c =
     let p = c .before .args .psw in
@@ -24,4 +15,4 @@ returns-2 c =
     (rw (ne-eqb (p / 2 % 2 * 2147483648 + 1) 0 n) (omega arith), omega arith)
 
 pub value-spec : {M : Type 1} → statement M
-value-spec = tie.close (tie.spec returns mul-result add-result returns-2)
+value-spec = tie.close (tie.spec (λ c. search needs) (λ c. search needs) (λ c. search needs) returns-2)

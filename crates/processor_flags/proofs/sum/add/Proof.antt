@@ -12,15 +12,6 @@ use borrow.Author.Needs.{needs}
 use Rattle.processor_flags.proofs.sum.add.Statement.{statement}
 use Rattle.processor_flags.proofs.sum.add.Tie as tie
 
-add-wide : tie.Need-add-wide
-add-wide c = search needs
-
-low-requires : tie.Need-low-requires
-low-requires c κs = search needs
-
-overflow-requires : tie.Need-overflow-requires
-overflow-requires c κs = search needs
-
 returns : tie.Need-returns
 unfolding sumOf
 returns c = λ psw g.
@@ -29,4 +20,4 @@ returns c = λ psw g.
     (omega (arith, c .overflow .ensures, bit-small (outside (signed (a .a) +ℤ signed (a .b)))))
 
 pub add-spec : {M : Type 1} → statement M
-add-spec = tie.close (tie.spec add-wide low-requires overflow-requires returns)
+add-spec = tie.close (tie.spec (λ c. search needs) (λ c κs. search needs) (λ c κs. search needs) returns)

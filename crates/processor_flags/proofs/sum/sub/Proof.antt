@@ -14,15 +14,6 @@ use borrow.Author.Needs.{needs}
 use Rattle.processor_flags.proofs.sum.sub.Statement.{statement}
 use Rattle.processor_flags.proofs.sum.sub.Tie as tie
 
-wrapping-sub-u64-requires : tie.Need-wrapping-sub-u64-requires
-wrapping-sub-u64-requires c κs = search needs
-
-low-requires : tie.Need-low-requires
-low-requires c κs = search needs
-
-overflow-requires : tie.Need-overflow-requires
-overflow-requires c κs = search needs
-
 returns : tie.Need-returns
 unfolding differenceOf
 returns c = λ psw g.
@@ -30,8 +21,10 @@ returns c = λ psw g.
     let w = c .before .before .wrapping-sub-u64 in
     let e : w .result % 2 ^ 32 ≡ (a .a + (2 ^ 32 - a .b)) % 2 ^ 32 = omega arith in
     let l : c .before .low .result ≡ (a .a + (2 ^ 32 - a .b)) % 2 ^ 32 = c .before .low .ensures ∙ e in
-    let o : c .overflow .result / 2 ^ 31 ≡ bitOf (outside (signed (a .a) -ℤ signed (a .b))) = c .overflow .ensures ∙ (rw l (difference-sum-outside (a .a) (a .b) (omega arith) (omega arith))) in
-    gives-flags psw g _ _ _ _ e (borrow-bit (a .a) (a .b) (w .result) (omega arith) (omega arith) (omega arith) (w .ensures)) (omega (arith, o, bit-small (outside (signed (a .a) -ℤ signed (a .b)))))
+    let o : c .overflow .result / 2 ^ 31 ≡ bitOf (outside (signed (a .a) -ℤ signed (a .b))) = c .overflow .ensures ∙
+    (rw l (difference-sum-outside (a .a) (a .b) (omega arith) (omega arith))) in
+    gives-flags psw g _ _ _ _ e (borrow-bit (a .a) (a .b) (w .result) (omega arith) (omega arith) (omega arith)
+    (w .ensures)) (omega (arith, o, bit-small (outside (signed (a .a) -ℤ signed (a .b)))))
 
 pub sub-spec : {M : Type 1} → statement M
-sub-spec = tie.close (tie.spec wrapping-sub-u64-requires low-requires overflow-requires returns)
+sub-spec = tie.close (tie.spec (λ c κs. search needs) (λ c κs. search needs) (λ c κs. search needs) returns)

@@ -10,8 +10,5 @@ returns c = nan-word _ (c .if1 .taken)
 float-to-bits-result : tie.Need-float-to-bits-result
 float-to-bits-result c = is-number _ (c .if1 .left)
 
-returns-2 : tie.Need-returns-2
-returns-2 c = search needs
-
 pub word-of-spec : {M : Type 1} → statement M
-word-of-spec = tie.close (tie.spec returns float-to-bits-result returns-2)
+word-of-spec = tie.close (tie.spec returns float-to-bits-result (λ c. search needs))

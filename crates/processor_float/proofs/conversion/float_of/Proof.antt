@@ -7,20 +7,8 @@ use borrow.Author.Needs.{needs}
 use Rattle.processor_float.proofs.conversion.float_of.Statement.{statement}
 use Rattle.processor_float.proofs.conversion.float_of.Tie as tie
 
-nearest-u32-to-f32-requires : tie.Need-nearest-u32-to-f32-requires
-nearest-u32-to-f32-requires c κs = search needs
-
 returns : tie.Need-returns
 returns c = c .nearest-u32-to-f32 .ensures ∙ float-low (c .before .before .args .w) (c .before .if1 .taken)
-
-sub-nearest-u32-to-f32 : tie.Need-sub-nearest-u32-to-f32
-sub-nearest-u32-to-f32 c = search needs
-
-add-nearest-u32-to-f32 : tie.Need-add-nearest-u32-to-f32
-add-nearest-u32-to-f32 c = search needs
-
-nearest-u32-to-f32-requires-2 : tie.Need-nearest-u32-to-f32-requires-2
-nearest-u32-to-f32-requires-2 c κs = search needs
 
 returns-2 : tie.Need-returns-2
 returns-2 c = ap neg (c .nearest-u32-to-f322 .ensures) ∙ float-high (c .before .before .args .w) _ (omega arith) (c .before .if1 .left) (omega arith)
@@ -29,9 +17,9 @@ pub float-of-spec : {M : Type 1} → statement M
 float-of-spec =
     tie.close
     (tie.spec
-    nearest-u32-to-f32-requires
+    (λ c κs. search needs)
     returns
-    sub-nearest-u32-to-f32
-    add-nearest-u32-to-f32
-    nearest-u32-to-f32-requires-2
+    (λ c. search needs)
+    (λ c. search needs)
+    (λ c κs. search needs)
     returns-2)

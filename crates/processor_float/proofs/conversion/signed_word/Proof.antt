@@ -11,12 +11,9 @@ returns : tie.Need-returns
 unfolding signedWordOf
 returns c = simp (lt-ltb _ _ (c .if1 .taken))
 
-wrapping-sub-u32-requires : tie.Need-wrapping-sub-u32-requires
-wrapping-sub-u32-requires c κs = search needs
-
 returns-2 : tie.Need-returns-2
 unfolding signedWordOf negativeOf
 returns-2 c = simp (le-ltb _ _ (c .before .if1 .left)) (omega (arith, c .wrapping-sub-u32 .ensures))
 
 pub signed-word-spec : {M : Type 1} → statement M
-signed-word-spec = tie.close (tie.spec returns wrapping-sub-u32-requires returns-2)
+signed-word-spec = tie.close (tie.spec returns (λ c κs. search needs) returns-2)

@@ -6,38 +6,38 @@ use borrow.Author.Needs.{needs}
 use Rattle.processor_float.proofs.conversion.truncated.Statement.{statement}
 use Rattle.processor_float.proofs.conversion.truncated.Tie as tie
 
-reserved-requires : tie.Need-reserved-requires
-reserved-requires c κs = search needs
-
 returns : tie.Need-returns
 unfolding truncatedOf
-returns c = reserved-converted (c .before .before .args .w) (truncatedSizeOf (c .before .before .args .w)) (truncated-reaches (c .before .before .args .w)) _ (c .before .reserved .ensures) (c .if1 .taken)
-
-outside-requires : tie.Need-outside-requires
-outside-requires c κs = search needs
+returns c = reserved-converted (c .before .before .args .w) (truncatedSizeOf (c .before .before .args .w))
+    (truncated-reaches (c .before .before .args .w)) _ (c .before .reserved .ensures) (c .if1 .taken)
 
 returns-2 : tie.Need-returns-2
 unfolding truncatedOf
-returns-2 c = invalid-converted (c .before .before .before .before .args .w) (truncatedSizeOf (c .before .before .before .before .args .w)) (truncated-reaches (c .before .before .before .before .args .w)) _ (c .before .before .before .reserved .ensures) _ (c .before .outside .ensures) (c .before .before .if1 .left) (c .if2 .taken)
+returns-2 c = invalid-converted (c .before .before .before .before .args .w) (truncatedSizeOf
+    (c .before .before .before .before .args .w)) (truncated-reaches (c .before .before .before .before .args .w)) _
+    (c .before .before .before .reserved .ensures) _ (c .before .outside .ensures) (c .before .before .if1 .left)
+    (c .if2 .taken)
 
 truncated-size-requires : tie.Need-truncated-size-requires
 truncated-size-requires c κs = within _ _ (c .before .outside .ensures) (c .if2 .left)
 
-signed-word-requires : tie.Need-signed-word-requires
-signed-word-requires c κs = search needs
-
 returns-3 : tie.Need-returns-3
 unfolding truncatedOf
-returns-3 c = rw (c .signed-word .ensures, c .before .truncated-size .ensures) (word-converted (c .before .before .before .before .before .before .args .w) (truncatedSizeOf (c .before .before .before .before .before .before .args .w)) (truncated-reaches (c .before .before .before .before .before .before .args .w)) _ (c .before .before .before .before .before .reserved .ensures) _ (c .before .before .before .outside .ensures) (c .before .before .before .before .if1 .left) (c .before .before .if2 .left))
+returns-3 c = rw (c .signed-word .ensures, c .before .truncated-size .ensures) (word-converted
+    (c .before .before .before .before .before .before .args .w) (truncatedSizeOf
+    (c .before .before .before .before .before .before .args .w)) (truncated-reaches
+    (c .before .before .before .before .before .before .args .w)) _
+    (c .before .before .before .before .before .reserved .ensures) _ (c .before .before .before .outside .ensures)
+    (c .before .before .before .before .if1 .left) (c .before .before .if2 .left))
 
 pub truncated-spec : {M : Type 1} → statement M
 truncated-spec =
     tie.close
     (tie.spec
-    reserved-requires
+    (λ c κs. search needs)
     returns
-    outside-requires
+    (λ c κs. search needs)
     returns-2
     truncated-size-requires
-    signed-word-requires
+    (λ c κs. search needs)
     returns-3)

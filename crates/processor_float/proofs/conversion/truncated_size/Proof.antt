@@ -7,27 +7,15 @@ use borrow.Author.Needs.{needs}
 use Rattle.processor_float.proofs.conversion.truncated_size.Statement.{statement}
 use Rattle.processor_float.proofs.conversion.truncated_size.Tie as tie
 
-add-m : tie.Need-add-m
-add-m c = search needs
-
 returns : tie.Need-returns
 returns c = sym (truncated-none (c .before .args .w) (c .if1 .taken))
 
-shl-result : tie.Need-shl-result
-shl-result c = search needs
-
 returns-2 : tie.Need-returns-2
 returns-2 c = truncated-shifted (c .before .before .args .w) (c .before .before .pre) (c .if2 .taken)
-
-sub-result : tie.Need-sub-result
-sub-result c = search needs
-
-shr-result : tie.Need-shr-result
-shr-result c = search needs
 
 returns-3 : tie.Need-returns-3
 returns-3 c = sym (truncated-part (c .before .before .args .w) (omega arith) (omega arith))
 
 pub truncated-size-spec : {M : Type 1} → statement M
 truncated-size-spec =
-    tie.close (tie.spec add-m returns shl-result returns-2 sub-result shr-result returns-3)
+    tie.close (tie.spec (λ c. search needs) returns (λ c. search needs) returns-2 (λ c. search needs) (λ c. search needs) returns-3)

@@ -4,12 +4,9 @@ use borrow.Author.Needs.{needs}
 use Rattle.processor_float.proofs.flag.conversion_flags.Statement.{statement}
 use Rattle.processor_float.proofs.flag.conversion_flags.Tie as tie
 
-keep-carry-requires : tie.Need-keep-carry-requires
-keep-carry-requires c κs = search needs
-
 returns : tie.Need-returns
 unfolding conversionFlagsOf
 returns c = c .keep-carry .ensures
 
 pub conversion-flags-spec : {M : Type 1} → statement M
-conversion-flags-spec = tie.close (tie.spec keep-carry-requires returns)
+conversion-flags-spec = tie.close (tie.spec (λ c κs. search needs) returns)

@@ -4,15 +4,9 @@ use borrow.Author.Needs.{needs}
 use Rattle.processor_float.proofs.flag.number_flags.Statement.{statement}
 use Rattle.processor_float.proofs.flag.number_flags.Tie as tie
 
-underflow-requires : tie.Need-underflow-requires
-underflow-requires c κs = search needs
-
-order-flags-requires : tie.Need-order-flags-requires
-order-flags-requires c κs = search needs
-
 returns : tie.Need-returns
 unfolding numberFlagsOf
 returns c = rw (c .order-flags .ensures, c .before .underflow .ensures)
 
 pub number-flags-spec : {M : Type 1} → statement M
-number-flags-spec = tie.close (tie.spec underflow-requires order-flags-requires returns)
+number-flags-spec = tie.close (tie.spec (λ c κs. search needs) (λ c κs. search needs) returns)

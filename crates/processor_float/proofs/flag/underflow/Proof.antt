@@ -4,15 +4,6 @@ use borrow.Author.Needs.{needs}
 use Rattle.processor_float.proofs.flag.underflow.Statement.{statement}
 use Rattle.processor_float.proofs.flag.underflow.Tie as tie
 
-mul-result : tie.Need-mul-result
-mul-result c = search needs
-
-sub-result : tie.Need-sub-result
-sub-result c = search needs
-
-add-result : tie.Need-add-result
-add-result c = search needs
-
 returns : tie.Need-returns
 unfolding underflowOf
 returns c = rw (c .if1 .taken)
@@ -22,4 +13,4 @@ unfolding underflowOf
 returns-2 c = rw (c .if1 .left)
 
 pub underflow-spec : {M : Type 1} → statement M
-underflow-spec = tie.close (tie.spec mul-result sub-result add-result returns returns-2)
+underflow-spec = tie.close (tie.spec (λ c. search needs) (λ c. search needs) (λ c. search needs) returns returns-2)

@@ -7,21 +7,12 @@ use borrow.Author.Needs.{needs}
 use Rattle.processor_float.proofs.nintendo.mpyhw.Statement.{statement}
 use Rattle.processor_float.proofs.nintendo.mpyhw.Tie as tie
 
-extend-requires : tie.Need-extend-requires
-extend-requires c κs = search needs
-
-cast-result : tie.Need-cast-result
-cast-result c = search needs
-
 mul-result : tie.Need-mul-result
 mul-result c = omega (arith, mul-le-mul {n₁ = c .before .args .a} {m₁ = c .extend .result} {n₂ = 4294967295} {m₂ = 4294967295} (omega arith) (omega arith))
-
-cast-result-2 : tie.Need-cast-result-2
-cast-result-2 c = search needs
 
 returns : tie.Need-returns
 unfolding mpyhwOf
 returns c = rw (c .extend .ensures)
 
 pub mpyhw-spec : {M : Type 1} → statement M
-mpyhw-spec = tie.close (tie.spec extend-requires cast-result mul-result cast-result-2 returns)
+mpyhw-spec = tie.close (tie.spec (λ c κs. search needs) (λ c. search needs) mul-result (λ c. search needs) returns)

@@ -5,15 +5,9 @@ use borrow.Author.Needs.{needs}
 use Rattle.processor_float.proofs.nintendo.reverse2.Statement.{statement}
 use Rattle.processor_float.proofs.nintendo.reverse2.Tie as tie
 
-mul-result : tie.Need-mul-result
-mul-result c = search needs
-
-add-result : tie.Need-add-result
-add-result c = search needs
-
 returns : tie.Need-returns
 unfolding reversedOf
 returns c = (omega arith, omega arith)
 
 pub reverse2-spec : {M : Type 1} → statement M
-reverse2-spec = tie.close (tie.spec mul-result add-result returns)
+reverse2-spec = tie.close (tie.spec (λ c. search needs) (λ c. search needs) returns)

@@ -5,15 +5,9 @@ use borrow.Author.Needs.{needs}
 use Rattle.processor_float.proofs.nintendo.xh.Statement.{statement}
 use Rattle.processor_float.proofs.nintendo.xh.Tie as tie
 
-mul-result : tie.Need-mul-result
-mul-result c = search needs
-
-add-result : tie.Need-add-result
-add-result c = search needs
-
 returns : tie.Need-returns
 unfolding xhOf
 returns c = refl
 
 pub xh-spec : {M : Type 1} → statement M
-xh-spec = tie.close (tie.spec mul-result add-result returns)
+xh-spec = tie.close (tie.spec (λ c. search needs) (λ c. search needs) returns)

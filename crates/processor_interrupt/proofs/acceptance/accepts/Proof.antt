@@ -9,31 +9,15 @@ returns : tie.Need-returns
 unfolding acceptsOf
 returns c = simp (eq-eqb _ _ (c .if1 .taken))
 
-level-requires : tie.Need-level-requires
-level-requires c κs = search needs
-
-enum-told : tie.Need-enum-told
-enum-told c = search needs
-
-allows-requires : tie.Need-allows-requires
-allows-requires c κs = search needs
-
-enum-told-2 : tie.Need-enum-told-2
-enum-told-2 c = search needs
-
-allows-requires-2 : tie.Need-allows-requires-2
-allows-requires-2 c κs = search needs
-
-enum-told-3 : tie.Need-enum-told-3
-enum-told-3 c = search needs
-
 returns-2 : tie.Need-returns-2
 unfolding acceptsOf
-returns-2 c = rw (c .allows .ensures, c .before .before .before .level .ensures .0, c .before .enum-told .given .1) (simp (ne-eqb _ _ (c .before .before .before .before .if1 .left)))
+returns-2 c = rw (c .allows .ensures, c .before .before .before .level .ensures .0, c .before .enum-told .given .1)
+    (simp (ne-eqb _ _ (c .before .before .before .before .if1 .left)))
 
 returns-3 : tie.Need-returns-3
 unfolding acceptsOf
-returns-3 c = rw (c .allows2 .ensures, c .before .before .before .level .ensures .0, c .before .enum-told2 .given .1) (simp (ne-eqb _ _ (c .before .before .before .before .if1 .left)))
+returns-3 c = rw (c .allows2 .ensures, c .before .before .before .level .ensures .0, c .before .enum-told2 .given .1)
+    (simp (ne-eqb _ _ (c .before .before .before .before .if1 .left)))
 
 returns-4 : tie.Need-returns-4
 unfolding acceptsOf
@@ -44,12 +28,12 @@ accepts-spec =
     tie.close
     (tie.spec
     returns
-    level-requires
-    enum-told
-    allows-requires
-    enum-told-2
-    allows-requires-2
-    enum-told-3
+    (λ c κs. search needs)
+    (λ c. search needs)
+    (λ c κs. search needs)
+    (λ c. search needs)
+    (λ c κs. search needs)
+    (λ c. search needs)
     returns-2
     returns-3
     returns-4)

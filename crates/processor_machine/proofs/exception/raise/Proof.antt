@@ -4,32 +4,25 @@ use borrow.Author.Needs.{needs}
 use Rattle.processor_machine.proofs.exception.raise.Statement.{statement}
 use Rattle.processor_machine.proofs.exception.raise.Tie as tie
 
-code-requires : tie.Need-code-requires
-code-requires c κs = search needs
-
-handler-requires : tie.Need-handler-requires
-handler-requires c κs = search needs
-
-restore-requires : tie.Need-restore-requires
-restore-requires c κs = search needs
-
-saved-requires : tie.Need-saved-requires
-saved-requires c κs = search needs
-
-enter-requires : tie.Need-enter-requires
-enter-requires c κs = search needs
-
 returns : tie.Need-returns
 unfolding raiseOf
-returns c = λ regs m. rw (c .enter .ensures regs m, c .before .before .saved .ensures, c .before .before .before .restore .ensures, c .before .before .before .before .handler .ensures, c .before .before .before .before .before .code .ensures .0)
+returns c = λ regs m. rw (
+  c .enter .ensures regs m,
+  c .before .before .saved .ensures,
+  c .before .before .before
+      .restore .ensures,
+  c .before .before .before .before .handler .ensures,
+  c .before .before .before .before .before
+      .code .ensures .0,
+)
 
 pub raise-spec : {M : Type 1} → statement M
 raise-spec =
     tie.close
     (tie.spec
-    code-requires
-    handler-requires
-    restore-requires
-    saved-requires
-    enter-requires
+    (λ c κs. search needs)
+    (λ c κs. search needs)
+    (λ c κs. search needs)
+    (λ c κs. search needs)
+    (λ c κs. search needs)
     returns)

@@ -5,30 +5,6 @@ use Rattle.processor_machine.specs.System.{systemOf}
 use Rattle.processor_machine.proofs.system.read.Statement.{statement}
 use Rattle.processor_machine.proofs.system.read.Tie as tie
 
-element-copy-out-result : tie.Need-element-copy-out-result
-element-copy-out-result c = search needs
-
-element-copy-out-result-2 : tie.Need-element-copy-out-result-2
-element-copy-out-result-2 c = search needs
-
-element-copy-out-result-3 : tie.Need-element-copy-out-result-3
-element-copy-out-result-3 c = search needs
-
-element-copy-out-result-4 : tie.Need-element-copy-out-result-4
-element-copy-out-result-4 c = search needs
-
-element-copy-out-result-5 : tie.Need-element-copy-out-result-5
-element-copy-out-result-5 c = search needs
-
-element-copy-out-result-6 : tie.Need-element-copy-out-result-6
-element-copy-out-result-6 c = search needs
-
-element-copy-out-result-7 : tie.Need-element-copy-out-result-7
-element-copy-out-result-7 c = search needs
-
-element-copy-out-result-8 : tie.Need-element-copy-out-result-8
-element-copy-out-result-8 c = search needs
-
 returns : tie.Need-returns
 unfolding systemOf
 returns c = rw (c .before .match .keys1)
@@ -79,20 +55,38 @@ returns-12 c = rw (c .before .match .keys12)
 
 returns-13 : tie.Need-returns-13
 unfolding systemOf
-returns-13 c = simp (ne-eqb _ _ (c .match .rest .1), ne-eqb _ _ (c .match .rest .0 .1), ne-eqb _ _ (c .match .rest .0 .0 .1), ne-eqb _ _ (c .match .rest .0 .0 .0 .1), ne-eqb _ _ (c .match .rest .0 .0 .0 .0 .1), ne-eqb _ _ (c .match .rest .0 .0 .0 .0 .0 .1), ne-eqb _ _ (c .match .rest .0 .0 .0 .0 .0 .0 .1), ne-eqb _ _ (c .match .rest .0 .0 .0 .0 .0 .0 .0 .1), ne-eqb _ _ (c .match .rest .0 .0 .0 .0 .0 .0 .0 .0 .1), ne-eqb _ _ (c .match .rest .0 .0 .0 .0 .0 .0 .0 .0 .0 .1), ne-eqb _ _ (c .match .rest .0 .0 .0 .0 .0 .0 .0 .0 .0 .0 .1), ne-eqb _ _ (c .match .rest .0 .0 .0 .0 .0 .0 .0 .0 .0 .0 .0 .1))
+returns-13 c = simp (
+  ne-eqb _ _ (c .match .rest .1),
+  ne-eqb _ _ (c .match .rest .0 .1),
+  ne-eqb _ _
+      (c .match .rest .0 .0 .1),
+  ne-eqb _ _ (c .match .rest .0 .0 .0 .1),
+  ne-eqb _ _
+      (c .match .rest .0 .0 .0 .0 .1),
+  ne-eqb _ _ (c .match .rest .0 .0 .0 .0 .0 .1),
+  ne-eqb _ _
+      (c .match .rest .0 .0 .0 .0 .0 .0 .1),
+  ne-eqb _ _ (c .match .rest .0 .0 .0 .0 .0 .0 .0 .1),
+  ne-eqb _ _
+      (c .match .rest .0 .0 .0 .0 .0 .0 .0 .0 .1),
+  ne-eqb _ _ (c .match .rest .0 .0 .0 .0 .0 .0 .0 .0 .0 .1),
+  ne-eqb _ _
+      (c .match .rest .0 .0 .0 .0 .0 .0 .0 .0 .0 .0 .1),
+  ne-eqb _ _ (c .match .rest .0 .0 .0 .0 .0 .0 .0 .0 .0 .0 .0 .1),
+)
 
 pub read-spec : {M : Type 1} → statement M
 read-spec =
     tie.close
     (tie.spec
-    element-copy-out-result
-    element-copy-out-result-2
-    element-copy-out-result-3
-    element-copy-out-result-4
-    element-copy-out-result-5
-    element-copy-out-result-6
-    element-copy-out-result-7
-    element-copy-out-result-8
+    (λ c. search needs)
+    (λ c. search needs)
+    (λ c. search needs)
+    (λ c. search needs)
+    (λ c. search needs)
+    (λ c. search needs)
+    (λ c. search needs)
+    (λ c. search needs)
     returns
     returns-2
     returns-3

@@ -7,48 +7,6 @@ use Rattle.processor_machine.specs.System.{writtenOf}
 use Rattle.processor_machine.proofs.system.write.Statement.{statement}
 use Rattle.processor_machine.proofs.system.write.Tie as tie
 
-sub-sys : tie.Need-sub-sys
-sub-sys c = search needs
-
-element-write-sys : tie.Need-element-write-sys
-element-write-sys c = search needs
-
-psw-bits-requires : tie.Need-psw-bits-requires
-psw-bits-requires c κs = search needs
-
-element-write-sys-2 : tie.Need-element-write-sys-2
-element-write-sys-2 c = search needs
-
-sub-sys-2 : tie.Need-sub-sys-2
-sub-sys-2 c = search needs
-
-element-write-sys-3 : tie.Need-element-write-sys-3
-element-write-sys-3 c = search needs
-
-psw-bits-requires-2 : tie.Need-psw-bits-requires-2
-psw-bits-requires-2 c κs = search needs
-
-element-write-sys-4 : tie.Need-element-write-sys-4
-element-write-sys-4 c = search needs
-
-psw-bits-requires-3 : tie.Need-psw-bits-requires-3
-psw-bits-requires-3 c κs = search needs
-
-sub-sys-3 : tie.Need-sub-sys-3
-sub-sys-3 c = search needs
-
-element-write-sys-5 : tie.Need-element-write-sys-5
-element-write-sys-5 c = search needs
-
-element-write-sys-6 : tie.Need-element-write-sys-6
-element-write-sys-6 c = search needs
-
-magnitude-requires : tie.Need-magnitude-requires
-magnitude-requires c κs = search needs
-
-element-write-sys-7 : tie.Need-element-write-sys-7
-element-write-sys-7 c = search needs
-
 returns : tie.Need-returns
 unfolding writtenOf
 returns c = rw (c .match .keys1)
@@ -83,26 +41,38 @@ returns-8 c = rw (c .before .match .keys8, c .magnitude .ensures .0, magnitude-a
 
 returns-9 : tie.Need-returns-9
 unfolding writtenOf
-returns-9 c = simp (ne-eqb _ _ (c .match .rest .1), ne-eqb _ _ (c .match .rest .0 .1), ne-eqb _ _ (c .match .rest .0 .0 .1), ne-eqb _ _ (c .match .rest .0 .0 .0 .1), ne-eqb _ _ (c .match .rest .0 .0 .0 .0 .1), ne-eqb _ _ (c .match .rest .0 .0 .0 .0 .0 .1), ne-eqb _ _ (c .match .rest .0 .0 .0 .0 .0 .0 .1), ne-eqb _ _ (c .match .rest .0 .0 .0 .0 .0 .0 .0 .1))
+returns-9 c = simp (
+  ne-eqb _ _ (c .match .rest .1),
+  ne-eqb _ _ (c .match .rest .0 .1),
+  ne-eqb _ _
+      (c .match .rest .0 .0 .1),
+  ne-eqb _ _ (c .match .rest .0 .0 .0 .1),
+  ne-eqb _ _
+      (c .match .rest .0 .0 .0 .0 .1),
+  ne-eqb _ _ (c .match .rest .0 .0 .0 .0 .0 .1),
+  ne-eqb _ _
+      (c .match .rest .0 .0 .0 .0 .0 .0 .1),
+  ne-eqb _ _ (c .match .rest .0 .0 .0 .0 .0 .0 .0 .1),
+)
 
 pub write-spec : {M : Type 1} → statement M
 write-spec =
     tie.close
     (tie.spec
-    sub-sys
-    element-write-sys
-    psw-bits-requires
-    element-write-sys-2
-    sub-sys-2
-    element-write-sys-3
-    psw-bits-requires-2
-    element-write-sys-4
-    psw-bits-requires-3
-    sub-sys-3
-    element-write-sys-5
-    element-write-sys-6
-    magnitude-requires
-    element-write-sys-7
+    (λ c. search needs)
+    (λ c. search needs)
+    (λ c κs. search needs)
+    (λ c. search needs)
+    (λ c. search needs)
+    (λ c. search needs)
+    (λ c κs. search needs)
+    (λ c. search needs)
+    (λ c κs. search needs)
+    (λ c. search needs)
+    (λ c. search needs)
+    (λ c. search needs)
+    (λ c κs. search needs)
+    (λ c. search needs)
     returns
     returns-2
     returns-3

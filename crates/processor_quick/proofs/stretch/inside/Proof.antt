@@ -20,7 +20,8 @@ use Rattle.processor_quick.proofs.stretch.inside.Tie as tie
 
 abbrev Inv-loop : tie.InvT-loop
 Inv-loop rom wram₀ vram₀ pak device regs₀ sys₀ pc psw budget in-rom base last x₀ flags₀ high₀ left₀ wram vram regs sys x flags high left =
-    Leads (stateOf regs₀ sys₀ pc psw Running) (memoryOf rom wram₀ vram₀ pak device) (budget - left) (machineOf regs sys base x high flags) (memoryOf rom wram vram pak device)
+    Leads (stateOf regs₀ sys₀ pc psw Running) (memoryOf rom wram₀ vram₀ pak device) (budget - left)
+    (machineOf regs sys base x high flags) (memoryOf rom wram vram pak device)
     × (left ≤ budget) × (x % 2 ≡ 0) × (length wram ≡ length wram₀) × (length vram ≡ length vram₀) × Quiet (getD device linesPlace 0) psw high
 
 abbrev μ-loop : tie.MeasureT-loop
@@ -38,7 +39,8 @@ loop-holds c =
     let a = b .args in
     let even = stands-even (length (now (a .rom))) (a .base) (a .last) (a .in-rom) (b .pre .0 .rom-ok) (b .pre .1) in
     let w = c .before .wrapping-sub-u32 in (
-      leads-none (now (a .regs)) (now (a .sys)) (a .pc) (a .psw) (a .base) (w .result) (c .unpacked .result) _ _ (w .ensures) (c .unpacked .ensures) (omega arith),
+      leads-none (now (a .regs)) (now (a .sys)) (a .pc) (a .psw) (a .base) (w .result) (c .unpacked .result) _ _
+          (w .ensures) (c .unpacked .ensures) (omega arith),
       omega arith,
       start-even (a .pc) (a .base) (w .result) (omega arith) (b .pre .2) even (w .ensures),
       refl,
@@ -63,7 +65,13 @@ returns c =
     let b = c .before .before .before .before .before .before .before .before .before .before .before in
     let a = b .args in
     let l = c .before .before .before .before .loop in
-    record { within = l .inv .1; stretched = ends (a .budget) (l .left) (now (a .regs)) (l .regs) (now (a .sys)) (l .sys) (now (a .rom)) (now (a .wram)) (l .wram) (now (a .vram)) (l .vram) (now (a .pak)) (now (a .device)) (a .pc) (a .psw) (l .high) (a .base) (l .x) _ _ (l .flags) (l .inv .5) (c .before .wrapping-add-u32 .ensures) (c .packed .ensures) (l .inv .0) }
+    record {
+      within = l .inv .1;
+      stretched = ends (a .budget) (l .left) (now (a .regs)) (l .regs) (now (a .sys))
+          (l .sys) (now (a .rom)) (now (a .wram)) (l .wram) (now (a .vram)) (l .vram) (now (a .pak)) (now (a .device))
+          (a .pc) (a .psw) (l .high) (a .base) (l .x) _ _ (l .flags) (l .inv .5) (c .before .wrapping-add-u32 .ensures)
+          (c .packed .ensures) (l .inv .0);
+    }
 
 cast-fetch : tie.Need-cast-fetch Inv-loop μ-loop
 cast-fetch c = search needs
@@ -88,29 +96,46 @@ enum-known-to : tie.Need-enum-known-to Inv-loop μ-loop
 enum-known-to c = c .match .keys1
 
 sub-left : tie.Need-sub-left Inv-loop μ-loop
-sub-left c = omega (arith, c .before .before .before .before .before .before .before .before .before .before .before .before .before .before .before .loop-test .taken)
+sub-left c = omega (
+  arith,
+  c .before .before .before .before .before .before .before .before .before .before .before
+      .before .before .before .before .loop-test .taken,
+)
 
 loop-less : tie.Need-loop-less Inv-loop μ-loop
-loop-less c = omega (arith, c .before .before .before .before .before .before .before .before .before .before .before .before .before .before .before .loop-test .taken)
+loop-less c = omega (
+  arith,
+  c .before .before .before .before .before .before .before .before .before .before .before
+      .before .before .before .before .loop-test .taken,
+)
 
 loop-again : tie.Need-loop-again Inv-loop μ-loop
 loop-again c =
-    let b = c .before .before .before .before .before .before .before .before .before .before .before .before .before .before .before .before .before .before .before .before .before .before .before in
+    let b = c .before .before .before .before .before .before .before .before .before .before .before .before .before
+    .before .before .before .before .before .before .before .before .before .before in
     let a = b .args in
     let even = stands-even (length (now (a .rom))) (a .base) (a .last) (a .in-rom) (b .pre .0 .rom-ok) (b .pre .1) in
     let l = c .before .before .before .before .before .before .before .before .before .before .before .before .before .before .before .before .loop in
     let d = c .before .before .before .before .before .before .before .dispatch in
     let w = c .before .before .before .before .before .before .before .before .before .before .before .before .fetch in
     let m = memoryOf (now (a .rom)) (l .wram) (l .vram) (now (a .pak)) (now (a .device)) in
-    let at = fetches m (a .base) (l .x) (a .last) (a .in-rom) (b .pre .0 .rom-ok) (b .pre .1) (l .inv .2) (c .before .before .before .before .before .before .before .before .before .before .before .before .before .before .if1 .left) in
+    let at = fetches m (a .base) (l .x) (a .last) (a .in-rom) (b .pre .0 .rom-ok) (b .pre .1) (l .inv .2)
+    (c .before .before .before .before .before .before .before .before .before .before .before .before .before
+    .before .if1 .left) in
     let first = at .0 ∙ sym (w .ensures .0) in
     let second = at .1 ∙ sym (w .ensures .1) in
     let t = c .before .before .before .before .before .before .before .before .before .before .before .before .before .before .before .loop-test .taken in
     let k : a .budget - (l .left - 1) ≡ suc (a .budget - l .left) = omega (arith, t, l .inv .1) in
     let e = c .before .to .given .1 in (
-      leads-more _ _ (a .budget - l .left) (l .regs) _ (l .sys) _ (a .base) (l .x) (l .high) _ _ (l .flags) m _ (d .result) (l .inv .0) first second even (l .inv .2) (getD (now (a .device)) linesPlace 0) (d .ensures) (stays-here (now (a .regs)) (l .regs) (now (a .sys)) (l .sys) (now (a .rom)) (now (a .wram)) (l .wram) (now (a .vram)) (l .vram) (now (a .pak)) (now (a .device)) (a .pc) (a .psw) (l .high) (a .base) (l .x) (l .flags) (l .inv .5)) _ _ _ _ e k,
+      leads-more _ _ (a .budget - l .left) (l .regs) _ (l .sys) _ (a .base) (l .x) (l .high) _ _ (l .flags) m _
+          (d .result) (l .inv .0) first second even (l .inv .2) (getD (now (a .device)) linesPlace 0) (d .ensures)
+          (stays-here (now (a .regs)) (l .regs) (now (a .sys)) (l .sys) (now (a .rom)) (now (a .wram)) (l .wram) (now
+          (a .vram)) (l .vram) (now (a .pak)) (now (a .device)) (a .pc) (a .psw) (l .high) (a .base) (l .x) (l .flags)
+          (l .inv .5)) _ _ _ _ e k,
       omega (arith, t, l .inv .1),
-      aligned-more _ _ (a .budget - l .left) (l .regs) _ (l .sys) _ (a .base) (l .x) (l .high) _ _ (l .flags) m _ (d .result) (l .inv .0) first second even (l .inv .2) (getD (now (a .device)) linesPlace 0) (d .ensures) _ _ _ e,
+      aligned-more _ _ (a .budget - l .left) (l .regs) _ (l .sys) _ (a .base) (l .x) (l .high) _ _ (l .flags) m _
+          (d .result) (l .inv .0) first second even (l .inv .2) (getD (now (a .device)) linesPlace 0)
+          (d .ensures) _ _ _ e,
       d .kept .1 .0 ∙ l .inv .3,
       d .kept .1 .1 .0 ∙ l .inv .4,
       l .inv .5,
@@ -123,32 +148,50 @@ after-one-requires : tie.Need-after-one-requires Inv-loop μ-loop
 after-one-requires c κs = tt
 
 sub-left-2 : tie.Need-sub-left-2 Inv-loop μ-loop
-sub-left-2 c = omega (arith, c .before .before .before .before .before .before .before .before .before .before .before .before .before .before .before .before .loop-test .taken)
+sub-left-2 c = omega (
+  arith,
+  c .before .before .before .before .before .before .before .before .before .before .before
+      .before .before .before .before .before .loop-test .taken,
+)
 
 loop-less-2 : tie.Need-loop-less-2 Inv-loop μ-loop
-loop-less-2 c = omega (arith, c .before .before .before .before .before .before .before .before .before .before .before .before .before .before .before .before .loop-test .taken)
+loop-less-2 c = omega (
+  arith,
+  c .before .before .before .before .before .before .before .before .before .before .before
+      .before .before .before .before .before .loop-test .taken,
+)
 
 loop-again-2 : tie.Need-loop-again-2 Inv-loop μ-loop
 loop-again-2 c =
-    let b = c .before .before .before .before .before .before .before .before .before .before .before .before .before .before .before .before .before .before .before .before .before .before .before .before in
+    let b = c .before .before .before .before .before .before .before .before .before .before .before .before .before
+    .before .before .before .before .before .before .before .before .before .before .before in
     let a = b .args in
     let even = stands-even (length (now (a .rom))) (a .base) (a .last) (a .in-rom) (b .pre .0 .rom-ok) (b .pre .1) in
     let l = c .before .before .before .before .before .before .before .before .before .before .before .before .before .before .before .before .before .loop in
     let d = c .before .before .before .before .before .before .before .before .dispatch in
     let w = c .before .before .before .before .before .before .before .before .before .before .before .before .before .fetch in
     let m = memoryOf (now (a .rom)) (l .wram) (l .vram) (now (a .pak)) (now (a .device)) in
-    let at = fetches m (a .base) (l .x) (a .last) (a .in-rom) (b .pre .0 .rom-ok) (b .pre .1) (l .inv .2) (c .before .before .before .before .before .before .before .before .before .before .before .before .before .before .before .if1 .left) in
+    let at = fetches m (a .base) (l .x) (a .last) (a .in-rom) (b .pre .0 .rom-ok) (b .pre .1) (l .inv .2)
+    (c .before .before .before .before .before .before .before .before .before .before .before .before .before
+    .before .before .if1 .left) in
     let first = at .0 ∙ sym (w .ensures .0) in
     let second = at .1 ∙ sym (w .ensures .1) in
-    let t = c .before .before .before .before .before .before .before .before .before .before .before .before .before .before .before .before .loop-test .taken in
+    let t = c .before .before .before .before .before .before .before .before .before .before .before .before .before
+    .before .before .before .loop-test .taken in
     let k : a .budget - (l .left - 1) ≡ suc (a .budget - l .left) = omega (arith, t, l .inv .1) in
     let e = c .before .before .p .given .1 in (
-      leads-masked _ _ (a .budget - l .left) (l .regs) _ (l .sys) _ (a .base) (l .x) (l .high) _ _ (l .flags) m _ (d .result) (l .inv .0) first second even (l .inv .2) (getD (now (a .device)) linesPlace 0) (d .ensures) (stays-here (now (a .regs)) (l .regs) (now (a .sys)) (l .sys) (now (a .rom)) (now (a .wram)) (l .wram) (now (a .vram)) (l .vram) (now (a .pak)) (now (a .device)) (a .pc) (a .psw) (l .high) (a .base) (l .x) (l .flags) (l .inv .5)) _ _ _ e (c .after-one .ensures) k,
+      leads-masked _ _ (a .budget - l .left) (l .regs) _ (l .sys) _ (a .base) (l .x) (l .high) _ _ (l .flags) m _
+          (d .result) (l .inv .0) first second even (l .inv .2) (getD (now (a .device)) linesPlace 0) (d .ensures)
+          (stays-here (now (a .regs)) (l .regs) (now (a .sys)) (l .sys) (now (a .rom)) (now (a .wram)) (l .wram) (now
+          (a .vram)) (l .vram) (now (a .pak)) (now (a .device)) (a .pc) (a .psw) (l .high) (a .base) (l .x) (l .flags)
+          (l .inv .5)) _ _ _ e (c .after-one .ensures) k,
       omega (arith, t, l .inv .1),
       rw (c .after-one .ensures) (one-even (l .x) (l .inv .2)),
       d .kept .1 .0 ∙ l .inv .3,
       d .kept .1 .1 .0 ∙ l .inv .4,
-      λ u. quiet-masked _ _ (a .budget - l .left) (l .regs) _ (l .sys) _ (a .base) (l .x) (l .high) _ _ (l .flags) m _ (d .result) (l .inv .0) first second even (l .inv .2) (getD (now (a .device)) linesPlace 0) (d .ensures) _ e (l .inv .5 u),
+      λ u. quiet-masked _ _ (a .budget - l .left) (l .regs) _ (l .sys) _ (a .base) (l .x) (l .high) _ _ (l .flags) m _
+          (d .result) (l .inv .0) first second even (l .inv .2) (getD (now (a .device)) linesPlace 0) (d .ensures) _ e
+          (l .inv .5 u),
     )
 
 enum-told : tie.Need-enum-told Inv-loop μ-loop
@@ -161,27 +204,38 @@ packed-requires-2 : tie.Need-packed-requires-2 Inv-loop μ-loop
 packed-requires-2 c κs = tt
 
 same-length-3 : tie.Need-same-length-3 Inv-loop μ-loop
-same-length-3 c = c .before .before .before .before .before .before .before .before .dispatch .kept .1 .0 ∙ c .before .before .before .before .before .before .before .before .before .before .before .before .before .before .before .before .before .loop .inv .3
+same-length-3 c = c .before .before .before .before .before .before .before .before .dispatch .kept .1 .0
+    ∙ c .before .before .before .before .before .before .before .before .before .before .before .before .before .before
+    .before .before .before .loop .inv .3
 
 same-length-4 : tie.Need-same-length-4 Inv-loop μ-loop
-same-length-4 c = c .before .before .before .before .before .before .before .before .dispatch .kept .1 .1 .0 ∙ c .before .before .before .before .before .before .before .before .before .before .before .before .before .before .before .before .before .loop .inv .4
+same-length-4 c = c .before .before .before .before .before .before .before .before .dispatch .kept .1 .1 .0
+    ∙ c .before .before .before .before .before .before .before .before .before .before .before .before .before .before
+    .before .before .before .loop .inv .4
 
 returns-2 : tie.Need-returns-2 Inv-loop μ-loop
 returns-2 c =
-    let b = c .before .before .before .before .before .before .before .before .before .before .before .before .before .before .before .before .before .before .before .before .before .before .before .before in
+    let b = c .before .before .before .before .before .before .before .before .before .before .before .before .before
+    .before .before .before .before .before .before .before .before .before .before .before in
     let a = b .args in
     let even = stands-even (length (now (a .rom))) (a .base) (a .last) (a .in-rom) (b .pre .0 .rom-ok) (b .pre .1) in
     let l = c .before .before .before .before .before .before .before .before .before .before .before .before .before .before .before .before .before .loop in
     let d = c .before .before .before .before .before .before .before .before .dispatch in
     let w = c .before .before .before .before .before .before .before .before .before .before .before .before .before .fetch in
     let m = memoryOf (now (a .rom)) (l .wram) (l .vram) (now (a .pak)) (now (a .device)) in
-    let at = fetches m (a .base) (l .x) (a .last) (a .in-rom) (b .pre .0 .rom-ok) (b .pre .1) (l .inv .2) (c .before .before .before .before .before .before .before .before .before .before .before .before .before .before .before .if1 .left) in
+    let at = fetches m (a .base) (l .x) (a .last) (a .in-rom) (b .pre .0 .rom-ok) (b .pre .1) (l .inv .2)
+    (c .before .before .before .before .before .before .before .before .before .before .before .before .before
+    .before .before .if1 .left) in
     let first = at .0 ∙ sym (w .ensures .0) in
     let second = at .1 ∙ sym (w .ensures .1) in
     record {
       within = l .inv .1;
-      stretched = ends (a .budget) (l .left) (now (a .regs)) _ (now (a .sys)) _ (now (a .rom)) (now (a .wram)) _ (now (a .vram)) _ (now (a .pak)) (now (a .device)) (a .pc) (a .psw) (l .high) (a .base) (l .x) _ _ (l .flags) (l .inv .5) (c .before .wrapping-add-u322 .ensures) (c .packed2 .ensures)
-          (leads-same _ _ (a .budget - l .left) (l .regs) _ (l .sys) _ (a .base) (l .x) (l .high) _ _ (l .flags) m _ (d .result) (l .inv .0) first second even (l .inv .2) (getD (now (a .device)) linesPlace 0) (d .ensures) (c .before .before .enum-told .given .1));
+      stretched = ends (a .budget) (l .left) (now (a .regs)) _ (now (a .sys)) _ (now (a .rom)) (now (a .wram)) _ (now
+          (a .vram)) _ (now (a .pak)) (now (a .device)) (a .pc) (a .psw) (l .high) (a .base) (l .x) _ _ (l .flags)
+          (l .inv .5) (c .before .wrapping-add-u322 .ensures) (c .packed2 .ensures)
+          (leads-same _ _ (a .budget - l .left) (l .regs) _ (l .sys) _ (a .base) (l .x) (l .high) _ _ (l .flags) m _
+          (d .result) (l .inv .0) first second even (l .inv .2) (getD (now (a .device)) linesPlace 0) (d .ensures)
+          (c .before .before .enum-told .given .1));
     }
 
 wrapping-add-u32-requires-3 : tie.Need-wrapping-add-u32-requires-3 Inv-loop μ-loop
@@ -201,7 +255,13 @@ returns-3 c =
     let b = c .before .before .before .before .before .before .before .before .before .before in
     let a = b .args in
     let l = c .before .before .before .loop in
-    record { within = l .inv .1; stretched = ends (a .budget) (l .left) (now (a .regs)) (l .regs) (now (a .sys)) (l .sys) (now (a .rom)) (now (a .wram)) (l .wram) (now (a .vram)) (l .vram) (now (a .pak)) (now (a .device)) (a .pc) (a .psw) (l .high) (a .base) (l .x) _ _ (l .flags) (l .inv .5) (c .before .wrapping-add-u323 .ensures) (c .packed3 .ensures) (l .inv .0) }
+    record {
+      within = l .inv .1;
+      stretched = ends (a .budget) (l .left) (now (a .regs)) (l .regs) (now (a .sys))
+          (l .sys) (now (a .rom)) (now (a .wram)) (l .wram) (now (a .vram)) (l .vram) (now (a .pak)) (now (a .device))
+          (a .pc) (a .psw) (l .high) (a .base) (l .x) _ _ (l .flags) (l .inv .5) (c .before .wrapping-add-u323 .ensures)
+          (c .packed3 .ensures) (l .inv .0);
+    }
 
 pub inside-spec : {M : Type 1} → statement M
 inside-spec =

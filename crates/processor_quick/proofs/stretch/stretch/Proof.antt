@@ -50,7 +50,12 @@ inside-requires c κs =
       b .pre,
       record {
         word = omega (arith, mod-le (a .pc) (length (now (a .rom))));
-        in-rom = λ _. (omega (arith, room .least), room .start (a .pc), sym (region-code _) ∙ ap (λ (k : ℕ). k % 8) (room .same (a .pc)) ∙ c .before .before .before .before .if3 .taken);
+        in-rom = λ _. (
+          omega (arith, room .least),
+          room .start (a .pc),
+          sym (region-code _) ∙ ap (λ (k : ℕ). k % 8)
+              (room .same (a .pc)) ∙ c .before .before .before .before .if3 .taken,
+        );
         in-wram = λ e. absurd (true≢false e);
       },
       omega (arith, c .before .before .before .before .before .before .if1 .left),
@@ -69,9 +74,6 @@ same-length-2 c = c .before .before .before .before .before .inside .kept .1 .1 
 returns-3 : tie.Need-returns-3
 returns-3 c = c .before .before .before .before .before .inside .ensures .stretched
 
-sub-base-2 : tie.Need-sub-base-2
-sub-base-2 c = search needs
-
 inside-requires-2 : tie.Need-inside-requires-2
 inside-requires-2 c κs =
     let b = c .before .before .before .before .before .before .before .before .before .before .before .before in
@@ -80,7 +82,12 @@ inside-requires-2 c κs =
       record {
         word = omega arith;
         in-rom = λ e. absurd (true≢false (sym e));
-        in-wram = λ _. (refl, wram-room .start (a .pc), sym (region-code _) ∙ ap (λ (k : ℕ). k % 8) (wram-room .same (a .pc)) ∙ c .before .before .before .before .if4 .taken);
+        in-wram = λ _. (
+          refl,
+          wram-room .start (a .pc),
+          sym (region-code _) ∙ ap (λ (k : ℕ). k % 8) (wram-room .same
+              (a .pc)) ∙ c .before .before .before .before .if4 .taken,
+        );
       },
       omega (arith, c .before .before .before .before .before .before .before .if1 .left),
       c .before .before .before .before .before .before .if2 .left,
@@ -116,7 +123,7 @@ stretch-spec =
     same-length
     same-length-2
     returns-3
-    sub-base-2
+    (λ c. search needs)
     inside-requires-2
     sub-count-2
     same-length-3

@@ -7,15 +7,6 @@ use borrow.Author.Needs.{needs}
 use Rattle.processor_quick.proofs.system.cli.Statement.{statement}
 use Rattle.processor_quick.proofs.system.cli.Tie as tie
 
-clear-id-requires : tie.Need-clear-id-requires
-clear-id-requires c κs = search needs
-
-element-copy-out-accepts : tie.Need-element-copy-out-accepts
-element-copy-out-accepts c = search needs
-
-accepts-requires : tie.Need-accepts-requires
-accepts-requires c κs = search needs
-
 returns : tie.Need-returns
 returns c = λ regs sys m base aligned. (refl, refl, refl)
 
@@ -28,4 +19,4 @@ returns-2 c = λ regs sys m base aligned.
     )
 
 pub cli-spec : {M : Type 1} → statement M
-cli-spec = tie.close (tie.spec clear-id-requires element-copy-out-accepts accepts-requires returns returns-2)
+cli-spec = tie.close (tie.spec (λ c κs. search needs) (λ c. search needs) (λ c κs. search needs) returns returns-2)

@@ -13,25 +13,15 @@ returns c = λ lines m base aligned. (refl, refl, refl)
 returns-2 : tie.Need-returns-2
 returns-2 c = λ lines m base aligned. (refl, refl, refl)
 
-reg2-requires : tie.Need-reg2-requires
-reg2-requires c κs = search needs
-
-packed-requires : tie.Need-packed-requires
-packed-requires c κs = search needs
-
-write-requires : tie.Need-write-requires
-write-requires c κs = search needs
-
-after-one-requires : tie.Need-after-one-requires
-after-one-requires c κs = search needs
-
 returns-3 : tie.Need-returns-3
 returns-3 c = λ lines m base aligned.
     let a = c .before .before .before .before .before .before .before .args in (
       rw (ne-eqb _ _ (c .before .before .before .before .before .before .if1 .left), c .after-one .ensures, after-one base (a .x))
-          (written-does _ _ _ _ _ _ _ _ _ m (c .before .before .before .before .before .if2 .left) (rw (c .before .before .before .before .reg2 .ensures, c .before .before .packed .ensures) at (c .before .write .ensures))),
+          (written-does _ _ _ _ _ _ _ _ _ m (c .before .before .before .before .before .if2 .left) (rw
+          (c .before .before .before .before .reg2 .ensures, c .before .before .packed .ensures) at
+          (c .before .write .ensures))),
       rw (c .after-one .ensures) (one-even (a .x) aligned),
     )
 
 pub ldsr-spec : {M : Type 1} → statement M
-ldsr-spec = tie.close (tie.spec returns returns-2 reg2-requires packed-requires write-requires after-one-requires returns-3)
+ldsr-spec = tie.close (tie.spec returns returns-2 (λ c κs. search needs) (λ c κs. search needs) (λ c κs. search needs) (λ c κs. search needs) returns-3)

@@ -7,9 +7,6 @@ use borrow.Author.Needs.{needs}
 use Rattle.processor_quick.proofs.system.sei.Statement.{statement}
 use Rattle.processor_quick.proofs.system.sei.Tie as tie
 
-set-id-requires : tie.Need-set-id-requires
-set-id-requires c κs = search needs
-
 returns : tie.Need-returns
 unfolding executeOf
 returns c = λ lines regs sys m base aligned.
@@ -19,4 +16,4 @@ returns c = λ lines regs sys m base aligned.
     )
 
 pub sei-spec : {M : Type 1} → statement M
-sei-spec = tie.close (tie.spec set-id-requires returns)
+sei-spec = tie.close (tie.spec (λ c κs. search needs) returns)

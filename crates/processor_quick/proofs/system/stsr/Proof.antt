@@ -10,25 +10,22 @@ use Rattle.processor_quick.proofs.system.stsr.Tie as tie
 returns : tie.Need-returns
 returns c = λ lines m base aligned. (refl, refl, refl)
 
-packed-requires : tie.Need-packed-requires
-packed-requires c κs = search needs
-
-read-requires : tie.Need-read-requires
-read-requires c κs = search needs
-
-put-requires : tie.Need-put-requires
-put-requires c κs = search needs
-
-after-one-requires : tie.Need-after-one-requires
-after-one-requires c κs = search needs
-
 returns-2 : tie.Need-returns-2
 unfolding executeOf
 returns-2 c = λ lines m base aligned.
     let a = c .before .before .before .before .before .before .args in (
-      rw (ne-eqb _ _ (c .before .before .before .before .before .if1 .left), c .after-one .ensures, after-one base (a .x), c .before .put .ensures, c .before .before .before .read .ensures, c .before .before .before .before .packed .ensures),
+      rw (
+        ne-eqb _ _ (c .before .before .before .before .before .if1 .left),
+        c .after-one .ensures,
+        after-one base
+            (a .x),
+        c .before .put .ensures,
+        c .before .before .before .read .ensures,
+        c .before .before .before .before
+            .packed .ensures,
+      ),
       rw (c .after-one .ensures) (one-even (a .x) aligned),
     )
 
 pub stsr-spec : {M : Type 1} → statement M
-stsr-spec = tie.close (tie.spec returns packed-requires read-requires put-requires after-one-requires returns-2)
+stsr-spec = tie.close (tie.spec returns (λ c κs. search needs) (λ c κs. search needs) (λ c κs. search needs) (λ c κs. search needs) returns-2)

@@ -5,36 +5,22 @@ use borrow.Author.Needs.{needs}
 use Rattle.processor_quick_compute.proofs.arithmetic.addi.Statement.{statement}
 use Rattle.processor_quick_compute.proofs.arithmetic.addi.Tie as tie
 
-reg1-requires : tie.Need-reg1-requires
-reg1-requires c κs = search needs
-
-extend16-requires : tie.Need-extend16-requires
-extend16-requires c κs = search needs
-
-add-requires : tie.Need-add-requires
-add-requires c κs = search needs
-
-after-two-requires : tie.Need-after-two-requires
-after-two-requires c κs = search needs
-
-result-requires : tie.Need-result-requires
-result-requires c κs = search needs
-
 returns : tie.Need-returns
 unfolding executeOf
 returns c = λ m base psw sys even aligned.
     let a = c .before .before .before .before .before .before .before .args in
     rw (c .result .ensures .1, c .before .after-two .ensures)
     (result-does base (a .x) psw _ _ _ sys (a .flags) m _ _ (after-two base (a .x)) (two-even (a .x) aligned) _ _
-    (rw (c .before .before .before .before .before .reg1 .ensures, c .before .before .before .before .extend16 .ensures) at (c .before .before .before .add .ensures psw (a .flags))) (c .result .ensures .0))
+    (rw (c .before .before .before .before .before .reg1 .ensures, c .before .before .before .before .extend16 .ensures)
+    at (c .before .before .before .add .ensures psw (a .flags))) (c .result .ensures .0))
 
 pub addi-spec : {M : Type 1} → statement M
 addi-spec =
     tie.close
     (tie.spec
-    reg1-requires
-    extend16-requires
-    add-requires
-    after-two-requires
-    result-requires
+    (λ c κs. search needs)
+    (λ c κs. search needs)
+    (λ c κs. search needs)
+    (λ c κs. search needs)
+    (λ c κs. search needs)
     returns)

@@ -5,18 +5,6 @@ use borrow.Author.Needs.{needs}
 use Rattle.processor_quick_compute.proofs.arithmetic.cmp_immediate.Statement.{statement}
 use Rattle.processor_quick_compute.proofs.arithmetic.cmp_immediate.Tie as tie
 
-reg2-requires : tie.Need-reg2-requires
-reg2-requires c κs = search needs
-
-extend5-requires : tie.Need-extend5-requires
-extend5-requires c κs = search needs
-
-sub-requires : tie.Need-sub-requires
-sub-requires c κs = search needs
-
-after-one-requires : tie.Need-after-one-requires
-after-one-requires c κs = search needs
-
 returns : tie.Need-returns
 unfolding executeOf
 returns c = λ m base psw sys even aligned.
@@ -26,4 +14,4 @@ returns c = λ m base psw sys even aligned.
 
 pub cmp-immediate-spec : {M : Type 1} → statement M
 cmp-immediate-spec =
-    tie.close (tie.spec reg2-requires extend5-requires sub-requires after-one-requires returns)
+    tie.close (tie.spec (λ c κs. search needs) (λ c κs. search needs) (λ c κs. search needs) (λ c κs. search needs) returns)

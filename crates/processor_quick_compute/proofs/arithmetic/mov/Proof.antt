@@ -5,15 +5,6 @@ use borrow.Author.Needs.{needs}
 use Rattle.processor_quick_compute.proofs.arithmetic.mov.Statement.{statement}
 use Rattle.processor_quick_compute.proofs.arithmetic.mov.Tie as tie
 
-reg1-requires : tie.Need-reg1-requires
-reg1-requires c κs = search needs
-
-after-one-requires : tie.Need-after-one-requires
-after-one-requires c κs = search needs
-
-value-requires : tie.Need-value-requires
-value-requires c κs = search needs
-
 returns : tie.Need-returns
 unfolding executeOf
 returns c = λ m base psw sys even aligned.
@@ -23,4 +14,4 @@ returns c = λ m base psw sys even aligned.
     (rw (c .before .before .before .reg1 .ensures) at (c .value .ensures .0)))
 
 pub mov-spec : {M : Type 1} → statement M
-mov-spec = tie.close (tie.spec reg1-requires after-one-requires value-requires returns)
+mov-spec = tie.close (tie.spec (λ c κs. search needs) (λ c κs. search needs) (λ c κs. search needs) returns)

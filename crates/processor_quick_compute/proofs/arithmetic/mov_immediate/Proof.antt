@@ -5,15 +5,6 @@ use borrow.Author.Needs.{needs}
 use Rattle.processor_quick_compute.proofs.arithmetic.mov_immediate.Statement.{statement}
 use Rattle.processor_quick_compute.proofs.arithmetic.mov_immediate.Tie as tie
 
-extend5-requires : tie.Need-extend5-requires
-extend5-requires c κs = search needs
-
-after-one-requires : tie.Need-after-one-requires
-after-one-requires c κs = search needs
-
-value-requires : tie.Need-value-requires
-value-requires c κs = search needs
-
 returns : tie.Need-returns
 unfolding executeOf
 returns c = λ m base psw sys even aligned.
@@ -24,4 +15,4 @@ returns c = λ m base psw sys even aligned.
 
 pub mov-immediate-spec : {M : Type 1} → statement M
 mov-immediate-spec =
-    tie.close (tie.spec extend5-requires after-one-requires value-requires returns)
+    tie.close (tie.spec (λ c κs. search needs) (λ c κs. search needs) (λ c κs. search needs) returns)

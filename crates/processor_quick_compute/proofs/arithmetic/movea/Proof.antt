@@ -5,36 +5,26 @@ use borrow.Author.Needs.{needs}
 use Rattle.processor_quick_compute.proofs.arithmetic.movea.Statement.{statement}
 use Rattle.processor_quick_compute.proofs.arithmetic.movea.Tie as tie
 
-reg1-requires : tie.Need-reg1-requires
-reg1-requires c κs = search needs
-
-extend16-requires : tie.Need-extend16-requires
-extend16-requires c κs = search needs
-
-wrapping-add-u32-requires : tie.Need-wrapping-add-u32-requires
-wrapping-add-u32-requires c κs = search needs
-
-after-two-requires : tie.Need-after-two-requires
-after-two-requires c κs = search needs
-
-value-requires : tie.Need-value-requires
-value-requires c κs = search needs
-
 returns : tie.Need-returns
 unfolding executeOf
 returns c = λ m base psw sys even aligned.
     let a = c .before .before .before .before .before .before .before .args in
     rw (c .value .ensures .1, c .before .after-two .ensures)
     (value-does base (a .x) psw _ _ _ sys (a .flags) m _ _ (after-two base (a .x)) (two-even (a .x) aligned) _
-    (rw (c .before .before .before .wrapping-add-u32 .ensures, c .before .before .before .before .extend16 .ensures, c .before .before .before .before .before .reg1 .ensures) at (c .value .ensures .0)))
+    (rw (
+      c .before .before .before .wrapping-add-u32 .ensures,
+      c .before .before .before .before .extend16 .ensures,
+      c
+          .before .before .before .before .before .reg1 .ensures,
+    ) at (c .value .ensures .0)))
 
 pub movea-spec : {M : Type 1} → statement M
 movea-spec =
     tie.close
     (tie.spec
-    reg1-requires
-    extend16-requires
-    wrapping-add-u32-requires
-    after-two-requires
-    value-requires
+    (λ c κs. search needs)
+    (λ c κs. search needs)
+    (λ c κs. search needs)
+    (λ c κs. search needs)
+    (λ c κs. search needs)
     returns)

@@ -5,21 +5,6 @@ use borrow.Author.Needs.{needs}
 use Rattle.processor_quick_compute.proofs.arithmetic.movhi.Statement.{statement}
 use Rattle.processor_quick_compute.proofs.arithmetic.movhi.Tie as tie
 
-reg1-requires : tie.Need-reg1-requires
-reg1-requires c κs = search needs
-
-mul-wrapping-add-u32 : tie.Need-mul-wrapping-add-u32
-mul-wrapping-add-u32 c = search needs
-
-wrapping-add-u32-requires : tie.Need-wrapping-add-u32-requires
-wrapping-add-u32-requires c κs = search needs
-
-after-two-requires : tie.Need-after-two-requires
-after-two-requires c κs = search needs
-
-value-requires : tie.Need-value-requires
-value-requires c κs = search needs
-
 returns : tie.Need-returns
 unfolding executeOf
 returns c = λ m base psw sys even aligned.
@@ -32,9 +17,9 @@ pub movhi-spec : {M : Type 1} → statement M
 movhi-spec =
     tie.close
     (tie.spec
-    reg1-requires
-    mul-wrapping-add-u32
-    wrapping-add-u32-requires
-    after-two-requires
-    value-requires
+    (λ c κs. search needs)
+    (λ c. search needs)
+    (λ c κs. search needs)
+    (λ c κs. search needs)
+    (λ c κs. search needs)
     returns)

@@ -5,30 +5,19 @@ use borrow.Author.Needs.{needs}
 use Rattle.processor_quick_compute.proofs.arithmetic.mulu.Statement.{statement}
 use Rattle.processor_quick_compute.proofs.arithmetic.mulu.Tie as tie
 
-reg2-requires : tie.Need-reg2-requires
-reg2-requires c κs = search needs
-
-reg1-requires : tie.Need-reg1-requires
-reg1-requires c κs = search needs
-
-mulu-requires : tie.Need-mulu-requires
-mulu-requires c κs = search needs
-
-after-one-requires : tie.Need-after-one-requires
-after-one-requires c κs = search needs
-
-pair-requires : tie.Need-pair-requires
-pair-requires c κs = search needs
-
 returns : tie.Need-returns
 unfolding executeOf
 returns c = λ m base psw sys even aligned.
     let a = c .before .before .before .before .before .before .before .before .args in
     rw (c .pair .ensures .1, c .before .after-one .ensures)
     (pair-does base (a .x) psw _ _ _ sys (a .flags) m _ _ (after-one base (a .x)) (one-even (a .x) aligned) _ _
-    (rw (c .before .before .before .before .before .before .reg2 .ensures, c .before .before .before .before .reg1 .ensures) at (c .before .before .before .mulu .ensures psw)) (c .pair .ensures .0))
+    (rw (
+      c .before .before .before .before .before .before .reg2 .ensures,
+      c .before .before .before .before .reg1
+          .ensures,
+    ) at (c .before .before .before .mulu .ensures psw)) (c .pair .ensures .0))
 
 pub mulu-spec : {M : Type 1} → statement M
 mulu-spec =
     tie.close
-    (tie.spec reg2-requires reg1-requires mulu-requires after-one-requires pair-requires returns)
+    (tie.spec (λ c κs. search needs) (λ c κs. search needs) (λ c κs. search needs) (λ c κs. search needs) (λ c κs. search needs) returns)

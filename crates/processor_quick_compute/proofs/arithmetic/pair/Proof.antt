@@ -4,17 +4,8 @@ use borrow.Author.Needs.{needs}
 use Rattle.processor_quick_compute.proofs.arithmetic.pair.Statement.{statement}
 use Rattle.processor_quick_compute.proofs.arithmetic.pair.Tie as tie
 
-put-requires : tie.Need-put-requires
-put-requires c κs = search needs
-
-low-requires : tie.Need-low-requires
-low-requires c κs = search needs
-
-put-requires-2 : tie.Need-put-requires-2
-put-requires-2 c κs = search needs
-
 returns : tie.Need-returns
 returns c = (rw (c .before .low .ensures, c .before .before .before .before .put .ensures) at (c .put2 .ensures), refl)
 
 pub pair-spec : {M : Type 1} → statement M
-pair-spec = tie.close (tie.spec put-requires low-requires put-requires-2 returns)
+pair-spec = tie.close (tie.spec (λ c κs. search needs) (λ c κs. search needs) (λ c κs. search needs) returns)

@@ -4,14 +4,8 @@ use borrow.Author.Needs.{needs}
 use Rattle.processor_quick_compute.proofs.arithmetic.result.Statement.{statement}
 use Rattle.processor_quick_compute.proofs.arithmetic.result.Tie as tie
 
-low-requires : tie.Need-low-requires
-low-requires c κs = search needs
-
-put-requires : tie.Need-put-requires
-put-requires c κs = search needs
-
 returns : tie.Need-returns
 returns c = (rw (c .before .low .ensures) at (c .put .ensures), refl)
 
 pub result-spec : {M : Type 1} → statement M
-result-spec = tie.close (tie.spec low-requires put-requires returns)
+result-spec = tie.close (tie.spec (λ c κs. search needs) (λ c κs. search needs) returns)

@@ -5,18 +5,6 @@ use borrow.Author.Needs.{needs}
 use Rattle.processor_quick_compute.proofs.arithmetic.setf.Statement.{statement}
 use Rattle.processor_quick_compute.proofs.arithmetic.setf.Tie as tie
 
-holds-requires : tie.Need-holds-requires
-holds-requires c κs = search needs
-
-bit-requires : tie.Need-bit-requires
-bit-requires c κs = search needs
-
-after-one-requires : tie.Need-after-one-requires
-after-one-requires c κs = search needs
-
-value-requires : tie.Need-value-requires
-value-requires c κs = search needs
-
 returns : tie.Need-returns
 unfolding executeOf
 returns c = λ m base psw sys even aligned.
@@ -27,4 +15,4 @@ returns c = λ m base psw sys even aligned.
 
 pub setf-spec : {M : Type 1} → statement M
 setf-spec =
-    tie.close (tie.spec holds-requires bit-requires after-one-requires value-requires returns)
+    tie.close (tie.spec (λ c κs. search needs) (λ c κs. search needs) (λ c κs. search needs) (λ c κs. search needs) returns)

@@ -5,18 +5,6 @@ use borrow.Author.Needs.{needs}
 use Rattle.processor_quick_compute.proofs.arithmetic.shl_immediate.Statement.{statement}
 use Rattle.processor_quick_compute.proofs.arithmetic.shl_immediate.Tie as tie
 
-reg2-requires : tie.Need-reg2-requires
-reg2-requires c κs = search needs
-
-shl-requires : tie.Need-shl-requires
-shl-requires c κs = search needs
-
-after-one-requires : tie.Need-after-one-requires
-after-one-requires c κs = search needs
-
-result-requires : tie.Need-result-requires
-result-requires c κs = search needs
-
 returns : tie.Need-returns
 unfolding executeOf
 returns c = λ m base psw sys even aligned.
@@ -27,4 +15,4 @@ returns c = λ m base psw sys even aligned.
 
 pub shl-immediate-spec : {M : Type 1} → statement M
 shl-immediate-spec =
-    tie.close (tie.spec reg2-requires shl-requires after-one-requires result-requires returns)
+    tie.close (tie.spec (λ c κs. search needs) (λ c κs. search needs) (λ c κs. search needs) (λ c κs. search needs) returns)

@@ -9,50 +9,19 @@ use borrow.Author.Needs.{needs}
 use Rattle.processor_quick_compute.proofs.floating.cmpf.Statement.{statement}
 use Rattle.processor_quick_compute.proofs.floating.cmpf.Tie as tie
 
-reg2-requires : tie.Need-reg2-requires
-reg2-requires c κs = search needs
-
-reg1-requires : tie.Need-reg1-requires
-reg1-requires c κs = search needs
-
-compare-requires : tie.Need-compare-requires
-compare-requires c κs = search needs
-
-enum-told : tie.Need-enum-told
-enum-told c = search needs
-
-lower-requires : tie.Need-lower-requires
-lower-requires c κs = search needs
-
-ordered-requires : tie.Need-ordered-requires
-ordered-requires c κs = search needs
-
-enum-told-2 : tie.Need-enum-told-2
-enum-told-2 c = search needs
-
-equal-requires : tie.Need-equal-requires
-equal-requires c κs = search needs
-
-ordered-requires-2 : tie.Need-ordered-requires-2
-ordered-requires-2 c κs = search needs
-
-enum-told-3 : tie.Need-enum-told-3
-enum-told-3 c = search needs
-
-higher-requires : tie.Need-higher-requires
-higher-requires c κs = search needs
-
-ordered-requires-3 : tie.Need-ordered-requires-3
-ordered-requires-3 c κs = search needs
-
-enum-told-4 : tie.Need-enum-told-4
-enum-told-4 c = search needs
-
 returns : tie.Need-returns
 unfolding executeOf
 returns c = λ m base psw sys even aligned.
     let a = c .before .before .before .before .before .before .before .args in
-    rw (c .ordered .ensures, ← c .before .before .before .before .before .before .reg2 .ensures, ← c .before .before .before .before .before .reg1 .ensures, ← c .before .before .before .before .compare .ensures, c .before .before .enum-told .given .1)
+    rw (
+      c .ordered .ensures,
+      ← c .before .before .before .before .before .before .reg2 .ensures,
+      ← c .before .before
+          .before .before .before .reg1 .ensures,
+      ← c .before .before .before .before .compare .ensures,
+      c .before .before
+          .enum-told .given .1,
+    )
     (goes-on base (a .x) psw (now (a .regs)) _ sys (a .flags) m _ _ (after-two base (a .x)) (two-even (a .x) aligned) _ _ _
     (c .before .lower .ensures psw ∙ sym (order-over psw (a .flags) false true)) refl)
 
@@ -60,7 +29,15 @@ returns-2 : tie.Need-returns-2
 unfolding executeOf
 returns-2 c = λ m base psw sys even aligned.
     let a = c .before .before .before .before .before .before .before .args in
-    rw (c .ordered2 .ensures, ← c .before .before .before .before .before .before .reg2 .ensures, ← c .before .before .before .before .before .reg1 .ensures, ← c .before .before .before .before .compare .ensures, c .before .before .enum-told2 .given .1)
+    rw (
+      c .ordered2 .ensures,
+      ← c .before .before .before .before .before .before .reg2 .ensures,
+      ← c .before .before
+          .before .before .before .reg1 .ensures,
+      ← c .before .before .before .before .compare .ensures,
+      c .before .before
+          .enum-told2 .given .1,
+    )
     (goes-on base (a .x) psw (now (a .regs)) _ sys (a .flags) m _ _ (after-two base (a .x)) (two-even (a .x) aligned) _ _ _
     (c .before .equal .ensures psw ∙ sym (order-over psw (a .flags) true false)) refl)
 
@@ -68,31 +45,36 @@ returns-3 : tie.Need-returns-3
 unfolding executeOf
 returns-3 c = λ m base psw sys even aligned.
     let a = c .before .before .before .before .before .before .before .args in
-    rw (c .ordered3 .ensures, ← c .before .before .before .before .before .before .reg2 .ensures, ← c .before .before .before .before .before .reg1 .ensures, ← c .before .before .before .before .compare .ensures, c .before .before .enum-told3 .given .1)
+    rw (
+      c .ordered3 .ensures,
+      ← c .before .before .before .before .before .before .reg2 .ensures,
+      ← c .before .before
+          .before .before .before .reg1 .ensures,
+      ← c .before .before .before .before .compare .ensures,
+      c .before .before
+          .enum-told3 .given .1,
+    )
     (goes-on base (a .x) psw (now (a .regs)) _ sys (a .flags) m _ _ (after-two base (a .x)) (two-even (a .x) aligned) _ _ _
     (c .before .higher .ensures psw ∙ sym (order-over psw (a .flags) false false)) refl)
-
-returns-4 : tie.Need-returns-4
-returns-4 c = search needs
 
 pub cmpf-spec : {M : Type 1} → statement M
 cmpf-spec =
     tie.close
     (tie.spec
-    reg2-requires
-    reg1-requires
-    compare-requires
-    enum-told
-    lower-requires
-    ordered-requires
-    enum-told-2
-    equal-requires
-    ordered-requires-2
-    enum-told-3
-    higher-requires
-    ordered-requires-3
-    enum-told-4
+    (λ c κs. search needs)
+    (λ c κs. search needs)
+    (λ c κs. search needs)
+    (λ c. search needs)
+    (λ c κs. search needs)
+    (λ c κs. search needs)
+    (λ c. search needs)
+    (λ c κs. search needs)
+    (λ c κs. search needs)
+    (λ c. search needs)
+    (λ c κs. search needs)
+    (λ c κs. search needs)
+    (λ c. search needs)
     returns
     returns-2
     returns-3
-    returns-4)
+    (λ c. search needs))

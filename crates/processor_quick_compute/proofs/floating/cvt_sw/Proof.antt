@@ -4,18 +4,11 @@ use borrow.Author.Needs.{needs}
 use Rattle.processor_quick_compute.proofs.floating.cvt_sw.Statement.{statement}
 use Rattle.processor_quick_compute.proofs.floating.cvt_sw.Tie as tie
 
-reg1-requires : tie.Need-reg1-requires
-reg1-requires c κs = search needs
-
-nearest-requires : tie.Need-nearest-requires
-nearest-requires c κs = search needs
-
-settle-requires : tie.Need-settle-requires
-settle-requires c κs = search needs
-
 returns : tie.Need-returns
 unfolding executeOf
-returns c = λ m base psw sys even aligned. rw (c .before .before .nearest .ensures, c .before .before .before .reg1 .ensures) at (c .settle .ensures m base psw sys even aligned)
+returns c = λ m base psw sys even aligned. rw
+    (c .before .before .nearest .ensures, c .before .before .before .reg1 .ensures) at
+    (c .settle .ensures m base psw sys even aligned)
 
 pub cvt-sw-spec : {M : Type 1} → statement M
-cvt-sw-spec = tie.close (tie.spec reg1-requires nearest-requires settle-requires returns)
+cvt-sw-spec = tie.close (tie.spec (λ c κs. search needs) (λ c κs. search needs) (λ c κs. search needs) returns)

@@ -4,30 +4,6 @@ use borrow.Author.Needs.{needs}
 use Rattle.processor_quick_compute.proofs.floating.extended.Statement.{statement}
 use Rattle.processor_quick_compute.proofs.floating.extended.Tie as tie
 
-cmpf-requires : tie.Need-cmpf-requires
-cmpf-requires c κs = search needs
-
-cvt-ws-requires : tie.Need-cvt-ws-requires
-cvt-ws-requires c κs = search needs
-
-cvt-sw-requires : tie.Need-cvt-sw-requires
-cvt-sw-requires c κs = search needs
-
-addf-requires : tie.Need-addf-requires
-addf-requires c κs = search needs
-
-subf-requires : tie.Need-subf-requires
-subf-requires c κs = search needs
-
-mulf-requires : tie.Need-mulf-requires
-mulf-requires c κs = search needs
-
-divf-requires : tie.Need-divf-requires
-divf-requires c κs = search needs
-
-trnc-sw-requires : tie.Need-trnc-sw-requires
-trnc-sw-requires c κs = search needs
-
 returns : tie.Need-returns
 unfolding extendedOf subRows
 returns c = rw (c .before .before .match .keys1) (c .cmpf .ensures)
@@ -60,21 +36,18 @@ returns-8 : tie.Need-returns-8
 unfolding extendedOf subRows
 returns-8 c = rw (c .before .before .match .keys8) (c .trnc-sw .ensures)
 
-returns-9 : tie.Need-returns-9
-returns-9 c = search needs
-
 pub extended-spec : {M : Type 1} → statement M
 extended-spec =
     tie.close
     (tie.spec
-    cmpf-requires
-    cvt-ws-requires
-    cvt-sw-requires
-    addf-requires
-    subf-requires
-    mulf-requires
-    divf-requires
-    trnc-sw-requires
+    (λ c κs. search needs)
+    (λ c κs. search needs)
+    (λ c κs. search needs)
+    (λ c κs. search needs)
+    (λ c κs. search needs)
+    (λ c κs. search needs)
+    (λ c κs. search needs)
+    (λ c κs. search needs)
     returns
     returns-2
     returns-3
@@ -83,4 +56,4 @@ extended-spec =
     returns-6
     returns-7
     returns-8
-    returns-9)
+    (λ c. search needs))

@@ -8,12 +8,6 @@ use borrow.Author.Needs.{needs}
 use Rattle.processor_quick_move.proofs.branch.greater.Statement.{statement}
 use Rattle.processor_quick_move.proofs.branch.greater.Tie as tie
 
-less-requires : tie.Need-less-requires
-less-requires c κs = search needs
-
-branch-requires : tie.Need-branch-requires
-branch-requires c κs = search needs
-
 returns : tie.Need-returns
 returns c = λ regs m base psw sys even aligned.
     let b = c .before .before .before in
@@ -21,12 +15,6 @@ returns c = λ regs m base psw sys even aligned.
     rw (c .branch .ensures)
     (branch-does base (a .x) psw (a .f) _ regs sys (a .flags) m _ even aligned
     (pair-first (a .f) 7 (b .pre) (c .before .before .if1 .taken) (omega arith)) (ap not (c .before .less .ensures psw) ∙ not-less (packedOf psw (a .flags))))
-
-greater-requires : tie.Need-greater-requires
-greater-requires c κs = search needs
-
-branch-requires-2 : tie.Need-branch-requires-2
-branch-requires-2 c κs = search needs
 
 returns-2 : tie.Need-returns-2
 returns-2 c = λ regs m base psw sys even aligned.
@@ -39,4 +27,4 @@ returns-2 c = λ regs m base psw sys even aligned.
 pub greater-spec : {M : Type 1} → statement M
 greater-spec =
     tie.close
-    (tie.spec less-requires branch-requires returns greater-requires branch-requires-2 returns-2)
+    (tie.spec (λ c κs. search needs) (λ c κs. search needs) returns (λ c κs. search needs) (λ c κs. search needs) returns-2)

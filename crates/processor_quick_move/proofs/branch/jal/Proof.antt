@@ -12,27 +12,22 @@ use borrow.Author.Needs.{needs}
 use Rattle.processor_quick_move.proofs.branch.jal.Statement.{statement}
 use Rattle.processor_quick_move.proofs.branch.jal.Tie as tie
 
-after-two-requires : tie.Need-after-two-requires
-after-two-requires c κs = search needs
-
-wrapping-add-u32-requires : tie.Need-wrapping-add-u32-requires
-wrapping-add-u32-requires c κs = search needs
-
-put-requires : tie.Need-put-requires
-put-requires c κs = search needs
-
-target-requires : tie.Need-target-requires
-target-requires c κs = search needs
-
 returns : tie.Need-returns
 unfolding executeOf
 returns c = λ m psw sys even aligned.
     let a = c .before .before .before .before .before .args in
     let d : format.dispOf (a .f) (a .s) % 2 ≡ 0 = extended-even 33554432 _ (omega arith) (omega arith) in
-    rw (c .target .ensures, c .before .put .ensures, c .before .before .before .wrapping-add-u32 .ensures, c .before .before .before .before .after-two .ensures, sum-moved (a .base) (a .x) 4)
+    rw (
+      c .target .ensures,
+      c .before .put .ensures,
+      c .before .before .before .wrapping-add-u32 .ensures,
+      c .before
+          .before .before .before .after-two .ensures,
+      sum-moved (a .base) (a .x) 4,
+    )
     (rw (jump-on (a .base) (a .x) _ even aligned d), jump-even (a .base) (a .x) _ even aligned d)
 
 pub jal-spec : {M : Type 1} → statement M
 jal-spec =
     tie.close
-    (tie.spec after-two-requires wrapping-add-u32-requires put-requires target-requires returns)
+    (tie.spec (λ c κs. search needs) (λ c κs. search needs) (λ c κs. search needs) (λ c κs. search needs) returns)

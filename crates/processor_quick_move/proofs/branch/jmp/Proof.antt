@@ -12,15 +12,6 @@ use borrow.Author.Needs.{needs}
 use Rattle.processor_quick_move.proofs.branch.jmp.Statement.{statement}
 use Rattle.processor_quick_move.proofs.branch.jmp.Tie as tie
 
-reg1-requires : tie.Need-reg1-requires
-reg1-requires c κs = search needs
-
-sub-wrapping-sub-u32 : tie.Need-sub-wrapping-sub-u32
-sub-wrapping-sub-u32 c = search needs
-
-wrapping-sub-u32-requires : tie.Need-wrapping-sub-u32-requires
-wrapping-sub-u32-requires c κs = search needs
-
 returns : tie.Need-returns
 unfolding executeOf
 returns c = λ m psw sys even aligned.
@@ -33,4 +24,4 @@ returns c = λ m psw sys even aligned.
 
 pub jmp-spec : {M : Type 1} → statement M
 jmp-spec =
-    tie.close (tie.spec reg1-requires sub-wrapping-sub-u32 wrapping-sub-u32-requires returns)
+    tie.close (tie.spec (λ c κs. search needs) (λ c. search needs) (λ c κs. search needs) returns)

@@ -12,9 +12,6 @@ use borrow.Author.Needs.{needs}
 use Rattle.processor_quick_move.proofs.branch.jr.Statement.{statement}
 use Rattle.processor_quick_move.proofs.branch.jr.Tie as tie
 
-target-requires : tie.Need-target-requires
-target-requires c κs = search needs
-
 returns : tie.Need-returns
 unfolding executeOf
 returns c = λ regs m base psw sys even aligned.
@@ -23,4 +20,4 @@ returns c = λ regs m base psw sys even aligned.
     rw (c .target .ensures) (rw (jump-on base (a .x) _ even aligned d), jump-even base (a .x) _ even aligned d)
 
 pub jr-spec : {M : Type 1} → statement M
-jr-spec = tie.close (tie.spec target-requires returns)
+jr-spec = tie.close (tie.spec (λ c κs. search needs) returns)

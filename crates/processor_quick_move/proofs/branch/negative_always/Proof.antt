@@ -8,12 +8,6 @@ use borrow.Author.Needs.{needs}
 use Rattle.processor_quick_move.proofs.branch.negative_always.Statement.{statement}
 use Rattle.processor_quick_move.proofs.branch.negative_always.Tie as tie
 
-negative-requires : tie.Need-negative-requires
-negative-requires c κs = search needs
-
-branch-requires : tie.Need-branch-requires
-branch-requires c κs = search needs
-
 returns : tie.Need-returns
 returns c = λ regs m base psw sys even aligned.
     let b = c .before .before .before in
@@ -21,9 +15,6 @@ returns c = λ regs m base psw sys even aligned.
     rw (c .branch .ensures)
     (branch-does base (a .x) psw (a .f) _ regs sys (a .flags) m _ even aligned
     (pair-first (a .f) 2 (b .pre) (c .before .before .if1 .taken) (omega arith)) (c .before .negative .ensures psw))
-
-branch-requires-2 : tie.Need-branch-requires-2
-branch-requires-2 c κs = search needs
 
 returns-2 : tie.Need-returns-2
 returns-2 c = λ regs m base psw sys even aligned.
@@ -35,4 +26,4 @@ returns-2 c = λ regs m base psw sys even aligned.
 
 pub negative-always-spec : {M : Type 1} → statement M
 negative-always-spec =
-    tie.close (tie.spec negative-requires branch-requires returns branch-requires-2 returns-2)
+    tie.close (tie.spec (λ c κs. search needs) (λ c κs. search needs) returns (λ c κs. search needs) returns-2)

@@ -8,25 +8,14 @@ use borrow.Author.Needs.{needs}
 use Rattle.processor_quick_move.proofs.branch.no_overflow_no_carry.Statement.{statement}
 use Rattle.processor_quick_move.proofs.branch.no_overflow_no_carry.Tie as tie
 
-overflowed-requires : tie.Need-overflowed-requires
-overflowed-requires c κs = search needs
-
-branch-requires : tie.Need-branch-requires
-branch-requires c κs = search needs
-
 returns : tie.Need-returns
 returns c = λ regs m base psw sys even aligned.
     let b = c .before .before .before in
     let a = b .args in
     rw (c .branch .ensures)
     (branch-does base (a .x) psw (a .f) _ regs sys (a .flags) m _ even aligned
-    (pair-first (a .f) 4 (b .pre) (c .before .before .if1 .taken) (omega arith)) (ap not (c .before .overflowed .ensures psw) ∙ not-overflow (packedOf psw (a .flags))))
-
-carry-requires : tie.Need-carry-requires
-carry-requires c κs = search needs
-
-branch-requires-2 : tie.Need-branch-requires-2
-branch-requires-2 c κs = search needs
+    (pair-first (a .f) 4 (b .pre) (c .before .before .if1 .taken) (omega arith)) (ap not
+    (c .before .overflowed .ensures psw) ∙ not-overflow (packedOf psw (a .flags))))
 
 returns-2 : tie.Need-returns-2
 returns-2 c = λ regs m base psw sys even aligned.
@@ -40,9 +29,9 @@ pub no-overflow-no-carry-spec : {M : Type 1} → statement M
 no-overflow-no-carry-spec =
     tie.close
     (tie.spec
-    overflowed-requires
-    branch-requires
+    (λ c κs. search needs)
+    (λ c κs. search needs)
     returns
-    carry-requires
-    branch-requires-2
+    (λ c κs. search needs)
+    (λ c κs. search needs)
     returns-2)

@@ -8,22 +8,14 @@ use borrow.Author.Needs.{needs}
 use Rattle.processor_quick_move.proofs.branch.positive_never.Statement.{statement}
 use Rattle.processor_quick_move.proofs.branch.positive_never.Tie as tie
 
-negative-requires : tie.Need-negative-requires
-negative-requires c κs = search needs
-
-branch-requires : tie.Need-branch-requires
-branch-requires c κs = search needs
-
 returns : tie.Need-returns
 returns c = λ regs m base psw sys even aligned.
     let b = c .before .before .before in
     let a = b .args in
     rw (c .branch .ensures)
     (branch-does base (a .x) psw (a .f) _ regs sys (a .flags) m _ even aligned
-    (pair-first (a .f) 6 (b .pre) (c .before .before .if1 .taken) (omega arith)) (ap not (c .before .negative .ensures psw) ∙ not-negative (packedOf psw (a .flags))))
-
-branch-requires-2 : tie.Need-branch-requires-2
-branch-requires-2 c κs = search needs
+    (pair-first (a .f) 6 (b .pre) (c .before .before .if1 .taken) (omega arith)) (ap not
+    (c .before .negative .ensures psw) ∙ not-negative (packedOf psw (a .flags))))
 
 returns-2 : tie.Need-returns-2
 returns-2 c = λ regs m base psw sys even aligned.
@@ -35,4 +27,4 @@ returns-2 c = λ regs m base psw sys even aligned.
 
 pub positive-never-spec : {M : Type 1} → statement M
 positive-never-spec =
-    tie.close (tie.spec negative-requires branch-requires returns branch-requires-2 returns-2)
+    tie.close (tie.spec (λ c κs. search needs) (λ c κs. search needs) returns (λ c κs. search needs) returns-2)

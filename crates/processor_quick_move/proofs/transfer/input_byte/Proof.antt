@@ -5,18 +5,6 @@ use borrow.Author.Needs.{needs}
 use Rattle.processor_quick_move.proofs.transfer.input_byte.Statement.{statement}
 use Rattle.processor_quick_move.proofs.transfer.input_byte.Tie as tie
 
-address-requires : tie.Need-address-requires
-address-requires c κs = search needs
-
-byte-requires : tie.Need-byte-requires
-byte-requires c κs = search needs
-
-after-two-requires : tie.Need-after-two-requires
-after-two-requires c κs = search needs
-
-loaded-requires : tie.Need-loaded-requires
-loaded-requires c κs = search needs
-
 returns : tie.Need-returns
 unfolding executeOf
 returns c = λ base psw sys even aligned.
@@ -27,4 +15,4 @@ returns c = λ base psw sys even aligned.
 
 pub input-byte-spec : {M : Type 1} → statement M
 input-byte-spec =
-    tie.close (tie.spec address-requires byte-requires after-two-requires loaded-requires returns)
+    tie.close (tie.spec (λ c κs. search needs) (λ c κs. search needs) (λ c κs. search needs) (λ c κs. search needs) returns)

@@ -5,18 +5,6 @@ use borrow.Author.Needs.{needs}
 use Rattle.processor_quick_move.proofs.transfer.load_word.Statement.{statement}
 use Rattle.processor_quick_move.proofs.transfer.load_word.Tie as tie
 
-address-requires : tie.Need-address-requires
-address-requires c κs = search needs
-
-word-requires : tie.Need-word-requires
-word-requires c κs = search needs
-
-after-two-requires : tie.Need-after-two-requires
-after-two-requires c κs = search needs
-
-loaded-requires : tie.Need-loaded-requires
-loaded-requires c κs = search needs
-
 returns : tie.Need-returns
 unfolding executeOf
 returns c = (
@@ -34,4 +22,4 @@ returns c = (
 
 pub load-word-spec : {M : Type 1} → statement M
 load-word-spec =
-    tie.close (tie.spec address-requires word-requires after-two-requires loaded-requires returns)
+    tie.close (tie.spec (λ c κs. search needs) (λ c κs. search needs) (λ c κs. search needs) (λ c κs. search needs) returns)

@@ -9,62 +9,64 @@ use borrow.Author.Needs.{needs}
 use Rattle.processor_quick_move.proofs.transfer.store_byte.Statement.{statement}
 use Rattle.processor_quick_move.proofs.transfer.store_byte.Tie as tie
 
-address-requires : tie.Need-address-requires
-address-requires c κs = search needs
-
-reg2-requires : tie.Need-reg2-requires
-reg2-requires c κs = search needs
-
-put-byte-requires : tie.Need-put-byte-requires
-put-byte-requires c κs = search needs
-
-same-length : tie.Need-same-length
-same-length c = search needs
-
-same-length-2 : tie.Need-same-length-2
-same-length-2 c = search needs
-
 returns : tie.Need-returns
 returns c = (
-  λ rom pak device base psw sys even aligned. (refl, rw (not-true (c .before .before .before .before .before .put-byte .result) (c .if1 .taken)) at (c .before .before .before .before .before .put-byte .ensures rom pak device)),
-  λ rom pak device base psw sys even aligned. (refl, rw (not-true (c .before .before .before .before .before .put-byte .result) (c .if1 .taken)) at (c .before .before .before .before .before .put-byte .ensures rom pak device)),
+  λ rom pak device base psw sys even aligned. (
+    refl,
+    rw (not-true
+        (c .before .before .before .before .before .put-byte .result) (c .if1 .taken)) at
+        (c .before .before .before .before .before .put-byte .ensures rom pak device),
+  ),
+  λ rom pak device base psw sys even aligned. (
+    refl,
+    rw (not-true
+        (c .before .before .before .before .before .put-byte .result) (c .if1 .taken)) at
+        (c .before .before .before .before .before .put-byte .ensures rom pak device),
+  ),
 )
-
-after-two-requires : tie.Need-after-two-requires
-after-two-requires c κs = search needs
-
-same-length-3 : tie.Need-same-length-3
-same-length-3 c = search needs
-
-same-length-4 : tie.Need-same-length-4
-same-length-4 c = search needs
 
 returns-2 : tie.Need-returns-2
 unfolding executeOf
 returns-2 c = (
   λ rom pak device base psw sys even aligned.
       let a = c .before .before .before .before .before .before .before .before .before .before .before .before .before .args in
-      let e = rw (not-false (c .before .before .before .before .before .before .put-byte .result) (c .before .if1 .left), c .before .before .before .before .before .before .before .before .before .before .address .ensures, c .before .before .before .before .before .before .before .before .before .reg2 .ensures) at (c .before .before .before .before .before .before .put-byte .ensures rom pak device) in
+      let e = rw (
+        not-false (c .before .before .before .before .before .before .put-byte .result)
+            (c .before .if1 .left),
+        c .before .before .before .before .before .before .before .before .before .before
+            .address .ensures,
+        c .before .before .before .before .before .before .before .before .before .reg2 .ensures,
+      )
+      at (c .before .before .before .before .before .before .put-byte .ensures rom pak device) in
       rw (c .after-two .ensures)
-      (store-does base (a .x) psw _ sys (a .flags) (memoryOf rom (now (a .wram)) (now (a .vram)) pak device) _ _ _ (after-two base (a .x)) (two-even (a .x) aligned) _ e),
+      (store-does base (a .x) psw _ sys (a .flags) (memoryOf rom (now (a .wram)) (now (a .vram)) pak device) _ _ _
+      (after-two base (a .x)) (two-even (a .x) aligned) _ e),
   λ rom pak device base psw sys even aligned.
       let a = c .before .before .before .before .before .before .before .before .before .before .before .before .before .args in
-      let e = rw (not-false (c .before .before .before .before .before .before .put-byte .result) (c .before .if1 .left), c .before .before .before .before .before .before .before .before .before .before .address .ensures, c .before .before .before .before .before .before .before .before .before .reg2 .ensures) at (c .before .before .before .before .before .before .put-byte .ensures rom pak device) in
+      let e = rw (
+        not-false (c .before .before .before .before .before .before .put-byte .result)
+            (c .before .if1 .left),
+        c .before .before .before .before .before .before .before .before .before .before
+            .address .ensures,
+        c .before .before .before .before .before .before .before .before .before .reg2 .ensures,
+      )
+      at (c .before .before .before .before .before .before .put-byte .ensures rom pak device) in
       rw (c .after-two .ensures)
-      (store-does base (a .x) psw _ sys (a .flags) (memoryOf rom (now (a .wram)) (now (a .vram)) pak device) _ _ _ (after-two base (a .x)) (two-even (a .x) aligned) _ e),
+      (store-does base (a .x) psw _ sys (a .flags) (memoryOf rom (now (a .wram)) (now (a .vram)) pak device) _ _ _
+      (after-two base (a .x)) (two-even (a .x) aligned) _ e),
 )
 
 pub store-byte-spec : {M : Type 1} → statement M
 store-byte-spec =
     tie.close
     (tie.spec
-    address-requires
-    reg2-requires
-    put-byte-requires
-    same-length
-    same-length-2
+    (λ c κs. search needs)
+    (λ c κs. search needs)
+    (λ c κs. search needs)
+    (λ c. search needs)
+    (λ c. search needs)
     returns
-    after-two-requires
-    same-length-3
-    same-length-4
+    (λ c κs. search needs)
+    (λ c. search needs)
+    (λ c. search needs)
     returns-2)

@@ -4,15 +4,9 @@ use Rattle.processor_step.specs.Step.{nextOf}
 use Rattle.processor_step.proofs.step.following.Statement.{statement}
 use Rattle.processor_step.proofs.step.following.Tie as tie
 
-wrapping-add-u32-requires : tie.Need-wrapping-add-u32-requires
-wrapping-add-u32-requires c κs = search needs
-
 returns : tie.Need-returns
 unfolding nextOf
 returns c = rw (c .before .if1 .taken) (c .wrapping-add-u32 .ensures)
-
-wrapping-add-u32-requires-2 : tie.Need-wrapping-add-u32-requires-2
-wrapping-add-u32-requires-2 c κs = search needs
 
 returns-2 : tie.Need-returns-2
 unfolding nextOf
@@ -20,4 +14,4 @@ returns-2 c = rw (c .before .if1 .left) (c .wrapping-add-u322 .ensures)
 
 pub following-spec : {M : Type 1} → statement M
 following-spec =
-    tie.close (tie.spec wrapping-add-u32-requires returns wrapping-add-u32-requires-2 returns-2)
+    tie.close (tie.spec (λ c κs. search needs) returns (λ c κs. search needs) returns-2)

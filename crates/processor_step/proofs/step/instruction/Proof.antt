@@ -4,31 +4,15 @@ use Rattle.processor_step.specs.Step.{instructionStepOf}
 use Rattle.processor_step.proofs.step.instruction.Statement.{statement}
 use Rattle.processor_step.proofs.step.instruction.Tie as tie
 
-enum-told : tie.Need-enum-told
-enum-told c = search needs
-
-running-requires : tie.Need-running-requires
-running-requires c κs = search needs
-
-enum-told-2 : tie.Need-enum-told-2
-enum-told-2 c = search needs
-
-enum-told-3 : tie.Need-enum-told-3
-enum-told-3 c = search needs
-
-same-length : tie.Need-same-length
-same-length c = search needs
-
-same-length-2 : tie.Need-same-length-2
-same-length-2 c = search needs
-
-same-length-3 : tie.Need-same-length-3
-same-length-3 c = search needs
-
 returns : tie.Need-returns
 unfolding instructionStepOf
-returns c =
-    (rw (c .before .before .before .before .before .before .before .before .before .before .before .before .before .enum-told .given .1) (c .before .before .before .before .before .before .running .ensures .0), rw (c .before .before .before .before .before .before .before .before .before .before .before .before .before .enum-told .given .1) (c .before .before .before .before .before .before .running .ensures .1))
+returns c = (
+  rw (c .before .before .before .before .before .before .before .before .before .before .before .before .before
+      .enum-told .given .1) (c .before .before .before .before .before .before .running .ensures .0),
+  rw
+      (c .before .before .before .before .before .before .before .before .before .before .before .before .before
+      .enum-told .given .1) (c .before .before .before .before .before .before .running .ensures .1),
+)
 
 returns-2 : tie.Need-returns-2
 unfolding instructionStepOf
@@ -42,13 +26,13 @@ pub instruction-spec : {M : Type 1} → statement M
 instruction-spec =
     tie.close
     (tie.spec
-    enum-told
-    running-requires
-    enum-told-2
-    enum-told-3
-    same-length
-    same-length-2
-    same-length-3
+    (λ c. search needs)
+    (λ c κs. search needs)
+    (λ c. search needs)
+    (λ c. search needs)
+    (λ c. search needs)
+    (λ c. search needs)
+    (λ c. search needs)
     returns
     returns-2
     returns-3)

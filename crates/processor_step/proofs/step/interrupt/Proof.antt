@@ -6,12 +6,6 @@ use Rattle.processor_machine.specs.declared.Answer.the-variants.{Interrupted}
 use Rattle.processor_step.proofs.step.interrupt.Statement.{statement}
 use Rattle.processor_step.proofs.step.interrupt.Tie as tie
 
-level-requires : tie.Need-level-requires
-level-requires c κs = search needs
-
-enter-requires : tie.Need-enter-requires
-enter-requires c κs = search needs
-
 returns : tie.Need-returns
 returns c =
     let level = c .before .before .level in (
@@ -22,4 +16,4 @@ returns c =
     )
 
 pub interrupt-spec : {M : Type 1} → statement M
-interrupt-spec = tie.close (tie.spec level-requires enter-requires returns)
+interrupt-spec = tie.close (tie.spec (λ c κs. search needs) (λ c κs. search needs) returns)

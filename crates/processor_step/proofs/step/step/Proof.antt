@@ -6,15 +6,6 @@ use Rattle.processor_step.proofs.Choosing.{step-interrupt, fetched-inte
 use Rattle.processor_step.proofs.step.step.Statement.{statement}
 use Rattle.processor_step.proofs.step.step.Tie as tie
 
-element-copy-out-lines : tie.Need-element-copy-out-lines
-element-copy-out-lines c = search needs
-
-accepts-requires : tie.Need-accepts-requires
-accepts-requires c κs = search needs
-
-interrupt-requires : tie.Need-interrupt-requires
-interrupt-requires c κs = search needs
-
 returns : tie.Need-returns
 returns c =
     let a = c .before .before .before .before .before .before .before .before .before .args in
@@ -23,21 +14,11 @@ returns c =
       c .interrupt .ensures .1 ∙ sym (fetched-interrupt _ _ e),
     )
 
-instruction-requires : tie.Need-instruction-requires
-instruction-requires c κs = search needs
-
-same-length : tie.Need-same-length
-same-length c = search needs
-
-same-length-2 : tie.Need-same-length-2
-same-length-2 c = search needs
-
-same-length-3 : tie.Need-same-length-3
-same-length-3 c = search needs
-
 returns-2 : tie.Need-returns-2
 returns-2 c =
-    let e = sym (c .before .before .before .before .before .before .before .before .before .before .before .before .before .before .accepts .ensures) ∙ c .before .before .before .before .before .before .before .before .before .before .before .before .before .if1 .left in (
+    let e = sym (c .before .before .before .before .before .before .before .before .before .before .before .before
+    .before .before .accepts .ensures) ∙ c .before .before .before .before .before .before .before .before .before
+    .before .before .before .before .if1 .left in (
       c .before .before .before .before .before .before .instruction .ensures .0 ∙ sym (step-instruction _ _ e),
       c .before .before .before .before .before .before .instruction .ensures .1 ∙ sym (fetched-instruction _ _ e),
     )
@@ -46,12 +27,12 @@ pub step-spec : {M : Type 1} → statement M
 step-spec =
     tie.close
     (tie.spec
-    element-copy-out-lines
-    accepts-requires
-    interrupt-requires
+    (λ c. search needs)
+    (λ c κs. search needs)
+    (λ c κs. search needs)
     returns
-    instruction-requires
-    same-length
-    same-length-2
-    same-length-3
+    (λ c κs. search needs)
+    (λ c. search needs)
+    (λ c. search needs)
+    (λ c. search needs)
     returns-2)

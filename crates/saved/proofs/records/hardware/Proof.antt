@@ -13,39 +13,11 @@ use borrow.Author.Needs.{needs}
 use Rattle.saved.proofs.records.hardware.Statement.{statement}
 use Rattle.saved.proofs.records.hardware.Tie as tie
 
-enum-told : tie.Need-enum-told
-enum-told c = search needs
-
-reset-requires : tie.Need-reset-requires
-reset-requires c κs = search needs
-
-enum-told-2 : tie.Need-enum-told-2
-enum-told-2 c = search needs
-
-first-requires : tie.Need-first-requires
-first-requires c κs = search needs
-
-add-last : tie.Need-add-last
-add-last c = search needs
-
-add-last-2 : tie.Need-add-last-2
-add-last-2 c = search needs
-
-add-end : tie.Need-add-end
-add-end c = search needs
-
-sub-hardware : tie.Need-sub-hardware
-sub-hardware c = search needs
-
-part-hardware-start : tie.Need-part-hardware-start
-part-hardware-start c = search needs
-
 part-hardware-end : tie.Need-part-hardware-end
-part-hardware-end c = let w : length ((c .before .before .before .before .args .file .now)) ≡ fileLengthOf Two ((c .before .before .before .before .args .pak)) = rw ((c .before .enum-told2 .given .1)) at ((c .before .before .before .before .pre .0)) in
+part-hardware-end c = let w : length ((c .before .before .before .before .args .file .now)) ≡ fileLengthOf Two
+    ((c .before .before .before .before .args .pak)) = rw ((c .before .enum-told2 .given .1)) at
+    ((c .before .before .before .before .pre .0)) in
     omega (arith, w, length-is Two ((c .before .before .before .before .args .pak)))
-
-hardware-requires : tie.Need-hardware-requires
-hardware-requires c κs = search needs
 
 returns : tie.Need-returns
 unfolding bodiesIn hardwareFrom
@@ -53,22 +25,30 @@ returns c = rw ((c .before .enum-told .given .1)) (c .reset .ensures)
 
 returns-2 : tie.Need-returns-2
 returns-2 c = rw ((c .before .before .before .enum-told2 .given .1))
-    ((c .hardware .ensures) ∙ ap hardwareFrom (hardware-part ((c .before .before .before .before .before .before .args .pak)) ((c .before .before .first .result)) ((c .before .before .before .before .before .before .args .file .now)) ((c .before .before .first .ensures .0)) (((c .before .before .first .result)) + 327878 + ((c .before .before .before .before .before .before .args .pak))) (((c .before .before .first .result)) + 327878 + ((c .before .before .before .before .before .before .args .pak)) + 8 - (((c .before .before .first .result)) + 327878 + ((c .before .before .before .before .before .before .args .pak)))) refl (omega arith)))
+    ((c .hardware .ensures) ∙ ap hardwareFrom (hardware-part
+    ((c .before .before .before .before .before .before .args .pak)) ((c .before .before .first .result))
+    ((c .before .before .before .before .before .before .args .file .now)) ((c .before .before .first .ensures .0))
+    (((c .before .before .first .result)) + 327878 +
+    ((c .before .before .before .before .before .before .args .pak)))
+    (((c .before .before .first .result)) + 327878 +
+    ((c .before .before .before .before .before .before .args .pak)) + 8 -
+    (((c .before .before .first .result)) + 327878 +
+    ((c .before .before .before .before .before .before .args .pak)))) refl (omega arith)))
 
 pub hardware-spec : {M : Type 1} → statement M
 hardware-spec =
     tie.close
     (tie.spec
-    enum-told
-    reset-requires
-    enum-told-2
-    first-requires
-    add-last
-    add-last-2
-    add-end
-    sub-hardware
-    part-hardware-start
+    (λ c. search needs)
+    (λ c κs. search needs)
+    (λ c. search needs)
+    (λ c κs. search needs)
+    (λ c. search needs)
+    (λ c. search needs)
+    (λ c. search needs)
+    (λ c. search needs)
+    (λ c. search needs)
     part-hardware-end
-    hardware-requires
+    (λ c κs. search needs)
     returns
     returns-2)

@@ -14,42 +14,35 @@ use borrow.Author.Needs.{needs}
 use Rattle.saved.proofs.records.held.Statement.{statement}
 use Rattle.saved.proofs.records.held.Tie as tie
 
-first-requires : tie.Need-first-requires
-first-requires c κs = search needs
-
-add-end : tie.Need-add-end
-add-end c = search needs
-
-sub-processor : tie.Need-sub-processor
-sub-processor c = search needs
-
-part-processor-start : tie.Need-part-processor-start
-part-processor-start c = search needs
-
 part-processor-end : tie.Need-part-processor-end
 part-processor-end c = omega (arith, length-is ((c .before .before .args .form)) ((c .before .before .args .pak)))
-
-hardware-requires : tie.Need-hardware-requires
-hardware-requires c κs = search needs
-
-processor-requires : tie.Need-processor-requires
-processor-requires c κs = search needs
 
 returns : tie.Need-returns
 unfolding processorInBodies
 returns c = (c .processor .ensures)
-    ∙ (ap (λ (xs : List ℕ). restoredProcessorOf (generalFrom xs) (restFrom xs) ((c .before .hardware .result))) (processor-part ((c .before .before .before .before .before .args .form)) ((c .before .before .before .before .before .args .pak)) ((c .before .before .before .first .result)) ((c .before .before .before .before .before .args .file .now)) ((c .before .before .before .first .ensures .0)) ((c .before .before .before .first .result)) (((c .before .before .before .first .result)) + 172 - ((c .before .before .before .first .result))) refl (omega arith))
-    ∙ ap (λ (h : Hardware). restoredProcessorOf (generalFrom (bodiesIn ((c .before .before .before .before .before .args .form)) ((c .before .before .before .before .before .args .pak)) ((c .before .before .before .before .before .args .file .now)) .processor)) (restFrom (bodiesIn ((c .before .before .before .before .before .args .form)) ((c .before .before .before .before .before .args .pak)) ((c .before .before .before .before .before .args .file .now)) .processor)) h) ((c .before .hardware .ensures)))
+    ∙ (ap (λ (xs : List ℕ). restoredProcessorOf (generalFrom xs) (restFrom xs) ((c .before .hardware .result)))
+    (processor-part ((c .before .before .before .before .before .args .form))
+    ((c .before .before .before .before .before .args .pak)) ((c .before .before .before .first .result))
+    ((c .before .before .before .before .before .args .file .now)) ((c .before .before .before .first .ensures .0))
+    ((c .before .before .before .first .result)) (((c .before .before .before .first .result)) + 172 -
+    ((c .before .before .before .first .result))) refl (omega arith))
+    ∙ ap (λ (h : Hardware). restoredProcessorOf (generalFrom (bodiesIn
+    ((c .before .before .before .before .before .args .form))
+    ((c .before .before .before .before .before .args .pak))
+    ((c .before .before .before .before .before .args .file .now)) .processor)) (restFrom (bodiesIn
+    ((c .before .before .before .before .before .args .form))
+    ((c .before .before .before .before .before .args .pak))
+    ((c .before .before .before .before .before .args .file .now)) .processor)) h) ((c .before .hardware .ensures)))
 
 pub held-spec : {M : Type 1} → statement M
 held-spec =
     tie.close
     (tie.spec
-    first-requires
-    add-end
-    sub-processor
-    part-processor-start
+    (λ c κs. search needs)
+    (λ c. search needs)
+    (λ c. search needs)
+    (λ c. search needs)
     part-processor-end
-    hardware-requires
-    processor-requires
+    (λ c κs. search needs)
+    (λ c κs. search needs)
     returns)

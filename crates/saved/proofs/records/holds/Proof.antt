@@ -8,51 +8,34 @@ use borrow.Author.Needs.{needs}
 use Rattle.saved.proofs.records.holds.Statement.{statement}
 use Rattle.saved.proofs.records.holds.Tie as tie
 
-enum-told : tie.Need-enum-told
-enum-told c = search needs
-
-enum-told-2 : tie.Need-enum-told-2
-enum-told-2 c = search needs
-
-array-read-if1 : tie.Need-array-read-if1
-array-read-if1 c = search needs
-
 returns : tie.Need-returns
 returns c = rw ((c .before .enum-told2 .given .1)) (holds-0 _ ((c .if1 .taken)))
-
-array-read-if2 : tie.Need-array-read-if2
-array-read-if2 c = search needs
 
 returns-2 : tie.Need-returns-2
 returns-2 c = rw ((c .before .before .enum-told2 .given .1)) (holds-1 _ ((c .before .if1 .left)) ((c .if2 .taken)))
 
-array-read-if3 : tie.Need-array-read-if3
-array-read-if3 c = search needs
-
 returns-3 : tie.Need-returns-3
 returns-3 c = rw ((c .before .before .before .enum-told2 .given .1)) (holds-2 _ ((c .before .before .if1 .left)) ((c .before .if2 .left)) ((c .if3 .taken)))
-
-array-read-result : tie.Need-array-read-result
-array-read-result c = search needs
 
 returns-4 : tie.Need-returns-4
 returns-4 c = rw ((c .enum-told .given .1)) (holds-any _)
 
 returns-5 : tie.Need-returns-5
-returns-5 c = rw ((c .before .before .before .enum-told2 .given .1)) (holds-3 _ (omega arith) ((c .before .before .if1 .left)) ((c .before .if2 .left)) ((c .if3 .left)))
+returns-5 c = rw ((c .before .before .before .enum-told2 .given .1)) (holds-3 _ (omega arith)
+    ((c .before .before .if1 .left)) ((c .before .if2 .left)) ((c .if3 .left)))
 
 pub holds-spec : {M : Type 1} → statement M
 holds-spec =
     tie.close
     (tie.spec
-    enum-told
-    enum-told-2
-    array-read-if1
+    (λ c. search needs)
+    (λ c. search needs)
+    (λ c. search needs)
     returns
-    array-read-if2
+    (λ c. search needs)
     returns-2
-    array-read-if3
+    (λ c. search needs)
     returns-3
-    array-read-result
+    (λ c. search needs)
     returns-4
     returns-5)

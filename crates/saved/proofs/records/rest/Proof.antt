@@ -4,12 +4,9 @@ use borrow.Author.Needs.{needs}
 use Rattle.saved.proofs.records.rest.Statement.{statement}
 use Rattle.saved.proofs.records.rest.Tie as tie
 
-mode-word-requires : tie.Need-mode-word-requires
-mode-word-requires c κs = search needs
-
 returns : tie.Need-returns
 unfolding restOf
 returns c = rw ((c .mode-word .ensures))
 
 pub rest-spec : {M : Type 1} → statement M
-rest-spec = tie.close (tie.spec mode-word-requires returns)
+rest-spec = tie.close (tie.spec (λ c κs. search needs) returns)

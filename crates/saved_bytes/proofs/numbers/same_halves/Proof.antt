@@ -34,7 +34,9 @@ cast-if1 c = omega (arith, c .shared-slice-known3 .given (c .before .before .bef
 
 returns : tie.Need-returns Inv-loop μ-loop
 returns c = let a = c .before .before .before .before .before .before .before .args in
-    left-differs (a .file .now) (a .halves .now) (c .before .before .before .before .loop .k) (omega arith) (c .before .before .before .before .loop .inv .1) (λ e. c .if1 .taken (c .before .before .half-at .ensures .0 ∙ e))
+    left-differs (a .file .now) (a .halves .now) (c .before .before .before .before .loop .k) (omega arith)
+    (c .before .before .before .before .loop .inv .1) (λ e. c .if1 .taken (c .before .before .half-at .ensures .0
+    ∙ e))
 
 add-k : tie.Need-add-k Inv-loop μ-loop
 add-k c = omega arith
@@ -43,8 +45,11 @@ loop-less : tie.Need-loop-less Inv-loop μ-loop
 loop-less c = omega arith
 
 loop-again : tie.Need-loop-again Inv-loop μ-loop
-loop-again c = let a = c .before .before .before .before .before .before .before .args in
-    (omega arith, left-more (a .file .now) (a .halves .now) (c .before .before .before .before .loop .k) (omega arith) (c .before .before .before .before .loop .inv .1) (sym (c .before .before .half-at .ensures .0) ∙ c .if1 .left))
+loop-again c = let a = c .before .before .before .before .before .before .before .args in (
+  omega arith,
+  left-more (a .file .now) (a .halves .now) (c .before .before .before .before .loop .k) (omega arith)
+      (c .before .before .before .before .loop .inv .1) (sym (c .before .before .half-at .ensures .0) ∙ c .if1 .left),
+)
 
 returns-2 : tie.Need-returns-2 Inv-loop μ-loop
 returns-2 c = let e : c .before .loop .k ≡ length (c .before .before .before .before .args .halves .now) = omega arith in

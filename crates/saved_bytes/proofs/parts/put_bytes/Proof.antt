@@ -5,24 +5,11 @@ use borrow.Author.Needs.{needs}
 use Rattle.saved_bytes.proofs.parts.put_bytes.Statement.{statement}
 use Rattle.saved_bytes.proofs.parts.put_bytes.Tie as tie
 
-sub-copy : tie.Need-sub-copy
-sub-copy c = search needs
-
-part-copy-start : tie.Need-part-copy-start
-part-copy-start c = search needs
-
-part-copy-end : tie.Need-part-copy-end
-part-copy-end c = search needs
-
-copy-requires : tie.Need-copy-requires
-copy-requires c κs = search needs
-
-same-length : tie.Need-same-length
-same-length c = search needs
-
 returns : tie.Need-returns
-returns c = part-put (c .before .before .before .before .before .before .args .at) (c .before .before .before .before .before .before .args .room .now) (omega arith) (c .before .before .before .before .before .before .args .bytes .now) _ (c .before .before .copy .ensures .1)
+returns c = part-put (c .before .before .before .before .before .before .args .at)
+    (c .before .before .before .before .before .before .args .room .now) (omega arith)
+    (c .before .before .before .before .before .before .args .bytes .now) _ (c .before .before .copy .ensures .1)
 
 pub put-bytes-spec : {M : Type 1} → statement M
 put-bytes-spec =
-    tie.close (tie.spec sub-copy part-copy-start part-copy-end copy-requires same-length returns)
+    tie.close (tie.spec (λ c. search needs) (λ c. search needs) (λ c. search needs) (λ c κs. search needs) (λ c. search needs) returns)

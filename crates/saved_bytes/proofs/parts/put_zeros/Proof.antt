@@ -31,8 +31,11 @@ loop-less : tie.Need-loop-less Inv-loop μ-loop
 loop-less c = omega arith
 
 loop-again : tie.Need-loop-again Inv-loop μ-loop
-loop-again c = let a = c .before .before .args in
-    (omega arith, zeros-more (a .room .now) (a .at) (a .count) (c .before .loop .k) (c .before .loop .room) (c .before .loop .inv .1) (omega arith) (omega arith))
+loop-again c = let a = c .before .before .args in (
+  omega arith,
+  zeros-more (a .room .now) (a .at) (a .count) (c .before .loop .k) (c .before .loop .room)
+      (c .before .loop .inv .1) (omega arith) (omega arith),
+)
 
 same-length : tie.Need-same-length Inv-loop μ-loop
 same-length c = c .before .loop .inv .1 .size

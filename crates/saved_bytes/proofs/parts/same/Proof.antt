@@ -24,7 +24,8 @@ shared-slice-read-if1-2 c = omega arith
 
 returns : tie.Need-returns Inv-loop μ-loop
 returns c = let p = c .before .before .before .before .before .args in
-    left-differs (p .a .now) (p .b .now) (c .before .before .before .before .loop .k) (omega arith) (omega arith) (c .before .before .before .before .loop .inv .1) (c .if1 .taken)
+    left-differs (p .a .now) (p .b .now) (c .before .before .before .before .loop .k) (omega arith) (omega arith)
+    (c .before .before .before .before .loop .inv .1) (c .if1 .taken)
 
 add-k : tie.Need-add-k Inv-loop μ-loop
 add-k c = omega arith
@@ -33,8 +34,11 @@ loop-less : tie.Need-loop-less Inv-loop μ-loop
 loop-less c = omega arith
 
 loop-again : tie.Need-loop-again Inv-loop μ-loop
-loop-again c = let p = c .before .before .before .before .before .args in
-    (omega arith, left-more (p .a .now) (p .b .now) (c .before .before .before .before .loop .k) (omega arith) (omega arith) (c .before .before .before .before .loop .inv .1) (c .if1 .left))
+loop-again c = let p = c .before .before .before .before .before .args in (
+  omega arith,
+  left-more (p .a .now) (p .b .now) (c .before .before .before .before .loop .k) (omega arith)
+      (omega arith) (c .before .before .before .before .loop .inv .1) (c .if1 .left),
+)
 
 returns-2 : tie.Need-returns-2 Inv-loop μ-loop
 returns-2 c = let e : c .before .loop .k ≡ length (c .before .before .args .a .now) = omega arith in

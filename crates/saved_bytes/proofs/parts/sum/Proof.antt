@@ -33,11 +33,18 @@ loop-less : tie.Need-loop-less Inv-loop μ-loop
 loop-less c = omega arith
 
 loop-again : tie.Need-loop-again Inv-loop μ-loop
-loop-again c = let xs = c .before .before .before .args .bytes .now in
-    (omega arith, (omega (arith, total-more xs (c .before .before .loop .k) (omega arith)), omega (arith, c .shared-slice-known .given (c .before .before .loop .k))))
+loop-again c = let xs = c .before .before .before .args .bytes .now in (
+  omega arith,
+  (
+    omega (arith, total-more xs (c .before .before .loop .k) (omega arith)),
+    omega
+        (arith, c .shared-slice-known .given (c .before .before .loop .k)),
+  ),
+)
 
 returns : tie.Need-returns Inv-loop μ-loop
-returns c = total-all (c .before .before .args .bytes .now) (c .before .loop .k) (c .before .loop .total) (omega arith) (c .before .loop .inv .1 .0) (omega arith) (omega arith)
+returns c = total-all (c .before .before .args .bytes .now) (c .before .loop .k) (c .before .loop .total) (omega arith)
+    (c .before .loop .inv .1 .0) (omega arith) (omega arith)
 
 pub sum-spec : {M : Type 1} → statement M
 sum-spec =

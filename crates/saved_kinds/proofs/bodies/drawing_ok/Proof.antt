@@ -6,15 +6,6 @@ use borrow.Author.Needs.{needs}
 use Rattle.saved_kinds.proofs.bodies.drawing_ok.Statement.{statement}
 use Rattle.saved_kinds.proofs.bodies.drawing_ok.Tie as tie
 
-slice-aggregate-take-halves : tie.Need-slice-aggregate-take-halves
-slice-aggregate-take-halves c = search needs
-
-take-halves-requires : tie.Need-take-halves-requires
-take-halves-requires c κs = search needs
-
-drawing-ok-requires : tie.Need-drawing-ok-requires
-drawing-ok-requires c κs = search needs
-
 returns : tie.Need-returns
 unfolding drawingBodyOk drawingFrom
 returns c = (c .drawing-ok .ensures) ∙ ap drawingOk ((c .before .before .before .take-halves .ensures))
@@ -22,4 +13,4 @@ returns c = (c .drawing-ok .ensures) ∙ ap drawingOk ((c .before .before .befor
 pub drawing-ok-spec : {M : Type 1} → statement M
 drawing-ok-spec =
     tie.close
-    (tie.spec slice-aggregate-take-halves take-halves-requires drawing-ok-requires returns)
+    (tie.spec (λ c. search needs) (λ c κs. search needs) (λ c κs. search needs) returns)

@@ -16,79 +16,83 @@ use borrow.Author.Needs.{needs}
 use Rattle.saved_kinds.proofs.bodies.file_ok.Statement.{statement}
 use Rattle.saved_kinds.proofs.bodies.file_ok.Tie as tie
 
-ok-requires : tie.Need-ok-requires
-ok-requires c κs = search needs
-
 returns : tie.Need-returns
-returns c = file-contents ((c .before .before .before .args .form)) ((c .before .before .before .args .pak)) (bodyPlaceOf ((c .before .before .before .args .form)) ((c .before .before .before .args .pak)) 0) ((c .before .before .before .args .file .now)) refl (sym ((c .before .ok .ensures)) ∙ not-true _ ((c .if1 .taken)))
-
-first-requires : tie.Need-first-requires
-first-requires c κs = search needs
+returns c = file-contents ((c .before .before .before .args .form)) ((c .before .before .before .args .pak))
+    (bodyPlaceOf ((c .before .before .before .args .form)) ((c .before .before .before .args .pak)) 0)
+    ((c .before .before .before .args .file .now)) refl (sym ((c .before .ok .ensures)) ∙ not-true _ ((c .if1 .taken)))
 
 records-ok-requires : tie.Need-records-ok-requires
 records-ok-requires c κs = omega (arith, length-is ((c .before .before .before .before .args .form)) ((c .before .before .before .before .args .pak)))
 
 returns-2 : tie.Need-returns-2
-returns-2 c = file-records ((c .before .before .before .before .before .before .args .form)) ((c .before .before .before .before .before .before .args .pak)) ((c .before .before .first .result)) ((c .before .before .before .before .before .before .args .file .now)) ((c .before .before .first .ensures .0)) (sym ((c .before .before .before .before .ok .ensures)) ∙ not-false _ ((c .before .before .before .if1 .left))) (sym ((c .before .records-ok .ensures)) ∙ not-true _ ((c .if2 .taken)))
-
-enum-told : tie.Need-enum-told
-enum-told c = search needs
-
-enum-told-2 : tie.Need-enum-told-2
-enum-told-2 c = search needs
-
-add-last : tie.Need-add-last
-add-last c = search needs
-
-add-last-2 : tie.Need-add-last-2
-add-last-2 c = search needs
-
-add-end : tie.Need-add-end
-add-end c = search needs
-
-sub-hardware-ok : tie.Need-sub-hardware-ok
-sub-hardware-ok c = search needs
-
-part-hardware-ok-start : tie.Need-part-hardware-ok-start
-part-hardware-ok-start c = search needs
+returns-2 c = file-records ((c .before .before .before .before .before .before .args .form))
+    ((c .before .before .before .before .before .before .args .pak)) ((c .before .before .first .result))
+    ((c .before .before .before .before .before .before .args .file .now)) ((c .before .before .first .ensures .0)) (sym
+    ((c .before .before .before .before .ok .ensures)) ∙ not-false _ ((c .before .before .before .if1 .left))) (sym
+    ((c .before .records-ok .ensures)) ∙ not-true _ ((c .if2 .taken)))
 
 part-hardware-ok-end : tie.Need-part-hardware-ok-end
-part-hardware-ok-end c = let w : length ((c .before .before .before .before .before .before .before .before .args .file .now)) ≡ fileLengthOf Two ((c .before .before .before .before .before .before .before .before .args .pak)) = rw ((c .enum-told2 .given .1)) at ((c .before .before .before .before .before .before .before .before .pre .0)) in
-    let f : (c .before .before .before .before .first .result) ≡ bodyPlaceOf Two ((c .before .before .before .before .before .before .before .before .args .pak)) 0 = rw ((c .enum-told2 .given .1)) at ((c .before .before .before .before .first .ensures .0)) in
+part-hardware-ok-end c = let w : length ((c .before .before .before .before .before .before .before .before .args .file
+    .now)) ≡ fileLengthOf Two ((c .before .before .before .before .before .before .before .before .args .pak)) = rw
+    ((c .enum-told2 .given .1)) at ((c .before .before .before .before .before .before .before .before .pre .0)) in
+    let f : (c .before .before .before .before .first .result) ≡ bodyPlaceOf Two
+    ((c .before .before .before .before .before .before .before .before .args .pak)) 0 = rw
+    ((c .enum-told2 .given .1)) at ((c .before .before .before .before .first .ensures .0)) in
     omega (arith, w, f, length-is Two ((c .before .before .before .before .before .before .before .before .args .pak)))
-
-hardware-ok-requires : tie.Need-hardware-ok-requires
-hardware-ok-requires c κs = search needs
 
 returns-3 : tie.Need-returns-3
 returns-3 c = rw ((c .enum-told .given .1))
-    (one-hardware ((c .before .before .before .before .before .before .before .before .args .pak)) ((c .before .before .before .before .before .before .before .before .args .file .now)) ∙ file-last One ((c .before .before .before .before .before .before .before .before .args .pak)) ((c .before .before .before .before .first .result)) ((c .before .before .before .before .before .before .before .before .args .file .now)) (rw ((c .enum-told .given .1)) at ((c .before .before .before .before .first .ensures .0))) (rw ((c .enum-told .given .1)) at (sym ((c .before .before .before .before .before .before .ok .ensures)) ∙ not-false _ ((c .before .before .before .before .before .if1 .left)))) (sym ((c .before .before .before .records-ok .ensures)) ∙ not-false _ ((c .before .before .if2 .left))))
+    (one-hardware ((c .before .before .before .before .before .before .before .before .args .pak))
+    ((c .before .before .before .before .before .before .before .before .args .file .now)) ∙ file-last One
+    ((c .before .before .before .before .before .before .before .before .args .pak))
+    ((c .before .before .before .before .first .result))
+    ((c .before .before .before .before .before .before .before .before .args .file .now)) (rw
+    ((c .enum-told .given .1)) at ((c .before .before .before .before .first .ensures .0))) (rw
+    ((c .enum-told .given .1)) at (sym ((c .before .before .before .before .before .before .ok .ensures))
+    ∙ not-false _ ((c .before .before .before .before .before .if1 .left)))) (sym
+    ((c .before .before .before .records-ok .ensures)) ∙ not-false _ ((c .before .before .if2 .left))))
 
 returns-4 : tie.Need-returns-4
 returns-4 c = let at = (c .before .before .before .before .before .before .first .result) in
-    let f : (c .before .before .before .before .before .before .first .result) ≡ bodyPlaceOf Two ((c .before .before .before .before .before .before .before .before .before .before .args .pak)) 0 = rw ((c .before .before .enum-told2 .given .1)) at ((c .before .before .before .before .before .before .first .ensures .0)) in
+    let f : (c .before .before .before .before .before .before .first .result) ≡ bodyPlaceOf Two
+    ((c .before .before .before .before .before .before .before .before .before .before .args .pak)) 0 = rw
+    ((c .before .before .enum-told2 .given .1)) at
+    ((c .before .before .before .before .before .before .first .ensures .0)) in
     rw ((c .before .before .enum-told2 .given .1))
     ((c .hardware-ok .ensures)
-    ∙ (ap hardwareBodyOk (hardware-part ((c .before .before .before .before .before .before .before .before .before .before .args .pak)) at ((c .before .before .before .before .before .before .before .before .before .before .args .file .now)) f (at + 327878 + ((c .before .before .before .before .before .before .before .before .before .before .args .pak))) (at + 327878 + ((c .before .before .before .before .before .before .before .before .before .before .args .pak)) + 8 - (at + 327878 + ((c .before .before .before .before .before .before .before .before .before .before .args .pak)))) refl (omega arith))
-    ∙ file-last Two ((c .before .before .before .before .before .before .before .before .before .before .args .pak)) ((c .before .before .before .before .before .before .first .result)) ((c .before .before .before .before .before .before .before .before .before .before .args .file .now)) f (rw ((c .before .before .enum-told2 .given .1)) at (sym ((c .before .before .before .before .before .before .before .before .ok .ensures)) ∙ not-false _ ((c .before .before .before .before .before .before .before .if1 .left)))) (sym ((c .before .before .before .before .before .records-ok .ensures)) ∙ not-false _ ((c .before .before .before .before .if2 .left)))))
+    ∙ (ap hardwareBodyOk (hardware-part ((c .before .before .before .before .before .before .before .before .before
+    .before .args .pak)) at ((c .before .before .before .before .before .before .before .before .before .before
+    .args .file .now)) f (at + 327878 + ((c .before .before .before .before .before .before .before .before .before
+    .before .args .pak))) (at + 327878 + ((c .before .before .before .before .before .before .before .before .before
+    .before .args .pak)) + 8 - (at + 327878 +
+    ((c .before .before .before .before .before .before .before .before .before .before .args .pak)))) refl
+    (omega arith))
+    ∙ file-last Two ((c .before .before .before .before .before .before .before .before .before .before .args .pak))
+    ((c .before .before .before .before .before .before .first .result))
+    ((c .before .before .before .before .before .before .before .before .before .before .args .file .now)) f (rw
+    ((c .before .before .enum-told2 .given .1)) at (sym
+    ((c .before .before .before .before .before .before .before .before .ok .ensures)) ∙ not-false _
+    ((c .before .before .before .before .before .before .before .if1 .left)))) (sym
+    ((c .before .before .before .before .before .records-ok .ensures)) ∙ not-false _
+    ((c .before .before .before .before .if2 .left)))))
 
 pub file-ok-spec : {M : Type 1} → statement M
 file-ok-spec =
     tie.close
     (tie.spec
-    ok-requires
+    (λ c κs. search needs)
     returns
-    first-requires
+    (λ c κs. search needs)
     records-ok-requires
     returns-2
-    enum-told
-    enum-told-2
-    add-last
-    add-last-2
-    add-end
-    sub-hardware-ok
-    part-hardware-ok-start
+    (λ c. search needs)
+    (λ c. search needs)
+    (λ c. search needs)
+    (λ c. search needs)
+    (λ c. search needs)
+    (λ c. search needs)
+    (λ c. search needs)
     part-hardware-ok-end
-    hardware-ok-requires
+    (λ c κs. search needs)
     returns-3
     returns-4)

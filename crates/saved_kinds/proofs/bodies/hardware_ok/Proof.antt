@@ -6,15 +6,9 @@ use borrow.Author.Needs.{needs}
 use Rattle.saved_kinds.proofs.bodies.hardware_ok.Statement.{statement}
 use Rattle.saved_kinds.proofs.bodies.hardware_ok.Tie as tie
 
-hardware-requires : tie.Need-hardware-requires
-hardware-requires c κs = search needs
-
-ok-requires : tie.Need-ok-requires
-ok-requires c κs = search needs
-
 returns : tie.Need-returns
 unfolding hardwareBodyOk
 returns c = (c .ok .ensures) ∙ ap hardwareOk ((c .before .hardware .ensures))
 
 pub hardware-ok-spec : {M : Type 1} → statement M
-hardware-ok-spec = tie.close (tie.spec hardware-requires ok-requires returns)
+hardware-ok-spec = tie.close (tie.spec (λ c κs. search needs) (λ c κs. search needs) returns)

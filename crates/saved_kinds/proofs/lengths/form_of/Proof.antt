@@ -7,19 +7,15 @@ use Rattle.saved_kinds.proofs.lengths.form_of.Statement.{statement}
 use Rattle.saved_kinds.proofs.lengths.form_of.Tie as tie
 
 returns : tie.Need-returns
-returns c = form-two ((c .before .args .file .now)) (List·getD-eq-default ((c .before .args .file .now)) 0 (omega arith)) (List·getD-eq-default ((c .before .args .file .now)) 0 (omega arith))
-
-shared-slice-read-if2 : tie.Need-shared-slice-read-if2
-shared-slice-read-if2 c = search needs
+returns c = form-two ((c .before .args .file .now)) (List·getD-eq-default ((c .before .args .file .now)) 0
+    (omega arith)) (List·getD-eq-default ((c .before .args .file .now)) 0 (omega arith))
 
 returns-2 : tie.Need-returns-2
 returns-2 c = form-one ((c .before .before .before .args .file .now)) (λ e. (c .if2 .taken) (omega arith))
 
 returns-3 : tie.Need-returns-3
-returns-3 c = form-two ((c .before .before .before .before .args .file .now)) ((c .before .if2 .left)) (List·getD-eq-default ((c .before .before .before .before .args .file .now)) 0 (omega arith))
-
-shared-slice-read-if4 : tie.Need-shared-slice-read-if4
-shared-slice-read-if4 c = search needs
+returns-3 c = form-two ((c .before .before .before .before .args .file .now)) ((c .before .if2 .left))
+    (List·getD-eq-default ((c .before .before .before .before .args .file .now)) 0 (omega arith))
 
 returns-4 : tie.Need-returns-4
 returns-4 c = form-one ((c .before .before .before .before .before .before .args .file .now)) (λ e. (c .if4 .taken) (omega arith))
@@ -32,9 +28,9 @@ form-of-spec =
     tie.close
     (tie.spec
     returns
-    shared-slice-read-if2
+    (λ c. search needs)
     returns-2
     returns-3
-    shared-slice-read-if4
+    (λ c. search needs)
     returns-4
     returns-5)

@@ -5,23 +5,11 @@ use borrow.Author.Needs.{needs}
 use Rattle.saved_kinds.proofs.lengths.pak_length.Statement.{statement}
 use Rattle.saved_kinds.proofs.lengths.pak_length.Tie as tie
 
-enum-told : tie.Need-enum-told
-enum-told c = search needs
-
 returns : tie.Need-returns
 returns c = rw ((c .before .enum-told .given .1)) (omega (arith, length-one ((c .before .before .before .args .length))))
 
-sub-result : tie.Need-sub-result
-sub-result c = search needs
-
-enum-told-2 : tie.Need-enum-told-2
-enum-told-2 c = search needs
-
 returns-2 : tie.Need-returns-2
 returns-2 c = rw ((c .before .enum-told2 .given .1)) (omega (arith, length-two ((c .before .before .before .args .length))))
-
-sub-result-2 : tie.Need-sub-result-2
-sub-result-2 c = search needs
 
 returns-3 : tie.Need-returns-3
 returns-3 c = rw ((c .before .enum-told .given .1)) (omega (arith, length-one ((c .before .before .before .args .length))))
@@ -32,4 +20,4 @@ returns-4 c = rw ((c .before .enum-told2 .given .1)) (omega (arith, length-two (
 pub pak-length-spec : {M : Type 1} → statement M
 pak-length-spec =
     tie.close
-    (tie.spec enum-told returns sub-result enum-told-2 returns-2 sub-result-2 returns-3 returns-4)
+    (tie.spec (λ c. search needs) returns (λ c. search needs) (λ c. search needs) returns-2 (λ c. search needs) returns-3 returns-4)

@@ -3,14 +3,8 @@ use borrow.Author.Needs.{needs}
 use Rattle.saved_layout.proofs.contents.ok.Statement.{statement}
 use Rattle.saved_layout.proofs.contents.ok.Tie as tie
 
-enum-told : tie.Need-enum-told
-enum-told c = search needs
-
 plain-ok-requires : tie.Need-plain-ok-requires
 plain-ok-requires c κs = rw ((c .enum-told .given .1)) at ((c .before .before .before .pre))
-
-enum-told-2 : tie.Need-enum-told-2
-enum-told-2 c = search needs
 
 summed-ok-requires : tie.Need-summed-ok-requires
 summed-ok-requires c κs = rw ((c .enum-told2 .given .1)) at ((c .before .before .before .pre))
@@ -24,4 +18,4 @@ returns-2 c = rw ((c .before .enum-told2 .given .1)) ((c .summed-ok .ensures))
 pub ok-spec : {M : Type 1} → statement M
 ok-spec =
     tie.close
-    (tie.spec enum-told plain-ok-requires enum-told-2 summed-ok-requires returns returns-2)
+    (tie.spec (λ c. search needs) plain-ok-requires (λ c. search needs) summed-ok-requires returns returns-2)

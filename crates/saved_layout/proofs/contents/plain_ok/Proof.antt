@@ -12,39 +12,60 @@ use borrow.Author.Needs.{needs}
 use Rattle.saved_layout.proofs.contents.plain_ok.Statement.{statement}
 use Rattle.saved_layout.proofs.contents.plain_ok.Tie as tie
 
-without-pak-requires : tie.Need-without-pak-requires
-without-pak-requires c κs = search needs
-
-slice-aggregate-same-halves : tie.Need-slice-aggregate-same-halves
-slice-aggregate-same-halves c = search needs
-
 same-halves-requires : tie.Need-same-halves-requires
-same-halves-requires c κs = omega (arith, length-is One ((c .before .before .before .before .args .pak)), contents-fit One ((c .before .before .before .before .args .pak)) ((c .before .before .before .before .args .file .now)) _ (sumsOf (bodiesIn One ((c .before .before .before .before .args .pak)) ((c .before .before .before .before .args .file .now)))) (((c .before .without-pak .ensures) (sumsOf (bodiesIn One ((c .before .before .before .before .args .pak)) ((c .before .before .before .before .args .file .now))))) ∙ ap (λ (p : ℕ). contentsOf One p (sumsOf (bodiesIn One ((c .before .before .before .before .args .pak)) ((c .before .before .before .before .args .file .now))))) (sym ((c .before .before .if1 .taken)))))
+same-halves-requires c κs = omega (
+  arith,
+  length-is One
+      ((c .before .before .before .before .args .pak)),
+  contents-fit One ((c .before .before .before .before .args .pak))
+      ((c .before .before .before .before .args .file .now)) _ (sumsOf (bodiesIn One
+      ((c .before .before .before .before .args .pak)) ((c .before .before .before .before .args .file .now))))
+      (((c .before .without-pak .ensures) (sumsOf (bodiesIn One ((c .before .before .before .before .args .pak))
+      ((c .before .before .before .before .args .file .now))))) ∙ ap (λ (p : ℕ). contentsOf One p (sumsOf (bodiesIn One
+      ((c .before .before .before .before .args .pak)) ((c .before .before .before .before .args .file .now))))) (sym
+      ((c .before .before .if1 .taken)))),
+)
 
 returns : tie.Need-returns
-returns c = (c .same-halves .ensures) ∙ contents-same One ((c .before .before .before .before .before .args .pak)) ((c .before .before .before .before .before .args .file .now)) _ (sumsOf (bodiesIn One ((c .before .before .before .before .before .args .pak)) ((c .before .before .before .before .before .args .file .now)))) (((c .before .before .without-pak .ensures) (sumsOf (bodiesIn One ((c .before .before .before .before .before .args .pak)) ((c .before .before .before .before .before .args .file .now))))) ∙ ap (λ (p : ℕ). contentsOf One p (sumsOf (bodiesIn One ((c .before .before .before .before .before .args .pak)) ((c .before .before .before .before .before .args .file .now))))) (sym ((c .before .before .before .if1 .taken)))) (contents-of One _ _ _ refl)
-
-with-pak-requires : tie.Need-with-pak-requires
-with-pak-requires c κs = search needs
-
-slice-aggregate-same-halves-2 : tie.Need-slice-aggregate-same-halves-2
-slice-aggregate-same-halves-2 c = search needs
+returns c = (c .same-halves .ensures) ∙ contents-same One ((c .before .before .before .before .before .args .pak))
+    ((c .before .before .before .before .before .args .file .now)) _ (sumsOf (bodiesIn One
+    ((c .before .before .before .before .before .args .pak))
+    ((c .before .before .before .before .before .args .file .now)))) (((c .before .before .without-pak .ensures) (sumsOf
+    (bodiesIn One ((c .before .before .before .before .before .args .pak))
+    ((c .before .before .before .before .before .args .file .now))))) ∙ ap (λ (p : ℕ). contentsOf One p (sumsOf
+    (bodiesIn One ((c .before .before .before .before .before .args .pak))
+    ((c .before .before .before .before .before .args .file .now))))) (sym ((c .before .before .before .if1 .taken))))
+    (contents-of One _ _ _ refl)
 
 same-halves-requires-2 : tie.Need-same-halves-requires-2
-same-halves-requires-2 c κs = omega (arith, length-is One ((c .before .before .before .before .args .pak)), contents-fit One ((c .before .before .before .before .args .pak)) ((c .before .before .before .before .args .file .now)) _ (sumsOf (bodiesIn One ((c .before .before .before .before .args .pak)) ((c .before .before .before .before .args .file .now)))) ((c .before .with-pak .ensures) (sumsOf (bodiesIn One ((c .before .before .before .before .args .pak)) ((c .before .before .before .before .args .file .now))))))
+same-halves-requires-2 c κs = omega (
+  arith,
+  length-is One
+      ((c .before .before .before .before .args .pak)),
+  contents-fit One ((c .before .before .before .before .args .pak))
+      ((c .before .before .before .before .args .file .now)) _ (sumsOf (bodiesIn One
+      ((c .before .before .before .before .args .pak)) ((c .before .before .before .before .args .file .now))))
+      ((c .before .with-pak .ensures) (sumsOf (bodiesIn One ((c .before .before .before .before .args .pak))
+      ((c .before .before .before .before .args .file .now))))),
+)
 
 returns-2 : tie.Need-returns-2
-returns-2 c = (c .same-halves2 .ensures) ∙ contents-same One ((c .before .before .before .before .before .args .pak)) ((c .before .before .before .before .before .args .file .now)) _ (sumsOf (bodiesIn One ((c .before .before .before .before .before .args .pak)) ((c .before .before .before .before .before .args .file .now)))) ((c .before .before .with-pak .ensures) (sumsOf (bodiesIn One ((c .before .before .before .before .before .args .pak)) ((c .before .before .before .before .before .args .file .now))))) (contents-of One _ _ _ refl)
+returns-2 c = (c .same-halves2 .ensures) ∙ contents-same One ((c .before .before .before .before .before .args .pak))
+    ((c .before .before .before .before .before .args .file .now)) _ (sumsOf (bodiesIn One
+    ((c .before .before .before .before .before .args .pak))
+    ((c .before .before .before .before .before .args .file .now)))) ((c .before .before .with-pak .ensures) (sumsOf
+    (bodiesIn One ((c .before .before .before .before .before .args .pak))
+    ((c .before .before .before .before .before .args .file .now))))) (contents-of One _ _ _ refl)
 
 pub plain-ok-spec : {M : Type 1} → statement M
 plain-ok-spec =
     tie.close
     (tie.spec
-    without-pak-requires
-    slice-aggregate-same-halves
+    (λ c κs. search needs)
+    (λ c. search needs)
     same-halves-requires
     returns
-    with-pak-requires
-    slice-aggregate-same-halves-2
+    (λ c κs. search needs)
+    (λ c. search needs)
     same-halves-requires-2
     returns-2)

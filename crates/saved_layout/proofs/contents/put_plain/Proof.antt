@@ -12,47 +12,72 @@ use borrow.Author.Needs.{needs}
 use Rattle.saved_layout.proofs.contents.put_plain.Statement.{statement}
 use Rattle.saved_layout.proofs.contents.put_plain.Tie as tie
 
-without-pak-requires : tie.Need-without-pak-requires
-without-pak-requires c κs = search needs
-
-slice-aggregate-put-halves : tie.Need-slice-aggregate-put-halves
-slice-aggregate-put-halves c = search needs
-
 put-halves-requires : tie.Need-put-halves-requires
-put-halves-requires c κs = omega (arith, length-is One ((c .before .before .before .before .before .args .pak)), contents-fit One ((c .before .before .before .before .before .args .pak)) ((c .before .before .before .before .before .args .room .now)) _ (sumsOf (bodiesIn One ((c .before .before .before .before .before .args .pak)) ((c .before .before .before .before .before .args .room .now)))) (((c .before .before .without-pak .ensures) (sumsOf (bodiesIn One ((c .before .before .before .before .before .args .pak)) ((c .before .before .before .before .before .args .room .now))))) ∙ ap (λ (p : ℕ). contentsOf One p (sumsOf (bodiesIn One ((c .before .before .before .before .before .args .pak)) ((c .before .before .before .before .before .args .room .now))))) (sym ((c .before .before .before .if1 .taken)))))
-
-same-length : tie.Need-same-length
-same-length c = search needs
+put-halves-requires c κs = omega (
+  arith,
+  length-is One
+      ((c .before .before .before .before .before .args .pak)),
+  contents-fit One
+      ((c .before .before .before .before .before .args .pak))
+      ((c .before .before .before .before .before .args .room .now)) _ (sumsOf (bodiesIn One
+      ((c .before .before .before .before .before .args .pak))
+      ((c .before .before .before .before .before .args .room .now)))) (((c .before .before .without-pak .ensures) (sumsOf
+      (bodiesIn One ((c .before .before .before .before .before .args .pak))
+      ((c .before .before .before .before .before .args .room .now))))) ∙ ap (λ (p : ℕ). contentsOf One p (sumsOf
+      (bodiesIn One ((c .before .before .before .before .before .args .pak))
+      ((c .before .before .before .before .before .args .room .now))))) (sym ((c .before .before .before .if1 .taken)))),
+)
 
 returns : tie.Need-returns
-returns c = (c .before .before .put-halves .ensures) ∙ contents-put One ((c .before .before .before .before .before .before .before .before .args .pak)) ((c .before .before .before .before .before .before .before .before .args .room .now)) _ (sumsOf (bodiesIn One ((c .before .before .before .before .before .before .before .before .args .pak)) ((c .before .before .before .before .before .before .before .before .args .room .now)))) (((c .before .before .before .before .before .without-pak .ensures) (sumsOf (bodiesIn One ((c .before .before .before .before .before .before .before .before .args .pak)) ((c .before .before .before .before .before .before .before .before .args .room .now))))) ∙ ap (λ (p : ℕ). contentsOf One p (sumsOf (bodiesIn One ((c .before .before .before .before .before .before .before .before .args .pak)) ((c .before .before .before .before .before .before .before .before .args .room .now))))) (sym ((c .before .before .before .before .before .before .if1 .taken)))) (contents-of One _ _ _ refl) _
-
-with-pak-requires : tie.Need-with-pak-requires
-with-pak-requires c κs = search needs
-
-slice-aggregate-put-halves-2 : tie.Need-slice-aggregate-put-halves-2
-slice-aggregate-put-halves-2 c = search needs
+returns c = (c .before .before .put-halves .ensures) ∙ contents-put One
+    ((c .before .before .before .before .before .before .before .before .args .pak))
+    ((c .before .before .before .before .before .before .before .before .args .room .now)) _ (sumsOf (bodiesIn One
+    ((c .before .before .before .before .before .before .before .before .args .pak))
+    ((c .before .before .before .before .before .before .before .before .args .room .now))))
+    (((c .before .before .before .before .before .without-pak .ensures) (sumsOf (bodiesIn One
+    ((c .before .before .before .before .before .before .before .before .args .pak))
+    ((c .before .before .before .before .before .before .before .before .args .room .now))))) ∙ ap (λ
+    (p : ℕ). contentsOf One p (sumsOf (bodiesIn One
+    ((c .before .before .before .before .before .before .before .before .args .pak))
+    ((c .before .before .before .before .before .before .before .before .args .room .now))))) (sym
+    ((c .before .before .before .before .before .before .if1 .taken)))) (contents-of One _ _ _ refl) _
 
 put-halves-requires-2 : tie.Need-put-halves-requires-2
-put-halves-requires-2 c κs = omega (arith, length-is One ((c .before .before .before .before .before .args .pak)), contents-fit One ((c .before .before .before .before .before .args .pak)) ((c .before .before .before .before .before .args .room .now)) _ (sumsOf (bodiesIn One ((c .before .before .before .before .before .args .pak)) ((c .before .before .before .before .before .args .room .now)))) ((c .before .before .with-pak .ensures) (sumsOf (bodiesIn One ((c .before .before .before .before .before .args .pak)) ((c .before .before .before .before .before .args .room .now))))))
-
-same-length-2 : tie.Need-same-length-2
-same-length-2 c = search needs
+put-halves-requires-2 c κs = omega (
+  arith,
+  length-is One
+      ((c .before .before .before .before .before .args .pak)),
+  contents-fit One
+      ((c .before .before .before .before .before .args .pak))
+      ((c .before .before .before .before .before .args .room .now)) _ (sumsOf (bodiesIn One
+      ((c .before .before .before .before .before .args .pak))
+      ((c .before .before .before .before .before .args .room .now)))) ((c .before .before .with-pak .ensures) (sumsOf
+      (bodiesIn One ((c .before .before .before .before .before .args .pak))
+      ((c .before .before .before .before .before .args .room .now))))),
+)
 
 returns-2 : tie.Need-returns-2
-returns-2 c = (c .before .before .put-halves2 .ensures) ∙ contents-put One ((c .before .before .before .before .before .before .before .before .args .pak)) ((c .before .before .before .before .before .before .before .before .args .room .now)) _ (sumsOf (bodiesIn One ((c .before .before .before .before .before .before .before .before .args .pak)) ((c .before .before .before .before .before .before .before .before .args .room .now)))) ((c .before .before .before .before .before .with-pak .ensures) (sumsOf (bodiesIn One ((c .before .before .before .before .before .before .before .before .args .pak)) ((c .before .before .before .before .before .before .before .before .args .room .now))))) (contents-of One _ _ _ refl) _
+returns-2 c = (c .before .before .put-halves2 .ensures) ∙ contents-put One
+    ((c .before .before .before .before .before .before .before .before .args .pak))
+    ((c .before .before .before .before .before .before .before .before .args .room .now)) _ (sumsOf (bodiesIn One
+    ((c .before .before .before .before .before .before .before .before .args .pak))
+    ((c .before .before .before .before .before .before .before .before .args .room .now))))
+    ((c .before .before .before .before .before .with-pak .ensures) (sumsOf (bodiesIn One
+    ((c .before .before .before .before .before .before .before .before .args .pak))
+    ((c .before .before .before .before .before .before .before .before .args .room .now)))))
+    (contents-of One _ _ _ refl) _
 
 pub put-plain-spec : {M : Type 1} → statement M
 put-plain-spec =
     tie.close
     (tie.spec
-    without-pak-requires
-    slice-aggregate-put-halves
+    (λ c κs. search needs)
+    (λ c. search needs)
     put-halves-requires
-    same-length
+    (λ c. search needs)
     returns
-    with-pak-requires
-    slice-aggregate-put-halves-2
+    (λ c κs. search needs)
+    (λ c. search needs)
     put-halves-requires-2
-    same-length-2
+    (λ c. search needs)
     returns-2)

@@ -12,43 +12,55 @@ use borrow.Author.Needs.{needs}
 use Rattle.saved_layout.proofs.contents.summed_ok.Statement.{statement}
 use Rattle.saved_layout.proofs.contents.summed_ok.Tie as tie
 
-sums-requires : tie.Need-sums-requires
-sums-requires c κs = search needs
-
-summed-without-pak-requires : tie.Need-summed-without-pak-requires
-summed-without-pak-requires c κs = search needs
-
-slice-aggregate-same-halves : tie.Need-slice-aggregate-same-halves
-slice-aggregate-same-halves c = search needs
-
 same-halves-requires : tie.Need-same-halves-requires
-same-halves-requires c κs = omega (arith, length-is Two ((c .before .before .before .before .before .args .pak)), contents-fit Two ((c .before .before .before .before .before .args .pak)) ((c .before .before .before .before .before .args .file .now)) _ ((c .before .before .before .sums .result)) (((c .before .summed-without-pak .ensures)) ∙ ap (λ (p : ℕ). contentsOf Two p ((c .before .before .before .sums .result))) (sym ((c .before .before .if1 .taken)))))
+same-halves-requires c κs = omega (
+  arith,
+  length-is Two
+      ((c .before .before .before .before .before .args .pak)),
+  contents-fit Two
+      ((c .before .before .before .before .before .args .pak))
+      ((c .before .before .before .before .before .args .file .now)) _ ((c .before .before .before .sums .result))
+      (((c .before .summed-without-pak .ensures)) ∙ ap (λ (p : ℕ). contentsOf Two p
+      ((c .before .before .before .sums .result))) (sym ((c .before .before .if1 .taken)))),
+)
 
 returns : tie.Need-returns
-returns c = (c .same-halves .ensures) ∙ contents-same Two ((c .before .before .before .before .before .before .args .pak)) ((c .before .before .before .before .before .before .args .file .now)) _ ((c .before .before .before .before .sums .result)) (((c .before .before .summed-without-pak .ensures)) ∙ ap (λ (p : ℕ). contentsOf Two p ((c .before .before .before .before .sums .result))) (sym ((c .before .before .before .if1 .taken)))) (contents-of Two _ _ _ ((c .before .before .before .before .sums .ensures)))
-
-summed-with-pak-requires : tie.Need-summed-with-pak-requires
-summed-with-pak-requires c κs = search needs
-
-slice-aggregate-same-halves-2 : tie.Need-slice-aggregate-same-halves-2
-slice-aggregate-same-halves-2 c = search needs
+returns c = (c .same-halves .ensures) ∙ contents-same Two
+    ((c .before .before .before .before .before .before .args .pak))
+    ((c .before .before .before .before .before .before .args .file .now)) _
+    ((c .before .before .before .before .sums .result)) (((c .before .before .summed-without-pak .ensures)) ∙ ap (λ
+    (p : ℕ). contentsOf Two p ((c .before .before .before .before .sums .result))) (sym
+    ((c .before .before .before .if1 .taken)))) (contents-of Two _ _ _
+    ((c .before .before .before .before .sums .ensures)))
 
 same-halves-requires-2 : tie.Need-same-halves-requires-2
-same-halves-requires-2 c κs = omega (arith, length-is Two ((c .before .before .before .before .before .args .pak)), contents-fit Two ((c .before .before .before .before .before .args .pak)) ((c .before .before .before .before .before .args .file .now)) _ ((c .before .before .before .sums .result)) ((c .before .summed-with-pak .ensures)))
+same-halves-requires-2 c κs = omega (
+  arith,
+  length-is Two
+      ((c .before .before .before .before .before .args .pak)),
+  contents-fit Two
+      ((c .before .before .before .before .before .args .pak))
+      ((c .before .before .before .before .before .args .file .now)) _ ((c .before .before .before .sums .result))
+      ((c .before .summed-with-pak .ensures)),
+)
 
 returns-2 : tie.Need-returns-2
-returns-2 c = (c .same-halves2 .ensures) ∙ contents-same Two ((c .before .before .before .before .before .before .args .pak)) ((c .before .before .before .before .before .before .args .file .now)) _ ((c .before .before .before .before .sums .result)) ((c .before .before .summed-with-pak .ensures)) (contents-of Two _ _ _ ((c .before .before .before .before .sums .ensures)))
+returns-2 c = (c .same-halves2 .ensures) ∙ contents-same Two
+    ((c .before .before .before .before .before .before .args .pak))
+    ((c .before .before .before .before .before .before .args .file .now)) _
+    ((c .before .before .before .before .sums .result)) ((c .before .before .summed-with-pak .ensures))
+    (contents-of Two _ _ _ ((c .before .before .before .before .sums .ensures)))
 
 pub summed-ok-spec : {M : Type 1} → statement M
 summed-ok-spec =
     tie.close
     (tie.spec
-    sums-requires
-    summed-without-pak-requires
-    slice-aggregate-same-halves
+    (λ c κs. search needs)
+    (λ c κs. search needs)
+    (λ c. search needs)
     same-halves-requires
     returns
-    summed-with-pak-requires
-    slice-aggregate-same-halves-2
+    (λ c κs. search needs)
+    (λ c. search needs)
     same-halves-requires-2
     returns-2)

@@ -6,14 +6,8 @@ use borrow.Author.Needs.{needs}
 use Rattle.saved_layout.proofs.places.first.Statement.{statement}
 use Rattle.saved_layout.proofs.places.first.Tie as tie
 
-enum-told : tie.Need-enum-told
-enum-told c = search needs
-
 returns : tie.Need-returns
 returns c = (rw ((c .before .enum-told .given .1), (c .if1 .taken)) first-one-empty, omega arith)
-
-enum-told-2 : tie.Need-enum-told-2
-enum-told-2 c = search needs
 
 returns-2 : tie.Need-returns-2
 returns-2 c = (rw ((c .before .enum-told2 .given .1), (c .if2 .taken)) first-two-empty, omega arith)
@@ -25,4 +19,4 @@ returns-4 : tie.Need-returns-4
 returns-4 c = (rw ((c .before .enum-told2 .given .1)) (first-two-some _ (omega arith)), omega arith)
 
 pub first-spec : {M : Type 1} → statement M
-first-spec = tie.close (tie.spec enum-told returns enum-told-2 returns-2 returns-3 returns-4)
+first-spec = tie.close (tie.spec (λ c. search needs) returns (λ c. search needs) returns-2 returns-3 returns-4)

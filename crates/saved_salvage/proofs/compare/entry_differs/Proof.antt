@@ -4,15 +4,9 @@ use borrow.Author.Needs.{needs}
 use Rattle.saved_salvage.proofs.compare.entry_differs.Statement.{statement}
 use Rattle.saved_salvage.proofs.compare.entry_differs.Tie as tie
 
-part-differs-requires : tie.Need-part-differs-requires
-part-differs-requires c κs = search needs
-
 returns : tie.Need-returns
 unfolding entryDiffers
 returns c = rw ((c .before .if1 .taken)) ((c .part-differs .ensures))
-
-part-differs-requires-2 : tie.Need-part-differs-requires-2
-part-differs-requires-2 c κs = search needs
 
 returns-2 : tie.Need-returns-2
 unfolding entryDiffers
@@ -20,4 +14,4 @@ returns-2 c = rw ((c .before .if1 .left)) ((c .part-differs2 .ensures))
 
 pub entry-differs-spec : {M : Type 1} → statement M
 entry-differs-spec =
-    tie.close (tie.spec part-differs-requires returns part-differs-requires-2 returns-2)
+    tie.close (tie.spec (λ c κs. search needs) returns (λ c κs. search needs) returns-2)

@@ -14,175 +14,435 @@ use borrow.Author.Needs.{needs}
 use Rattle.saved_salvage.proofs.keep.kept.Statement.{statement}
 use Rattle.saved_salvage.proofs.keep.kept.Tie as tie
 
-sums-requires : tie.Need-sums-requires
-sums-requires c κs = search needs
-
-first-requires : tie.Need-first-requires
-first-requires c κs = search needs
-
-add-middle : tie.Need-add-middle
-add-middle c = search needs
-
-add-end : tie.Need-add-end
-add-end c = search needs
-
-add-last : tie.Need-add-last
-add-last c = search needs
-
-add-last-2 : tie.Need-add-last-2
-add-last-2 c = search needs
-
-add-whole : tie.Need-add-whole
-add-whole c = search needs
-
 word-at-requires : tie.Need-word-at-requires
 word-at-requires c κs = omega (arith, length-is Two ((c .before .before .before .args .pak)), first-small Two ((c .before .before .before .args .pak)))
 
-array-read-keeps : tie.Need-array-read-keeps
-array-read-keeps c = search needs
-
-sub-processor-ok : tie.Need-sub-processor-ok
-sub-processor-ok c = search needs
-
-part-processor-ok-start : tie.Need-part-processor-ok-start
-part-processor-ok-start c = search needs
-
 part-processor-ok-end : tie.Need-part-processor-ok-end
-part-processor-ok-end c = omega (arith, length-is Two ((c .before .before .before .before .args .pak)), first-small Two ((c .before .before .before .before .args .pak)))
-
-processor-ok-requires : tie.Need-processor-ok-requires
-processor-ok-requires c κs = search needs
-
-keeps-requires : tie.Need-keeps-requires
-keeps-requires c κs = search needs
+part-processor-ok-end c = omega (
+  arith,
+  length-is Two ((c .before .before .before .before .args .pak)),
+  first-small Two
+      ((c .before .before .before .before .args .pak)),
+)
 
 word-at-requires-2 : tie.Need-word-at-requires-2
-word-at-requires-2 c κs = omega (arith, length-is Two ((c .before .before .before .before .before .before .before .args .pak)), first-small Two ((c .before .before .before .before .before .before .before .args .pak)))
-
-array-read-keeps-2 : tie.Need-array-read-keeps-2
-array-read-keeps-2 c = search needs
-
-sub-drawing-ok : tie.Need-sub-drawing-ok
-sub-drawing-ok c = search needs
-
-part-drawing-ok-start : tie.Need-part-drawing-ok-start
-part-drawing-ok-start c = search needs
+word-at-requires-2 c κs = omega (
+  arith,
+  length-is Two
+      ((c .before .before .before .before .before .before .before .args .pak)),
+  first-small Two
+      ((c .before .before .before .before .before .before .before .args .pak)),
+)
 
 part-drawing-ok-end : tie.Need-part-drawing-ok-end
-part-drawing-ok-end c = omega (arith, length-is Two ((c .before .before .before .before .before .before .before .before .args .pak)), first-small Two ((c .before .before .before .before .before .before .before .before .args .pak)))
-
-drawing-ok-requires : tie.Need-drawing-ok-requires
-drawing-ok-requires c κs = search needs
-
-keeps-requires-2 : tie.Need-keeps-requires-2
-keeps-requires-2 c κs = search needs
+part-drawing-ok-end c = omega (
+  arith,
+  length-is Two
+      ((c .before .before .before .before .before .before .before .before .args .pak)),
+  first-small Two
+      ((c .before .before .before .before .before .before .before .before .args .pak)),
+)
 
 word-at-requires-3 : tie.Need-word-at-requires-3
-word-at-requires-3 c κs = omega (arith, length-is Two ((c .before .before .before .before .before .before .before .before .before .before .before .args .pak)), first-small Two ((c .before .before .before .before .before .before .before .before .before .before .before .args .pak)))
-
-array-read-keeps-3 : tie.Need-array-read-keeps-3
-array-read-keeps-3 c = search needs
-
-keeps-requires-3 : tie.Need-keeps-requires-3
-keeps-requires-3 c κs = search needs
+word-at-requires-3 c κs = omega (
+  arith,
+  length-is Two
+      ((c .before .before .before .before .before .before .before .before .before .before .before .args .pak)),
+  first-small Two ((c .before .before .before .before .before .before .before .before .before .before .before .args
+      .pak)),
+)
 
 word-at-requires-4 : tie.Need-word-at-requires-4
-word-at-requires-4 c κs = omega (arith, length-is Two ((c .before .before .before .before .before .before .before .before .before .before .before .before .before .args .pak)), first-small Two ((c .before .before .before .before .before .before .before .before .before .before .before .before .before .args .pak)))
-
-array-read-keeps-4 : tie.Need-array-read-keeps-4
-array-read-keeps-4 c = search needs
-
-keeps-requires-4 : tie.Need-keeps-requires-4
-keeps-requires-4 c κs = search needs
-
-sub-hardware-ok : tie.Need-sub-hardware-ok
-sub-hardware-ok c = search needs
-
-part-hardware-ok-start : tie.Need-part-hardware-ok-start
-part-hardware-ok-start c = search needs
+word-at-requires-4 c κs = omega (
+  arith,
+  length-is Two
+      ((c .before .before .before .before .before .before .before .before .before .before .before .before .before .args
+      .pak)),
+  first-small Two ((c .before .before .before .before .before .before .before .before .before .before .before
+      .before .before .args .pak)),
+)
 
 part-hardware-ok-end : tie.Need-part-hardware-ok-end
-part-hardware-ok-end c = omega (arith, length-is Two ((c .before .before .before .before .before .before .before .before .before .before .before .before .before .before .before .args .pak)), first-small Two ((c .before .before .before .before .before .before .before .before .before .before .before .before .before .before .before .args .pak)))
-
-hardware-ok-requires : tie.Need-hardware-ok-requires
-hardware-ok-requires c κs = search needs
+part-hardware-ok-end c = omega (
+  arith,
+  length-is Two
+      ((c .before .before .before .before .before .before .before .before .before .before .before .before .before .before
+      .before .args .pak)),
+  first-small Two
+      ((c .before .before .before .before .before .before .before .before .before .before .before .before .before .before
+      .before .args .pak)),
+)
 
 word-at-requires-5 : tie.Need-word-at-requires-5
-word-at-requires-5 c κs = omega (arith, length-is Two ((c .before .before .before .before .before .before .before .before .before .before .before .before .before .before .before .before .before .before .args .pak)), first-small Two ((c .before .before .before .before .before .before .before .before .before .before .before .before .before .before .before .before .before .before .args .pak)))
-
-array-read-keeps-5 : tie.Need-array-read-keeps-5
-array-read-keeps-5 c = search needs
-
-keeps-requires-5 : tie.Need-keeps-requires-5
-keeps-requires-5 c κs = search needs
+word-at-requires-5 c κs = omega (
+  arith,
+  length-is Two
+      ((c .before .before .before .before .before .before .before .before .before .before .before .before .before .before
+      .before .before .before .before .args .pak)),
+  first-small Two
+      ((c .before .before .before .before .before .before .before .before .before .before .before .before .before .before
+      .before .before .before .before .args .pak)),
+)
 
 returns : tie.Need-returns
-returns c = kept-empty ((c .before .before .before .before .before .before .before .before .before .before .before .before .before .before .before .before .before .before .before .before .args .pak)) ((c .before .before .before .before .before .before .before .before .before .before .before .before .before .before .before .before .before .before .before .before .args .file .now)) (keeps-is (wordAt ((c .before .before .before .before .before .before .before .before .before .before .before .before .before .before .before .before .before .before .before .before .args .file .now)) 16) (bodiesIn Two ((c .before .before .before .before .before .before .before .before .before .before .before .before .before .before .before .before .before .before .before .before .args .pak)) ((c .before .before .before .before .before .before .before .before .before .before .before .before .before .before .before .before .before .before .before .before .args .file .now)) .processor) (processorBodyOk (bodiesIn Two ((c .before .before .before .before .before .before .before .before .before .before .before .before .before .before .before .before .before .before .before .before .args .pak)) ((c .before .before .before .before .before .before .before .before .before .before .before .before .before .before .before .before .before .before .before .before .args .file .now)) .processor)) ((c .before .before .before .before .before .before .before .before .before .before .before .before .before .keeps .ensures)) ((c .before .before .before .before .before .before .before .before .before .before .before .before .before .before .before .before .word-at .ensures)) (sum-1 _ (bodiesIn Two ((c .before .before .before .before .before .before .before .before .before .before .before .before .before .before .before .before .before .before .before .before .args .pak)) ((c .before .before .before .before .before .before .before .before .before .before .before .before .before .before .before .before .before .before .before .before .args .file .now))) ((c .before .before .before .before .before .before .before .before .before .before .before .before .before .before .before .before .before .before .sums .ensures))) ((c .before .before .before .before .before .before .before .before .before .before .before .before .before .before .processor-ok .ensures) ∙ ap processorBodyOk (processor-part Two ((c .before .before .before .before .before .before .before .before .before .before .before .before .before .before .before .before .before .before .before .before .args .pak)) ((c .before .before .before .before .before .before .before .before .before .before .before .before .before .before .before .before .before .first .result)) ((c .before .before .before .before .before .before .before .before .before .before .before .before .before .before .before .before .before .before .before .before .args .file .now)) ((c .before .before .before .before .before .before .before .before .before .before .before .before .before .before .before .before .before .first .ensures .0)) ((c .before .before .before .before .before .before .before .before .before .before .before .before .before .before .before .before .before .first .result)) (((c .before .before .before .before .before .before .before .before .before .before .before .before .before .before .before .before .before .first .result)) + 172 - ((c .before .before .before .before .before .before .before .before .before .before .before .before .before .before .before .before .before .first .result))) refl (omega arith)))) (keeps-is (wordAt ((c .before .before .before .before .before .before .before .before .before .before .before .before .before .before .before .before .before .before .before .before .args .file .now)) 30) (bodiesIn Two ((c .before .before .before .before .before .before .before .before .before .before .before .before .before .before .before .before .before .before .before .before .args .pak)) ((c .before .before .before .before .before .before .before .before .before .before .before .before .before .before .before .before .before .before .before .before .args .file .now)) .drawing) (drawingBodyOk (bodiesIn Two ((c .before .before .before .before .before .before .before .before .before .before .before .before .before .before .before .before .before .before .before .before .args .pak)) ((c .before .before .before .before .before .before .before .before .before .before .before .before .before .before .before .before .before .before .before .before .args .file .now)) .drawing)) ((c .before .before .before .before .before .before .before .before .before .keeps2 .ensures)) ((c .before .before .before .before .before .before .before .before .before .before .before .before .word-at2 .ensures)) (sum-2 _ (bodiesIn Two ((c .before .before .before .before .before .before .before .before .before .before .before .before .before .before .before .before .before .before .before .before .args .pak)) ((c .before .before .before .before .before .before .before .before .before .before .before .before .before .before .before .before .before .before .before .before .args .file .now))) ((c .before .before .before .before .before .before .before .before .before .before .before .before .before .before .before .before .before .before .sums .ensures))) ((c .before .before .before .before .before .before .before .before .before .before .drawing-ok .ensures) ∙ ap drawingBodyOk (drawing-part Two ((c .before .before .before .before .before .before .before .before .before .before .before .before .before .before .before .before .before .before .before .before .args .pak)) ((c .before .before .before .before .before .before .before .before .before .before .before .before .before .before .before .before .before .first .result)) ((c .before .before .before .before .before .before .before .before .before .before .before .before .before .before .before .before .before .before .before .before .args .file .now)) ((c .before .before .before .before .before .before .before .before .before .before .before .before .before .before .before .before .before .first .ensures .0)) (((c .before .before .before .before .before .before .before .before .before .before .before .before .before .before .before .before .before .first .result)) + 172) (((c .before .before .before .before .before .before .before .before .before .before .before .before .before .before .before .before .before .first .result)) + 198 - (((c .before .before .before .before .before .before .before .before .before .before .before .before .before .before .before .before .before .first .result)) + 172)) refl (omega arith)))) (keeps-is (wordAt ((c .before .before .before .before .before .before .before .before .before .before .before .before .before .before .before .before .before .before .before .before .args .file .now)) 44) (bodiesIn Two ((c .before .before .before .before .before .before .before .before .before .before .before .before .before .before .before .before .before .before .before .before .args .pak)) ((c .before .before .before .before .before .before .before .before .before .before .before .before .before .before .before .before .before .before .before .before .args .file .now)) .wram) true ((c .before .before .before .before .before .before .before .keeps3 .ensures)) ((c .before .before .before .before .before .before .before .before .word-at3 .ensures)) (sum-3 _ (bodiesIn Two ((c .before .before .before .before .before .before .before .before .before .before .before .before .before .before .before .before .before .before .before .before .args .pak)) ((c .before .before .before .before .before .before .before .before .before .before .before .before .before .before .before .before .before .before .before .before .args .file .now))) ((c .before .before .before .before .before .before .before .before .before .before .before .before .before .before .before .before .before .before .sums .ensures))) refl) (keeps-is (wordAt ((c .before .before .before .before .before .before .before .before .before .before .before .before .before .before .before .before .before .before .before .before .args .file .now)) 58) (bodiesIn Two ((c .before .before .before .before .before .before .before .before .before .before .before .before .before .before .before .before .before .before .before .before .args .pak)) ((c .before .before .before .before .before .before .before .before .before .before .before .before .before .before .before .before .before .before .before .before .args .file .now)) .vram) true ((c .before .before .before .before .before .keeps4 .ensures)) ((c .before .before .before .before .before .before .word-at4 .ensures)) (sum-4 _ (bodiesIn Two ((c .before .before .before .before .before .before .before .before .before .before .before .before .before .before .before .before .before .before .before .before .args .pak)) ((c .before .before .before .before .before .before .before .before .before .before .before .before .before .before .before .before .before .before .before .before .args .file .now))) ((c .before .before .before .before .before .before .before .before .before .before .before .before .before .before .before .before .before .before .sums .ensures))) refl) ((c .before .before .if1 .taken)) (keeps-is (wordAt ((c .before .before .before .before .before .before .before .before .before .before .before .before .before .before .before .before .before .before .before .before .args .file .now)) 72) (bodiesIn Two ((c .before .before .before .before .before .before .before .before .before .before .before .before .before .before .before .before .before .before .before .before .args .pak)) ((c .before .before .before .before .before .before .before .before .before .before .before .before .before .before .before .before .before .before .before .before .args .file .now)) .hardware) (hardwareBodyOk (bodiesIn Two ((c .before .before .before .before .before .before .before .before .before .before .before .before .before .before .before .before .before .before .before .before .args .pak)) ((c .before .before .before .before .before .before .before .before .before .before .before .before .before .before .before .before .before .before .before .before .args .file .now)) .hardware)) ((c .keeps5 .ensures)) ((c .before .word-at5 .ensures)) (sum-6 _ (bodiesIn Two ((c .before .before .before .before .before .before .before .before .before .before .before .before .before .before .before .before .before .before .before .before .args .pak)) ((c .before .before .before .before .before .before .before .before .before .before .before .before .before .before .before .before .before .before .before .before .args .file .now))) ((c .before .before .before .before .before .before .before .before .before .before .before .before .before .before .before .before .before .before .sums .ensures))) ((c .before .before .before .hardware-ok .ensures) ∙ ap hardwareBodyOk (hardware-part ((c .before .before .before .before .before .before .before .before .before .before .before .before .before .before .before .before .before .before .before .before .args .pak)) ((c .before .before .before .before .before .before .before .before .before .before .before .before .before .before .before .before .before .first .result)) ((c .before .before .before .before .before .before .before .before .before .before .before .before .before .before .before .before .before .before .before .before .args .file .now)) ((c .before .before .before .before .before .before .before .before .before .before .before .before .before .before .before .before .before .first .ensures .0)) (((c .before .before .before .before .before .before .before .before .before .before .before .before .before .before .before .before .before .first .result)) + 327878 + ((c .before .before .before .before .before .before .before .before .before .before .before .before .before .before .before .before .before .before .before .before .args .pak))) (((c .before .before .before .before .before .before .before .before .before .before .before .before .before .before .before .before .before .first .result)) + 327878 + ((c .before .before .before .before .before .before .before .before .before .before .before .before .before .before .before .before .before .before .before .before .args .pak)) + 8 - (((c .before .before .before .before .before .before .before .before .before .before .before .before .before .before .before .before .before .first .result)) + 327878 + ((c .before .before .before .before .before .before .before .before .before .before .before .before .before .before .before .before .before .before .before .before .args .pak)))) refl (omega arith))))
+returns c = kept-empty ((c .before .before .before .before .before .before .before .before .before .before .before
+    .before .before .before .before .before .before .before .before .before .args .pak))
+    ((c .before .before .before .before .before .before .before .before .before .before .before .before .before .before
+    .before .before .before .before .before .before .args .file .now)) (keeps-is (wordAt
+    ((c .before .before .before .before .before .before .before .before .before .before .before .before .before .before
+    .before .before .before .before .before .before .args .file .now)) 16) (bodiesIn Two
+    ((c .before .before .before .before .before .before .before .before .before .before .before .before .before .before
+    .before .before .before .before .before .before .args .pak))
+    ((c .before .before .before .before .before .before .before .before .before .before .before .before .before .before
+    .before .before .before .before .before .before .args .file .now)) .processor) (processorBodyOk (bodiesIn Two
+    ((c .before .before .before .before .before .before .before .before .before .before .before .before .before .before
+    .before .before .before .before .before .before .args .pak))
+    ((c .before .before .before .before .before .before .before .before .before .before .before .before .before .before
+    .before .before .before .before .before .before .args .file .now)) .processor))
+    ((c .before .before .before .before .before .before .before .before .before .before .before .before .before .keeps
+    .ensures)) ((c .before .before .before .before .before .before .before .before .before .before .before .before
+    .before .before .before .before .word-at .ensures)) (sum-1 _ (bodiesIn Two
+    ((c .before .before .before .before .before .before .before .before .before .before .before .before .before .before
+    .before .before .before .before .before .before .args .pak))
+    ((c .before .before .before .before .before .before .before .before .before .before .before .before .before .before
+    .before .before .before .before .before .before .args .file .now)))
+    ((c .before .before .before .before .before .before .before .before .before .before .before .before .before .before
+    .before .before .before .before .sums .ensures)))
+    ((c .before .before .before .before .before .before .before .before .before .before .before .before .before .before
+    .processor-ok .ensures) ∙ ap processorBodyOk (processor-part Two
+    ((c .before .before .before .before .before .before .before .before .before .before .before .before .before .before
+    .before .before .before .before .before .before .args .pak))
+    ((c .before .before .before .before .before .before .before .before .before .before .before .before .before .before
+    .before .before .before .first .result))
+    ((c .before .before .before .before .before .before .before .before .before .before .before .before .before .before
+    .before .before .before .before .before .before .args .file .now))
+    ((c .before .before .before .before .before .before .before .before .before .before .before .before .before .before
+    .before .before .before .first .ensures .0))
+    ((c .before .before .before .before .before .before .before .before .before .before .before .before .before .before
+    .before .before .before .first .result))
+    (((c .before .before .before .before .before .before .before .before .before .before .before .before .before .before
+    .before .before .before .first .result)) + 172 -
+    ((c .before .before .before .before .before .before .before .before .before .before .before .before .before .before
+    .before .before .before .first .result))) refl (omega arith)))) (keeps-is (wordAt
+    ((c .before .before .before .before .before .before .before .before .before .before .before .before .before .before
+    .before .before .before .before .before .before .args .file .now)) 30) (bodiesIn Two
+    ((c .before .before .before .before .before .before .before .before .before .before .before .before .before .before
+    .before .before .before .before .before .before .args .pak))
+    ((c .before .before .before .before .before .before .before .before .before .before .before .before .before .before
+    .before .before .before .before .before .before .args .file .now)) .drawing) (drawingBodyOk (bodiesIn Two
+    ((c .before .before .before .before .before .before .before .before .before .before .before .before .before .before
+    .before .before .before .before .before .before .args .pak))
+    ((c .before .before .before .before .before .before .before .before .before .before .before .before .before .before
+    .before .before .before .before .before .before .args .file .now)) .drawing))
+    ((c .before .before .before .before .before .before .before .before .before .keeps2 .ensures))
+    ((c .before .before .before .before .before .before .before .before .before .before .before .before .word-at2
+    .ensures)) (sum-2 _ (bodiesIn Two ((c .before .before .before .before .before .before .before .before .before
+    .before .before .before .before .before .before .before .before .before .before .before .args .pak))
+    ((c .before .before .before .before .before .before .before .before .before .before .before .before .before .before
+    .before .before .before .before .before .before .args .file .now)))
+    ((c .before .before .before .before .before .before .before .before .before .before .before .before .before .before
+    .before .before .before .before .sums .ensures)))
+    ((c .before .before .before .before .before .before .before .before .before .before .drawing-ok .ensures)
+    ∙ ap drawingBodyOk (drawing-part Two ((c .before .before .before .before .before .before .before .before .before
+    .before .before .before .before .before .before .before .before .before .before .before .args .pak))
+    ((c .before .before .before .before .before .before .before .before .before .before .before .before .before .before
+    .before .before .before .first .result))
+    ((c .before .before .before .before .before .before .before .before .before .before .before .before .before .before
+    .before .before .before .before .before .before .args .file .now))
+    ((c .before .before .before .before .before .before .before .before .before .before .before .before .before .before
+    .before .before .before .first .ensures .0))
+    (((c .before .before .before .before .before .before .before .before .before .before .before .before .before .before
+    .before .before .before .first .result)) + 172)
+    (((c .before .before .before .before .before .before .before .before .before .before .before .before .before .before
+    .before .before .before .first .result)) + 198 -
+    (((c .before .before .before .before .before .before .before .before .before .before .before .before .before .before
+    .before .before .before .first .result)) + 172)) refl (omega arith)))) (keeps-is (wordAt
+    ((c .before .before .before .before .before .before .before .before .before .before .before .before .before .before
+    .before .before .before .before .before .before .args .file .now)) 44) (bodiesIn Two
+    ((c .before .before .before .before .before .before .before .before .before .before .before .before .before .before
+    .before .before .before .before .before .before .args .pak))
+    ((c .before .before .before .before .before .before .before .before .before .before .before .before .before .before
+    .before .before .before .before .before .before .args .file .now)) .wram) true
+    ((c .before .before .before .before .before .before .before .keeps3 .ensures))
+    ((c .before .before .before .before .before .before .before .before .word-at3 .ensures)) (sum-3 _ (bodiesIn Two
+    ((c .before .before .before .before .before .before .before .before .before .before .before .before .before .before
+    .before .before .before .before .before .before .args .pak))
+    ((c .before .before .before .before .before .before .before .before .before .before .before .before .before .before
+    .before .before .before .before .before .before .args .file .now)))
+    ((c .before .before .before .before .before .before .before .before .before .before .before .before .before .before
+    .before .before .before .before .sums .ensures))) refl) (keeps-is (wordAt
+    ((c .before .before .before .before .before .before .before .before .before .before .before .before .before .before
+    .before .before .before .before .before .before .args .file .now)) 58) (bodiesIn Two
+    ((c .before .before .before .before .before .before .before .before .before .before .before .before .before .before
+    .before .before .before .before .before .before .args .pak))
+    ((c .before .before .before .before .before .before .before .before .before .before .before .before .before .before
+    .before .before .before .before .before .before .args .file .now)) .vram) true
+    ((c .before .before .before .before .before .keeps4 .ensures))
+    ((c .before .before .before .before .before .before .word-at4 .ensures)) (sum-4 _ (bodiesIn Two
+    ((c .before .before .before .before .before .before .before .before .before .before .before .before .before .before
+    .before .before .before .before .before .before .args .pak))
+    ((c .before .before .before .before .before .before .before .before .before .before .before .before .before .before
+    .before .before .before .before .before .before .args .file .now)))
+    ((c .before .before .before .before .before .before .before .before .before .before .before .before .before .before
+    .before .before .before .before .sums .ensures))) refl) ((c .before .before .if1 .taken)) (keeps-is (wordAt
+    ((c .before .before .before .before .before .before .before .before .before .before .before .before .before .before
+    .before .before .before .before .before .before .args .file .now)) 72) (bodiesIn Two
+    ((c .before .before .before .before .before .before .before .before .before .before .before .before .before .before
+    .before .before .before .before .before .before .args .pak))
+    ((c .before .before .before .before .before .before .before .before .before .before .before .before .before .before
+    .before .before .before .before .before .before .args .file .now)) .hardware) (hardwareBodyOk (bodiesIn Two
+    ((c .before .before .before .before .before .before .before .before .before .before .before .before .before .before
+    .before .before .before .before .before .before .args .pak))
+    ((c .before .before .before .before .before .before .before .before .before .before .before .before .before .before
+    .before .before .before .before .before .before .args .file .now)) .hardware)) ((c .keeps5 .ensures))
+    ((c .before .word-at5 .ensures)) (sum-6 _ (bodiesIn Two
+    ((c .before .before .before .before .before .before .before .before .before .before .before .before .before .before
+    .before .before .before .before .before .before .args .pak))
+    ((c .before .before .before .before .before .before .before .before .before .before .before .before .before .before
+    .before .before .before .before .before .before .args .file .now)))
+    ((c .before .before .before .before .before .before .before .before .before .before .before .before .before .before
+    .before .before .before .before .sums .ensures))) ((c .before .before .before .hardware-ok .ensures)
+    ∙ ap hardwareBodyOk (hardware-part ((c .before .before .before .before .before .before .before .before .before
+    .before .before .before .before .before .before .before .before .before .before .before .args .pak))
+    ((c .before .before .before .before .before .before .before .before .before .before .before .before .before .before
+    .before .before .before .first .result))
+    ((c .before .before .before .before .before .before .before .before .before .before .before .before .before .before
+    .before .before .before .before .before .before .args .file .now))
+    ((c .before .before .before .before .before .before .before .before .before .before .before .before .before .before
+    .before .before .before .first .ensures .0))
+    (((c .before .before .before .before .before .before .before .before .before .before .before .before .before .before
+    .before .before .before .first .result)) + 327878 +
+    ((c .before .before .before .before .before .before .before .before .before .before .before .before .before .before
+    .before .before .before .before .before .before .args .pak)))
+    (((c .before .before .before .before .before .before .before .before .before .before .before .before .before .before
+    .before .before .before .first .result)) + 327878 +
+    ((c .before .before .before .before .before .before .before .before .before .before .before .before .before .before
+    .before .before .before .before .before .before .args .pak)) + 8 -
+    (((c .before .before .before .before .before .before .before .before .before .before .before .before .before .before
+    .before .before .before .first .result)) + 327878 +
+    ((c .before .before .before .before .before .before .before .before .before .before .before .before .before .before
+    .before .before .before .before .before .before .args .pak)))) refl (omega arith))))
 
 word-at-requires-6 : tie.Need-word-at-requires-6
-word-at-requires-6 c κs = omega (arith, length-is Two ((c .before .before .before .before .before .before .before .before .before .before .before .before .before .before .before .before .before .before .args .pak)), first-small Two ((c .before .before .before .before .before .before .before .before .before .before .before .before .before .before .before .before .before .before .args .pak)))
-
-array-read-keeps-6 : tie.Need-array-read-keeps-6
-array-read-keeps-6 c = search needs
-
-keeps-requires-6 : tie.Need-keeps-requires-6
-keeps-requires-6 c κs = search needs
+word-at-requires-6 c κs = omega (
+  arith,
+  length-is Two
+      ((c .before .before .before .before .before .before .before .before .before .before .before .before .before .before
+      .before .before .before .before .args .pak)),
+  first-small Two
+      ((c .before .before .before .before .before .before .before .before .before .before .before .before .before .before
+      .before .before .before .before .args .pak)),
+)
 
 word-at-requires-7 : tie.Need-word-at-requires-7
-word-at-requires-7 c κs = omega (arith, length-is Two ((c .before .before .before .before .before .before .before .before .before .before .before .before .before .before .before .before .before .before .before .before .args .pak)), first-small Two ((c .before .before .before .before .before .before .before .before .before .before .before .before .before .before .before .before .before .before .before .before .args .pak)))
-
-array-read-keeps-7 : tie.Need-array-read-keeps-7
-array-read-keeps-7 c = search needs
-
-keeps-requires-7 : tie.Need-keeps-requires-7
-keeps-requires-7 c κs = search needs
+word-at-requires-7 c κs = omega (
+  arith,
+  length-is Two
+      ((c .before .before .before .before .before .before .before .before .before .before .before .before .before .before
+      .before .before .before .before .before .before .args .pak)),
+  first-small Two
+      ((c .before .before .before .before .before .before .before .before .before .before .before .before .before .before
+      .before .before .before .before .before .before .args .pak)),
+)
 
 returns-2 : tie.Need-returns-2
-returns-2 c = kept-some ((c .before .before .before .before .before .before .before .before .before .before .before .before .before .before .before .before .before .before .before .before .before .before .args .pak)) ((c .before .before .before .before .before .before .before .before .before .before .before .before .before .before .before .before .before .before .before .before .before .before .args .file .now)) (keeps-is (wordAt ((c .before .before .before .before .before .before .before .before .before .before .before .before .before .before .before .before .before .before .before .before .before .before .args .file .now)) 16) (bodiesIn Two ((c .before .before .before .before .before .before .before .before .before .before .before .before .before .before .before .before .before .before .before .before .before .before .args .pak)) ((c .before .before .before .before .before .before .before .before .before .before .before .before .before .before .before .before .before .before .before .before .before .before .args .file .now)) .processor) (processorBodyOk (bodiesIn Two ((c .before .before .before .before .before .before .before .before .before .before .before .before .before .before .before .before .before .before .before .before .before .before .args .pak)) ((c .before .before .before .before .before .before .before .before .before .before .before .before .before .before .before .before .before .before .before .before .before .before .args .file .now)) .processor)) ((c .before .before .before .before .before .before .before .before .before .before .before .before .before .before .before .keeps .ensures)) ((c .before .before .before .before .before .before .before .before .before .before .before .before .before .before .before .before .before .before .word-at .ensures)) (sum-1 _ (bodiesIn Two ((c .before .before .before .before .before .before .before .before .before .before .before .before .before .before .before .before .before .before .before .before .before .before .args .pak)) ((c .before .before .before .before .before .before .before .before .before .before .before .before .before .before .before .before .before .before .before .before .before .before .args .file .now))) ((c .before .before .before .before .before .before .before .before .before .before .before .before .before .before .before .before .before .before .before .before .sums .ensures))) ((c .before .before .before .before .before .before .before .before .before .before .before .before .before .before .before .before .processor-ok .ensures) ∙ ap processorBodyOk (processor-part Two ((c .before .before .before .before .before .before .before .before .before .before .before .before .before .before .before .before .before .before .before .before .before .before .args .pak)) ((c .before .before .before .before .before .before .before .before .before .before .before .before .before .before .before .before .before .before .before .first .result)) ((c .before .before .before .before .before .before .before .before .before .before .before .before .before .before .before .before .before .before .before .before .before .before .args .file .now)) ((c .before .before .before .before .before .before .before .before .before .before .before .before .before .before .before .before .before .before .before .first .ensures .0)) ((c .before .before .before .before .before .before .before .before .before .before .before .before .before .before .before .before .before .before .before .first .result)) (((c .before .before .before .before .before .before .before .before .before .before .before .before .before .before .before .before .before .before .before .first .result)) + 172 - ((c .before .before .before .before .before .before .before .before .before .before .before .before .before .before .before .before .before .before .before .first .result))) refl (omega arith)))) (keeps-is (wordAt ((c .before .before .before .before .before .before .before .before .before .before .before .before .before .before .before .before .before .before .before .before .before .before .args .file .now)) 30) (bodiesIn Two ((c .before .before .before .before .before .before .before .before .before .before .before .before .before .before .before .before .before .before .before .before .before .before .args .pak)) ((c .before .before .before .before .before .before .before .before .before .before .before .before .before .before .before .before .before .before .before .before .before .before .args .file .now)) .drawing) (drawingBodyOk (bodiesIn Two ((c .before .before .before .before .before .before .before .before .before .before .before .before .before .before .before .before .before .before .before .before .before .before .args .pak)) ((c .before .before .before .before .before .before .before .before .before .before .before .before .before .before .before .before .before .before .before .before .before .before .args .file .now)) .drawing)) ((c .before .before .before .before .before .before .before .before .before .before .before .keeps2 .ensures)) ((c .before .before .before .before .before .before .before .before .before .before .before .before .before .before .word-at2 .ensures)) (sum-2 _ (bodiesIn Two ((c .before .before .before .before .before .before .before .before .before .before .before .before .before .before .before .before .before .before .before .before .before .before .args .pak)) ((c .before .before .before .before .before .before .before .before .before .before .before .before .before .before .before .before .before .before .before .before .before .before .args .file .now))) ((c .before .before .before .before .before .before .before .before .before .before .before .before .before .before .before .before .before .before .before .before .sums .ensures))) ((c .before .before .before .before .before .before .before .before .before .before .before .before .drawing-ok .ensures) ∙ ap drawingBodyOk (drawing-part Two ((c .before .before .before .before .before .before .before .before .before .before .before .before .before .before .before .before .before .before .before .before .before .before .args .pak)) ((c .before .before .before .before .before .before .before .before .before .before .before .before .before .before .before .before .before .before .before .first .result)) ((c .before .before .before .before .before .before .before .before .before .before .before .before .before .before .before .before .before .before .before .before .before .before .args .file .now)) ((c .before .before .before .before .before .before .before .before .before .before .before .before .before .before .before .before .before .before .before .first .ensures .0)) (((c .before .before .before .before .before .before .before .before .before .before .before .before .before .before .before .before .before .before .before .first .result)) + 172) (((c .before .before .before .before .before .before .before .before .before .before .before .before .before .before .before .before .before .before .before .first .result)) + 198 - (((c .before .before .before .before .before .before .before .before .before .before .before .before .before .before .before .before .before .before .before .first .result)) + 172)) refl (omega arith)))) (keeps-is (wordAt ((c .before .before .before .before .before .before .before .before .before .before .before .before .before .before .before .before .before .before .before .before .before .before .args .file .now)) 44) (bodiesIn Two ((c .before .before .before .before .before .before .before .before .before .before .before .before .before .before .before .before .before .before .before .before .before .before .args .pak)) ((c .before .before .before .before .before .before .before .before .before .before .before .before .before .before .before .before .before .before .before .before .before .before .args .file .now)) .wram) true ((c .before .before .before .before .before .before .before .before .before .keeps3 .ensures)) ((c .before .before .before .before .before .before .before .before .before .before .word-at3 .ensures)) (sum-3 _ (bodiesIn Two ((c .before .before .before .before .before .before .before .before .before .before .before .before .before .before .before .before .before .before .before .before .before .before .args .pak)) ((c .before .before .before .before .before .before .before .before .before .before .before .before .before .before .before .before .before .before .before .before .before .before .args .file .now))) ((c .before .before .before .before .before .before .before .before .before .before .before .before .before .before .before .before .before .before .before .before .sums .ensures))) refl) (keeps-is (wordAt ((c .before .before .before .before .before .before .before .before .before .before .before .before .before .before .before .before .before .before .before .before .before .before .args .file .now)) 58) (bodiesIn Two ((c .before .before .before .before .before .before .before .before .before .before .before .before .before .before .before .before .before .before .before .before .before .before .args .pak)) ((c .before .before .before .before .before .before .before .before .before .before .before .before .before .before .before .before .before .before .before .before .before .before .args .file .now)) .vram) true ((c .before .before .before .before .before .before .before .keeps4 .ensures)) ((c .before .before .before .before .before .before .before .before .word-at4 .ensures)) (sum-4 _ (bodiesIn Two ((c .before .before .before .before .before .before .before .before .before .before .before .before .before .before .before .before .before .before .before .before .before .before .args .pak)) ((c .before .before .before .before .before .before .before .before .before .before .before .before .before .before .before .before .before .before .before .before .before .before .args .file .now))) ((c .before .before .before .before .before .before .before .before .before .before .before .before .before .before .before .before .before .before .before .before .sums .ensures))) refl) (omega arith) (keeps-is (wordAt ((c .before .before .before .before .before .before .before .before .before .before .before .before .before .before .before .before .before .before .before .before .before .before .args .file .now)) 72) (bodiesIn Two ((c .before .before .before .before .before .before .before .before .before .before .before .before .before .before .before .before .before .before .before .before .before .before .args .pak)) ((c .before .before .before .before .before .before .before .before .before .before .before .before .before .before .before .before .before .before .before .before .before .before .args .file .now)) .pak) true ((c .before .before .keeps6 .ensures)) ((c .before .before .before .word-at6 .ensures)) (sum-5 _ (bodiesIn Two ((c .before .before .before .before .before .before .before .before .before .before .before .before .before .before .before .before .before .before .before .before .before .before .args .pak)) ((c .before .before .before .before .before .before .before .before .before .before .before .before .before .before .before .before .before .before .before .before .before .before .args .file .now))) ((c .before .before .before .before .before .before .before .before .before .before .before .before .before .before .before .before .before .before .before .before .sums .ensures))) refl) (keeps-is (wordAt ((c .before .before .before .before .before .before .before .before .before .before .before .before .before .before .before .before .before .before .before .before .before .before .args .file .now)) 86) (bodiesIn Two ((c .before .before .before .before .before .before .before .before .before .before .before .before .before .before .before .before .before .before .before .before .before .before .args .pak)) ((c .before .before .before .before .before .before .before .before .before .before .before .before .before .before .before .before .before .before .before .before .before .before .args .file .now)) .hardware) (hardwareBodyOk (bodiesIn Two ((c .before .before .before .before .before .before .before .before .before .before .before .before .before .before .before .before .before .before .before .before .before .before .args .pak)) ((c .before .before .before .before .before .before .before .before .before .before .before .before .before .before .before .before .before .before .before .before .before .before .args .file .now)) .hardware)) ((c .keeps7 .ensures)) ((c .before .word-at7 .ensures)) (sum-6 _ (bodiesIn Two ((c .before .before .before .before .before .before .before .before .before .before .before .before .before .before .before .before .before .before .before .before .before .before .args .pak)) ((c .before .before .before .before .before .before .before .before .before .before .before .before .before .before .before .before .before .before .before .before .before .before .args .file .now))) ((c .before .before .before .before .before .before .before .before .before .before .before .before .before .before .before .before .before .before .before .before .sums .ensures))) ((c .before .before .before .before .before .hardware-ok .ensures) ∙ ap hardwareBodyOk (hardware-part ((c .before .before .before .before .before .before .before .before .before .before .before .before .before .before .before .before .before .before .before .before .before .before .args .pak)) ((c .before .before .before .before .before .before .before .before .before .before .before .before .before .before .before .before .before .before .before .first .result)) ((c .before .before .before .before .before .before .before .before .before .before .before .before .before .before .before .before .before .before .before .before .before .before .args .file .now)) ((c .before .before .before .before .before .before .before .before .before .before .before .before .before .before .before .before .before .before .before .first .ensures .0)) (((c .before .before .before .before .before .before .before .before .before .before .before .before .before .before .before .before .before .before .before .first .result)) + 327878 + ((c .before .before .before .before .before .before .before .before .before .before .before .before .before .before .before .before .before .before .before .before .before .before .args .pak))) (((c .before .before .before .before .before .before .before .before .before .before .before .before .before .before .before .before .before .before .before .first .result)) + 327878 + ((c .before .before .before .before .before .before .before .before .before .before .before .before .before .before .before .before .before .before .before .before .before .before .args .pak)) + 8 - (((c .before .before .before .before .before .before .before .before .before .before .before .before .before .before .before .before .before .before .before .first .result)) + 327878 + ((c .before .before .before .before .before .before .before .before .before .before .before .before .before .before .before .before .before .before .before .before .before .before .args .pak)))) refl (omega arith))))
+returns-2 c = kept-some ((c .before .before .before .before .before .before .before .before .before .before .before
+    .before .before .before .before .before .before .before .before .before .before .before .args .pak))
+    ((c .before .before .before .before .before .before .before .before .before .before .before .before .before .before
+    .before .before .before .before .before .before .before .before .args .file .now)) (keeps-is (wordAt
+    ((c .before .before .before .before .before .before .before .before .before .before .before .before .before .before
+    .before .before .before .before .before .before .before .before .args .file .now)) 16) (bodiesIn Two
+    ((c .before .before .before .before .before .before .before .before .before .before .before .before .before .before
+    .before .before .before .before .before .before .before .before .args .pak))
+    ((c .before .before .before .before .before .before .before .before .before .before .before .before .before .before
+    .before .before .before .before .before .before .before .before .args .file .now)) .processor) (processorBodyOk
+    (bodiesIn Two ((c .before .before .before .before .before .before .before .before .before .before .before .before
+    .before .before .before .before .before .before .before .before .before .before .args .pak))
+    ((c .before .before .before .before .before .before .before .before .before .before .before .before .before .before
+    .before .before .before .before .before .before .before .before .args .file .now)) .processor))
+    ((c .before .before .before .before .before .before .before .before .before .before .before .before .before .before
+    .before .keeps .ensures)) ((c .before .before .before .before .before .before .before .before .before .before
+    .before .before .before .before .before .before .before .before .word-at .ensures)) (sum-1 _ (bodiesIn Two
+    ((c .before .before .before .before .before .before .before .before .before .before .before .before .before .before
+    .before .before .before .before .before .before .before .before .args .pak))
+    ((c .before .before .before .before .before .before .before .before .before .before .before .before .before .before
+    .before .before .before .before .before .before .before .before .args .file .now)))
+    ((c .before .before .before .before .before .before .before .before .before .before .before .before .before .before
+    .before .before .before .before .before .before .sums .ensures)))
+    ((c .before .before .before .before .before .before .before .before .before .before .before .before .before .before
+    .before .before .processor-ok .ensures) ∙ ap processorBodyOk (processor-part Two
+    ((c .before .before .before .before .before .before .before .before .before .before .before .before .before .before
+    .before .before .before .before .before .before .before .before .args .pak))
+    ((c .before .before .before .before .before .before .before .before .before .before .before .before .before .before
+    .before .before .before .before .before .first .result))
+    ((c .before .before .before .before .before .before .before .before .before .before .before .before .before .before
+    .before .before .before .before .before .before .before .before .args .file .now))
+    ((c .before .before .before .before .before .before .before .before .before .before .before .before .before .before
+    .before .before .before .before .before .first .ensures .0))
+    ((c .before .before .before .before .before .before .before .before .before .before .before .before .before .before
+    .before .before .before .before .before .first .result))
+    (((c .before .before .before .before .before .before .before .before .before .before .before .before .before .before
+    .before .before .before .before .before .first .result)) + 172 -
+    ((c .before .before .before .before .before .before .before .before .before .before .before .before .before .before
+    .before .before .before .before .before .first .result))) refl (omega arith)))) (keeps-is (wordAt
+    ((c .before .before .before .before .before .before .before .before .before .before .before .before .before .before
+    .before .before .before .before .before .before .before .before .args .file .now)) 30) (bodiesIn Two
+    ((c .before .before .before .before .before .before .before .before .before .before .before .before .before .before
+    .before .before .before .before .before .before .before .before .args .pak))
+    ((c .before .before .before .before .before .before .before .before .before .before .before .before .before .before
+    .before .before .before .before .before .before .before .before .args .file .now)) .drawing) (drawingBodyOk
+    (bodiesIn Two ((c .before .before .before .before .before .before .before .before .before .before .before .before
+    .before .before .before .before .before .before .before .before .before .before .args .pak))
+    ((c .before .before .before .before .before .before .before .before .before .before .before .before .before .before
+    .before .before .before .before .before .before .before .before .args .file .now)) .drawing))
+    ((c .before .before .before .before .before .before .before .before .before .before .before .keeps2 .ensures))
+    ((c .before .before .before .before .before .before .before .before .before .before .before .before .before .before
+    .word-at2 .ensures)) (sum-2 _ (bodiesIn Two
+    ((c .before .before .before .before .before .before .before .before .before .before .before .before .before .before
+    .before .before .before .before .before .before .before .before .args .pak))
+    ((c .before .before .before .before .before .before .before .before .before .before .before .before .before .before
+    .before .before .before .before .before .before .before .before .args .file .now)))
+    ((c .before .before .before .before .before .before .before .before .before .before .before .before .before .before
+    .before .before .before .before .before .before .sums .ensures)))
+    ((c .before .before .before .before .before .before .before .before .before .before .before .before .drawing-ok
+    .ensures) ∙ ap drawingBodyOk (drawing-part Two
+    ((c .before .before .before .before .before .before .before .before .before .before .before .before .before .before
+    .before .before .before .before .before .before .before .before .args .pak))
+    ((c .before .before .before .before .before .before .before .before .before .before .before .before .before .before
+    .before .before .before .before .before .first .result))
+    ((c .before .before .before .before .before .before .before .before .before .before .before .before .before .before
+    .before .before .before .before .before .before .before .before .args .file .now))
+    ((c .before .before .before .before .before .before .before .before .before .before .before .before .before .before
+    .before .before .before .before .before .first .ensures .0))
+    (((c .before .before .before .before .before .before .before .before .before .before .before .before .before .before
+    .before .before .before .before .before .first .result)) + 172)
+    (((c .before .before .before .before .before .before .before .before .before .before .before .before .before .before
+    .before .before .before .before .before .first .result)) + 198 -
+    (((c .before .before .before .before .before .before .before .before .before .before .before .before .before .before
+    .before .before .before .before .before .first .result)) + 172)) refl (omega arith)))) (keeps-is (wordAt
+    ((c .before .before .before .before .before .before .before .before .before .before .before .before .before .before
+    .before .before .before .before .before .before .before .before .args .file .now)) 44) (bodiesIn Two
+    ((c .before .before .before .before .before .before .before .before .before .before .before .before .before .before
+    .before .before .before .before .before .before .before .before .args .pak))
+    ((c .before .before .before .before .before .before .before .before .before .before .before .before .before .before
+    .before .before .before .before .before .before .before .before .args .file .now)) .wram) true
+    ((c .before .before .before .before .before .before .before .before .before .keeps3 .ensures))
+    ((c .before .before .before .before .before .before .before .before .before .before .word-at3 .ensures)) (sum-3 _
+    (bodiesIn Two ((c .before .before .before .before .before .before .before .before .before .before .before .before
+    .before .before .before .before .before .before .before .before .before .before .args .pak))
+    ((c .before .before .before .before .before .before .before .before .before .before .before .before .before .before
+    .before .before .before .before .before .before .before .before .args .file .now)))
+    ((c .before .before .before .before .before .before .before .before .before .before .before .before .before .before
+    .before .before .before .before .before .before .sums .ensures))) refl) (keeps-is (wordAt
+    ((c .before .before .before .before .before .before .before .before .before .before .before .before .before .before
+    .before .before .before .before .before .before .before .before .args .file .now)) 58) (bodiesIn Two
+    ((c .before .before .before .before .before .before .before .before .before .before .before .before .before .before
+    .before .before .before .before .before .before .before .before .args .pak))
+    ((c .before .before .before .before .before .before .before .before .before .before .before .before .before .before
+    .before .before .before .before .before .before .before .before .args .file .now)) .vram) true
+    ((c .before .before .before .before .before .before .before .keeps4 .ensures))
+    ((c .before .before .before .before .before .before .before .before .word-at4 .ensures)) (sum-4 _ (bodiesIn Two
+    ((c .before .before .before .before .before .before .before .before .before .before .before .before .before .before
+    .before .before .before .before .before .before .before .before .args .pak))
+    ((c .before .before .before .before .before .before .before .before .before .before .before .before .before .before
+    .before .before .before .before .before .before .before .before .args .file .now)))
+    ((c .before .before .before .before .before .before .before .before .before .before .before .before .before .before
+    .before .before .before .before .before .before .sums .ensures))) refl) (omega arith) (keeps-is (wordAt
+    ((c .before .before .before .before .before .before .before .before .before .before .before .before .before .before
+    .before .before .before .before .before .before .before .before .args .file .now)) 72) (bodiesIn Two
+    ((c .before .before .before .before .before .before .before .before .before .before .before .before .before .before
+    .before .before .before .before .before .before .before .before .args .pak))
+    ((c .before .before .before .before .before .before .before .before .before .before .before .before .before .before
+    .before .before .before .before .before .before .before .before .args .file .now)) .pak) true
+    ((c .before .before .keeps6 .ensures)) ((c .before .before .before .word-at6 .ensures)) (sum-5 _ (bodiesIn Two
+    ((c .before .before .before .before .before .before .before .before .before .before .before .before .before .before
+    .before .before .before .before .before .before .before .before .args .pak))
+    ((c .before .before .before .before .before .before .before .before .before .before .before .before .before .before
+    .before .before .before .before .before .before .before .before .args .file .now)))
+    ((c .before .before .before .before .before .before .before .before .before .before .before .before .before .before
+    .before .before .before .before .before .before .sums .ensures))) refl) (keeps-is (wordAt
+    ((c .before .before .before .before .before .before .before .before .before .before .before .before .before .before
+    .before .before .before .before .before .before .before .before .args .file .now)) 86) (bodiesIn Two
+    ((c .before .before .before .before .before .before .before .before .before .before .before .before .before .before
+    .before .before .before .before .before .before .before .before .args .pak))
+    ((c .before .before .before .before .before .before .before .before .before .before .before .before .before .before
+    .before .before .before .before .before .before .before .before .args .file .now)) .hardware) (hardwareBodyOk
+    (bodiesIn Two ((c .before .before .before .before .before .before .before .before .before .before .before .before
+    .before .before .before .before .before .before .before .before .before .before .args .pak))
+    ((c .before .before .before .before .before .before .before .before .before .before .before .before .before .before
+    .before .before .before .before .before .before .before .before .args .file .now)) .hardware))
+    ((c .keeps7 .ensures)) ((c .before .word-at7 .ensures)) (sum-6 _ (bodiesIn Two
+    ((c .before .before .before .before .before .before .before .before .before .before .before .before .before .before
+    .before .before .before .before .before .before .before .before .args .pak))
+    ((c .before .before .before .before .before .before .before .before .before .before .before .before .before .before
+    .before .before .before .before .before .before .before .before .args .file .now)))
+    ((c .before .before .before .before .before .before .before .before .before .before .before .before .before .before
+    .before .before .before .before .before .before .sums .ensures)))
+    ((c .before .before .before .before .before .hardware-ok .ensures) ∙ ap hardwareBodyOk (hardware-part
+    ((c .before .before .before .before .before .before .before .before .before .before .before .before .before .before
+    .before .before .before .before .before .before .before .before .args .pak))
+    ((c .before .before .before .before .before .before .before .before .before .before .before .before .before .before
+    .before .before .before .before .before .first .result))
+    ((c .before .before .before .before .before .before .before .before .before .before .before .before .before .before
+    .before .before .before .before .before .before .before .before .args .file .now))
+    ((c .before .before .before .before .before .before .before .before .before .before .before .before .before .before
+    .before .before .before .before .before .first .ensures .0))
+    (((c .before .before .before .before .before .before .before .before .before .before .before .before .before .before
+    .before .before .before .before .before .first .result)) + 327878 +
+    ((c .before .before .before .before .before .before .before .before .before .before .before .before .before .before
+    .before .before .before .before .before .before .before .before .args .pak)))
+    (((c .before .before .before .before .before .before .before .before .before .before .before .before .before .before
+    .before .before .before .before .before .first .result)) + 327878 +
+    ((c .before .before .before .before .before .before .before .before .before .before .before .before .before .before
+    .before .before .before .before .before .before .before .before .args .pak)) + 8 -
+    (((c .before .before .before .before .before .before .before .before .before .before .before .before .before .before
+    .before .before .before .before .before .first .result)) + 327878 +
+    ((c .before .before .before .before .before .before .before .before .before .before .before .before .before .before
+    .before .before .before .before .before .before .before .before .args .pak)))) refl (omega arith))))
 
 pub kept-spec : {M : Type 1} → statement M
 kept-spec =
     tie.close
     (tie.spec
-    sums-requires
-    first-requires
-    add-middle
-    add-end
-    add-last
-    add-last-2
-    add-whole
+    (λ c κs. search needs)
+    (λ c κs. search needs)
+    (λ c. search needs)
+    (λ c. search needs)
+    (λ c. search needs)
+    (λ c. search needs)
+    (λ c. search needs)
     word-at-requires
-    array-read-keeps
-    sub-processor-ok
-    part-processor-ok-start
+    (λ c. search needs)
+    (λ c. search needs)
+    (λ c. search needs)
     part-processor-ok-end
-    processor-ok-requires
-    keeps-requires
+    (λ c κs. search needs)
+    (λ c κs. search needs)
     word-at-requires-2
-    array-read-keeps-2
-    sub-drawing-ok
-    part-drawing-ok-start
+    (λ c. search needs)
+    (λ c. search needs)
+    (λ c. search needs)
     part-drawing-ok-end
-    drawing-ok-requires
-    keeps-requires-2
+    (λ c κs. search needs)
+    (λ c κs. search needs)
     word-at-requires-3
-    array-read-keeps-3
-    keeps-requires-3
+    (λ c. search needs)
+    (λ c κs. search needs)
     word-at-requires-4
-    array-read-keeps-4
-    keeps-requires-4
-    sub-hardware-ok
-    part-hardware-ok-start
+    (λ c. search needs)
+    (λ c κs. search needs)
+    (λ c. search needs)
+    (λ c. search needs)
     part-hardware-ok-end
-    hardware-ok-requires
+    (λ c κs. search needs)
     word-at-requires-5
-    array-read-keeps-5
-    keeps-requires-5
+    (λ c. search needs)
+    (λ c κs. search needs)
     returns
     word-at-requires-6
-    array-read-keeps-6
-    keeps-requires-6
+    (λ c. search needs)
+    (λ c κs. search needs)
     word-at-requires-7
-    array-read-keeps-7
-    keeps-requires-7
+    (λ c. search needs)
+    (λ c κs. search needs)
     returns-2)
