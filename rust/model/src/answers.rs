@@ -119,7 +119,7 @@ impl Answers {
         self.covering.iter().flat_map(Covering::bytes).collect()
     }
 
-    /// The same addresses in the order of docs/DEMAND3.md: the background
+    /// The same addresses in the order of docs/PROMISES.md: the background
     /// worlds' from world 31 down, then those of objects 1,023 to 0.
     pub fn listed(&self) -> Vec<usize> {
         let mut ordered: Vec<&Covering> = self.covering.iter().collect();

@@ -38,7 +38,7 @@ impl std::error::Error for NoList {}
 
 impl Drawing {
     /// How many bytes of VRAM the pixel (x, y) of an eye (0 left, 1 right) answers to. Their addresses go into the
-    /// room's first words in the order of docs/DEMAND3.md, as far as the room reaches; its other words are kept.
+    /// room's first words in the order of docs/PROMISES.md, as far as the room reaches; its other words are kept.
     pub fn pixel_bytes_into(
         &self,
         vram: &[u8],

@@ -37,7 +37,7 @@ pub struct Explanation {
     pub worlds: Vec<WorldReport>,
 }
 
-/// The addresses of the bytes that the pixel answers to, in the order of docs/DEMAND3.md.
+/// The addresses of the bytes that the pixel answers to, in the order of docs/PROMISES.md.
 #[derive(Serialize)]
 pub struct Lists {
     /// By the independent model.
