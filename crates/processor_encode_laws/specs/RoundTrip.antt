@@ -54,7 +54,7 @@ pub record Decodable (i : Instruction) : Type 0 where
   pub decodes : decodeOf first second ≡ Modelled i
   pub legal : Legal i
 
--- the printed ranges hold exactly the instructions that decoding gives
+-- the fields' ranges hold exactly the instructions that decoding gives
 abbrev pub RangeExactly : Type 0
 RangeExactly = (i : Instruction) → (inRangeOf i ≡ true → Decodable i) × (Decodable i → inRangeOf i ≡ true)
 

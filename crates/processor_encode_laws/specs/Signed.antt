@@ -1,5 +1,5 @@
--- The ranges of signed immediates as document 000 prints them, over the integers: -16 to 15, -256 to 254 and so on are
--- at least -half and below half. The proof of the same name is in proofs/.
+-- The ranges of signed immediates, whose widths document 000 gives, over the integers: -16 to 15, -256 to 254 and so on
+-- are at least -half and below half. The proof of the same name is in proofs/.
 use Prim.Native.Nat.{ℕ, suc, _≤_, _<_, _^_}
 use mathlib.Core.Bool.{Bool, false}
 use mathlib.Core.Path.{_≡_}

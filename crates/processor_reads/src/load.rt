@@ -1,5 +1,5 @@
-// The load of an instruction, from its halfwords: only LD and IN load. It does not go through the decoder, which the
-// step alone calls, so that its code stands there once; that the decoder says the same is proved.
+// The load of an instruction, from its halfwords: only LD and IN load. It does not go through the decoder, whose
+// code would then stand in a step twice; that the decoder says the same is proved.
 use processor_machine::register::get;
 ghost use mathlib.Core.Path.{_≡_};
 ghost use mathlib.Core.List.{List};
