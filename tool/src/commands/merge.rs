@@ -20,7 +20,8 @@ use crate::report::{self, read_lines, Forms};
   vbmodel merge 1.json 2.json --html report.html
 
 Reports of another plan, lot or model are refused, and so is a shard that is missing or is there twice.
-Exit status: 0 all pass; 1 some fail; 2 some are invalid, or the reports are not those of one lot.")]
+Exit status: 0 all pass; 1 some fail; 2 some are invalid, or the reports are not those of one lot; 3 in a part the
+independent model and the library differ.")]
 pub struct Options {
     /// The reports that `judge --shard K/N --report` wrote
     #[arg(value_name = "REPORT", required = true)]
