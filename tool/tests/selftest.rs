@@ -5,7 +5,8 @@ mod common;
 use common::{Folder, Rgb, HEIGHT, WIDTH};
 use sha2::{Digest, Sha256};
 
-const CHECKS: [&str; 9] = [
+const CHECKS: [&str; 10] = [
+    "digest",
     "worked rows",
     "accesses",
     "programs",
@@ -68,4 +69,27 @@ fn the_recorded_pictures_are_the_golden_ones() {
     }
     let seen: String = hash.finalize().iter().map(|byte| format!("{byte:02x}")).collect();
     assert_eq!(seen, vbmodel::selftest::PICTURES);
+}
+
+/// As the package installs it: the program, and a list of sums.
+#[test]
+fn a_program_with_another_sum_than_the_installed_list_says_is_found() {
+    let folder = Folder::new("selftest-sum");
+    for name in ["bin", "share/doc/vbmodel"] {
+        std::fs::create_dir_all(folder.path(name)).unwrap();
+    }
+    std::fs::copy(env!("CARGO_BIN_EXE_vbmodel"), folder.path("bin/vbmodel")).unwrap();
+    let list = "share/doc/vbmodel/SHA256SUMS";
+    let sum: String = Sha256::digest(folder.read("bin/vbmodel"))
+        .iter()
+        .map(|byte| format!("{byte:02x}"))
+        .collect();
+    folder.write(list, format!("{sum}  usr/bin/vbmodel\n").as_bytes());
+    let ran = folder.shell("bin/vbmodel selftest --seconds 1");
+    assert_eq!(ran.status, 0, "{}", ran.text);
+    assert!(ran.text.contains("; the program has its recorded sum\n"), "{}", ran.text);
+    folder.write(list, format!("{}  usr/bin/vbmodel\n", "0".repeat(64)).as_bytes());
+    let ran = folder.shell("bin/vbmodel selftest --seconds 1");
+    assert_eq!(ran.status, 3, "{}", ran.text);
+    assert!(ran.text.contains("\nDIFFERS  digest "), "{}", ran.text);
 }

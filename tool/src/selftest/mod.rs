@@ -2,6 +2,7 @@
 //! pictures. Each check stops at its first difference.
 
 mod demo;
+mod digest;
 mod random;
 mod worked;
 
@@ -42,6 +43,7 @@ pub fn run(seed: u64, time: Duration, mut done: impl FnMut(&Checked)) -> bool {
         agrees &= checked.agrees;
         done(&checked);
     };
+    tell(checked("digest", digest::digest));
     tell(checked("worked rows", worked::rows));
     let shares: u32 = CHECKS.iter().map(|check| check.3).sum();
     for (number, (name, what, check, share)) in CHECKS.into_iter().enumerate() {
