@@ -10,7 +10,7 @@ use lib.Seq.{getD-set-same, getD-set-other, set-out, set-getD}
 use Rattle.word.specs.Choose.{pick}
 use Rattle.bus_timer.specs.Ports.{hardwareOk, controlBitsOf}
 use Rattle.bus_timer.proofs.Accepting.{Fits}
-use Rattle.bus_timer.specs.declared.Hardware.{Hardware}
+use Rattle.bus_timer.specs.declared.TimerLines.{TimerLines}
 use Rattle.bus.specs.Registers.{withinFrom, drawingOk, deviceLength, linesPlace, registersFrom, drawingIn}
 use Rattle.bus.specs.Registers.{hardwareIn, hardwareHalfwordsOf, setFrom, withHardware, deviceOf, registersOk}
 
@@ -47,7 +47,7 @@ pub drawing-length : (d : List ℕ) → length (drawingIn d) ≡ 13
 unfolding drawingIn
 drawing-length d = from-length d 0 13
 
-pub device-length : (d : List ℕ) (h : Hardware) → length (deviceOf d h) ≡ deviceLength
+pub device-length : (d : List ℕ) (h : TimerLines) → length (deviceOf d h) ≡ deviceLength
 unfolding deviceOf
 device-length d h = simp length-append
 
@@ -70,7 +70,7 @@ pub drawing-ok-in : (d : List ℕ) → drawingOk (drawingIn d) ≡ drawingOk d
 drawing-ok-in d = drawing-ok-same (drawingIn d) d (drawing-register d)
 
 -- what was put together, taken apart
-module _ (d : List ℕ) (h : Hardware) where
+module _ (d : List ℕ) (h : TimerLines) where
   pub hardware-device : hardwareIn (deviceOf d h) ≡ h
   unfolding hardwareIn deviceOf
   hardware-device = refl
@@ -148,7 +148,7 @@ set-hardware d k x less =
     ∙ sym (hardware-behind d))
 
 -- other lines and another timer leave the drawing registers, and are what is there then
-module _ (d : List ℕ) (h : Hardware) where
+module _ (d : List ℕ) (h : TimerLines) where
   pub with-register : (k : ℕ) → k < 13 → getD (withHardware d h) k 0 ≡ getD d k 0
   unfolding withHardware
   with-register k less = set-from-before d linesPlace (hardwareHalfwordsOf h) k less

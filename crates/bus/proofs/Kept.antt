@@ -12,7 +12,7 @@ use lib.Pow.{pow-pos}
 use lib.Seq.{getD-set-same, getD-set-other, set-out}
 use Rattle.refusal.specs.declared.Verdict.the-variants.{Accepted}
 use Rattle.bus_timer.specs.Ports.{hardwareOk, portWrittenOf}
-use Rattle.bus_timer.specs.declared.Hardware.{Hardware}
+use Rattle.bus_timer.specs.declared.TimerLines.{TimerLines}
 use Rattle.bus_timer.proofs.Accepting.{ok-fits, fits-ok, write-accepted}
 use Rattle.bus_timer.proofs.Choices.{pick-true}
 use Rattle.bus.specs.Registers.{widthOf, keptOf, withinFrom, drawingOk, hardwareIn, withHardware, registersOk}
@@ -95,7 +95,7 @@ set-within d k v less h =
     (rw (set-hardware d k (keptOf k v) less) (p .1))
 
 -- a register of the timer that takes a byte keeps the drawing registers, and the lines and the timer stay accepted
-pub with-accepted : (d : List ℕ) (h : Hardware) → registersOk d ≡ true → hardwareOk h ≡ true → registersOk (withHardware d h) ≡ true
+pub with-accepted : (d : List ℕ) (h : TimerLines) → registersOk d ≡ true → hardwareOk h ≡ true → registersOk (withHardware d h) ≡ true
 with-accepted d h p ok =
     both-registers (withHardware d h)
     (drawing-ok-same (withHardware d h) d (with-register d h) ∙ registers-both d p .0)

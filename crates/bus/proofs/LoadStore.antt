@@ -8,7 +8,7 @@ use lib.Seq.{getD-set-same, getD-set-other}
 use Rattle.word.proofs.RoundTrip.{half-same, word-same}
 use Rattle.word.specs.LittleEndian.{putHalf, putWord}
 use Rattle.bus_timer.specs.Ports.{portByteOf, portWrittenOf}
-use Rattle.bus_timer.specs.declared.Hardware.{Hardware}
+use Rattle.bus_timer.specs.declared.TimerLines.{TimerLines}
 use Rattle.bus.specs.Registers.{keptOf, hardwareIn}
 use Rattle.bus.specs.Place.{Place, vramAt, wramAt, pakAt, romAt, drawingAt, versionAt, silent, unlisted}
 use Rattle.bus.specs.Place.{unmapped, hardwareAt, soundUnit, nothing, expansion}
@@ -138,7 +138,7 @@ read-other-register m k v (pakAt j) less ne = refl
 read-other-register m k v (romAt j) less ne = refl
 read-other-register m k v (drawingAt j x) less ne = rw (getD-set-other (m .regs) k j (keptOf k v) 0 (λ e. ne (ap (λ (n : ℕ). drawingAt n 0) e)))
 read-other-register m k v (versionAt x) less ne = refl
-read-other-register m k v (hardwareAt o) less ne = ap (λ (h : Hardware). portByteOf h o) (set-hardware (m .regs) k (keptOf k v) less)
+read-other-register m k v (hardwareAt o) less ne = ap (λ (h : TimerLines). portByteOf h o) (set-hardware (m .regs) k (keptOf k v) less)
 read-other-register m k v silent less ne = refl
 read-other-register m k v unlisted less ne = refl
 read-other-register m k v unmapped less ne = refl

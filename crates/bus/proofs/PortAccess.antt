@@ -6,7 +6,7 @@ use native.Mathlib.Omega.{arith}
 use borrow.Author.Tests.{ne-eqb}
 use lib.ListN.{length}
 use Rattle.bus_timer.specs.Ports.{hardwareOffsetOf, portByteOf, portWrittenOf}
-use Rattle.bus_timer.specs.declared.Hardware.{Hardware}
+use Rattle.bus_timer.specs.declared.TimerLines.{TimerLines}
 use Rattle.bus.specs.Registers.{hardwareIn, withHardware}
 use Rattle.bus.specs.Place.{regionOf}
 use Rattle.bus.specs.Memory.{Memory, byteOf, loadOf, withRegs, putByte, putHalfword, storeOf, Reads}
@@ -15,7 +15,7 @@ use Rattle.bus.proofs.Places.{place-hardware, region-half, region-half-
 use Rattle.bus.proofs.Halfwords.{byte-load, half-load, word-load, byte-store, word-store}
 
 -- an offset that is no multiple of four has no register
-pub between-read : (h : Hardware) (o : ℕ) → (o % 4 ≡ 0 → ⊥) → portByteOf h o ≡ 0
+pub between-read : (h : TimerLines) (o : ℕ) → (o % 4 ≡ 0 → ⊥) → portByteOf h o ≡ 0
 unfolding portByteOf
 between-read h o n =
     let a : o ≡ 0x18 → ⊥ = λ e. n (rw e) in
@@ -23,7 +23,7 @@ between-read h o n =
     let d : o ≡ 0x20 → ⊥ = λ e. n (rw e) in
     simp (ne-eqb o 0x18 a, ne-eqb o 0x1C b, ne-eqb o 0x20 d)
 
-pub between-written : (h : Hardware) (o v : ℕ) → (o % 4 ≡ 0 → ⊥) → portWrittenOf h o v ≡ h
+pub between-written : (h : TimerLines) (o v : ℕ) → (o % 4 ≡ 0 → ⊥) → portWrittenOf h o v ≡ h
 unfolding portWrittenOf
 between-written h o v n =
     let a : o ≡ 0x18 → ⊥ = λ e. n (rw e) in

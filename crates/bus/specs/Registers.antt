@@ -10,7 +10,7 @@ use lib.Dec.{ltb}
 use Rattle.word.specs.Choose.{pick}
 use Rattle.bus_timer.specs.Record.{hardwareOf}
 use Rattle.bus_timer.specs.Ports.{hardwareOk}
-use Rattle.bus_timer.specs.declared.Hardware.{Hardware}
+use Rattle.bus_timer.specs.declared.TimerLines.{TimerLines}
 
 -- SPT n
 unfoldable pub sptOf : List ℕ → ℕ → ℕ
@@ -116,11 +116,11 @@ unfoldable pub drawingIn : List ℕ → List ℕ
 drawingIn d = registersFrom d 0 13
 
 -- the request lines and the timer of the device registers
-unfoldable pub hardwareIn : List ℕ → Hardware
+unfoldable pub hardwareIn : List ℕ → TimerLines
 hardwareIn d = hardwareOf (getD d linesPlace 0) (getD d countPlace 0) (getD d reloadPlace 0) (getD d controlPlace 0)
 
 -- the request lines and the timer as they stand there, from linesPlace on
-abbrev pub hardwareHalfwordsOf : Hardware → List ℕ
+abbrev pub hardwareHalfwordsOf : TimerLines → List ℕ
 hardwareHalfwordsOf h = h .lines ∷ h .count ∷ h .reload ∷ h .control ∷ []
 
 -- registers with others in place of those from k on
@@ -129,11 +129,11 @@ setFrom d k [] = d
 setFrom d k (x ∷ xs) = setFrom (set d k x) (suc k) xs
 
 -- the device registers with other request lines and another timer
-unfoldable pub withHardware : List ℕ → Hardware → List ℕ
+unfoldable pub withHardware : List ℕ → TimerLines → List ℕ
 withHardware d h = setFrom d linesPlace (hardwareHalfwordsOf h)
 
 -- the device registers of 13 drawing registers, the request lines and the timer
-unfoldable pub deviceOf : List ℕ → Hardware → List ℕ
+unfoldable pub deviceOf : List ℕ → TimerLines → List ℕ
 deviceOf drawing h = registersFrom drawing 0 13 ++ hardwareHalfwordsOf h
 
 -- 5, of the device registers: no drawing register, request line or field of the timer exceeds its width

@@ -5,12 +5,12 @@ use crate::Device;
 use crate::DrawingRegisters;
 use crate::LINES_PLACE;
 use crate::RELOAD_PLACE;
-use bus_timer::Hardware;
+use bus_timer::TimerLines;
 ghost use mathlib.Core.Path.{_≡_};
 ghost use Rattle.bus.specs.Registers.{drawingIn, hardwareIn, withHardware, deviceOf};
 
 // The device registers of the drawing registers, the request lines and the timer.
-pub fn device_of(drawing: DrawingRegisters, hardware: Hardware) -> Device
+pub fn device_of(drawing: DrawingRegisters, hardware: TimerLines) -> Device
     ensures { λ r. ⌜ r ≡ deviceOf drawing hardware ⌝ }
 {
     [
@@ -56,10 +56,10 @@ pub fn drawing_in(device: &Device) -> DrawingRegisters
 }
 
 // The request lines and the timer among them.
-pub fn hardware_in(device: &Device) -> Hardware
+pub fn hardware_in(device: &Device) -> TimerLines
     ensures { λ r. ⌜ r ≡ hardwareIn (now (device .entry)) ⌝ }
 {
-    Hardware {
+    TimerLines {
         lines: device[LINES_PLACE],
         count: device[COUNT_PLACE],
         reload: device[RELOAD_PLACE],
@@ -68,7 +68,7 @@ pub fn hardware_in(device: &Device) -> Hardware
 }
 
 // Other request lines and another timer put among them.
-pub fn put_hardware(device: &mut Device, hardware: Hardware)
+pub fn put_hardware(device: &mut Device, hardware: TimerLines)
     ensures { λ _. ⌜ now (device .exit) ≡ withHardware (now (device .entry)) hardware ⌝ }
 {
     device[LINES_PLACE] = hardware.lines;

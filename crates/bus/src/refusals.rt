@@ -2,7 +2,7 @@
 use crate::Device;
 use crate::DrawingRegisters;
 use crate::device;
-use bus_timer::Hardware;
+use bus_timer::TimerLines;
 use refusal::Refusal;
 use refusal::Verdict;
 ghost use mathlib.Core.Path.{_≡_};
@@ -102,7 +102,7 @@ pub fn drawing_ok(regs: &DrawingRegisters) -> bool
 }
 
 // Whether every drawing register, the request lines and the timer are within their widths.
-pub fn records_ok(drawing: &DrawingRegisters, hardware: Hardware) -> bool
+pub fn records_ok(drawing: &DrawingRegisters, hardware: TimerLines) -> bool
     ensures { λ r. ⌜ r ≡ registersOk (deviceOf (now (drawing .entry)) hardware) ⌝ }
 {
     if !drawing_ok(drawing) {
@@ -155,7 +155,7 @@ pub fn call_verdict(
     vram: usize,
     pak: usize,
     drawing: &DrawingRegisters,
-    hardware: Hardware,
+    hardware: TimerLines,
 ) -> Verdict
     ensures { λ r. ⌜ r ≡ verdictAt rom wram vram pak (deviceOf (now (drawing .entry)) hardware) ⌝ }
 {

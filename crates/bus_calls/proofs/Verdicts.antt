@@ -7,7 +7,7 @@ use lib.ListN.{length}
 use Rattle.refusal.specs.declared.Refusal.{Refusal}
 use Rattle.refusal.specs.declared.Verdict.{Verdict}
 use Rattle.refusal.specs.declared.Verdict.the-variants.{Accepted, Refused}
-use Rattle.bus_timer.specs.declared.Hardware.{Hardware}
+use Rattle.bus_timer.specs.declared.TimerLines.{TimerLines}
 use Rattle.bus.specs.Registers.{deviceLength, drawingIn, hardwareIn, deviceOf}
 use Rattle.bus.specs.Memory.{Memory, Lengths, withRegs, verdictAt, verdictOf, Reads, storeOf}
 use Rattle.bus.proofs.Devices.{device-whole}
@@ -51,7 +51,7 @@ module _ (m : Memory) (size a : ℕ) (found : Verdict) (e : found ≡ verdictOf 
       store-past left p = (sym h ∙ e, p ∙ sym (rw (sym e ∙ h)))
 
       pub store-lent : length (m .regs) ≡ deviceLength → (lent : List ℕ) → lent ≡ m .regs → (left : Memory) → left ≡ storeOf (withRegs m lent) size a v
-          → (drawn : List ℕ) → drawn ≡ drawingIn (left .regs) → (timer : Hardware) → timer ≡ hardwareIn (left .regs)
+          → (drawn : List ℕ) → drawn ≡ drawingIn (left .regs) → (timer : TimerLines) → timer ≡ hardwareIn (left .regs)
           → Answers Accepted (withRegs left (deviceOf drawn timer))
       store-lent l lent same left p drawn d timer t =
           let after : left ≡ storeOf m size a v = p ∙ ap (λ (x : List ℕ). storeOf (withRegs m x) size a v) same in

@@ -7,7 +7,7 @@ use bus::load;
 use bus::outside;
 use bus::refusals;
 use bus::store;
-use bus_timer::Hardware;
+use bus_timer::TimerLines;
 use refusal::Refusal;
 use refusal::Verdict;
 ghost use mathlib.Core.Path.{_≡_};
@@ -33,7 +33,7 @@ pub enum Load {
 pub struct Stored {
     pub verdict: Verdict,
     pub drawing: Drawing,
-    pub hardware: Hardware,
+    pub hardware: TimerLines,
 }
 
 // Loads a byte.
@@ -43,7 +43,7 @@ pub fn load_byte(
     vram: &[u8],
     pak: &[u8],
     drawing: Drawing,
-    hardware: Hardware,
+    hardware: TimerLines,
     address: u32,
 ) -> Load
     ensures { λ r. ⌜
@@ -82,7 +82,7 @@ pub fn load_half(
     vram: &[u8],
     pak: &[u8],
     drawing: Drawing,
-    hardware: Hardware,
+    hardware: TimerLines,
     address: u32,
 ) -> Load
     ensures { λ r. ⌜
@@ -121,7 +121,7 @@ pub fn load_word(
     vram: &[u8],
     pak: &[u8],
     drawing: Drawing,
-    hardware: Hardware,
+    hardware: TimerLines,
     address: u32,
 ) -> Load
     ensures { λ r. ⌜
@@ -160,7 +160,7 @@ pub fn store_byte(
     vram: &mut [u8],
     pak: &mut [u8],
     drawing: Drawing,
-    hardware: Hardware,
+    hardware: TimerLines,
     address: u32,
     value: u32,
 ) -> Stored
@@ -217,7 +217,7 @@ pub fn store_half(
     vram: &mut [u8],
     pak: &mut [u8],
     drawing: Drawing,
-    hardware: Hardware,
+    hardware: TimerLines,
     address: u32,
     value: u32,
 ) -> Stored
@@ -274,7 +274,7 @@ pub fn store_word(
     vram: &mut [u8],
     pak: &mut [u8],
     drawing: Drawing,
-    hardware: Hardware,
+    hardware: TimerLines,
     address: u32,
     value: u32,
 ) -> Stored

@@ -1,5 +1,5 @@
 // The timer's public call: a tick, which tests refusal 5 of the record it is given.
-use bus_timer::Hardware;
+use bus_timer::TimerLines;
 use refusal::Refusal;
 use refusal::Verdict;
 ghost use mathlib.Core.Path.{_≡_};
@@ -8,11 +8,11 @@ ghost use Rattle.bus_tick.specs.Tick.{checkedTickOf};
 // The answer of a tick: the record afterwards beside the verdict.
 pub struct Ticked {
     pub verdict: Verdict,
-    pub hardware: Hardware,
+    pub hardware: TimerLines,
 }
 
 // One tick of the interval that the timer's control has chosen.
-pub fn tick(hardware: Hardware) -> Ticked
+pub fn tick(hardware: TimerLines) -> Ticked
     ensures { λ r. ⌜ r ≡ checkedTickOf hardware ⌝ }
 {
     if !bus_timer::ports::ok(hardware) {

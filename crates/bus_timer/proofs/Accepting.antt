@@ -14,23 +14,23 @@ use Rattle.bus_timer.specs.Timer.{tEnb, timZInt, tClkSel, zStat, zStatCl
 use Rattle.bus_timer.specs.Ports.{tlr, thr, tcr, controlBitsOf, reloadWrittenOf, lowWrittenOf, highWrittenOf}
 use Rattle.bus_timer.specs.Ports.{controlWrittenOf, lineAfterControl, tcrWrittenOf, portWrittenOf, hardwareOk}
 use Rattle.bus_timer.specs.Accepted.{TickAccepted, WriteAccepted, Means, AcceptedMeans, MeansAccepted, Halfwords, TickHalfwords, WriteHalfwords}
-use Rattle.bus_timer.specs.declared.Hardware.{Hardware}
+use Rattle.bus_timer.specs.declared.TimerLines.{TimerLines}
 use Rattle.bus_timer.proofs.Choices.{pick-each, pick-true}
 use Rattle.bus_timer.proofs.Mask.{control-sum}
-use Rattle.bus_timer.proofs.TimerLines.{tick-each, write-each}
+use Rattle.bus_timer.proofs.LinesLeft.{tick-each, write-each}
 
 -- what refusal 5 asks, as facts on numbers
-pub record Fits (h : Hardware) : Type 0 where
+pub record Fits (h : TimerLines) : Type 0 where
   pub lines : h .lines < 32
   pub control : controlBitsOf (h .control) ≡ h .control
 
-pub ok-fits : (h : Hardware) → hardwareOk h ≡ true → Fits h
+pub ok-fits : (h : TimerLines) → hardwareOk h ≡ true → Fits h
 unfolding hardwareOk
 ok-fits h e =
     let t = pick-true (ltb (h .lines) 32) (eqb (controlBitsOf (h .control)) (h .control)) e in
     record { lines = ltb-true _ _ (t .0); control = eqb-true _ _ (t .1) }
 
-pub fits-ok : (h : Hardware) → Fits h → hardwareOk h ≡ true
+pub fits-ok : (h : TimerLines) → Fits h → hardwareOk h ≡ true
 unfolding hardwareOk
 fits-ok h f = simp (lt-ltb _ _ (f .lines), eq-eqb _ _ (f .control))
 
@@ -67,7 +67,7 @@ written-control c v =
     (kept (bitAt tEnb v) (bitAt zStat c) (bitAt timZInt v) (bitAt tClkSel v) (omega arith) (omega arith) (omega arith) (omega arith))
 
 -- what holds of the control bits as they were and with Z-Stat set holds after a tick
-tick-control-each : (P : ℕ → Type 0) (h : Hardware) → P (h .control) → P (withBit zStat (h .control)) → P (tickOf h .control)
+tick-control-each : (P : ℕ → Type 0) (h : TimerLines) → P (h .control) → P (withBit zStat (h .control)) → P (tickOf h .control)
 unfolding tickOf countedOf reachedZeroOf
 tick-control-each P h same set =
     pick-each (λ t. P (t .control)) (isSet tEnb (h .control)) (countedOf h) h
@@ -76,7 +76,7 @@ tick-control-each P h same set =
     same
 
 -- what holds of every record that a write can leave
-write-record-each : (P : Hardware → Type 0) (h : Hardware) (o v : ℕ) → P (reloadWrittenOf (lowWrittenOf (h .reload) v) h)
+write-record-each : (P : TimerLines → Type 0) (h : TimerLines) (o v : ℕ) → P (reloadWrittenOf (lowWrittenOf (h .reload) v) h)
     → P (reloadWrittenOf (highWrittenOf (h .reload) v) h)
     → P (tcrWrittenOf h v)
     → P h
@@ -130,7 +130,7 @@ less-one : (n x : ℕ) → x < n → x - 1 < n
 less-one n x less = omega arith
 
 -- the count after a tick is below any bound that count and reload are below
-tick-count : (n : ℕ) (h : Hardware) → 0 < n → h .count < n → h .reload < n → tickOf h .count < n
+tick-count : (n : ℕ) (h : TimerLines) → 0 < n → h .count < n → h .reload < n → tickOf h .count < n
 unfolding tickOf countedOf reachedZeroOf tickedCountOf startOf
 tick-count n h some count reload =
     let start : startOf h < n = pick-each (λ x. x < n) (eqb (h .count) 0) (h .reload) (h .count) reload count in
@@ -139,7 +139,7 @@ tick-count n h some count reload =
     (withCount h (tickedCountOf h)) some (less-one n (startOf h) start))
     count
 
-tick-reload : (h : Hardware) → tickOf h .reload ≡ h .reload
+tick-reload : (h : TimerLines) → tickOf h .reload ≡ h .reload
 unfolding tickOf countedOf reachedZeroOf
 tick-reload h =
     pick-each (λ t. t .reload ≡ h .reload) (isSet tEnb (h .control)) (countedOf h) h

@@ -3,5 +3,5 @@ pub mod Choices
 pub mod Mask
 mod Digits
 pub mod Periods
-pub mod TimerLines
+pub mod LinesLeft
 pub mod Accepting

@@ -12,10 +12,10 @@ use Rattle.word.specs.Choose.{pick}
 use Rattle.bus_timer.specs.Record.{withCount}
 use Rattle.bus_timer.specs.Timer.{timerLine, tEnb, zStat, timZInt, tClkSel, startOf, tickedCountOf, reachedZeroOf, countedOf, tickOf}
 use Rattle.bus_timer.specs.Period.{ticksOf, FirstZero, Period, withClock, ClockSelection}
-use Rattle.bus_timer.specs.declared.Hardware.{Hardware}
+use Rattle.bus_timer.specs.declared.TimerLines.{TimerLines}
 use Rattle.bus_timer.proofs.Digits.{set-second, set-first, clock-first, clock-eighth, clock-set}
 
-module _ (h : Hardware) (on : bitAt tEnb (h .control) ≡ 1) where
+module _ (h : TimerLines) (on : bitAt tEnb (h .control) ≡ 1) where
   -- a tick that counts down from 1
   tick-last : startOf h ≡ 1 → tickOf h ≡ reachedZeroOf h
   unfolding tickOf countedOf tickedCountOf
@@ -51,29 +51,29 @@ module _ (h : Hardware) (on : bitAt tEnb (h .control) ≡ 1) where
           again = rw (tick-last e);
         }
 
-ticks-more : (k : ℕ) (h t : Hardware) → tickOf h ≡ t → ticksOf (suc k) h ≡ ticksOf k t
+ticks-more : (k : ℕ) (h t : TimerLines) → tickOf h ≡ t → ticksOf (suc k) h ≡ ticksOf k t
 unfolding ticksOf
 ticks-more k h t e = ap (ticksOf k) e
 
-ticks-none : (h : Hardware) → ticksOf zero h ≡ h
+ticks-none : (h : TimerLines) → ticksOf zero h ≡ h
 unfolding ticksOf
 ticks-none h = refl
 
 -- what the ticks before the first zero leave, with one tick more in front
-earlier : (n : ℕ) (h t : Hardware) → tickOf h ≡ t → bitAt zStat (h .control) ≡ 0
+earlier : (n : ℕ) (h t : TimerLines) → tickOf h ≡ t → bitAt zStat (h .control) ≡ 0
     → ((k : ℕ) → k < n → bitAt zStat (ticksOf k t .control) ≡ 0)
     → (k : ℕ) → k < suc n → bitAt zStat (ticksOf k h .control) ≡ 0
 earlier n h t e clear f zero less = rw (ticks-none h) clear
 earlier n h t e clear f (suc k) less = rw (ticks-more k h t e) (f k (omega arith))
 
-same : (n : ℕ) (h t : Hardware) → tickOf h ≡ t → t .lines ≡ h .lines
+same : (n : ℕ) (h t : TimerLines) → tickOf h ≡ t → t .lines ≡ h .lines
     → ((k : ℕ) → k < n → ticksOf k t .lines ≡ t .lines)
     → (k : ℕ) → k < suc n → ticksOf k h .lines ≡ h .lines
 same n h t e lines f zero less = rw (ticks-none h)
 same n h t e lines f (suc k) less = rw (ticks-more k h t e) (f k (omega arith) ∙ lines)
 
 -- one tick more before the first zero
-first-more : (n : ℕ) (h t : Hardware) → tickOf h ≡ t → t .lines ≡ h .lines → t .reload ≡ h .reload → t .control ≡ h .control
+first-more : (n : ℕ) (h t : TimerLines) → tickOf h ≡ t → t .lines ≡ h .lines → t .reload ≡ h .reload → t .control ≡ h .control
     → bitAt zStat (h .control) ≡ 0
     → FirstZero n t
     → FirstZero (suc n) h
@@ -88,11 +88,11 @@ first-more n h t e lines reload control clear f =
     }
 
 -- a count that is not 0 is what the tick counts down from
-start-count : (n : ℕ) (h : Hardware) → h .count ≡ suc n → startOf h ≡ suc n
+start-count : (n : ℕ) (h : TimerLines) → h .count ≡ suc n → startOf h ≡ suc n
 unfolding startOf
 start-count n h e = rw e (simp eqb·suc-zero)
 
-first : (n : ℕ) (h : Hardware) → startOf h ≡ suc n → bitAt tEnb (h .control) ≡ 1 → bitAt zStat (h .control) ≡ 0
+first : (n : ℕ) (h : TimerLines) → startOf h ≡ suc n → bitAt tEnb (h .control) ≡ 1 → bitAt zStat (h .control) ≡ 0
     → FirstZero (suc n) h
 first zero h e on clear = first-last h on clear e
 first (suc n) h e on clear =
@@ -104,11 +104,11 @@ period zero h less e on clear = absurd (omega arith)
 period (suc n) h less e on clear = first n h e on clear
 
 -- T-Clk-Sel is none of the bits that a tick reads or sets
-clock-pick : (b : ℕ) (t : Bool) (x y : Hardware) → pick t (withClock b x) (withClock b y) ≡ withClock b (pick t x y)
+clock-pick : (b : ℕ) (t : Bool) (x y : TimerLines) → pick t (withClock b x) (withClock b y) ≡ withClock b (pick t x y)
 clock-pick b true x y = refl
 clock-pick b false x y = refl
 
-module _ (b : ℕ) (h : Hardware) (less : b < 2) where
+module _ (b : ℕ) (h : TimerLines) (less : b < 2) where
   clock-zero : reachedZeroOf (withClock b h) ≡ withClock b (reachedZeroOf h)
   unfolding reachedZeroOf
   clock-zero = rw (clock-eighth (h .control) b less, clock-set (h .control) b less)

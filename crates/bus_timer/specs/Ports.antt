@@ -9,7 +9,7 @@ use Rattle.word.specs.Choose.{pick}
 use Rattle.bus_timer.specs.Record.{withLines, withCount, withReload, withControl}
 use Rattle.bus_timer.specs.Timer.{timerLine, tEnb, zStat, zStatClr}
 use Rattle.bus_timer.specs.Timer.{timZInt, tClkSel}
-use Rattle.bus_timer.specs.declared.Hardware.{Hardware}
+use Rattle.bus_timer.specs.declared.TimerLines.{TimerLines}
 
 -- T1: where the registers stand in region 2
 abbrev pub tlr : ℕ
@@ -33,13 +33,13 @@ unfoldable pub controlBitsOf : ℕ → ℕ
 controlBitsOf c = bitAnd c controlMask
 
 -- T2, T3: what the byte at an offset reads; bits 7 to 5 and bit 2 of TCR read 1
-unfoldable pub portByteOf : Hardware → ℕ → ℕ
+unfoldable pub portByteOf : TimerLines → ℕ → ℕ
 portByteOf h o =
     pick (eqb o tlr) (h .count % 256)
     (pick (eqb o thr) (h .count / 256 % 256) (pick (eqb o tcr) (0xE4 + controlBitsOf (h .control)) 0))
 
 -- T4: reload with a byte written to TLR, and to THR; count becomes the whole new reload at once
-abbrev pub reloadWrittenOf : ℕ → Hardware → Hardware
+abbrev pub reloadWrittenOf : ℕ → TimerLines → TimerLines
 reloadWrittenOf reload h = withCount (withReload h reload) reload
 
 abbrev pub lowWrittenOf : ℕ → ℕ → ℕ
@@ -61,16 +61,16 @@ lineAfterControl lines v =
     pick (isSet zStatClr v) (withoutBit timerLine lines) (pick (isSet timZInt v) lines (withoutBit timerLine lines))
 
 -- TCR with the byte v written to it; count and reload stay
-unfoldable pub tcrWrittenOf : Hardware → ℕ → Hardware
+unfoldable pub tcrWrittenOf : TimerLines → ℕ → TimerLines
 tcrWrittenOf h v =
     withControl (withLines h (lineAfterControl (h .lines) v)) (controlWrittenOf (h .control) v)
 
 -- the byte v written at an offset
-unfoldable pub portWrittenOf : Hardware → ℕ → ℕ → Hardware
+unfoldable pub portWrittenOf : TimerLines → ℕ → ℕ → TimerLines
 portWrittenOf h o v =
     pick (eqb o tlr) (reloadWrittenOf (lowWrittenOf (h .reload) v) h)
     (pick (eqb o thr) (reloadWrittenOf (highWrittenOf (h .reload) v) h) (pick (eqb o tcr) (tcrWrittenOf h v) h))
 
 -- 5, of the lines and the timer: five lines, and no control bit outside the mask
-unfoldable pub hardwareOk : Hardware → Bool
+unfoldable pub hardwareOk : TimerLines → Bool
 hardwareOk h = pick (ltb (h .lines) 32) (eqb (controlBitsOf (h .control)) (h .control)) false

@@ -6,18 +6,18 @@ use Rattle.bus_timer.specs.Record.{hardwareOf, resetHardware}
 use Rattle.bus_timer.specs.Timer.{startOf, reachedZeroOf, tickedCountOf, countedOf, tickOf}
 use Rattle.bus_timer.specs.Ports.{tlr, tcr, controlBitsOf, portByteOf, controlWrittenOf, lineAfterControl}
 use Rattle.bus_timer.specs.Ports.{tcrWrittenOf, portWrittenOf}
-use Rattle.bus_timer.specs.declared.Hardware.{Hardware}
+use Rattle.bus_timer.specs.declared.TimerLines.{TimerLines}
 
 -- a row: the record before, the byte written, the record after
 pub record Row : Type 0 where
-  pub before : Hardware
+  pub before : TimerLines
   pub byte : ℕ
-  pub after : Hardware
+  pub after : TimerLines
 
-abbrev row : Hardware → ℕ → Hardware → Row
+abbrev row : TimerLines → ℕ → TimerLines → Row
 row before byte after = record { before = before; byte = byte; after = after }
 
-abbrev recordAfter : Row → Hardware
+abbrev recordAfter : Row → TimerLines
 recordAfter r = r .after
 
 abbrev pub tickRows : List Row

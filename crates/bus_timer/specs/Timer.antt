@@ -7,7 +7,7 @@ use lib.Dec.{eqb}
 use Rattle.word.specs.Bit.{isSet, withBit}
 use Rattle.word.specs.Choose.{pick}
 use Rattle.bus_timer.specs.Record.{withLines, withCount, withControl}
-use Rattle.bus_timer.specs.declared.Hardware.{Hardware}
+use Rattle.bus_timer.specs.declared.TimerLines.{TimerLines}
 
 -- the place of the timer's line among the lines, and those of TCR's bits
 abbrev pub timerLine : ℕ
@@ -29,23 +29,23 @@ abbrev pub tClkSel : ℕ
 tClkSel = 4
 
 -- T9: what a tick counts down from: a count of 0 first becomes reload
-unfoldable pub startOf : Hardware → ℕ
+unfoldable pub startOf : TimerLines → ℕ
 startOf h = pick (eqb (h .count) 0) (h .reload) (h .count)
 
 -- T9, T10: the count is 0: Z-Stat is set whether or not Tim-Z-Int is, and the line is raised if it is
-unfoldable pub reachedZeroOf : Hardware → Hardware
+unfoldable pub reachedZeroOf : TimerLines → TimerLines
 reachedZeroOf h =
     withLines (withCount (withControl h (withBit zStat (h .control))) 0)
     (pick (isSet timZInt (h .control)) (withBit timerLine (h .lines)) (h .lines))
 
 -- T9: the count after a tick: one that is not 0 becomes one less, and 0 - 1 is 0
-unfoldable pub tickedCountOf : Hardware → ℕ
+unfoldable pub tickedCountOf : TimerLines → ℕ
 tickedCountOf h = startOf h - 1
 
 -- T9: a tick of an enabled timer
-unfoldable pub countedOf : Hardware → Hardware
+unfoldable pub countedOf : TimerLines → TimerLines
 countedOf h = pick (eqb (tickedCountOf h) 0) (reachedZeroOf h) (withCount h (tickedCountOf h))
 
 -- T9: a tick; with T-Enb clear it does nothing
-unfoldable pub tickOf : Hardware → Hardware
+unfoldable pub tickOf : TimerLines → TimerLines
 tickOf h = pick (isSet tEnb (h .control)) (countedOf h) h

@@ -1,5 +1,5 @@
 // The timer's registers: TLR, THR and TCR, bytes of region 2 by their offset there.
-use crate::Hardware;
+use crate::TimerLines;
 use crate::bits;
 use crate::record;
 ghost use mathlib.Core.Path.{_≡_};
@@ -15,7 +15,7 @@ fn control_bits(c: u16) -> u16
 }
 
 // What the byte at an offset reads.
-pub fn read(h: Hardware, offset: u32) -> u32
+pub fn read(h: TimerLines, offset: u32) -> u32
     ensures { λ r. ⌜ (r ≡ portByteOf h offset) × (r < 256) ⌝ }
 {
     if offset == 0x18 {
@@ -55,7 +55,7 @@ fn line_after_control(lines: u16, v: u16) -> u16
 }
 
 // The low 8 bits of a value written at an offset.
-pub fn write(h: Hardware, offset: u32, value: u32) -> Hardware
+pub fn write(h: TimerLines, offset: u32, value: u32) -> TimerLines
     ensures { λ r. ⌜ r ≡ portWrittenOf h offset (value % 256) ⌝ }
 {
     let v = (value % 256) as u16;
@@ -75,7 +75,7 @@ pub fn write(h: Hardware, offset: u32, value: u32) -> Hardware
 }
 
 // Whether refusal 5 has nothing against the lines and the timer.
-pub fn ok(h: Hardware) -> bool
+pub fn ok(h: TimerLines) -> bool
     ensures { λ r. ⌜ r ≡ hardwareOk h ⌝ }
 {
     if 32 <= h.lines {

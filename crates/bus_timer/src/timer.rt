@@ -1,12 +1,12 @@
 // The timer: what a tick does to it and to its line.
-use crate::Hardware;
+use crate::TimerLines;
 use crate::bits;
 use crate::record;
 ghost use mathlib.Core.Path.{_≡_};
 ghost use Rattle.bus_timer.specs.Timer.{startOf, reachedZeroOf, tickOf};
 
 // What a tick counts down from.
-fn start(h: Hardware) -> u16
+fn start(h: TimerLines) -> u16
     ensures { λ r. ⌜ r ≡ startOf h ⌝ }
 {
     if h.count == 0 {
@@ -16,7 +16,7 @@ fn start(h: Hardware) -> u16
 }
 
 // The count reached zero: Z-Stat is set, and the timer's line is raised where Tim-Z-Int asks for it.
-fn reached_zero(h: Hardware) -> Hardware
+fn reached_zero(h: TimerLines) -> TimerLines
     ensures { λ r. ⌜ r ≡ reachedZeroOf h ⌝ }
 {
     let zero = record::with_count(record::with_control(h, bits::set_second(h.control)), 0);
@@ -27,7 +27,7 @@ fn reached_zero(h: Hardware) -> Hardware
 }
 
 // One tick.
-pub fn tick(h: Hardware) -> Hardware
+pub fn tick(h: TimerLines) -> TimerLines
     ensures { λ r. ⌜ r ≡ tickOf h ⌝ }
 {
     if h.control % 2 == 0 {

@@ -6,8 +6,8 @@ use native.Mathlib.Omega.{arith}
 use lib.ListN.{length}
 use Rattle.bus_timer.specs.Ports.{portWrittenOf}
 use Rattle.bus_timer.specs.Lines.{hardwareLineOf}
-use Rattle.bus_timer.specs.declared.Hardware.{Hardware}
-use Rattle.bus_timer.proofs.TimerLines.{write-lines, write-keeps-down}
+use Rattle.bus_timer.specs.declared.TimerLines.{TimerLines}
+use Rattle.bus_timer.proofs.LinesLeft.{write-lines, write-keeps-down}
 use Rattle.bus.specs.Registers.{deviceLength}
 use Rattle.bus.specs.Place.{Place, vramAt, wramAt, pakAt, romAt, drawingAt, versionAt, silent, unlisted, unmapped, hardwareAt, soundUnit, nothing, expansion}
 use Rattle.bus.specs.Memory.{Memory, putPlace, placeIn, putByte, putRegister, putHalfword, putFrom, storeOf}
@@ -17,24 +17,24 @@ use Rattle.bus_timer_laws.specs.Writing.{timerIn, LinesKept, LineNeverRi
 use Rattle.bus_timer_laws.proofs.Elsewhere.{register-timer}
 
 -- what a step of a store leaves of the lines
-pub record Lowered (g h : Hardware) : Type 0 where
+pub record Lowered (g h : TimerLines) : Type 0 where
   pub others : (n : ℕ) → (n ≡ 1 → ⊥) → hardwareLineOf n h ≡ hardwareLineOf n g
   pub down : hardwareLineOf 1 h ≤ hardwareLineOf 1 g
 
-same : (h : Hardware) → Lowered h h
+same : (h : TimerLines) → Lowered h h
 same h = record { others = λ n other. refl; down = omega arith }
 
-still : (g h : Hardware) → h ≡ g → Lowered g h
+still : (g h : TimerLines) → h ≡ g → Lowered g h
 still g h e = rw e (same g)
 
-both : (g h i : Hardware) → Lowered g h → Lowered h i → Lowered g i
+both : (g h i : TimerLines) → Lowered g h → Lowered h i → Lowered g i
 both g h i p q =
     record {
       others = λ n other. q .others n other ∙ p .others n other;
       down = omega (arith, p .down, q .down);
     }
 
-written : (h : Hardware) (o v : ℕ) → Lowered h (portWrittenOf h o v)
+written : (h : TimerLines) (o v : ℕ) → Lowered h (portWrittenOf h o v)
 written h o v = record { others = λ n other. write-lines n h o v other; down = write-keeps-down h o v }
 
 place-lowered : (m : Memory) (p : Place) (b : ℕ) → length (m .regs) ≡ deviceLength → Lowered (timerIn m) (timerIn (putPlace m p b))

@@ -4,7 +4,7 @@ use Prim.Native.Nat.{ℕ, _%_}
 use mathlib.Core.Path.{_≡_, refl, sym, ap, _∙_}
 use borrow.Author.Tests.{ne-eqb}
 use Rattle.bus_timer.specs.Ports.{tlr, thr, tcr, hardwareOffsetOf, portWrittenOf}
-use Rattle.bus_timer.specs.declared.Hardware.{Hardware}
+use Rattle.bus_timer.specs.declared.TimerLines.{TimerLines}
 use Rattle.bus.specs.Registers.{hardwareIn}
 use Rattle.bus.specs.Memory.{withRegs}
 use Rattle.bus.proofs.Devices.{hardware-with, with-same}

@@ -7,18 +7,18 @@ use mathlib.Core.Path.{_≡_}
 use lib.ListN.{length}
 use Rattle.bus_timer.specs.Ports.{tlr, thr, tcr, lowWrittenOf, highWrittenOf, reloadWrittenOf, tcrWrittenOf}
 use Rattle.bus_timer.specs.Lines.{hardwareLineOf}
-use Rattle.bus_timer.specs.declared.Hardware.{Hardware}
+use Rattle.bus_timer.specs.declared.TimerLines.{TimerLines}
 use Rattle.bus.specs.Place.{regionOf}
 use Rattle.bus.specs.Registers.{deviceLength, hardwareIn, withHardware}
 use Rattle.bus.specs.Memory.{Memory, withRegs, alignedOf, storeOf}
 use Rattle.bus_timer_laws.specs.Reading.{At}
 
 -- the lines and the timer of a memory
-abbrev pub timerIn : Memory → Hardware
+abbrev pub timerIn : Memory → TimerLines
 timerIn m = hardwareIn (m .regs)
 
 -- the memory with other lines and another timer
-abbrev pub timed : Memory → Hardware → Memory
+abbrev pub timed : Memory → TimerLines → Memory
 timed m h = withRegs m (withHardware (m .regs) h)
 
 -- the low 8 bits of the source go to the low or the high byte of reload, and the count becomes reload; to TCR; or
@@ -49,7 +49,7 @@ WordStores = (m : Memory) (a v : ℕ) → regionOf a ≡ 2 → storeOf m 4 a v �
 
 -- what a memory with other lines and another timer holds
 abbrev pub TimedHardware : Type 0
-TimedHardware = (m : Memory) (h : Hardware) → length (m .regs) ≡ deviceLength → timerIn (timed m h) ≡ h
+TimedHardware = (m : Memory) (h : TimerLines) → length (m .regs) ≡ deviceLength → timerIn (timed m h) ≡ h
 
 -- no store, of any size and at any address, changes a line but the timer's, and none raises that
 abbrev pub LinesKept : Type 0

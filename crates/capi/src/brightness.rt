@@ -1,8 +1,8 @@
 // The display unit.
 ghost use mathlib.Core.Path.{_≡_};
 ghost use Rattle.refusal.specs.Number.{verdictNumber};
-ghost use Rattle.display.specs.Brightness.{viewOf, durationsOf};
-ghost use Rattle.display.specs.Calls.{displayVerdictOf, displayOf, loadTableVerdictOf, loadTableOf};
+ghost use Rattle.drawing_display.specs.Brightness.{viewOf, durationsOf};
+ghost use Rattle.drawing_display.specs.Calls.{displayVerdictOf, displayOf, loadTableVerdictOf, loadTableOf};
 
 #[no_mangle]
 pub extern "C" fn vb_display(

@@ -1,7 +1,7 @@
 // Writes of the bench's overlay painter into VRAM.
 ghost use mathlib.Core.Path.{_≡_};
 ghost use Rattle.refusal.specs.Number.{verdictNumber};
-ghost use Rattle.probe.specs.Lent.{lentVerdictOf, vramOf};
+ghost use Rattle.bus_probe.specs.Lent.{lentVerdictOf, vramOf};
 
 #[no_mangle]
 pub extern "C" fn vb_probe_byte(

@@ -3,7 +3,7 @@ use capi_bus::hardware::VbHardware;
 use capi_bus::ticks::VbTicked;
 ghost use mathlib.Core.Path.{_≡_};
 ghost use Rattle.bus_tick.specs.Tick.{checkedTickOf};
-ghost use Rattle.capi_bus.specs.Hardware.{hardwareGiven};
+ghost use Rattle.capi_bus.specs.TimerLines.{hardwareGiven};
 ghost use Rattle.capi_bus.specs.Answers.{tickOut};
 
 #[no_mangle]

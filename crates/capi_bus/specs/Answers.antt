@@ -4,7 +4,7 @@ use Rattle.bus_calls.specs.declared.Load.{Load}
 use Rattle.bus_calls.specs.declared.Load.the-variants.{Value, Refused as LoadRefused}
 use Rattle.bus_calls.specs.declared.Stored.{Stored}
 use Rattle.bus_tick.specs.declared.Ticked.{Ticked}
-use Rattle.capi_bus.specs.Hardware.{hardwareOut}
+use Rattle.capi_bus.specs.TimerLines.{hardwareOut}
 use Rattle.capi_bus.specs.declared.accesses.VbLoaded.{VbLoaded}
 use Rattle.capi_bus.specs.declared.accesses.VbStored.{VbStored}
 use Rattle.capi_bus.specs.declared.ticks.VbTicked.{VbTicked}

@@ -1,4 +1,4 @@
 pub mod Answers
-pub mod Hardware
+pub mod TimerLines
 pub mod Lists
 pub mod Misuse

@@ -7,8 +7,8 @@ use lib.ListN.{length}
 use Rattle.word.specs.Choose.{pick}
 use Rattle.refusal.specs.Number.{verdictNumber}
 use Rattle.bus.specs.Memory.{Memory, verdictOf}
-use Rattle.access_list.specs.List.{Made, madeOf}
-use Rattle.access_list.specs.Calls.{listVerdictOf, accessListOf}
+use Rattle.bus_list.specs.List.{Made, madeOf}
+use Rattle.bus_list.specs.Calls.{listVerdictOf, accessListOf}
 use Rattle.capi_bus.specs.Misuse.{misuseNumber}
 
 unfoldable pub listNumberAt : Memory → List ℕ → ℕ

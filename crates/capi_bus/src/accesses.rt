@@ -13,7 +13,7 @@ ghost use Rattle.bus.specs.Memory.{verdictOf, storeOf};
 ghost use Rattle.bus.specs.Lent.{enteringWith, leavingWith};
 ghost use Rattle.bus.specs.Registers.{deviceOf};
 ghost use Rattle.bus_calls.specs.Access.{checkedLoadOf, checkedStoreOf};
-ghost use Rattle.capi_bus.specs.Hardware.{hardwareGiven};
+ghost use Rattle.capi_bus.specs.TimerLines.{hardwareGiven};
 ghost use Rattle.capi_bus.specs.Answers.{loadOut, storeOut};
 
 // The drawing registers: SPT0 to SPT3, GPLT0 to GPLT3, JPLT0 to JPLT3, BKCOL.

@@ -1,7 +1,7 @@
 // The request lines and the timer at the boundary.
-use bus_timer::Hardware;
+use bus_timer::TimerLines;
 ghost use mathlib.Core.Path.{_≡_};
-ghost use Rattle.capi_bus.specs.Hardware.{hardwareGiven, hardwareOut};
+ghost use Rattle.capi_bus.specs.TimerLines.{hardwareGiven, hardwareOut};
 
 // Bit n of `lines` is the line of level n; the control bits stand at their places in TCR.
 #[repr(C)]
@@ -12,10 +12,10 @@ pub struct VbHardware {
     pub control: u16,
 }
 
-pub fn hardware_given(h: VbHardware) -> Hardware
+pub fn hardware_given(h: VbHardware) -> TimerLines
     ensures { λ r. ⌜ r ≡ hardwareGiven h ⌝ }
 {
-    Hardware {
+    TimerLines {
         lines: h.lines,
         count: h.count,
         reload: h.reload,
@@ -23,7 +23,7 @@ pub fn hardware_given(h: VbHardware) -> Hardware
     }
 }
 
-pub fn hardware_out(h: Hardware) -> VbHardware
+pub fn hardware_out(h: TimerLines) -> VbHardware
     ensures { λ r. ⌜ r ≡ hardwareOut h ⌝ }
 {
     VbHardware {

@@ -9,8 +9,8 @@ use bus::Drawing;
 use bus::refusals;
 use refusal::verdict_number;
 ghost use mathlib.Core.Path.{_≡_};
-ghost use Rattle.access_list.specs.List.{madeOf};
-ghost use Rattle.capi_bus.specs.Hardware.{hardwareGiven};
+ghost use Rattle.bus_list.specs.List.{madeOf};
+ghost use Rattle.capi_bus.specs.TimerLines.{hardwareGiven};
 ghost use Rattle.capi_bus.specs.Lists.{listNumberAt, listLeftAt};
 ghost use Rattle.bus.specs.Lent.{enteringWith, leavingWith};
 ghost use Rattle.bus.specs.Registers.{deviceOf};
@@ -45,7 +45,7 @@ pub fn access_list(
             hardware,
         };
     }
-    let stored = access_list::access_list(rom, wram, vram, pak, Drawing { regs }, given, list);
+    let stored = bus_list::access_list(rom, wram, vram, pak, Drawing { regs }, given, list);
     let verdict = stored.verdict;
     let after = stored.drawing.regs;
     let timer = stored.hardware;

@@ -2,7 +2,7 @@
 use refusal::verdict_number;
 ghost use mathlib.Core.Path.{_≡_};
 ghost use Rattle.refusal.specs.Number.{verdictNumber};
-ghost use Rattle.probe.specs.Lent.{lentVerdictOf, vramOf};
+ghost use Rattle.bus_probe.specs.Lent.{lentVerdictOf, vramOf};
 
 pub fn probe_byte(
     rom: &[u8],
@@ -15,7 +15,7 @@ pub fn probe_byte(
     ensures refusal { λ r. ⌜ r ≡ verdictNumber (lentVerdictOf 1 rom wram vram pak address) ⌝ }
     ensures memory { λ _. ⌜ now (vram .exit) ≡ vramOf 1 rom wram vram pak address value ⌝ }
 {
-    verdict_number(probe::probe_byte(rom, wram, vram, pak, address, value))
+    verdict_number(bus_probe::probe_byte(rom, wram, vram, pak, address, value))
 }
 
 pub fn probe_half(
@@ -29,7 +29,7 @@ pub fn probe_half(
     ensures refusal { λ r. ⌜ r ≡ verdictNumber (lentVerdictOf 2 rom wram vram pak address) ⌝ }
     ensures memory { λ _. ⌜ now (vram .exit) ≡ vramOf 2 rom wram vram pak address value ⌝ }
 {
-    verdict_number(probe::probe_half(rom, wram, vram, pak, address, value))
+    verdict_number(bus_probe::probe_half(rom, wram, vram, pak, address, value))
 }
 
 pub fn probe_word(
@@ -43,5 +43,5 @@ pub fn probe_word(
     ensures refusal { λ r. ⌜ r ≡ verdictNumber (lentVerdictOf 4 rom wram vram pak address) ⌝ }
     ensures memory { λ _. ⌜ now (vram .exit) ≡ vramOf 4 rom wram vram pak address value ⌝ }
 {
-    verdict_number(probe::probe_word(rom, wram, vram, pak, address, value))
+    verdict_number(bus_probe::probe_word(rom, wram, vram, pak, address, value))
 }

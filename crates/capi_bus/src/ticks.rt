@@ -5,7 +5,7 @@ use crate::hardware::hardware_out;
 use refusal::verdict_number;
 ghost use mathlib.Core.Path.{_≡_};
 ghost use Rattle.bus_tick.specs.Tick.{checkedTickOf};
-ghost use Rattle.capi_bus.specs.Hardware.{hardwareGiven};
+ghost use Rattle.capi_bus.specs.TimerLines.{hardwareGiven};
 ghost use Rattle.capi_bus.specs.Answers.{tickOut};
 
 #[repr(C)]

@@ -1,10 +1,10 @@
 // The display unit.
-use display::Durations;
-use display::View;
+use drawing_display::Durations;
+use drawing_display::View;
 ghost use mathlib.Core.Path.{_≡_};
 ghost use Rattle.refusal.specs.Number.{verdictNumber};
-ghost use Rattle.display.specs.Brightness.{viewOf, durationsOf};
-ghost use Rattle.display.specs.Calls.{displayVerdictOf, displayOf, loadTableVerdictOf, loadTableOf};
+ghost use Rattle.drawing_display.specs.Brightness.{viewOf, durationsOf};
+ghost use Rattle.drawing_display.specs.Calls.{displayVerdictOf, displayOf, loadTableVerdictOf, loadTableOf};
 
 pub fn display(
     vram: &[u8],
@@ -26,12 +26,12 @@ pub fn display(
 {
     let view = View { frame, eye, start };
     let durations = Durations { brta, brtb, brtc };
-    refusal::verdict_number(display::display(vram, view, durations, room))
+    refusal::verdict_number(drawing_display::display(vram, view, durations, room))
 }
 
 pub fn load_column_table(vram: &mut [u8]) -> u32
     ensures refusal { λ r. ⌜ r ≡ verdictNumber (loadTableVerdictOf (now (vram .entry))) ⌝ }
     ensures memory { λ _. ⌜ now (vram .exit) ≡ loadTableOf (now (vram .entry)) ⌝ }
 {
-    refusal::verdict_number(display::load_column_table(vram))
+    refusal::verdict_number(drawing_display::load_column_table(vram))
 }

@@ -4,10 +4,10 @@ use Prim.Native.Nat.{ℕ}
 use mathlib.Core.List.{List}
 use mathlib.Core.Path.{_≡_, ap, _∙_}
 use Rattle.bus.specs.Memory.{Memory}
-use Rattle.processor_reads.specs.Reads.{noneOf}
+use Rattle.processor_undefined.specs.Reads.{noneOf}
 use Rattle.processor.specs.Calls.{Done, Ran, checkedStepOf, checkedRunOf}
 use Rattle.processor.specs.declared.Processor.{Processor}
-use Rattle.replay.specs.Calls.{Replayed, checkedReplayOf}
+use Rattle.processor_replay.specs.Calls.{Replayed, checkedReplayOf}
 use Rattle.capi_processor.specs.Execution.{undefinedOut, stepGives, stepDone, stepAt, runGives, runDone, runAt}
 use Rattle.capi_processor.specs.Misuse.{misuseAt}
 use Rattle.capi_processor.specs.Record.{processorIn}

@@ -10,8 +10,8 @@ use Rattle.processor_machine.specs.declared.Answer.{Answer}
 use Rattle.processor_machine.specs.declared.Answer.the-variants.{Ended, Trapped, Interrupted, TurnedFatal, WasHalted}
 use Rattle.processor_machine.specs.declared.Answer.the-variants.{WasFatal, Refused}
 use Rattle.processor_interrupt.specs.Interrupt.{interruptCodeOf}
-use Rattle.processor_reads.specs.Reads.{noneOf}
-use Rattle.processor_reads.specs.declared.Undefined.{Undefined}
+use Rattle.processor_undefined.specs.Reads.{noneOf}
+use Rattle.processor_undefined.specs.declared.Undefined.{Undefined}
 use Rattle.processor.specs.Acceptance.{acceptanceIn}
 use Rattle.processor.specs.Calls.{Done, Ran, checkedStepOf, checkedRunOf}
 use Rattle.capi_bus.specs.Misuse.{misuseNumber}

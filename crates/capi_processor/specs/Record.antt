@@ -5,7 +5,7 @@ use Rattle.word.specs.Choose.{pick}
 use Rattle.processor_machine.specs.declared.Mode.{Mode}
 use Rattle.processor_machine.specs.declared.Mode.the-variants.{Running, Halted, Fatal}
 use Rattle.processor.specs.declared.Processor.{Processor}
-use Rattle.capi_bus.specs.Hardware.{hardwareGiven, hardwareOut}
+use Rattle.capi_bus.specs.TimerLines.{hardwareGiven, hardwareOut}
 use Rattle.capi_processor.specs.declared.record.VbProcessor.{VbProcessor}
 
 -- VB_RUNNING, VB_HALTED and VB_FATAL

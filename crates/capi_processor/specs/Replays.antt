@@ -7,9 +7,9 @@ use Rattle.word.specs.Choose.{pick}
 use Rattle.refusal.specs.Number.{numberOf}
 use Rattle.bus.specs.Memory.{Memory}
 use Rattle.processor.specs.Acceptance.{acceptanceIn}
-use Rattle.replay.specs.declared.End.{End}
-use Rattle.replay.specs.declared.End.the-variants.{Refused, Agreed, Differed, WasHalted, WasFatal, TurnedFatal}
-use Rattle.replay.specs.Calls.{Replayed, checkedReplayOf}
+use Rattle.processor_replay.specs.declared.End.{End}
+use Rattle.processor_replay.specs.declared.End.the-variants.{Refused, Agreed, Differed, WasHalted, WasFatal, TurnedFatal}
+use Rattle.processor_replay.specs.Calls.{Replayed, checkedReplayOf}
 use Rattle.capi_processor.specs.Record.{processorIn, processorOut}
 use Rattle.capi_bus.specs.Misuse.{misuseNumber}
 use Rattle.capi_processor.specs.declared.record.VbProcessor.{VbProcessor}

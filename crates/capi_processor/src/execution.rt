@@ -6,7 +6,7 @@ use crate::record::processor_out;
 use bus::Drawing;
 use capi_bus::accesses::VbDrawing;
 use processor_machine::Answer;
-use processor_reads::Undefined;
+use processor_undefined::Undefined;
 use refusal::number;
 use refusal::verdict_number;
 ghost use mathlib.Core.Path.{_≡_};

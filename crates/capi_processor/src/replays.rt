@@ -5,8 +5,8 @@ use crate::record::processor_in;
 use crate::record::processor_out;
 use bus::Drawing;
 use capi_bus::accesses::VbDrawing;
+use processor_replay::End;
 use refusal::number;
-use replay::End;
 ghost use mathlib.Core.Path.{_≡_};
 ghost use Rattle.bus.specs.Lent.{enteringWith, leavingWith};
 ghost use Rattle.capi_processor.specs.Replays.{endRefusal, endNumber, endWord, replayGives, replayAt};
@@ -88,7 +88,7 @@ pub fn replay(
     }
     let regs = drawing.regs;
     let p = processor_in(processor);
-    let s = replay::calls::replay(rom, wram, vram, pak, p, Drawing { regs }, trace);
+    let s = processor_replay::calls::replay(rom, wram, vram, pak, p, Drawing { regs }, trace);
     let end = s.end;
     let after = s.processor;
     let device = s.drawing.regs;

@@ -10,8 +10,8 @@ use Rattle.refusal.specs.declared.Verdict.the-variants.{Accepted}
 use Rattle.processor_machine.specs.State.{stateOf, Stepped}
 use Rattle.processor_step.specs.Step.{stepOf, fetchedOf}
 use Rattle.processor_step.specs.declared.step.Fetched.{Fetched}
-use Rattle.processor_reads.specs.Reads.{readOf, undefinedWhen, undefinedStepOf}
-use Rattle.processor_reads.specs.declared.Undefined.{Undefined}
+use Rattle.processor_undefined.specs.Reads.{readOf, undefinedWhen, undefinedStepOf}
+use Rattle.processor_undefined.specs.declared.Undefined.{Undefined}
 use Rattle.processor.specs.Record.{systemIn, lentOf, processorOf}
 use Rattle.processor.specs.Acceptance.{acceptanceAt, acceptanceIn}
 use Rattle.processor.specs.Run.{Run, runOf}

@@ -1,4 +1,4 @@
 mod Follows
 mod Lengths
 mod Checked
-mod Quickly
+mod FastSteps

@@ -7,8 +7,8 @@ use Rattle.refusal.specs.declared.Verdict.{Verdict}
 use Rattle.refusal.specs.declared.Verdict.the-variants as verdict
 use Rattle.processor_machine.specs.State.{stateOf}
 use Rattle.processor_step.specs.Step.{stepOf}
-use Rattle.processor_reads.specs.Reads.{noneOf, undefinedStepOf}
-use Rattle.processor_reads.specs.declared.Undefined.{Undefined}
+use Rattle.processor_undefined.specs.Reads.{noneOf, undefinedStepOf}
+use Rattle.processor_undefined.specs.declared.Undefined.{Undefined}
 use Rattle.processor_machine.specs.declared.Mode.the-variants.{Running}
 use Rattle.processor_machine.specs.declared.Answer.{Answer}
 use Rattle.processor_machine.specs.declared.Answer.the-variants.{Refused}

@@ -87,7 +87,7 @@ pub fn step(
     ) {
         Verdict::Refused(n) => Stepped {
             answer: Answer::Refused(n),
-            undefined: processor_reads::none(),
+            undefined: processor_undefined::none(),
             processor,
             drawing,
         },
@@ -108,7 +108,7 @@ pub fn step(
             let fetched = t.fetched;
             let answer = c.answer;
             let before = processor.regs;
-            let undefined = processor_reads::masks(answer, pc, fetched, &before);
+            let undefined = processor_undefined::masks(answer, pc, fetched, &before);
             let mode = c.mode;
             let processor = joined(regs, sys, c.pc, c.psw, mode, &device);
             let registers = drawing_in(&device);

@@ -6,10 +6,10 @@ pub mod record;
 mod run;
 
 use bus::Drawing;
-use bus_timer::Hardware;
+use bus_timer::TimerLines;
 use processor_machine::Answer;
 use processor_machine::Mode;
-use processor_reads::Undefined;
+use processor_undefined::Undefined;
 use refusal::Verdict;
 
 // The processor's record; the request lines and the timer are its last field.
@@ -26,7 +26,7 @@ pub struct Processor {
     pub sr29: u32,
     pub sr31: u32,
     pub mode: Mode,
-    pub hardware: Hardware,
+    pub hardware: TimerLines,
 }
 
 // What a step did, which bytes that it read are undefined, and both records afterwards.

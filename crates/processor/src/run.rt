@@ -3,11 +3,11 @@ use crate::After;
 use crate::Finished;
 use bus::Device;
 use bus::LINES_PLACE;
+use processor_fast::Progress;
+use processor_fast::stretch::stretch;
 use processor_interrupt::acceptance::accepts;
 use processor_machine::Answer;
 use processor_machine::Mode;
-use processor_quick::Progress;
-use processor_quick::stretch::stretch;
 use processor_step::step;
 use refusal::Verdict;
 ghost use mathlib.Core.Path.{_≡_};
@@ -34,7 +34,7 @@ fn after(answer: Answer) -> After
 }
 
 // The common instructions at PC, as long as there are any: in running mode, where no interrupt is accepted.
-fn quick(
+fn fast(
     rom: &[u8],
     wram: &mut [u8],
     vram: &mut [u8],
@@ -91,7 +91,7 @@ pub fn run(
     let mut mode = mode;
     let mut n: u64 = 0;
     while n < budget {
-        let q = quick(
+        let q = fast(
             rom,
             wram,
             vram,

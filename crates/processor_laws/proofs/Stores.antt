@@ -7,7 +7,7 @@ use lib.Dec.{eqb}
 use lib.ListN.{set}
 use Rattle.word.proofs.Extended.{extend-word}
 use Rattle.bus_timer.specs.Ports.{tlr, thr, tcr, controlBitsOf, portByteOf}
-use Rattle.bus_timer.specs.declared.Hardware.{Hardware}
+use Rattle.bus_timer.specs.declared.TimerLines.{TimerLines}
 use Rattle.bus_timer.proofs.Mask.{control-sum}
 use Rattle.bus.specs.Registers.{hardwareIn}
 use Rattle.bus.specs.Place.{Place, vramAt, wramAt, pakAt, romAt, drawingAt, versionAt, silent, unlisted, unmapped, hardwareAt, soundUnit, nothing, expansion}
@@ -90,7 +90,7 @@ stored-memories m w a v h =
       verdict = shape-accepted m n p (h .verdict);
     }
 
-port-small : (h : Hardware) (o : ℕ) → portByteOf h o < 256
+port-small : (h : TimerLines) (o : ℕ) → portByteOf h o < 256
 unfolding portByteOf
 port-small h o =
     let low : h .count % 256 < 256 = omega arith in

@@ -29,7 +29,7 @@ pub struct Fetched {
 }
 
 // What a step leaves beside the lent registers and memories, and what it fetched. Which bytes of that are undefined is
-// left to the one who asks (the crate processor_reads): a run does not.
+// left to the one who asks (the crate processor_undefined): a run does not.
 pub struct Performed {
     pub control: Control,
     pub fetched: Fetched,

@@ -9,7 +9,7 @@ use lib.ListN.{length, getD, take, drop, replicate, length-append, length-take, 
 use lib.ListN.{length-replicate, getD-replicate, List·getD-eq-default}
 use lib.Seq.{drop-cons, getD-drop, getD-take, take-all}
 use Rattle.word.specs.LittleEndian.{halfAt}
-use Rattle.bus_timer.specs.declared.Hardware.{Hardware}
+use Rattle.bus_timer.specs.declared.TimerLines.{TimerLines}
 use Rattle.bus.specs.Memory.{Memory, memoryOf}
 use Rattle.processor_machine.specs.declared.Mode.{Mode}
 use Rattle.processor_machine.specs.declared.Mode.the-variants.{Running, Halted, Fatal}
@@ -99,7 +99,7 @@ drawing-back regs l small =
 half-joined : (h : ℕ) → h < 65536 → h % 256 + 256 * (h / 256 % 256) ≡ h
 half-joined h l = omega arith
 
-pub lines-back : (h : Hardware) → ((k : ℕ) → getD (linesOf h) k 0 < 65536) → hardwareFrom (bytesOf (linesOf h)) ≡ h
+pub lines-back : (h : TimerLines) → ((k : ℕ) → getD (linesOf h) k 0 < 65536) → hardwareFrom (bytesOf (linesOf h)) ≡ h
 unfolding hardwareFrom linesOf bytesOf
 lines-back h small =
     rw (
@@ -109,7 +109,7 @@ lines-back h small =
       half-joined (h .control) (small 3),
     )
 
-pub lines-size : (h : Hardware) → length (bytesOf (linesOf h)) ≡ 8
+pub lines-size : (h : TimerLines) → length (bytesOf (linesOf h)) ≡ 8
 unfolding linesOf bytesOf
 lines-size h = refl
 
@@ -154,15 +154,15 @@ unfolding elementsFrom
 elements zero xs k e = sym (drop-of-length-le xs {i = k} (omega arith))
 elements (suc n) xs k e = rw (elements n xs (suc k) (omega arith)) (sym (drop-cons xs k 0 (omega arith)))
 
-rest-again : (regs xs : List ℕ) (h : Hardware) → length xs ≡ 11 → getD xs 10 0 ≤ 2 → restOf (restoredProcessorOf regs xs h) ≡ xs
+rest-again : (regs xs : List ℕ) (h : TimerLines) → length xs ≡ 11 → getD xs 10 0 ≤ 2 → restOf (restoredProcessorOf regs xs h) ≡ xs
 unfolding restOf restoredProcessorOf elementsFrom
 rest-again regs xs h l s = rw (mode-again (getD xs 10 0) s) (elements 11 xs 0 (omega arith))
 
-regs-again : (regs xs : List ℕ) (h : Hardware) → restoredProcessorOf regs xs h .regs ≡ regs
+regs-again : (regs xs : List ℕ) (h : TimerLines) → restoredProcessorOf regs xs h .regs ≡ regs
 unfolding restoredProcessorOf
 regs-again regs xs h = refl
 
-hardware-again : (regs xs : List ℕ) (h : Hardware) → restoredProcessorOf regs xs h .hardware ≡ h
+hardware-again : (regs xs : List ℕ) (h : TimerLines) → restoredProcessorOf regs xs h .hardware ≡ h
 unfolding restoredProcessorOf
 hardware-again regs xs h = refl
 
@@ -176,18 +176,18 @@ module _ (body : List ℕ) (bytes : (k : ℕ) → getD body k 0 < 256) where
   unfolding restFrom
   length-rest-from = length-words-from body 128 11
 
-  words-are : (h : Hardware) → getD (restFrom body) 10 0 ≤ 2
+  words-are : (h : TimerLines) → getD (restFrom body) 10 0 ≤ 2
       → recordWordsOf (restoredProcessorOf (generalFrom body) (restFrom body) h) ≡ generalFrom body ++ restFrom body
   unfolding recordWordsOf
   words-are h s =
       ap (λ (xs : List ℕ). xs ++ restOf (restoredProcessorOf (generalFrom body) (restFrom body) h)) (regs-again (generalFrom body) (restFrom body) h)
       ∙ ap (λ (xs : List ℕ). generalFrom body ++ xs) (rest-again (generalFrom body) (restFrom body) h length-rest-from s)
 
-  pub words-held : (h : Hardware) → getD (restFrom body) 10 0 ≤ 2 → recordWordsOf (restoredProcessorOf
+  pub words-held : (h : TimerLines) → getD (restFrom body) 10 0 ≤ 2 → recordWordsOf (restoredProcessorOf
       (generalFrom body) (restFrom body) h) ≡ wordsFrom body 0 43
   words-held h s = words-are h s ∙ words-joined
 
-  pub processor-again : (h : Hardware) → length body ≡ 172 → getD (restFrom body) 10 0 ≤ 2
+  pub processor-again : (h : TimerLines) → length body ≡ 172 → getD (restFrom body) 10 0 ≤ 2
       → bytesOf (halvesOf (recordWordsOf (restoredProcessorOf (generalFrom body) (restFrom body) h))) ≡ body
   processor-again h l s =
       ap (λ (xs : List ℕ). bytesOf (halvesOf xs)) (words-held h s)
@@ -211,7 +211,7 @@ pub bodies-again : (b : Bodies) (rom : List ℕ) → SizedBodies b → ((k : ℕ
 unfolding machineBodiesOf processorInBodies memoryIn
 bodies-again b rom s u v w mode =
     bodies-same (processor-again (b .processor) u (hardwareFrom (b .hardware)) (s .processor) mode) (drawing-again (b .drawing) v (s .drawing)) refl refl refl
-    (ap (λ (h : Hardware). bytesOf (linesOf h)) (hardware-again (generalFrom (b .processor)) (restFrom (b .processor)) (hardwareFrom (b .hardware)))
+    (ap (λ (h : TimerLines). bytesOf (linesOf h)) (hardware-again (generalFrom (b .processor)) (restFrom (b .processor)) (hardwareFrom (b .hardware)))
     ∙ lines-again (b .hardware) w (s .hardware))
 
 -- the bytes of a part of a file, and of zeros

@@ -11,7 +11,7 @@ use lib.Dec.{leb}
 use lib.ListN.{length, getD, take, drop, replicate, List·getD-eq-default}
 use Rattle.word.specs.LittleEndian.{halfAt, wordAt}
 use Rattle.refusal.specs.declared.Verdict.the-variants.{Accepted}
-use Rattle.bus_timer.specs.declared.Hardware.{Hardware}
+use Rattle.bus_timer.specs.declared.TimerLines.{TimerLines}
 use Rattle.bus.specs.Registers.{drawingOk}
 use Rattle.bus.specs.Memory.{Memory, memoryOf, Lengths}
 use Rattle.processor.specs.Record.{systemIn}

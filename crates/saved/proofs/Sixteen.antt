@@ -3,7 +3,7 @@ use Prim.Native.Nat.{ℕ, _<_}
 use mathlib.Core.Bool.{Bool, true, false}
 use mathlib.Core.Path.{_≡_, refl, sym, ap, _∙_}
 use lib.ListN.{getD, replicate}
-use Rattle.bus_timer.specs.declared.Hardware.{Hardware}
+use Rattle.bus_timer.specs.declared.TimerLines.{TimerLines}
 use Rattle.saved_bytes.specs.Numbers.{bytesOf}
 use Rattle.saved_bytes.proofs.Reading.{same-equal, same-self}
 use Rattle.saved_layout.specs.File.{hardwareReset}
@@ -20,7 +20,7 @@ both-true true b f g = sym (f refl)
 both-true false true f g = g refl
 both-true false false f g = refl
 
-module _ (h : Hardware) (halves : (k : ℕ) → getD (linesOf h) k 0 < 65536) where
+module _ (h : TimerLines) (halves : (k : ℕ) → getD (linesOf h) k 0 < 65536) where
   body-held : formHolds One (linesOf h) ≡ true → holdsBodyOk One (bytesOf (linesOf h)) ≡ true
   unfolding formHolds
   body-held e = rw (zeros-bytes (linesOf h) (same-equal (linesOf h) (replicate 4 0) e)) (same-self hardwareReset)
@@ -30,7 +30,7 @@ module _ (h : Hardware) (halves : (k : ℕ) → getD (linesOf h) k 0 < 65536) wh
   lines-held e =
       let back : hardwareFrom hardwareReset ≡ h
       = ap hardwareFrom (sym (same-equal (bytesOf (linesOf h)) hardwareReset e)) ∙ lines-back h halves in
-      ap (λ (g : Hardware). formHolds One (linesOf g)) (sym back)
+      ap (λ (g : TimerLines). formHolds One (linesOf g)) (sym back)
 
 pub sixteen-agrees : SixteenAgrees
 unfolding formHolds

@@ -7,7 +7,7 @@ use mathlib.Core.List.{List, [], _∷_, _++_}
 use lib.Dec.{eqb}
 use lib.ListN.{getD}
 use Rattle.word.specs.Choose.{pick}
-use Rattle.bus_timer.specs.declared.Hardware.{Hardware}
+use Rattle.bus_timer.specs.declared.TimerLines.{TimerLines}
 use Rattle.bus.specs.Memory.{Memory, memoryOf}
 use Rattle.processor_machine.specs.declared.Mode.{Mode}
 use Rattle.processor_machine.specs.declared.Mode.the-variants.{Running, Halted, Fatal}
@@ -46,7 +46,7 @@ unfoldable pub recordWordsOf : Processor → List ℕ
 recordWordsOf p = p .regs ++ restOf p
 
 -- kind 6's halfwords
-unfoldable pub linesOf : Hardware → List ℕ
+unfoldable pub linesOf : TimerLines → List ℕ
 linesOf h = h .lines ∷ h .count ∷ h .reload ∷ h .control ∷ []
 
 -- the bodies of a machine
@@ -56,7 +56,7 @@ machineBodiesOf p m =
     (bytesOf (linesOf (p .hardware)))
 
 -- the record of the general registers, the eleven words, and the lines and the timer
-unfoldable pub restoredProcessorOf : List ℕ → List ℕ → Hardware → Processor
+unfoldable pub restoredProcessorOf : List ℕ → List ℕ → TimerLines → Processor
 restoredProcessorOf regs rest hardware =
     record {
       regs = regs;

@@ -10,7 +10,7 @@ use Rattle.refusal.specs.Number.{unless, whenAccepted, thenOf}
 use Rattle.refusal.specs.declared.Verdict.{Verdict}
 use Rattle.refusal.specs.declared.Verdict.the-variants.{Accepted, Refused}
 use Rattle.refusal.specs.declared.Refusal.the-variants.{FileLength, FileBytes, NotAtReset}
-use Rattle.bus_timer.specs.declared.Hardware.{Hardware}
+use Rattle.bus_timer.specs.declared.TimerLines.{TimerLines}
 use Rattle.bus.specs.Memory.{Memory}
 use Rattle.processor.specs.Acceptance.{acceptanceIn}
 use Rattle.processor.specs.declared.Processor.{Processor}
@@ -46,7 +46,7 @@ unfoldable pub formHolds : Form → List ℕ → Bool
 formHolds One lines = sameOf lines (replicate 4 0)
 formHolds Two lines = true
 
-abbrev pub holdsOk : Form → Hardware → Bool
+abbrev pub holdsOk : Form → TimerLines → Bool
 holdsOk form h = formHolds form (linesOf h)
 
 -- a writing call's verdict: 1 to 5, 9, 16; and the room afterwards

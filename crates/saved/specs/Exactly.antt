@@ -7,7 +7,7 @@ use mathlib.Core.List.{List}
 use mathlib.Core.Path.{_≡_}
 use lib.ListN.{length, getD}
 use Rattle.refusal.specs.declared.Verdict.the-variants.{Accepted}
-use Rattle.bus_timer.specs.declared.Hardware.{Hardware}
+use Rattle.bus_timer.specs.declared.TimerLines.{TimerLines}
 use Rattle.bus.specs.Memory.{Memory, memoryOf}
 use Rattle.processor.specs.Acceptance.{acceptanceIn}
 use Rattle.processor.specs.declared.Processor.{Processor}
@@ -70,5 +70,5 @@ MoveWrites =
 -- 16 of a writer is 16 of a move: a form holds lines and timer exactly where it holds their body
 abbrev pub SixteenAgrees : Type 0
 SixteenAgrees =
-    (form : Form) (h : Hardware) → ((k : ℕ) → getD (linesOf h) k 0 < 65536)
+    (form : Form) (h : TimerLines) → ((k : ℕ) → getD (linesOf h) k 0 < 65536)
     → holdsOk form h ≡ holdsBodyOk form (bytesOf (linesOf h))

@@ -1,6 +1,6 @@
 // The records of a machine as the words and halfwords of a file.
 use bus::DrawingRegisters;
-use bus_timer::Hardware;
+use bus_timer::TimerLines;
 use bus_timer::record;
 use processor::Processor;
 use processor_machine::Mode;
@@ -61,7 +61,7 @@ pub fn rest(p: Processor) -> [u32; 11]
 }
 
 // The four halfwords of lines and timer.
-pub fn lines(h: Hardware) -> [u16; 4]
+pub fn lines(h: TimerLines) -> [u16; 4]
     ensures { λ r. ⌜ r ≡ linesOf h ⌝ }
 {
     [h.lines, h.count, h.reload, h.control]
@@ -89,7 +89,7 @@ pub fn holds(form: Form, lines: [u16; 4]) -> bool
 }
 
 // The record of the general registers, the eleven words, and lines and timer.
-fn processor_of(regs: [u32; 32], rest: [u32; 11], hardware: Hardware) -> Processor
+fn processor_of(regs: [u32; 32], rest: [u32; 11], hardware: TimerLines) -> Processor
     ensures { λ r. ⌜ r ≡ restoredProcessorOf regs rest hardware ⌝ }
 {
     let mode = mode_of(rest[10]);
@@ -111,7 +111,7 @@ fn processor_of(regs: [u32; 32], rest: [u32; 11], hardware: Hardware) -> Process
 }
 
 // The record of a body of kind 1.
-fn processor(body: &[u8], hardware: Hardware) -> Processor
+fn processor(body: &[u8], hardware: TimerLines) -> Processor
     requires { ⌜ length (now body) ≡ 172 ⌝ }
     ensures { λ r. ⌜
         r ≡ restoredProcessorOf (generalFrom (now (body .entry))) (restFrom (now (body .entry))) hardware
@@ -125,7 +125,7 @@ fn processor(body: &[u8], hardware: Hardware) -> Processor
 }
 
 // The lines and the timer that a file holds: at reset in form 1.
-fn hardware(form: Form, file: &[u8], pak: usize) -> Hardware
+fn hardware(form: Form, file: &[u8], pak: usize) -> TimerLines
     requires { ⌜ (length (now file) ≡ fileLengthOf form pak) × (pak ≤ 16777216) ⌝ }
     ensures { λ r. ⌜ r ≡ hardwareFrom (bodiesIn form pak (now (file .entry)) .hardware) ⌝ }
 {

@@ -10,7 +10,7 @@ use Rattle.word.specs.LittleEndian.{halfAt}
 use Rattle.bus.specs.Registers.{drawingOk}
 use Rattle.bus_timer.specs.Record.{hardwareOf}
 use Rattle.bus_timer.specs.Ports.{hardwareOk}
-use Rattle.bus_timer.specs.declared.Hardware.{Hardware}
+use Rattle.bus_timer.specs.declared.TimerLines.{TimerLines}
 use Rattle.processor.specs.Acceptance.{both, stateOk}
 use Rattle.saved_bytes.specs.Numbers.{halvesFrom, wordsFrom}
 use Rattle.saved_layout.specs.File.{Bodies, bodiesIn, contentsOk}
@@ -53,7 +53,7 @@ unfoldable pub drawingBodyOk : List ℕ → Bool
 drawingBodyOk body = drawingOk (drawingFrom body)
 
 -- kind 6: request lines, timer count, reload, control bits
-unfoldable pub hardwareFrom : List ℕ → Hardware
+unfoldable pub hardwareFrom : List ℕ → TimerLines
 hardwareFrom body = hardwareOf (halfAt body 0) (halfAt body 2) (halfAt body 4) (halfAt body 6)
 
 unfoldable pub hardwareBodyOk : List ℕ → Bool

@@ -1,6 +1,6 @@
 // Whether a body is one that a writer makes for some accepted state, and the same of a whole file. WRAM, VRAM and pak
 // RAM are free.
-use bus_timer::Hardware;
+use bus_timer::TimerLines;
 use bus_timer::record;
 use saved_bytes::numbers;
 use saved_layout::Form;
@@ -50,7 +50,7 @@ pub fn drawing_ok(body: &[u8]) -> bool
 }
 
 // The request lines and the timer of kind 6.
-pub fn hardware(body: &[u8]) -> Hardware
+pub fn hardware(body: &[u8]) -> TimerLines
     requires { ⌜ length (now body) ≡ 8 ⌝ }
     ensures { λ r. ⌜ r ≡ hardwareFrom (now (body .entry)) ⌝ }
 {

@@ -4,7 +4,7 @@ use mathlib.Core.Path.{_∙_}
 use denote.Ref.{now}
 use Rattle.bus.specs.Registers.{deviceOf}
 use Rattle.bus.specs.Memory.{memoryOf}
-use Rattle.capi_bus.specs.Hardware.{hardwareGiven}
+use Rattle.capi_bus.specs.TimerLines.{hardwareGiven}
 use Rattle.capi_bus.proofs.Listing.{list-misused, list-done}
 use Rattle.capi_bus.proofs.lists.access_list.Statement.{statement}
 use Rattle.capi_bus.proofs.lists.access_list.Tie as tie

@@ -23,11 +23,11 @@ abbrev μ-loop : tie.MeasureT-loop
 loop-holds : tie.Need-loop-holds Inv-loop μ-loop
 loop-holds c = (follows-start _ _ _, refl, refl, refl)
 
-sub-quick : tie.Need-sub-quick Inv-loop μ-loop
-sub-quick c = omega (arith, c .before .before .before .before .before .before .loop-test .taken)
+sub-fast : tie.Need-sub-fast Inv-loop μ-loop
+sub-fast c = omega (arith, c .before .before .before .before .before .before .loop-test .taken)
 
-quick-requires : tie.Need-quick-requires Inv-loop μ-loop
-quick-requires c κs =
+fast-requires : tie.Need-fast-requires Inv-loop μ-loop
+fast-requires c κs =
     let pre = c .before .before .before .before .before .before .before .before .before .before .before .before .pre in
     let i = c .before .before .before .before .before .before .before .loop .inv in
     record { rom-ok = pre .rom-ok; wram-ok = i .1 ∙ pre .wram-ok; vram-ok = i .2 ∙ pre .vram-ok; pak-ok = rw (i .3) (pre .pak-ok) }
@@ -37,19 +37,19 @@ add-n c = omega (
   arith,
   c .before .before .before .before .before .before .before .before .before .before .before
       .before .loop-test .taken,
-  c .before .before .before .before .before .quick .ensures .within,
+  c .before .before .before .before .before .fast .ensures .within,
   c .before .before
       .before .before .before .before .before .before .before .before .before .before .before .before .before .before
       .before .before .fits .budget,
 )
 
 same-length : tie.Need-same-length Inv-loop μ-loop
-same-length c = c .before .before .before .before .before .before .quick .kept .1 .0
+same-length c = c .before .before .before .before .before .before .fast .kept .1 .0
     ∙ c .before .before .before .before .before .before .before .before .before .before .before .before .before .before
     .loop .inv .1
 
 same-length-2 : tie.Need-same-length-2 Inv-loop μ-loop
-same-length-2 c = c .before .before .before .before .before .before .quick .kept .1 .1 .0
+same-length-2 c = c .before .before .before .before .before .before .fast .kept .1 .1 .0
     ∙ c .before .before .before .before .before .before .before .before .before .before .before .before .before .before
     .loop .inv .2
 
@@ -66,7 +66,7 @@ returns c =
       c .before .before .before .before .before .before .before .before .before .before .before .before
           .before .loop-test .taken,
     ) in
-    let f = follows-on _ _ _ _ _ _ (l .inv .0) (a .budget - l .n) _ _ _ e (c .before .before .before .before .before .before .quick .ensures) in
+    let f = follows-on _ _ _ _ _ _ (l .inv .0) (a .budget - l .n) _ _ _ e (c .before .before .before .before .before .before .fast .ensures) in
     follows-finished _ _ _ _ _ _ f (c .if1 .taken)
 
 step-requires : tie.Need-step-requires Inv-loop μ-loop
@@ -75,7 +75,7 @@ step-requires c κs =
     .before .before .before .before .before .before .before .before .before .before .before .before .pre in
     let i = c .before .before .before .before .before .before .before .before .before .before .before .before .before
     .before .before .before .before .before .before .before .loop .inv in
-    let k = c .before .before .before .before .before .before .before .before .before .before .before .before .quick .kept .1 in
+    let k = c .before .before .before .before .before .before .before .before .before .before .before .before .fast .kept .1 in
     record { rom-ok = pre .rom-ok; wram-ok = k .0 ∙ i .1 ∙ pre .wram-ok; vram-ok = k .1 .0 ∙ i .2 ∙ pre .vram-ok; pak-ok = rw (i .3) (pre .pak-ok) }
 
 after-requires : tie.Need-after-requires Inv-loop μ-loop
@@ -118,10 +118,10 @@ loop-again c =
     ) in
     let f = follows-on _ _ _ _ _ _ (l .inv .0) (a .budget - l .n) _ _ _ e
     (c .before .before .before .before .before .before .before .before .before .before .before .before .before
-    .before .before .before .before .before .before .before .before .before .before .quick .ensures) in
+    .before .before .before .before .before .before .before .before .before .before .fast .ensures) in
     let s = c .before .before .before .before .before .before .before .before .before .before .step in
     let q = c .before .before .before .before .before .before .before .before .before .before .before .before .before
-    .before .before .before .before .before .before .before .before .before .before .quick .kept .1 in (
+    .before .before .before .before .before .before .before .before .before .before .fast .kept .1 in (
       follows-counted _ _ _ _ _ _ f (c .before .before .before .before .before .before .before .before .before .before
           .before .before .before .before .before .before .before .if1 .left) _ (s .ensures .0) (sym
           (c .before .before .after .ensures) ∙ c .enum-told .given .1),
@@ -136,7 +136,7 @@ enum-known-verdict c = c .match .keys2
 same-length-4 : tie.Need-same-length-4 Inv-loop μ-loop
 same-length-4 c = c .before .before .before .before .before .before .before .before .before .before .before .step .kept
     .1 .0 ∙ c .before .before .before .before .before .before .before .before .before .before .before .before .before
-    .before .before .before .before .before .before .before .before .before .before .before .quick .kept .1 .0
+    .before .before .before .before .before .before .before .before .before .before .before .fast .kept .1 .0
     ∙ c .before .before .before .before .before .before .before .before .before .before .before .before .before .before
     .before .before .before .before .before .before .before .before .before .before .before .before .before .before
     .before .before .before .before .loop .inv .1
@@ -144,7 +144,7 @@ same-length-4 c = c .before .before .before .before .before .before .before .bef
 same-length-5 : tie.Need-same-length-5 Inv-loop μ-loop
 same-length-5 c = c .before .before .before .before .before .before .before .before .before .before .before .step .kept
     .1 .1 .0 ∙ c .before .before .before .before .before .before .before .before .before .before .before .before .before
-    .before .before .before .before .before .before .before .before .before .before .before .quick .kept .1 .1 .0
+    .before .before .before .before .before .before .before .before .before .before .before .fast .kept .1 .1 .0
     ∙ c .before .before .before .before .before .before .before .before .before .before .before .before .before .before
     .before .before .before .before .before .before .before .before .before .before .before .before .before .before
     .before .before .before .before .loop .inv .2
@@ -171,7 +171,7 @@ returns-2 c =
     ) in
     let f = follows-on _ _ _ _ _ _ (l .inv .0) (a .budget - l .n) _ _ _ e
     (c .before .before .before .before .before .before .before .before .before .before .before .before .before
-    .before .before .before .before .before .before .before .before .before .before .before .quick .ensures) in
+    .before .before .before .before .before .before .before .before .before .before .before .fast .ensures) in
     follows-stopped _ _ _ _ _ _ f (c .before .before .before .before .before .before .before .before .before .before
     .before .before .before .before .before .before .before .before .if1 .left) _ _
     (c .before .before .before .before .before .before .before .before .before .before .before .step .ensures .0)
@@ -196,8 +196,8 @@ run-spec =
     Inv-loop
     μ-loop
     loop-holds
-    sub-quick
-    quick-requires
+    sub-fast
+    fast-requires
     add-n
     same-length
     same-length-2

@@ -4,7 +4,7 @@ use Prim.Native.Nat.{_+_, _-_}
 use mathlib.Core.List.{List}
 use Prim.Native.Nat.{ℕ}
 use mathlib.Core.Path.{_≡_, refl, ap, _∙_}
-use Rattle.bus_timer.specs.declared.Hardware.{Hardware}
+use Rattle.bus_timer.specs.declared.TimerLines.{TimerLines}
 use Rattle.saved_layout.specs.File.{bodiesIn}
 use Rattle.saved_kinds.specs.Kinds.{generalFrom, restFrom}
 use Rattle.saved_layout.proofs.Positions.{length-is}
@@ -26,7 +26,7 @@ returns c = (c .processor .ensures)
     ((c .before .before .before .before .before .args .file .now)) ((c .before .before .before .first .ensures .0))
     ((c .before .before .before .first .result)) (((c .before .before .before .first .result)) + 172 -
     ((c .before .before .before .first .result))) refl (omega arith))
-    ∙ ap (λ (h : Hardware). restoredProcessorOf (generalFrom (bodiesIn
+    ∙ ap (λ (h : TimerLines). restoredProcessorOf (generalFrom (bodiesIn
     ((c .before .before .before .before .before .args .form))
     ((c .before .before .before .before .before .args .pak))
     ((c .before .before .before .before .before .args .file .now)) .processor)) (restFrom (bodiesIn

@@ -1,0 +1,165 @@
+-- Where an address leads in VRAM, by its region and the 19 bits that the VIP keeps. Assumes nothing.
+use Prim.Native.Nat.{ℕ, zero, suc, _+_, _-_, _*_, _/_, _%_, _^_, _<_, _≤_}
+use mathlib.Core.Bool.{Bool, true, false}
+use mathlib.Core.List.{List, [], _∷_}
+use mathlib.Core.Path.{_≡_, refl, sym, ap, _∙_}
+use native.Mathlib.Decide.{ℕ-discrete, decLt}
+use native.Mathlib.Omega.{arith}
+use lib.ListN.{getD}
+use lib.Dec.{ltb, eqb}
+use borrow.Author.Tests.{lt-ltb, le-ltb}
+use Rattle.word.specs.Choose.{pick, member, indexOf}
+use Rattle.bus.specs.Registers.{drawingAddresses, silentAddresses, versionAddress}
+use Rattle.bus.specs.Place.{Place, vramAt, wramAt, pakAt, romAt, drawingAt, versionAt, silent, unlisted, unmapped}
+use Rattle.bus.specs.Place.{hardwareAt, soundUnit, nothing, expansion, registerPlace, mirrorOf, vipPlace, regionOf}
+use Rattle.bus.specs.Place.{placeOf}
+use Rattle.bus.proofs.Places.{region-code, place-vip}
+use Rattle.bus_probe.specs.Probe.{vramIndexOf, targetOf}
+
+-- regions 1 to 7 do not lead to VRAM
+no-vram : (p : Place) (o i j k r : ℕ) → (r ≡ 0 → ⊥)
+    → vramIndexOf (getD (p ∷ soundUnit ∷ hardwareAt o ∷ nothing ∷ expansion ∷ wramAt i ∷ pakAt j ∷ romAt k ∷ []) r nothing)
+    ≡ 0x40000
+no-vram p o i j k zero n = absurd (n refl)
+no-vram p o i j k (suc zero) n = refl
+no-vram p o i j k (suc (suc zero)) n = refl
+no-vram p o i j k (suc (suc (suc zero))) n = refl
+no-vram p o i j k (suc (suc (suc (suc zero)))) n = refl
+no-vram p o i j k (suc (suc (suc (suc (suc zero))))) n = refl
+no-vram p o i j k (suc (suc (suc (suc (suc (suc zero)))))) n = refl
+no-vram p o i j k (suc (suc (suc (suc (suc (suc (suc zero))))))) n = refl
+no-vram p o i j k (suc (suc (suc (suc (suc (suc (suc (suc r)))))))) n = refl
+
+no-register : (k x y : ℕ) (b₁ b₂ b₃ : Bool)
+    → vramIndexOf (pick b₁ (drawingAt k x) (pick b₂ (versionAt y) (pick b₃ silent unlisted))) ≡ 0x40000
+no-register k x y true b₂ b₃ = refl
+no-register k x y false true b₃ = refl
+no-register k x y false false true = refl
+no-register k x y false false false = refl
+
+register-elsewhere : (v : ℕ) → vramIndexOf (registerPlace v) ≡ 0x40000
+unfolding registerPlace
+register-elsewhere v =
+    let h = v - v % 2 in
+    let k = indexOf h drawingAddresses in
+    no-register k (v % 2) (v % 2) (ltb k 13) (eqb h versionAddress) (member h silentAddresses)
+
+module _ (rom pak a : ℕ) where
+  pub elsewhere : (a / 16777216 % 8 ≡ 0 → ⊥) → vramIndexOf (placeOf rom pak a) ≡ 0x40000
+  unfolding placeOf
+  elsewhere n = no-vram _ _ _ _ _ (regionOf a) (λ e. n (region-code a ∙ e))
+
+  pub low : a / 16777216 % 8 ≡ 0 → a % 524288 < 0x40000 → vramIndexOf (placeOf rom pak a) ≡ a % 524288
+  unfolding vipPlace
+  low e h = rw (place-vip rom pak a (sym (region-code a) ∙ e)) (simp (lt-ltb (a % 524288) 0x40000 h))
+
+  pub between : a / 16777216 % 8 ≡ 0 → 0x40000 ≤ a % 524288 → a % 524288 < 0x78000
+      → vramIndexOf (placeOf rom pak a) ≡ 0x40000
+  unfolding vipPlace
+  between e l h =
+      rw (place-vip rom pak a (sym (region-code a) ∙ e))
+      (simp (le-ltb (a % 524288) 0x40000 l, lt-ltb (a % 524288) 0x78000 h)
+      (go (ltb (a % 524288) 0x5E000) (ltb (a % 524288) 0x60000)))
+    where
+      go : (p q : Bool) → vramIndexOf (pick p unmapped (pick q (registerPlace (a % 524288)) unmapped)) ≡ 0x40000
+      go true q = refl
+      go false true = register-elsewhere (a % 524288)
+      go false false = refl
+
+  pub mirrored : a / 16777216 % 8 ≡ 0 → 0x78000 ≤ a % 524288
+      → vramIndexOf (placeOf rom pak a) ≡ mirrorOf (a % 524288 - 0x78000)
+  unfolding vipPlace
+  mirrored e l =
+      let p : 0x40000 ≤ a % 524288 = omega arith in
+      let q : 0x5E000 ≤ a % 524288 = omega arith in
+      let r : 0x60000 ≤ a % 524288 = omega arith in
+      rw (place-vip rom pak a (sym (region-code a) ∙ e))
+      (simp (le-ltb (a % 524288) 0x40000 p, le-ltb (a % 524288) 0x5E000 q, le-ltb (a % 524288) 0x60000 r, le-ltb (a % 524288) 0x78000 l))
+
+-- the target from what the code finds for the aligned address
+module _ (rom pak a at : ℕ) where
+  pub target-byte : at ≡ vramIndexOf (placeOf rom pak a) → at ≡ targetOf rom pak 1 a
+  unfolding targetOf
+  target-byte e =
+      let f : a - a % 1 ≡ a = omega arith in
+      rw f e
+
+  pub target-half : at ≡ vramIndexOf (placeOf rom pak (a - a % 2)) → at ≡ targetOf rom pak 2 a
+  unfolding targetOf
+  target-half e = e
+
+  pub target-word : at ≡ vramIndexOf (placeOf rom pak (a - a % 4)) → at ≡ targetOf rom pak 4 a
+  unfolding targetOf
+  target-word e = e
+
+-- a place that has an index in VRAM is that byte of VRAM
+pub index-place : (p : Place) → vramIndexOf p < 0x40000 → p ≡ vramAt (vramIndexOf p)
+index-place (vramAt i) h = refl
+index-place (wramAt i) h = absurd (omega arith)
+index-place (pakAt i) h = absurd (omega arith)
+index-place (romAt i) h = absurd (omega arith)
+index-place (drawingAt k b) h = absurd (omega arith)
+index-place (versionAt b) h = absurd (omega arith)
+index-place (hardwareAt o) h = absurd (omega arith)
+index-place silent h = absurd (omega arith)
+index-place unlisted h = absurd (omega arith)
+index-place unmapped h = absurd (omega arith)
+index-place soundUnit h = absurd (omega arith)
+index-place nothing h = absurd (omega arith)
+index-place expansion h = absurd (omega arith)
+
+mirror-next : (k j : ℕ) → k % 4 + j < 4 → mirrorOf (k + j) ≡ mirrorOf k + j
+unfolding mirrorOf
+mirror-next k j h =
+    let e : (k + j) / 0x2000 ≡ k / 0x2000 = omega arith in
+    let f : (k + j) % 0x2000 ≡ k % 0x2000 + j = omega arith in
+    rw (e, f) (omega arith)
+
+mirror-word : (k : ℕ) → mirrorOf k % 4 ≡ k % 4
+unfolding mirrorOf
+mirror-word k = omega arith
+
+-- the bytes of a word follow each other in VRAM, and keep their places in the word
+pub record Follows (rom pak s j : ℕ) : Type 0 where
+  pub next : vramIndexOf (placeOf rom pak (s + j)) ≡ vramIndexOf (placeOf rom pak s) + j
+  pub in-word : vramIndexOf (placeOf rom pak s) % 4 ≡ s % 4
+
+pub follows : (rom pak s j : ℕ) → s % 4 + j < 4 → vramIndexOf (placeOf rom pak s) < 0x40000 → Follows rom pak s j
+follows rom pak s j h i =
+    elim (ℕ-discrete (s / 16777216 % 8) 0) [
+      | no n ↦ absurd (omega (arith, elsewhere rom pak s n))
+      | yes e ↦ elim (decLt (s % 524288) 0x40000) [
+        | yes l ↦ below e l
+        | no l ↦ elim (decLt (s % 524288) 0x78000) [
+          | yes m ↦ absurd (omega (arith, between rom pak s e (omega arith) m))
+          | no m ↦ above e (omega arith)
+        ]
+      ]
+    ]
+  where
+    next-index : (s + j) % 524288 ≡ s % 524288 + j
+    next-index = omega arith
+
+    next-region : s / 16777216 % 8 ≡ 0 → (s + j) / 16777216 % 8 ≡ 0
+    next-region e = omega arith
+
+    below : s / 16777216 % 8 ≡ 0 → s % 524288 < 0x40000 → Follows rom pak s j
+    below e l =
+        record {
+          next =
+              low rom pak (s + j) (next-region e) (rw next-index (omega arith))
+              ∙ next-index
+              ∙ ap (λ n. n + j) (sym (low rom pak s e l));
+          in-word = rw (low rom pak s e l) (omega arith);
+        }
+
+    above : s / 16777216 % 8 ≡ 0 → 0x78000 ≤ s % 524288 → Follows rom pak s j
+    above e l =
+        let k : s % 524288 + j - 0x78000 ≡ s % 524288 - 0x78000 + j = omega arith in
+        record {
+          next =
+              mirrored rom pak (s + j) (next-region e) (rw next-index (omega arith))
+              ∙ rw (next-index, k) (mirror-next (s % 524288 - 0x78000) j (omega arith))
+              ∙ ap (λ n. n + j) (sym (mirrored rom pak s e l));
+          in-word = rw (mirrored rom pak s e l, mirror-word (s % 524288 - 0x78000)) (omega arith);
+        }

@@ -1,0 +1,25 @@
+-- `processor_fast_move::transfer::load_word`: its own case.
+use Rattle.processor_execute.specs.Execute.{executeOf}
+use Rattle.processor_fast_compute.proofs.Results.{after-two, two-even, value-does}
+use borrow.Author.Needs.{needs}
+use Rattle.processor_fast_move.proofs.transfer.load_word.Statement.{statement}
+use Rattle.processor_fast_move.proofs.transfer.load_word.Tie as tie
+
+returns : tie.Need-returns
+unfolding executeOf
+returns c = (
+  λ base psw sys even aligned.
+      let a = c .before .before .before .before .before .before .before .before .before .before .args in
+      rw (c .loaded .ensures .1, c .before .after-two .ensures)
+      (value-does base (a .x) psw _ _ _ sys (a .flags) _ _ _ (after-two base (a .x)) (two-even (a .x) aligned) _
+      (rw (c .before .before .before .word .ensures .means, c .before .before .before .before .address .ensures) at (c .loaded .ensures .0))),
+  λ base psw sys even aligned.
+      let a = c .before .before .before .before .before .before .before .before .before .before .args in
+      rw (c .loaded .ensures .1, c .before .after-two .ensures)
+      (value-does base (a .x) psw _ _ _ sys (a .flags) _ _ _ (after-two base (a .x)) (two-even (a .x) aligned) _
+      (rw (c .before .before .before .word .ensures .means, c .before .before .before .before .address .ensures) at (c .loaded .ensures .0))),
+)
+
+pub load-word-spec : {M : Type 1} → statement M
+load-word-spec =
+    tie.close (tie.spec (λ c κs. search needs) (λ c κs. search needs) (λ c κs. search needs) (λ c κs. search needs) returns)

@@ -1,0 +1,35 @@
+-- `processor_fast_move::transfer::put_byte`: to WRAM, to VRAM, or nothing.
+use mathlib.Core.Path.{_≡_, refl, sym, ap, _∙_}
+use denote.Ref.{now}
+use Rattle.bus.specs.Memory.{memoryOf}
+use Rattle.processor_fast_move.proofs.Stores.{byte-wram, byte-vram}
+use borrow.Author.Needs.{needs}
+use Rattle.processor_fast_move.proofs.transfer.put_byte.Statement.{statement}
+use Rattle.processor_fast_move.proofs.transfer.put_byte.Tie as tie
+
+returns : tie.Need-returns
+returns c = λ rom pak device.
+    let a = c .before .args in
+    sym (byte-wram (memoryOf rom (now (a .wram)) (now (a .vram)) pak device) (a .a) (a .v) (c .if1 .taken))
+
+returns-2 : tie.Need-returns-2
+returns-2 c = λ rom pak device.
+    let a = c .before .before .before .args in
+    sym (byte-vram (memoryOf rom (now (a .wram)) (now (a .vram)) pak device) (a .a) (a .v) (c .before .if2 .taken) (c .if3 .taken))
+
+pub put-byte-spec : {M : Type 1} → statement M
+put-byte-spec =
+    tie.close
+    (tie.spec
+    (λ c. search needs)
+    (λ c. search needs)
+    (λ c. search needs)
+    (λ c. search needs)
+    returns
+    (λ c. search needs)
+    (λ c. search needs)
+    (λ c. search needs)
+    (λ c. search needs)
+    returns-2
+    (λ c. search needs)
+    (λ c. search needs))

@@ -1,0 +1,184 @@
+// Bcond, two conditions to a function as the opcodes pair them, and the jumps.
+use processor_fast_compute::Fast;
+use processor_fast_compute::field::after_one;
+use processor_fast_compute::field::after_two;
+use processor_fast_compute::field::extend9;
+use processor_fast_compute::field::extend26;
+use processor_fast_compute::field::reg1;
+use processor_lazy_flags::Flags;
+use processor_lazy_flags::condition;
+use processor_machine::register::put;
+ghost use mathlib.Core.Path.{_≡_};
+ghost use mathlib.Core.Bool.{true, false};
+ghost use mathlib.Core.List.{List};
+ghost use Prim.Native.Nat.{ℕ, _+_, _*_, _/_, _%_, _^_, _<_};
+ghost use Rattle.word.specs.Choose.{pick};
+ghost use Rattle.word.specs.Extend.{extendOf};
+ghost use Rattle.bus.specs.Memory.{Memory};
+ghost use Rattle.processor_decode.specs.Format as format;
+ghost use Rattle.processor_decode.specs.declared.Decoded as decoded;
+ghost use Rattle.processor_decode.specs.declared.Instruction as instruction;
+ghost use Rattle.processor_fast_compute.specs.Fast.{Computes, PerformsAt};
+
+// To the target, or on.
+fn branch(taken: bool, f: u32, x: u32, flags: Flags) -> Fast
+    ensures { λ r. ⌜
+        r ≡ Fast.Done (pick taken ((x + extendOf 256 (f % 512 / 2 * 2)) % 2 ^ 32) ((x + 2) % 2 ^ 32))
+        (flags .wide) (flags .ov)
+        ⌝ }
+{
+    if taken {
+        let to = std::num::wrapping_add_u32(x, extend9(f % 512 / 2 * 2));
+        return Fast::Done {
+            x: to,
+            wide: flags.wide,
+            ov: flags.ov,
+        };
+    }
+    Fast::Done {
+        x: after_one(x),
+        wide: flags.wide,
+        ov: flags.ov,
+    }
+}
+
+// V and C.
+pub fn overflow_carry(f: u32, x: u32, flags: Flags) -> Fast
+    requires { ⌜ f / 1024 ≡ 32 ⌝ }
+    ensures { λ r. ⌜ ((regs : List ℕ) → Computes false (format.branch f) r x flags regs regs) ⌝ }
+{
+    if f / 512 % 2 == 0 {
+        return branch(condition::overflowed(flags), f, x, flags);
+    }
+    branch(condition::carry(flags), f, x, flags)
+}
+
+// Z and NH.
+pub fn zero_not_higher(f: u32, x: u32, flags: Flags) -> Fast
+    requires { ⌜ f / 1024 ≡ 33 ⌝ }
+    ensures { λ r. ⌜ ((regs : List ℕ) → Computes false (format.branch f) r x flags regs regs) ⌝ }
+{
+    if f / 512 % 2 == 0 {
+        return branch(condition::zero(flags), f, x, flags);
+    }
+    branch(!condition::higher(flags), f, x, flags)
+}
+
+// N and T.
+pub fn negative_always(f: u32, x: u32, flags: Flags) -> Fast
+    requires { ⌜ f / 1024 ≡ 34 ⌝ }
+    ensures { λ r. ⌜ ((regs : List ℕ) → Computes false (format.branch f) r x flags regs regs) ⌝ }
+{
+    if f / 512 % 2 == 0 {
+        return branch(condition::negative(flags), f, x, flags);
+    }
+    branch(true, f, x, flags)
+}
+
+// LT and LE.
+pub fn less(f: u32, x: u32, flags: Flags) -> Fast
+    requires { ⌜ f / 1024 ≡ 35 ⌝ }
+    ensures { λ r. ⌜ ((regs : List ℕ) → Computes false (format.branch f) r x flags regs regs) ⌝ }
+{
+    if f / 512 % 2 == 0 {
+        return branch(condition::less(flags), f, x, flags);
+    }
+    branch(!condition::greater(flags), f, x, flags)
+}
+
+// NV and NC.
+pub fn no_overflow_no_carry(f: u32, x: u32, flags: Flags) -> Fast
+    requires { ⌜ f / 1024 ≡ 36 ⌝ }
+    ensures { λ r. ⌜ ((regs : List ℕ) → Computes false (format.branch f) r x flags regs regs) ⌝ }
+{
+    if f / 512 % 2 == 0 {
+        return branch(!condition::overflowed(flags), f, x, flags);
+    }
+    branch(!condition::carry(flags), f, x, flags)
+}
+
+// NZ and H.
+pub fn not_zero_higher(f: u32, x: u32, flags: Flags) -> Fast
+    requires { ⌜ f / 1024 ≡ 37 ⌝ }
+    ensures { λ r. ⌜ ((regs : List ℕ) → Computes false (format.branch f) r x flags regs regs) ⌝ }
+{
+    if f / 512 % 2 == 0 {
+        return branch(!condition::zero(flags), f, x, flags);
+    }
+    branch(condition::higher(flags), f, x, flags)
+}
+
+// P and F.
+pub fn positive_never(f: u32, x: u32, flags: Flags) -> Fast
+    requires { ⌜ f / 1024 ≡ 38 ⌝ }
+    ensures { λ r. ⌜ ((regs : List ℕ) → Computes false (format.branch f) r x flags regs regs) ⌝ }
+{
+    if f / 512 % 2 == 0 {
+        return branch(!condition::negative(flags), f, x, flags);
+    }
+    branch(false, f, x, flags)
+}
+
+// GE and GT.
+pub fn greater(f: u32, x: u32, flags: Flags) -> Fast
+    requires { ⌜ f / 1024 ≡ 39 ⌝ }
+    ensures { λ r. ⌜ ((regs : List ℕ) → Computes false (format.branch f) r x flags regs regs) ⌝ }
+{
+    if f / 512 % 2 == 0 {
+        return branch(!condition::less(flags), f, x, flags);
+    }
+    branch(condition::greater(flags), f, x, flags)
+}
+
+pub fn jmp(regs: &[u32; 32], base: u32, f: u32, x: u32, flags: Flags) -> Fast
+    ensures { λ r. ⌜
+        ((m : Memory)
+        → PerformsAt base false (decoded.Decoded.Modelled (instruction.Instruction.Jmp (f % 32))) r x flags
+        (now (regs .entry)) m (now (regs .entry)) m)
+        ⌝ }
+{
+    let t = reg1(regs, f);
+    let to = std::num::wrapping_sub_u32(t - t % 2, base);
+    Fast::Done {
+        x: to,
+        wide: flags.wide,
+        ov: flags.ov,
+    }
+}
+
+// Index x plus the displacement.
+fn target(f: u32, s: u32, x: u32) -> u32
+    requires { ⌜ s < 65536 ⌝ }
+    ensures { λ r. ⌜ r ≡ (x + format.dispOf f s) % 2 ^ 32 ⌝ }
+{
+    let disp = extend26(f % 1024 * 65536 + s / 2 * 2);
+    std::num::wrapping_add_u32(x, disp)
+}
+
+pub fn jr(f: u32, s: u32, x: u32, flags: Flags) -> Fast
+    requires { ⌜ s < 65536 ⌝ }
+    ensures { λ r. ⌜ ((regs : List ℕ) → Computes true (format.jr f s) r x flags regs regs) ⌝ }
+{
+    let to = target(f, s, x);
+    Fast::Done {
+        x: to,
+        wide: flags.wide,
+        ov: flags.ov,
+    }
+}
+
+pub fn jal(regs: &mut [u32; 32], base: u32, f: u32, s: u32, x: u32, flags: Flags) -> Fast
+    requires { ⌜ s < 65536 ⌝ }
+    ensures { λ r. ⌜
+        ((m : Memory) → PerformsAt base true (format.jal f s) r x flags (now (regs .entry)) m (now (regs .exit)) m)
+        ⌝ }
+{
+    let link = std::num::wrapping_add_u32(base, after_two(x));
+    put(regs, 31, link);
+    let to = target(f, s, x);
+    Fast::Done {
+        x: to,
+        wide: flags.wide,
+        ov: flags.ov,
+    }
+}

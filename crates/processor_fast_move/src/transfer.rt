@@ -1,0 +1,358 @@
+// Load and Input, Store and Output. A store that goes neither to WRAM nor to VRAM as it stands is left to the step.
+use bus::Device;
+use processor_decode::Width;
+use processor_fast_compute::Fast;
+use processor_fast_compute::field::after_two;
+use processor_fast_compute::field::extend8;
+use processor_fast_compute::field::extend16;
+use processor_fast_compute::field::reg1;
+use processor_fast_compute::field::reg2;
+use processor_lazy_flags::Flags;
+use processor_machine::register::put;
+ghost use mathlib.Core.Path.{_≡_};
+ghost use mathlib.Core.Bool.{true};
+ghost use mathlib.Core.List.{List};
+ghost use Prim.Native.Nat.{ℕ, _/_, _%_, _<_};
+ghost use lib.ListN.{length, getD};
+ghost use Rattle.bus.specs.Refusal.{vramBytes};
+ghost use Rattle.word.specs.Choose.{pick};
+ghost use Rattle.word.specs.Extend.{extendOf};
+ghost use Rattle.bus.specs.Memory.{memoryOf, Lengths, storeOf};
+ghost use Rattle.bus.specs.Lent.{entering};
+ghost use Rattle.processor_decode.specs.Format as format;
+ghost use Rattle.processor_execute.specs.Execute.{plusOf};
+ghost use Rattle.processor_machine.specs.State.{putOf};
+ghost use Rattle.processor_fast_compute.specs.Fast.{Performs};
+
+// The effective address.
+fn address(regs: &[u32; 32], f: u32, s: u32) -> u32
+    requires { ⌜ s < 65536 ⌝ }
+    ensures { λ r. ⌜ r ≡ plusOf (getD (now (regs .entry)) (f % 32 % 32) 0) (extendOf 32768 s) ⌝ }
+{
+    let base = reg1(regs, f);
+    std::num::wrapping_add_u32(base, extend16(s))
+}
+
+// A value that was read, for register n.
+fn loaded(regs: &mut [u32; 32], n: u32, v: u32, x: u32, flags: Flags) -> Fast
+    ensures { λ r. ⌜
+        (now (regs .exit) ≡ putOf (now (regs .entry)) n v) × (r ≡ Fast.Done x (flags .wide) (flags .ov))
+        ⌝ }
+{
+    put(regs, n, v);
+    Fast::Done {
+        x,
+        wide: flags.wide,
+        ov: flags.ov,
+    }
+}
+
+pub fn load_byte(
+    rom: &[u8],
+    wram: &[u8],
+    vram: &[u8],
+    pak: &[u8],
+    device: &Device,
+    regs: &mut [u32; 32],
+    f: u32,
+    s: u32,
+    x: u32,
+    flags: Flags,
+) -> Fast
+    requires { ⌜ Lengths (length (now rom)) (length (now wram)) (length (now vram)) (length (now pak)) × (s < 65536) ⌝ }
+    ensures { λ r. ⌜
+        Performs true (format.load Width.Byte f s) r x flags (now (regs .entry)) (entering rom wram vram pak device)
+        (now (regs .exit)) (entering rom wram vram pak device)
+        ⌝ }
+{
+    let a = address(regs, f, s);
+    let v = bus::load::byte(rom, wram, vram, pak, device, a);
+    let value = extend8(v.value);
+    loaded(regs, f / 32 % 32, value, after_two(x), flags)
+}
+
+pub fn load_half(
+    rom: &[u8],
+    wram: &[u8],
+    vram: &[u8],
+    pak: &[u8],
+    device: &Device,
+    regs: &mut [u32; 32],
+    f: u32,
+    s: u32,
+    x: u32,
+    flags: Flags,
+) -> Fast
+    requires { ⌜ Lengths (length (now rom)) (length (now wram)) (length (now vram)) (length (now pak)) × (s < 65536) ⌝ }
+    ensures { λ r. ⌜
+        Performs true (format.load Width.Half f s) r x flags (now (regs .entry)) (entering rom wram vram pak device)
+        (now (regs .exit)) (entering rom wram vram pak device)
+        ⌝ }
+{
+    let a = address(regs, f, s);
+    let v = bus::load::half(rom, wram, vram, pak, device, a);
+    let value = extend16(v.value);
+    loaded(regs, f / 32 % 32, value, after_two(x), flags)
+}
+
+pub fn load_word(
+    rom: &[u8],
+    wram: &[u8],
+    vram: &[u8],
+    pak: &[u8],
+    device: &Device,
+    regs: &mut [u32; 32],
+    f: u32,
+    s: u32,
+    x: u32,
+    flags: Flags,
+) -> Fast
+    requires { ⌜ Lengths (length (now rom)) (length (now wram)) (length (now vram)) (length (now pak)) × (s < 65536) ⌝ }
+    ensures loads { λ r. ⌜
+        Performs true (format.load Width.Word f s) r x flags (now (regs .entry)) (entering rom wram vram pak device)
+        (now (regs .exit)) (entering rom wram vram pak device)
+        ⌝ }
+    ensures inputs { λ r. ⌜
+        Performs true (format.input Width.Word f s) r x flags (now (regs .entry)) (entering rom wram vram pak device)
+        (now (regs .exit)) (entering rom wram vram pak device)
+        ⌝ }
+{
+    let a = address(regs, f, s);
+    let v = bus::load::word(rom, wram, vram, pak, device, a);
+    let value = v.value;
+    loaded(regs, f / 32 % 32, value, after_two(x), flags)
+}
+
+pub fn input_byte(
+    rom: &[u8],
+    wram: &[u8],
+    vram: &[u8],
+    pak: &[u8],
+    device: &Device,
+    regs: &mut [u32; 32],
+    f: u32,
+    s: u32,
+    x: u32,
+    flags: Flags,
+) -> Fast
+    requires { ⌜ Lengths (length (now rom)) (length (now wram)) (length (now vram)) (length (now pak)) × (s < 65536) ⌝ }
+    ensures { λ r. ⌜
+        Performs true (format.input Width.Byte f s) r x flags (now (regs .entry)) (entering rom wram vram pak device)
+        (now (regs .exit)) (entering rom wram vram pak device)
+        ⌝ }
+{
+    let a = address(regs, f, s);
+    let v = bus::load::byte(rom, wram, vram, pak, device, a);
+    let value = v.value;
+    loaded(regs, f / 32 % 32, value, after_two(x), flags)
+}
+
+pub fn input_half(
+    rom: &[u8],
+    wram: &[u8],
+    vram: &[u8],
+    pak: &[u8],
+    device: &Device,
+    regs: &mut [u32; 32],
+    f: u32,
+    s: u32,
+    x: u32,
+    flags: Flags,
+) -> Fast
+    requires { ⌜ Lengths (length (now rom)) (length (now wram)) (length (now vram)) (length (now pak)) × (s < 65536) ⌝ }
+    ensures { λ r. ⌜
+        Performs true (format.input Width.Half f s) r x flags (now (regs .entry)) (entering rom wram vram pak device)
+        (now (regs .exit)) (entering rom wram vram pak device)
+        ⌝ }
+{
+    let a = address(regs, f, s);
+    let v = bus::load::half(rom, wram, vram, pak, device, a);
+    let value = v.value;
+    loaded(regs, f / 32 % 32, value, after_two(x), flags)
+}
+
+// Whether a byte was stored; nothing changes where it was not.
+fn put_byte(wram: &mut [u8], vram: &mut [u8], a: u32, v: u32) -> bool
+    requires { ⌜ (length (now wram) ≡ 65536) × (length (now vram) ≡ vramBytes) ⌝ }
+    ensures { λ r. ⌜
+        ((rom pak device : List ℕ)
+        → memoryOf rom (now (wram .exit)) (now (vram .exit)) pak device
+        ≡ pick r (storeOf (memoryOf rom (now (wram .entry)) (now (vram .entry)) pak device) 1 a v)
+        (memoryOf rom (now (wram .entry)) (now (vram .entry)) pak device))
+        ⌝ }
+{
+    let region = a / 16777216 % 8;
+    if region == 5 {
+        let i = (a % 65536) as usize;
+        wram[i] = (v % 256) as u8;
+        return true;
+    }
+    if region == 0 {
+        let k = a % 524288;
+        if k < 262144 {
+            let i = (k) as usize;
+            vram[i] = (v % 256) as u8;
+            return true;
+        }
+    }
+    false
+}
+
+pub fn store_byte(
+    wram: &mut [u8],
+    vram: &mut [u8],
+    regs: &[u32; 32],
+    f: u32,
+    s: u32,
+    x: u32,
+    flags: Flags,
+) -> Fast
+    requires { ⌜ (length (now wram) ≡ 65536) × (length (now vram) ≡ vramBytes) × (s < 65536) ⌝ }
+    ensures stores { λ r. ⌜
+        ((rom pak device : List ℕ)
+        → Performs true (format.store Width.Byte f s) r x flags (now (regs .entry))
+        (memoryOf rom (now (wram .entry)) (now (vram .entry)) pak device) (now (regs .entry))
+        (memoryOf rom (now (wram .exit)) (now (vram .exit)) pak device))
+        ⌝ }
+    ensures outputs { λ r. ⌜
+        ((rom pak device : List ℕ)
+        → Performs true (format.output Width.Byte f s) r x flags (now (regs .entry))
+        (memoryOf rom (now (wram .entry)) (now (vram .entry)) pak device) (now (regs .entry))
+        (memoryOf rom (now (wram .exit)) (now (vram .exit)) pak device))
+        ⌝ }
+{
+    let a = address(regs, f, s);
+    let v = reg2(regs, f);
+    if !put_byte(wram, vram, a, v) {
+        return Fast::NotHere;
+    }
+    Fast::Done {
+        x: after_two(x),
+        wide: flags.wide,
+        ov: flags.ov,
+    }
+}
+
+// Whether a half was stored; nothing changes where it was not.
+fn put_half(wram: &mut [u8], vram: &mut [u8], a: u32, v: u32) -> bool
+    requires { ⌜ (length (now wram) ≡ 65536) × (length (now vram) ≡ vramBytes) ⌝ }
+    ensures { λ r. ⌜
+        ((rom pak device : List ℕ)
+        → memoryOf rom (now (wram .exit)) (now (vram .exit)) pak device
+        ≡ pick r (storeOf (memoryOf rom (now (wram .entry)) (now (vram .entry)) pak device) 2 a v)
+        (memoryOf rom (now (wram .entry)) (now (vram .entry)) pak device))
+        ⌝ }
+{
+    let region = a / 16777216 % 8;
+    if region == 5 {
+        let i = (a % 65536 - a % 2) as usize;
+        word::put_half(wram, i, v);
+        return true;
+    }
+    if region == 0 {
+        let k = a % 524288;
+        if k < 262144 {
+            let i = (k - k % 2) as usize;
+            word::put_half(vram, i, v);
+            return true;
+        }
+    }
+    false
+}
+
+pub fn store_half(
+    wram: &mut [u8],
+    vram: &mut [u8],
+    regs: &[u32; 32],
+    f: u32,
+    s: u32,
+    x: u32,
+    flags: Flags,
+) -> Fast
+    requires { ⌜ (length (now wram) ≡ 65536) × (length (now vram) ≡ vramBytes) × (s < 65536) ⌝ }
+    ensures stores { λ r. ⌜
+        ((rom pak device : List ℕ)
+        → Performs true (format.store Width.Half f s) r x flags (now (regs .entry))
+        (memoryOf rom (now (wram .entry)) (now (vram .entry)) pak device) (now (regs .entry))
+        (memoryOf rom (now (wram .exit)) (now (vram .exit)) pak device))
+        ⌝ }
+    ensures outputs { λ r. ⌜
+        ((rom pak device : List ℕ)
+        → Performs true (format.output Width.Half f s) r x flags (now (regs .entry))
+        (memoryOf rom (now (wram .entry)) (now (vram .entry)) pak device) (now (regs .entry))
+        (memoryOf rom (now (wram .exit)) (now (vram .exit)) pak device))
+        ⌝ }
+{
+    let a = address(regs, f, s);
+    let v = reg2(regs, f);
+    if !put_half(wram, vram, a, v) {
+        return Fast::NotHere;
+    }
+    Fast::Done {
+        x: after_two(x),
+        wide: flags.wide,
+        ov: flags.ov,
+    }
+}
+
+// Whether a word was stored; nothing changes where it was not.
+fn put_word(wram: &mut [u8], vram: &mut [u8], a: u32, v: u32) -> bool
+    requires { ⌜ (length (now wram) ≡ 65536) × (length (now vram) ≡ vramBytes) ⌝ }
+    ensures { λ r. ⌜
+        ((rom pak device : List ℕ)
+        → memoryOf rom (now (wram .exit)) (now (vram .exit)) pak device
+        ≡ pick r (storeOf (memoryOf rom (now (wram .entry)) (now (vram .entry)) pak device) 4 a v)
+        (memoryOf rom (now (wram .entry)) (now (vram .entry)) pak device))
+        ⌝ }
+{
+    let region = a / 16777216 % 8;
+    if region == 5 {
+        let i = (a % 65536 - a % 4) as usize;
+        word::put_word(wram, i, v);
+        return true;
+    }
+    if region == 0 {
+        let k = a % 524288;
+        if k < 262144 {
+            let i = (k - k % 4) as usize;
+            word::put_word(vram, i, v);
+            return true;
+        }
+    }
+    false
+}
+
+pub fn store_word(
+    wram: &mut [u8],
+    vram: &mut [u8],
+    regs: &[u32; 32],
+    f: u32,
+    s: u32,
+    x: u32,
+    flags: Flags,
+) -> Fast
+    requires { ⌜ (length (now wram) ≡ 65536) × (length (now vram) ≡ vramBytes) × (s < 65536) ⌝ }
+    ensures stores { λ r. ⌜
+        ((rom pak device : List ℕ)
+        → Performs true (format.store Width.Word f s) r x flags (now (regs .entry))
+        (memoryOf rom (now (wram .entry)) (now (vram .entry)) pak device) (now (regs .entry))
+        (memoryOf rom (now (wram .exit)) (now (vram .exit)) pak device))
+        ⌝ }
+    ensures outputs { λ r. ⌜
+        ((rom pak device : List ℕ)
+        → Performs true (format.output Width.Word f s) r x flags (now (regs .entry))
+        (memoryOf rom (now (wram .entry)) (now (vram .entry)) pak device) (now (regs .entry))
+        (memoryOf rom (now (wram .exit)) (now (vram .exit)) pak device))
+        ⌝ }
+{
+    let a = address(regs, f, s);
+    let v = reg2(regs, f);
+    if !put_word(wram, vram, a, v) {
+        return Fast::NotHere;
+    }
+    Fast::Done {
+        x: after_two(x),
+        wide: flags.wide,
+        ov: flags.ov,
+    }
+}

@@ -1,0 +1,69 @@
+// The conditions of Bcond and SETF, by their numbers.
+use crate::Flags;
+use crate::status::low;
+use crate::status::packed;
+ghost use mathlib.Core.Path.{_≡_};
+ghost use Prim.Native.Nat.{ℕ};
+ghost use Rattle.processor_arithmetic.specs.Condition.{conditionOf};
+ghost use Rattle.processor_lazy_flags.specs.Packed.{packedOf};
+
+// V.
+pub fn overflowed(flags: Flags) -> bool
+    ensures { λ r. ⌜ ((psw : ℕ) → r ≡ conditionOf 0 (packedOf psw flags)) ⌝ }
+{
+    2147483648 <= flags.ov
+}
+
+// C.
+pub fn carry(flags: Flags) -> bool
+    ensures { λ r. ⌜ ((psw : ℕ) → r ≡ conditionOf 1 (packedOf psw flags)) ⌝ }
+{
+    flags.wide / 4294967296 % 2 == 1
+}
+
+// Z.
+pub fn zero(flags: Flags) -> bool
+    ensures { λ r. ⌜ ((psw : ℕ) → r ≡ conditionOf 2 (packedOf psw flags)) ⌝ }
+{
+    low(flags.wide) == 0
+}
+
+// N.
+pub fn negative(flags: Flags) -> bool
+    ensures { λ r. ⌜ ((psw : ℕ) → r ≡ conditionOf 4 (packedOf psw flags)) ⌝ }
+{
+    2147483648 <= low(flags.wide)
+}
+
+// LT.
+pub fn less(flags: Flags) -> bool
+    ensures { λ r. ⌜ ((psw : ℕ) → r ≡ conditionOf 6 (packedOf psw flags)) ⌝ }
+{
+    2147483648 <= low(flags.wide) ^ flags.ov
+}
+
+// H.
+pub fn higher(flags: Flags) -> bool
+    ensures { λ r. ⌜ ((psw : ℕ) → r ≡ conditionOf 11 (packedOf psw flags)) ⌝ }
+{
+    if carry(flags) {
+        return false;
+    }
+    !zero(flags)
+}
+
+// GT.
+pub fn greater(flags: Flags) -> bool
+    ensures { λ r. ⌜ ((psw : ℕ) → r ≡ conditionOf 15 (packedOf psw flags)) ⌝ }
+{
+    if zero(flags) {
+        return false;
+    }
+    !less(flags)
+}
+
+pub fn holds(cond: u32, flags: Flags) -> bool
+    ensures { λ r. ⌜ ((psw : ℕ) → r ≡ conditionOf cond (packedOf psw flags)) ⌝ }
+{
+    processor_arithmetic::condition::holds(cond, packed(0, flags))
+}
