@@ -8,7 +8,7 @@ use mathlib.Core.Bool.{true}
 use mathlib.Core.List.{List}
 use Rattle.drawing_pixel.specs.World.{bgmOf, gyOf, rowsOf, columnsOf, windowLeftOf, worldShownOf}
 use Rattle.drawing_pixel.specs.Background.{sourcePixelOf, sourceXOf, sourceYOf, plainLeftOf, normalYOf, backgroundPixelOf}
-use Rattle.drawing_pixel.specs.Buffer.{Block}
+use Rattle.drawing_pixel.specs.inner.Buffer.{Block}
 use Rattle.drawing_pixel.proofs.Blocks.{block-tall, block-kept}
 use Rattle.drawing_pixel.proofs.Windows.{background-inside, background-left, background-right, background-above, background-below}
 use Rattle.drawing_background.proofs.Modes.{normal-pixel}

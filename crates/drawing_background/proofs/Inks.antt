@@ -10,11 +10,11 @@ use lib.Bits.{bitAnd, bitXor, xor-zero-r}
 use Rattle.word.specs.Choose.{pick}
 use Rattle.drawing_pixel.specs.Signed.{bitSet}
 use Rattle.drawing_pixel.specs.Character.{twoBitsOf, shadeOf, flippedOf, pixelValueOf}
-use Rattle.drawing_pixel.specs.Buffer.{repaintedOf}
+use Rattle.drawing_pixel.specs.inner.Buffer.{repaintedOf}
 use Rattle.drawing_pixel.proofs.Pairs.{below-eight, pair-lt}
 use Rattle.drawing_pixel.proofs.RowBits.{bits-picked, picked-value}
 use Rattle.drawing_pixel.proofs.Masks.{unit-times, kept-of, repainted-sum, repainted-fits}
-use Rattle.drawing_background.specs.Row.{inksOf}
+use Rattle.drawing_background.specs.inner.Row.{inksOf}
 
 -- a flag as the bits that its flip turns
 pub bits-of : (b : ℕ) → b < 2 → 7 * b ≡ pick (eqb b 1) 7 0

@@ -9,7 +9,7 @@ use lib.Dec.{ltb}
 use borrow.Author.Tests.{lt-leb, le-leb, le-ltb, lt-ltb, eq-eqb, ne-eqb}
 use Rattle.drawing_pixel.specs.World.{scxOf, scyOf, overOf}
 use Rattle.drawing_pixel.specs.Background.{insideOf, cellAddressOf, mapCellAddressOf, mapNumberOf, mapsAcrossOf}
-use Rattle.drawing_background.specs.Row.{MapsOf}
+use Rattle.drawing_background.specs.inner.Row.{MapsOf}
 
 pub outside-left : (w : List ℕ) (u v : ℕ) → u < 1048576 → false ≡ insideOf w u v
 unfolding insideOf

@@ -8,7 +8,7 @@ use borrow.Author.Tests.{eq-eqb, ne-eqb}
 use Rattle.drawing_pixel.specs.World.{bgmOf, myOf}
 use Rattle.drawing_pixel.specs.Background.{sourceXOf, sourceYOf, normalXOf, normalYOf, biasXOf, affineXOf, affineYOf}
 use Rattle.drawing_pixel.specs.Background.{plainLeftOf, affineParameterOf, affineShiftOf, affineFloorOf, sourcePixelOf}
-use Rattle.drawing_background.specs.Row.{rowBiasOf}
+use Rattle.drawing_background.specs.inner.Row.{rowBiasOf}
 
 module _ (vram w : List ℕ) (eye i j k : ℕ) where
   module _ (affine : 2 ≤ bgmOf w) where

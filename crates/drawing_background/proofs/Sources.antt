@@ -11,8 +11,8 @@ use Rattle.bus.specs.Registers.{gpltOf}
 use Rattle.drawing_pixel.specs.Signed.{bitSet}
 use Rattle.drawing_pixel.specs.Character.{shadeOf, pixelValueOf, flippedOf, rowAddressOf, cellPixelOf, twoBitsOf}
 use Rattle.drawing_pixel.specs.Background.{cellAddressOf, sourceCellAddressOf, sourcePixelOf, affineFloorOf}
-use Rattle.drawing_pixel.specs.Buffer.{repaintedOf, Block}
-use Rattle.drawing_background.specs.Row.{affineSumOf, CellAt}
+use Rattle.drawing_pixel.specs.inner.Buffer.{repaintedOf, Block}
+use Rattle.drawing_background.specs.inner.Row.{affineSumOf, CellAt}
 use Rattle.drawing_background.proofs.Powers.{product-lt}
 use Rattle.drawing_pixel.proofs.Blocks.{block-change}
 

@@ -2,7 +2,7 @@
 ghost use mathlib.Core.Path.{_≡_};
 ghost use Prim.Native.Nat.{_+_, _*_, _-_, _%_, _<_, _≤_, _^_, min};
 ghost use Rattle.drawing_pixel.specs.Background.{cellAddressOf, insideOf, mapNumberOf, mapCellAddressOf};
-ghost use Rattle.drawing_background.specs.Row.{MapsOf};
+ghost use Rattle.drawing_background.specs.inner.Row.{MapsOf};
 use drawing_pixel::field::wide;
 
 // The low k bits of a number.

@@ -5,7 +5,7 @@ ghost use mathlib.Core.Bool.{Bool};
 ghost use Prim.Native.Nat.{_*_, _/_, _%_, _^_, _<_, _≤_};
 ghost use Rattle.word.specs.Choose.{pick};
 ghost use Rattle.drawing_pixel.specs.Character.{flippedOf};
-ghost use Rattle.drawing_background.specs.Row.{inksOf};
+ghost use Rattle.drawing_background.specs.inner.Row.{inksOf};
 
 // A position of 0 to 7, mirrored where the flip's bits are set.
 pub fn turned(k: usize, bits: usize) -> usize

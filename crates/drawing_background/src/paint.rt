@@ -7,7 +7,7 @@ ghost use Rattle.bus.specs.Refusal.{vramBytes};
 ghost use Rattle.word.specs.LittleEndian.{halfAt};
 ghost use Rattle.drawing_pixel.specs.Character.{rowAddressOf, pixelValueOf, shadeOf};
 ghost use Rattle.drawing_pixel.specs.Background.{cellAddressOf, sourcePixelOf};
-ghost use Rattle.drawing_pixel.specs.Buffer.{Span, Block};
+ghost use Rattle.drawing_pixel.specs.inner.Buffer.{Span, Block};
 use crate::cell::cell_address;
 use drawing_pixel::character::row_address;
 use drawing_pixel::field::half;

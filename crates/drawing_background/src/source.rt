@@ -5,7 +5,7 @@ ghost use lib.ListN.{length};
 ghost use Rattle.bus.specs.Refusal.{vramBytes};
 ghost use Rattle.drawing_pixel.specs.Background.{parameterAddressOf, parameterOf, plainLeftOf, normalYOf, biasIndexOf};
 ghost use Rattle.drawing_pixel.specs.Background.{affineShiftOf, affineFloorOf, affineParameterOf};
-ghost use Rattle.drawing_background.specs.Row.{affineSumOf};
+ghost use Rattle.drawing_background.specs.inner.Row.{affineSumOf};
 use drawing_pixel::field::half;
 use drawing_pixel::field::wide;
 

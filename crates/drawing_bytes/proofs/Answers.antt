@@ -10,10 +10,10 @@ use Rattle.refusal.specs.declared.Refusal.the-variants.{VramLength, State}
 use Rattle.bus.specs.Refusal.{vramOk}
 use Rattle.bus.specs.Registers.{drawingOk}
 use Rattle.drawing_laws.specs.PixelBytes.{pixelBytesOf}
-use Rattle.drawing_laws.specs.SourceBytes.{sourceBytesOf}
+use Rattle.drawing_laws.specs.inner.SourceBytes.{sourceBytesOf}
 use Rattle.drawing_laws.proofs.PixelBytes.{listed-formula}
 use Rattle.drawing_bytes.specs.declared.Listed.the-variants.{Count, Refused, Outside}
-use Rattle.drawing_bytes.specs.Room.{Listing}
+use Rattle.drawing_bytes.specs.inner.Room.{Listing}
 use Rattle.drawing_bytes.specs.Calls.{inImageOf, bytesVerdictOf, listedOf, roomOf}
 use Rattle.drawing_bytes.proofs.Listings.{sets-filled}
 

@@ -14,9 +14,9 @@ use Rattle.drawing_pixel.specs.Object.{objectOf, objectShownOf, objectRowOf, ob
 use Rattle.drawing_pixel.specs.Pixel.{counterAfterOf, drawsObjectsOf, counterOf}
 use Rattle.drawing_laws.specs.Covers.{inGroupOf}
 use Rattle.drawing_laws.specs.PixelBytes.{halfBytesOf, amongOf}
-use Rattle.drawing_laws.specs.SourceBytes.{worldDrawsOf, worldsDrawOf, objectBytesOf, objectsBytesOf}
+use Rattle.drawing_laws.specs.inner.SourceBytes.{worldDrawsOf, worldsDrawOf, objectBytesOf, objectsBytesOf}
 use Rattle.drawing_laws.proofs.Groups.{in-group-among, among-in-group}
-use Rattle.drawing_bytes.specs.Groups.{reachedObjectWorldsOf, inGroupsOf, objectListOf}
+use Rattle.drawing_bytes.specs.inner.Groups.{reachedObjectWorldsOf, inGroupsOf, objectListOf}
 
 -- two tests that imply each other
 same-test : (a b : Bool) → (a ≡ true → b ≡ true) → (b ≡ true → a ≡ true) → a ≡ b

@@ -16,8 +16,8 @@ use Rattle.drawing_pixel.specs.Background.{normalYOf, biasXOf, affineShiftOf, a
 use Rattle.drawing_pixel.specs.Background.{affineXOf, affineYOf, sourceXOf, sourceYOf, cellAddressOf}
 use Rattle.drawing_pixel.specs.Background.{sourceCellAddressOf}
 use Rattle.drawing_laws.specs.PixelBytes.{halfBytesOf, affineBytesOf, parameterBytesOf}
-use Rattle.drawing_laws.specs.SourceBytes.{cellBytesOf, backgroundBytesOf, worldBytesOf}
-use Rattle.drawing_bytes.specs.Room.{Listing}
+use Rattle.drawing_laws.specs.inner.SourceBytes.{cellBytesOf, backgroundBytesOf, worldBytesOf}
+use Rattle.drawing_bytes.specs.inner.Room.{Listing}
 use Rattle.drawing_bytes.proofs.Listings.{listing-more, listing-as}
 
 module _ (vram w : List ℕ) (eye i j : ℕ) where

@@ -9,8 +9,8 @@ use borrow.Author.Tests.{eq-eqb, ne-eqb}
 use Rattle.word.specs.Choose.{pick}
 use Rattle.drawing_pixel.specs.World.{worldOf, endOf, skippedOf, bgmOf}
 use Rattle.drawing_pixel.specs.Pixel.{drawsObjectsOf}
-use Rattle.drawing_laws.specs.SourceBytes.{worldBytesOf, worldsBytesOf}
-use Rattle.drawing_bytes.specs.Groups.{reachedObjectWorldsOf}
+use Rattle.drawing_laws.specs.inner.SourceBytes.{worldBytesOf, worldsBytesOf}
+use Rattle.drawing_bytes.specs.inner.Groups.{reachedObjectWorldsOf}
 
 module _ (vram : List ℕ) where
   module _ (eye x y : ℕ) where

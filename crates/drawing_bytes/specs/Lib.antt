@@ -1,3 +1,2 @@
-pub mod Room
-pub mod Groups
 pub mod Calls
+pub mod inner

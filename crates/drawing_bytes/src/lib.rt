@@ -13,8 +13,8 @@ ghost use Prim.Native.Nat.{ℕ, _<_};
 ghost use lib.ListN.{length};
 ghost use Rattle.bus.specs.Refusal.{vramBytes};
 ghost use Rattle.bus.specs.Registers.{sptOf};
-ghost use Rattle.drawing_laws.specs.SourceBytes.{sourceBytesOf};
-ghost use Rattle.drawing_bytes.specs.Room.{Lists};
+ghost use Rattle.drawing_laws.specs.inner.SourceBytes.{sourceBytesOf};
+ghost use Rattle.drawing_bytes.specs.inner.Room.{Lists};
 ghost use Rattle.drawing_bytes.specs.Calls.{listedOf, roomOf};
 
 // How many addresses the list has, why there is none, or that no image has the pixel, which the papers have no

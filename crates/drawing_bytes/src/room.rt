@@ -2,7 +2,7 @@
 ghost use Prim.Native.Nat.{_<_};
 ghost use mathlib.Core.List.{[], _∷_};
 ghost use Rattle.drawing_laws.specs.PixelBytes.{halfBytesOf};
-ghost use Rattle.drawing_bytes.specs.Room.{Lists};
+ghost use Rattle.drawing_bytes.specs.inner.Room.{Lists};
 
 // An address into word n; answers the number of the next word.
 pub fn put(room: &mut [u32], n: usize, a: usize) -> usize

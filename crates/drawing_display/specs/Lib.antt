@@ -1,5 +1,5 @@
 pub mod Brightness
 pub mod ColumnTable
 pub mod Calls
-pub mod Room
 pub mod Shown
+pub mod inner

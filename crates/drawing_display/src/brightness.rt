@@ -12,7 +12,7 @@ ghost use Rattle.word.specs.LittleEndian.{halfAt};
 ghost use Rattle.drawing_pixel.specs.Character.{twoBitsOf};
 ghost use Rattle.drawing_display.specs.Brightness.{timeOf, lampLevelOf, repeatsOf};
 ghost use Rattle.drawing_display.specs.Calls.{shownOf};
-ghost use Rattle.drawing_display.specs.Room.{Levels, Column, Columns, pixelIn};
+ghost use Rattle.drawing_display.specs.inner.Room.{Levels, Column, Columns, pixelIn};
 
 // How long a shade is lit.
 fn time(durations: Durations, shade: usize) -> usize

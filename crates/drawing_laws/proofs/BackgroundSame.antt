@@ -13,7 +13,7 @@ use Rattle.drawing_pixel.specs.Background.{affineXOf, affineYOf, sourceXOf, sou
 use Rattle.drawing_pixel.specs.Background.{sourcePixelOf, backgroundPixelOf}
 use Rattle.drawing_laws.specs.Demand3.{Each, SameByte}
 use Rattle.drawing_laws.specs.PixelBytes.{halfBytesOf, affineBytesOf, parameterBytesOf}
-use Rattle.drawing_laws.specs.SourceBytes.{cellBytesOf, backgroundBytesOf}
+use Rattle.drawing_laws.specs.inner.SourceBytes.{cellBytesOf, backgroundBytesOf}
 use Rattle.drawing_laws.proofs.Each.{each-left, each-right}
 use Rattle.word.proofs.Choices.{pick-same}
 use Rattle.drawing_laws.proofs.Halfwords.{half-same}

@@ -14,7 +14,7 @@ use Rattle.drawing_pixel.specs.Pixel.{drawsObjectsOf, counterOf}
 use Rattle.drawing_pixel.proofs.Painting.{object-covered}
 use Rattle.drawing_laws.specs.Covers.{noEndOf, reachedOf, objectWorldsOf, groupOf, inGroupOf, drawsOverOf, someBelow, objectCoversPixelOf}
 use Rattle.drawing_laws.specs.PixelBytes.{amongOf}
-use Rattle.drawing_laws.specs.SourceBytes.{worldDrawsOf, worldsDrawOf}
+use Rattle.drawing_laws.specs.inner.SourceBytes.{worldDrawsOf, worldsDrawOf}
 use Rattle.word.proofs.Choices.{and-left, and-right, and-both, or-left, or-right, or-cases}
 use Rattle.drawing_laws.proofs.Groups.{in-group-among, object-worlds-below, counter-step}
 use Rattle.drawing_laws.proofs.DrawnCovers.{no-end-more, group-is}

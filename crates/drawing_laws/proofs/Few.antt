@@ -13,8 +13,8 @@ use Rattle.drawing_pixel.specs.Background.{parameterAddressOf, biasIndexOf, sou
 use Rattle.drawing_pixel.specs.Object.{objectOf}
 use Rattle.drawing_laws.specs.Covers.{noEndOf, reachedOf, backgroundCoversOf, objectCoversPixelOf, countBelow, coveringWorldsOf, coveringObjectsOf}
 use Rattle.drawing_laws.specs.PixelBytes.{halfBytesOf, affineBytesOf, parameterBytesOf}
-use Rattle.drawing_laws.specs.SourceBytes.{cellBytesOf, backgroundBytesOf, worldBytesOf, worldsBytesOf}
-use Rattle.drawing_laws.specs.SourceBytes.{worldsDrawOf, objectBytesOf, objectsBytesOf, sourceBytesOf}
+use Rattle.drawing_laws.specs.inner.SourceBytes.{cellBytesOf, backgroundBytesOf, worldBytesOf, worldsBytesOf}
+use Rattle.drawing_laws.specs.inner.SourceBytes.{worldsDrawOf, objectBytesOf, objectsBytesOf, sourceBytesOf}
 use Rattle.drawing_laws.specs.Demand3.{Few}
 use Rattle.drawing_pixel.proofs.Painting.{world-covers}
 use Rattle.drawing_laws.proofs.PixelBytes.{listed-formula}

@@ -8,7 +8,7 @@ use native.Mathlib.Omega.{arith}
 use borrow.Author.Tests.{ltb-true, le-ltb}
 use Rattle.drawing_laws.specs.Demand3.{SameByte, SameTables, PixelOutsideImages}
 use Rattle.drawing_laws.specs.Drawn.{inImagesOf}
-use Rattle.drawing_laws.specs.SourceBytes.{sourceBytesOf}
+use Rattle.drawing_laws.specs.inner.SourceBytes.{sourceBytesOf}
 use Rattle.drawing_laws.proofs.Each.{each-map}
 use Rattle.drawing_laws.proofs.Registers.{spt-below}
 use Rattle.drawing_laws.proofs.ListedAddresses.{Clear, listed-clear}

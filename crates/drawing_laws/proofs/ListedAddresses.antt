@@ -13,7 +13,7 @@ use Rattle.drawing_pixel.specs.Background.{parameterAddressOf, insideOf, mapNum
 use Rattle.drawing_laws.proofs.PixelBytes.{listed-formula}
 use Rattle.drawing_laws.specs.Demand3.{Each, ListedInVram}
 use Rattle.drawing_laws.specs.PixelBytes.{halfBytesOf}
-use Rattle.drawing_laws.specs.SourceBytes.{sourceBytesOf}
+use Rattle.drawing_laws.specs.inner.SourceBytes.{sourceBytesOf}
 use Rattle.drawing_laws.proofs.ListedBytes.{listed-each}
 
 -- an address is clear of every image: past the images, or in the last quarter of its 0x8000 bytes

@@ -17,9 +17,9 @@ use Rattle.drawing_pixel.specs.Object.{groupCountOf, objectOf, objectRowOf, obj
 use Rattle.drawing_pixel.specs.Pixel.{counterOf, drawsObjectsOf}
 use Rattle.drawing_laws.specs.Demand3.{Each}
 use Rattle.drawing_laws.specs.PixelBytes.{halfBytesOf, amongOf, affineBytesOf, parameterBytesOf}
-use Rattle.drawing_laws.specs.SourceBytes.{cellBytesOf, backgroundBytesOf, worldBytesOf, worldsBytesOf}
-use Rattle.drawing_laws.specs.SourceBytes.{worldDrawsOf, worldsDrawOf, objectBytesOf, objectsBytesOf}
-use Rattle.drawing_laws.specs.SourceBytes.{sourceBytesOf}
+use Rattle.drawing_laws.specs.inner.SourceBytes.{cellBytesOf, backgroundBytesOf, worldBytesOf, worldsBytesOf}
+use Rattle.drawing_laws.specs.inner.SourceBytes.{worldDrawsOf, worldsDrawOf, objectBytesOf, objectsBytesOf}
+use Rattle.drawing_laws.specs.inner.SourceBytes.{sourceBytesOf}
 use Rattle.drawing_laws.proofs.Each.{each-join, each-pick}
 use Rattle.word.proofs.Choices.{and-left, and-right, or-cases, pick-second}
 

@@ -12,7 +12,7 @@ use Rattle.bus.specs.Registers.{jpltOf}
 use Rattle.drawing_pixel.specs.Object.{objectOf, objectRowOf, objectColumnOf, objectCoversOf, objectPixelOf, objectAfterOf, objectsPixelOf}
 use Rattle.drawing_laws.specs.Demand3.{Each, SameByte, SameTables}
 use Rattle.drawing_laws.specs.PixelBytes.{amongOf}
-use Rattle.drawing_laws.specs.SourceBytes.{objectBytesOf}
+use Rattle.drawing_laws.specs.inner.SourceBytes.{objectBytesOf}
 use Rattle.word.proofs.Choices.{pick-same, or-left, or-right}
 use Rattle.drawing_laws.proofs.Halfwords.{object-same}
 use Rattle.drawing_laws.proofs.BackgroundSame.{cell-pixel-same}

@@ -14,11 +14,11 @@ use Rattle.drawing_pixel.proofs.WindowFormulas.{column-offset, row-offset, offs
 use Rattle.drawing_pixel.proofs.SourceFormulas.{source-x, source-y}
 use Rattle.drawing_pixel.proofs.Painting.{source-cell, source-line, shown-column, world-covers, object-covered, object-line}
 use Rattle.drawing_laws.specs.PixelBytes.{parameterBytesOf}
-use Rattle.drawing_laws.specs.SourceBytes.{cellBytesOf, backgroundBytesOf, worldBytesOf, worldsBytesOf}
-use Rattle.drawing_laws.specs.SourceBytes.{worldDrawsOf, worldsDrawOf, objectBytesOf, objectsBytesOf}
-use Rattle.drawing_laws.specs.SourceBytes.{sourceBytesOf}
+use Rattle.drawing_laws.specs.inner.SourceBytes.{cellBytesOf, backgroundBytesOf, worldBytesOf, worldsBytesOf}
+use Rattle.drawing_laws.specs.inner.SourceBytes.{worldDrawsOf, worldsDrawOf, objectBytesOf, objectsBytesOf}
+use Rattle.drawing_laws.specs.inner.SourceBytes.{sourceBytesOf}
 use Rattle.drawing_laws.specs.PixelBytes.{cellBytes, backgroundBytes, worldBytes, worldsBytes, worldsDraw, objectsBytes, pixelBytesOf}
-use Rattle.drawing_laws.specs.SourceBytes.{ListedFormula}
+use Rattle.drawing_laws.specs.inner.SourceBytes.{ListedFormula}
 
 cell-formula : (vram w : List ℕ) (x y : ℤ) (sx sy : ℕ) → pos sx ≡ x +ℤ pos 8388608 → pos sy ≡ y +ℤ pos 8388608
     → cellBytesOf vram w sx sy ≡ cellBytes vram w x y

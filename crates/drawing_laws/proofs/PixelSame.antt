@@ -12,10 +12,10 @@ use Rattle.bus.specs.Registers.{sptOf, bkcolOf}
 use Rattle.drawing_pixel.specs.World.{worldOf, endOf, skippedOf, bgmOf}
 use Rattle.drawing_pixel.specs.Object.{objectOf, groupCountOf, groupPixelOf}
 use Rattle.drawing_pixel.specs.Pixel.{counterAfterOf, drawsObjectsOf, counterOf, pixelOf}
-use Rattle.drawing_pixel.specs.Painting.{worldPixelOf, worldsPixelOf, paintedPixelOf}
+use Rattle.drawing_pixel.specs.inner.Painting.{worldPixelOf, worldsPixelOf, paintedPixelOf}
 use Rattle.drawing_pixel.proofs.Painting.{pixel-formula}
 use Rattle.drawing_laws.specs.Demand3.{Each, SameByte, SameTables}
-use Rattle.drawing_laws.specs.SourceBytes.{worldDrawsOf, worldsDrawOf, objectBytesOf, objectsBytesOf, worldBytesOf, worldsBytesOf, sourceBytesOf}
+use Rattle.drawing_laws.specs.inner.SourceBytes.{worldDrawsOf, worldsDrawOf, objectBytesOf, objectsBytesOf, worldBytesOf, worldsBytesOf, sourceBytesOf}
 use Rattle.drawing_laws.proofs.Each.{each-left, each-right}
 use Rattle.word.proofs.Choices.{pick-same, and-both, not-of-false, or-left, or-right}
 use Rattle.drawing_laws.proofs.Halfwords.{world-same}

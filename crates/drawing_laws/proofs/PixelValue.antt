@@ -10,7 +10,7 @@ use Rattle.drawing_pixel.specs.World.{worldOf, endOf, skippedOf, bgmOf, worldCo
 use Rattle.drawing_pixel.specs.Background.{sourcePixelOf, backgroundPixelOf}
 use Rattle.drawing_pixel.specs.Object.{objectOf, objectCoversOf, objectPixelOf, objectAfterOf, objectsPixelOf, groupCountOf, groupPixelOf}
 use Rattle.drawing_pixel.specs.Pixel.{counterOf, pixelOf}
-use Rattle.drawing_pixel.specs.Painting.{worldPixelOf, worldsPixelOf, paintedPixelOf}
+use Rattle.drawing_pixel.specs.inner.Painting.{worldPixelOf, worldsPixelOf, paintedPixelOf}
 use Rattle.drawing_pixel.proofs.Painting.{pixel-formula}
 use Rattle.drawing_pixel.proofs.Pairs.{pair-lt}
 

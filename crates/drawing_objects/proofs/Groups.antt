@@ -8,7 +8,7 @@ use lib.ListN.{getD, length}
 use Rattle.bus.specs.Registers.{sptOf}
 use Rattle.drawing_pixel.specs.Character.{twoBitsOf}
 use Rattle.drawing_pixel.specs.Object.{objectOf, objectPixelOf, objectAfterOf, objectsPixelOf, groupPixelOf, groupCountOf}
-use Rattle.drawing_pixel.specs.Buffer.{Strip}
+use Rattle.drawing_pixel.specs.inner.Buffer.{Strip}
 
 -- how many objects a group other than 0 has
 pub count-above : (regs : List ℕ) (n : ℕ) → (n ≡ 0 → ⊥) → (getD regs n 0 + 1023 - getD regs (n - 1) 0) % 1024 + 1 ≡ groupCountOf regs n

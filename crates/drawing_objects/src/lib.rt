@@ -9,7 +9,7 @@ ghost use Rattle.bus.specs.Refusal.{vramBytes};
 ghost use Rattle.bus.specs.Registers.{sptOf};
 ghost use Rattle.drawing_pixel.specs.Object.{objectOf, objectShownOf, objectRowOf, objectLeftOf, objectPixelOf};
 ghost use Rattle.drawing_pixel.specs.Object.{groupCountOf, groupPixelOf};
-ghost use Rattle.drawing_pixel.specs.Buffer.{Span, Strip};
+ghost use Rattle.drawing_pixel.specs.inner.Buffer.{Span, Strip};
 use drawing_pixel::character::row_address;
 use drawing_pixel::field::clipped;
 use drawing_pixel::field::flag;

@@ -7,7 +7,7 @@ use mathlib.Core.Path.{_≡_, refl, sym, ap, _∙_}
 use mathlib.Core.List.{List}
 use lib.ListN.{getD}
 use Rattle.drawing_pixel.specs.Character.{twoBitsOf}
-use Rattle.drawing_pixel.specs.Buffer.{repaintedOf, Span, Block, Strip}
+use Rattle.drawing_pixel.specs.inner.Buffer.{repaintedOf, Span, Block, Strip}
 use Rattle.drawing_pixel.proofs.Pairs.{pair-lt, pair-repainted-same, pair-repainted-other}
 
 -- no row yet

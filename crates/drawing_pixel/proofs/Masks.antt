@@ -11,7 +11,7 @@ use lib.Bits.{bitAnd, bitOr, and-high, and-zero-r, or-zero-l, or-zero-r, or-lt}
 use Rattle.word.specs.Choose.{pick}
 use Rattle.word.proofs.Choices.{equal-same}
 use Rattle.drawing_pixel.specs.Character.{twoBitsOf, shadeOf}
-use Rattle.drawing_pixel.specs.Buffer.{withPairOf, repaintedOf}
+use Rattle.drawing_pixel.specs.inner.Buffer.{withPairOf, repaintedOf}
 use Rattle.drawing_pixel.proofs.Pairs.{below-eight, pair-lt, with-pair-self}
 use Rattle.drawing_pixel.proofs.Small.{shade-small}
 

@@ -1,4 +1,4 @@
--- `background-formula`, `object-formula` and `pixel-formula`: the statements of specs/Painting.
+-- `background-formula`, `object-formula` and `pixel-formula`: the statements of specs/inner/Painting.
 use Prim.Native.Nat.{ℕ, zero, suc, _+_, _%_}
 use mathlib.Core.Path.{_≡_, refl, ap, _∙_}
 use mathlib.Core.Bool.{true, _&&_}
@@ -9,8 +9,8 @@ use Rattle.bus.specs.Registers.{sptOf, bkcolOf}
 use Rattle.drawing_pixel.specs.World.{worldOf, columnInOf, rowInOf, worldShownOf, worldCoversOf, rowCoveredOf, columnCoveredOf}
 use Rattle.drawing_pixel.specs.Background.{cellAddressOf, sourceCellAddressOf, sourcePixelOf, backgroundPixelOf}
 use Rattle.drawing_pixel.specs.Object.{objectOf, objectRowOf, objectPixelOf, objectAfterOf, groupCountOf, objectsPixelOf, groupPixelOf}
-use Rattle.drawing_pixel.specs.Painting.{worldPixelOf, worldsPixelOf, paintedPixelOf, WorldCovers, ObjectCovered}
-use Rattle.drawing_pixel.specs.Painting.{BackgroundFormula, ObjectFormula, PixelFormula}
+use Rattle.drawing_pixel.specs.inner.Painting.{worldPixelOf, worldsPixelOf, paintedPixelOf, WorldCovers, ObjectCovered}
+use Rattle.drawing_pixel.specs.inner.Painting.{BackgroundFormula, ObjectFormula, PixelFormula}
 use Rattle.word.specs.Integers.{aboveZero}
 use Rattle.word.proofs.Choices.{and-right, pick-same}
 use Rattle.word.proofs.Integers.{above-natural}

@@ -4,7 +4,7 @@ use Prim.Native.Nat.{ℕ, zero, suc, _+_, _-_, _*_, _/_, _%_, _^_, _<_, _≤_}
 use native.Mathlib.Omega.{arith}
 use mathlib.Core.Path.{_≡_}
 use Rattle.drawing_pixel.specs.Character.{twoBitsOf, pixelValueOf}
-use Rattle.drawing_pixel.specs.Buffer.{withPairOf, repaintedOf}
+use Rattle.drawing_pixel.specs.inner.Buffer.{withPairOf, repaintedOf}
 
 -- what holds at 0 to 7 holds below 8
 pub below-eight : (P : ℕ → Type 0) → P 0 → P 1 → P 2 → P 3 → P 4 → P 5 → P 6 → P 7 → (k : ℕ) → k < 8 → P k

@@ -8,7 +8,7 @@ use mathlib.Core.List.{List}
 use lib.ListN.{length, getD, set, length-set}
 use lib.Seq.{getD-set-same, getD-set-other}
 use Rattle.drawing_pixel.specs.Character.{twoBitsOf}
-use Rattle.drawing_pixel.specs.Buffer.{repaintedOf, Span, Rows, Strip}
+use Rattle.drawing_pixel.specs.inner.Buffer.{repaintedOf, Span, Rows, Strip}
 use Rattle.drawing_pixel.proofs.Pairs.{pair-lt, pair-repainted-same, pair-repainted-other, repainted-self}
 
 -- no column yet

@@ -11,6 +11,5 @@ pub mod SourceFormulas
 pub mod CellFormulas
 pub mod ObjectFormulas
 pub mod Pixel
-pub mod Painting
 pub mod Strip
-pub mod Buffer
+pub mod inner

@@ -8,7 +8,7 @@ ghost use mathlib.Core.Bool.{Bool};
 ghost use Rattle.drawing_pixel.specs.Signed.{bitSet};
 ghost use Rattle.drawing_pixel.specs.Character.{twoBitsOf, flippedOf, pixelValueOf, shadeOf};
 ghost use Rattle.drawing_pixel.specs.RowBits.{PlaceUnit};
-ghost use Rattle.drawing_pixel.specs.Buffer.{repaintedOf, Span};
+ghost use Rattle.drawing_pixel.specs.inner.Buffer.{repaintedOf, Span};
 use crate::character::shade;
 use crate::character::value;
 use crate::field::choice;

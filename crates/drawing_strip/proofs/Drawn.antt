@@ -9,14 +9,14 @@ use lib.Seq.{ext-getD}
 use Rattle.bus.specs.Registers.{bkcolOf}
 use Rattle.drawing_pixel.specs.Character.{twoBitsOf}
 use Rattle.drawing_pixel.specs.Pixel.{pixelOf}
-use Rattle.drawing_pixel.specs.Painting.{worldsPixelOf, paintedPixelOf}
+use Rattle.drawing_pixel.specs.inner.Painting.{worldsPixelOf, paintedPixelOf}
 use Rattle.drawing_pixel.proofs.Painting.{pixel-formula}
 use Rattle.drawing_pixel.specs.Strip.{fourPixelsOf, stripByteOf, stripOf}
-use Rattle.drawing_pixel.specs.Buffer.{Strip}
+use Rattle.drawing_pixel.specs.inner.Buffer.{Strip}
 use Rattle.drawing_pixel.proofs.Pairs.{below-eight}
 use Rattle.drawing_pixel.proofs.Lists.{length-list, getD-list}
 use Rattle.drawing_pixel.proofs.Strips.{in-strip, past-images, other-frame, past-image, other-strip}
-use Rattle.drawing_strip.specs.Stored.{columnByteOf, InStrip, Stored, Worked}
+use Rattle.drawing_strip.specs.inner.Stored.{columnByteOf, InStrip, Stored, Worked}
 
 -- a halfword of eight equal pixels
 filled : (b : ℕ) → b < 4 → (r : ℕ) → r < 8 → twoBitsOf (b * 21845) r ≡ b

@@ -7,7 +7,7 @@ use mathlib.Core.List.{List, _++_, append-nil}
 use lib.ListN.{length, getD, take, drop, length-append, length-drop, drop-of-length-le, List·getD-append}
 use lib.Seq.{getD-take, getD-drop, getD-append-add, length-take-le, take-all}
 use borrow.Rule.Slice.PartMut.{putMid, midOf}
-use Rattle.drawing_strip.specs.Stored.{Stored}
+use Rattle.drawing_strip.specs.inner.Stored.{Stored}
 
 module _ (base : ℕ) (xs : List ℕ) (within : base ≤ length xs) where
   mid-drop : midOf base (length xs - base) xs ≡ drop base xs

@@ -6,7 +6,7 @@ use mathlib.Core.Path.{_≡_, refl, _∙_}
 use mathlib.Core.List.{List}
 use lib.ListN.{length, getD, set, length-set}
 use lib.Seq.{getD-set-same, getD-set-other}
-use Rattle.drawing_strip.specs.Stored.{columnByteOf, InStrip, Stored}
+use Rattle.drawing_strip.specs.inner.Stored.{columnByteOf, InStrip, Stored}
 
 pub stored-none : (base strip : ℕ) (columns a : List ℕ) → Stored base strip 0 columns a a
 stored-none base strip columns a =

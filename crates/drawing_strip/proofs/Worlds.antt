@@ -14,8 +14,8 @@ use Rattle.drawing_pixel.specs.World.{worldOf, skippedOf, bgmOf, endOf}
 use Rattle.drawing_pixel.specs.Background.{backgroundPixelOf}
 use Rattle.drawing_pixel.specs.Object.{groupPixelOf}
 use Rattle.drawing_pixel.specs.Pixel.{counterAfterOf, drawsObjectsOf, counterOf}
-use Rattle.drawing_pixel.specs.Painting.{worldPixelOf, worldsPixelOf}
-use Rattle.drawing_pixel.specs.Buffer.{Strip}
+use Rattle.drawing_pixel.specs.inner.Painting.{worldPixelOf, worldsPixelOf}
+use Rattle.drawing_pixel.specs.inner.Buffer.{Strip}
 
 -- the flags of a world are its first halfword
 pub world-flags : (vram : List ℕ) (n : ℕ) → halfAt vram (251904 + 32 * n) ≡ getD (worldOf vram n) 0 0

@@ -9,7 +9,7 @@ use Rattle.refusal.specs.declared.Verdict.the-variants.{Accepted}
 use Rattle.processor_machine.specs.State.{State, Stepped}
 use Rattle.processor_step.specs.Step.{stepOf}
 use Rattle.processor.specs.Run.{Run, runWith, afterOf, afterStep, oneMore, runOf}
-use Rattle.processor.specs.Follows.{later, Follows}
+use Rattle.processor.specs.inner.Follows.{later, Follows}
 use Rattle.processor.specs.declared.After.the-variants.{Counted, Stopped}
 
 later-none : (r : Run) → r ≡ later 0 r

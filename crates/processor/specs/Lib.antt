@@ -1,5 +1,5 @@
 pub mod Record
 pub mod Acceptance
 pub mod Run
-pub mod Follows
 pub mod Calls
+pub mod inner

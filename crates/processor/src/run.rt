@@ -16,7 +16,7 @@ ghost use Rattle.bus.specs.Memory.{Lengths};
 ghost use Rattle.bus.specs.Lent.{entering, leaving, leavingRam};
 ghost use Rattle.processor_machine.specs.State.{stateOf};
 ghost use Rattle.processor.specs.Run.{afterOf, runOf, ranBy};
-ghost use Rattle.processor.specs.Follows.{Follows};
+ghost use Rattle.processor.specs.inner.Follows.{Follows};
 
 // An ended or trapped instruction counts, and so does an accepted interrupt; anything else stops the run.
 fn after(answer: Answer) -> After

@@ -9,7 +9,7 @@ use lib.Pow.{shr-shr}
 use Rattle.word.specs.Bit.{bitAt}
 use Rattle.word.specs.Choose.{pick}
 use Rattle.processor_arithmetic.specs.Flag.{setIdOf, idFlag}
-use Rattle.processor_lazy_flags.specs.Packed.{packedOf}
+use Rattle.processor_lazy_flags.specs.inner.Packed.{packedOf}
 use Rattle.processor_lazy_flags.specs.declared.Flags.{Flags}
 use Rattle.processor_lazy_flags.proofs.Kept.{packed-high}
 use Rattle.processor_interrupt.specs.Interrupt.{levelOf, maskingLevelOf, allowsOf, acceptsOf}

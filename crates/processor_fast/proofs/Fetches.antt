@@ -16,8 +16,8 @@ use Rattle.bus.specs.Refusal.{romLengths, romOk}
 use Rattle.bus.specs.Memory.{Memory, loadOf, Lengths}
 use Rattle.bus.proofs.Places.{region-code}
 use Rattle.bus.proofs.Spans.{span-half, rom-span-half, wram-span-half}
-use Rattle.processor_fast_compute.specs.Fast.{addressOf}
-use Rattle.processor_fast.specs.Stands.{Stands}
+use Rattle.processor_fast_compute.specs.inner.Fast.{addressOf}
+use Rattle.processor_fast.specs.inner.Stands.{Stands}
 
 -- a fact of every number of a list
 abbrev All : (ℕ → Type 0) → List ℕ → Type 0

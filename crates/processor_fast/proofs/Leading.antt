@@ -10,16 +10,16 @@ use Rattle.bus.specs.Memory.{Memory, memoryOf, loadOf}
 use Rattle.bus.specs.Registers.{linesPlace}
 use Rattle.processor_decode.specs.Format.{twoOf}
 use Rattle.processor_decode.specs.Opcode.{decodeOf}
-use Rattle.processor_lazy_flags.specs.Packed.{packedOf}
+use Rattle.processor_lazy_flags.specs.inner.Packed.{packedOf}
 use Rattle.processor_lazy_flags.specs.declared.Flags.{Flags}
 use Rattle.processor_machine.specs.State.{State, stateOf, steppedOf}
 use Rattle.processor_machine.specs.declared.Mode.the-variants.{Running}
 use Rattle.processor_step.specs.Step.{nextOf, performOf, secondOf, runningStepOf}
-use Rattle.processor_fast_compute.specs.Fast.{addressOf, machineOf}
-use Rattle.processor_fast.specs.Leads.{Stays, Leads, none, more, Stretched}
+use Rattle.processor_fast_compute.specs.inner.Fast.{addressOf, machineOf}
+use Rattle.processor_fast.specs.inner.Leads.{Stays, Leads, none, more, Stretched}
 use Rattle.processor_fast_compute.specs.declared.Fast.{Fast}
 use Rattle.processor_fast_compute.specs.declared.Fast.the-variants.{Done, Masked, NotHere}
-use Rattle.processor_fast.specs.Turns.{Quiet, Turns}
+use Rattle.processor_fast.specs.inner.Turns.{Quiet, Turns}
 use Rattle.processor_fast.proofs.Acceptance.{accepts-packed}
 
 -- what stays in the middle of a stretch

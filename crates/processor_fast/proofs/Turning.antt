@@ -7,14 +7,14 @@ use native.Mathlib.Omega.{arith}
 use lib.Pow.{shr-shr}
 use Rattle.bus.specs.Memory.{Memory}
 use Rattle.processor_arithmetic.specs.Flag.{setIdOf, clearIdOf, flagsOf}
-use Rattle.processor_lazy_flags.specs.Packed.{packedOf}
+use Rattle.processor_lazy_flags.specs.inner.Packed.{packedOf}
 use Rattle.processor_lazy_flags.proofs.Kept.{packed-high}
 use Rattle.processor_lazy_flags.specs.declared.Flags.{Flags}
 use Rattle.processor_machine.specs.State.{Stepped}
-use Rattle.processor_fast_compute.specs.Fast.{Does}
+use Rattle.processor_fast_compute.specs.inner.Fast.{Does}
 use Rattle.processor_fast_compute.specs.declared.Fast.{Fast}
 use Rattle.processor_fast_compute.specs.declared.Fast.the-variants.{Done, Masked, NotHere}
-use Rattle.processor_fast.specs.Turns.{Turned}
+use Rattle.processor_fast.specs.inner.Turns.{Turned}
 use Rattle.processor_fast.proofs.Acceptance.{above}
 
 pub turned : (r : Fast) (lines base x psw : ℕ) (g : Flags) (regs₀ sys : List ℕ) (m₀ : Memory) (regs : List ℕ) (m : Memory) (t : Stepped)

@@ -1,3 +1,1 @@
-pub mod Turns
-pub mod Stands
-pub mod Leads
+pub mod inner

@@ -15,8 +15,8 @@ ghost use Rattle.bus.specs.Memory.{Lengths};
 ghost use Rattle.bus.specs.Lent.{entering, leavingRam};
 ghost use Rattle.processor_machine.specs.State.{stateOf};
 ghost use Rattle.processor_machine.specs.declared.Mode.{Mode};
-ghost use Rattle.processor_fast.specs.Stands.{Stands};
-ghost use Rattle.processor_fast.specs.Leads.{StretchedBy, Stretched};
+ghost use Rattle.processor_fast.specs.inner.Stands.{Stands};
+ghost use Rattle.processor_fast.specs.inner.Leads.{StretchedBy, Stretched};
 
 // Code from `base` on: as long as it stays below index `last`.
 fn inside(

@@ -19,7 +19,7 @@ ghost use Rattle.bus.specs.Registers.{linesPlace};
 ghost use Rattle.processor_decode.specs.Format as format;
 ghost use Rattle.processor_decode.specs.declared.Decoded as decoded;
 ghost use Rattle.processor_decode.specs.declared.Instruction as instruction;
-ghost use Rattle.processor_fast.specs.Turns.{Controls};
+ghost use Rattle.processor_fast.specs.inner.Turns.{Controls};
 
 pub fn stsr(regs: &mut [u32; 32], sys: &[u32; 8], f: u32, x: u32, psw: u32, flags: Flags) -> Fast
     ensures { λ r. ⌜

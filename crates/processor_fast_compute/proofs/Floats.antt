@@ -8,11 +8,11 @@ use Rattle.bus.specs.Memory.{Memory}
 use Rattle.processor_arithmetic.specs.Bitwise.{bitsOf}
 use Rattle.processor_execute.specs.Execute.{goesOn}
 use Rattle.processor_float.specs.Flag.{orderFlagsOf, underflowOf, numberFlagsOf, conversionFlagsOf}
-use Rattle.processor_lazy_flags.specs.Packed.{packedOf, orderedOf, Gives}
+use Rattle.processor_lazy_flags.specs.inner.Packed.{packedOf, orderedOf, Gives}
 use Rattle.processor_lazy_flags.specs.declared.Flags.{Flags}
 use Rattle.processor_lazy_flags.proofs.Kept.{packed-high}
 use Rattle.processor_machine.specs.State.{putOf}
-use Rattle.processor_fast_compute.specs.Fast.{addressOf, machineOf, Does}
+use Rattle.processor_fast_compute.specs.inner.Fast.{addressOf, machineOf, Does}
 use Rattle.processor_fast_compute.specs.declared.Fast.the-variants.{Done}
 
 pub order-over : (psw : ℕ) (g : Flags) (zero negative : Bool) → orderFlagsOf (packedOf psw g) zero negative ≡ orderedOf psw zero negative

@@ -14,12 +14,12 @@ use Rattle.processor_arithmetic.specs.Sum.{differenceOf, compareOf}
 use Rattle.processor_arithmetic.specs.declared.Outcome.{Outcome}
 use Rattle.processor_arithmetic.specs.declared.Pair as arithmetic
 use Rattle.processor_execute.specs.Execute.{goesOn, givesOf, resultOf, pairOf}
-use Rattle.processor_lazy_flags.specs.Packed.{packedValueOf, packedOf, Gives, GivesPair}
+use Rattle.processor_lazy_flags.specs.inner.Packed.{packedValueOf, packedOf, Gives, GivesPair}
 use Rattle.processor_lazy_flags.specs.declared.Flags.{Flags}
 use Rattle.processor_lazy_flags.specs.declared.Pair.{Pair}
 use Rattle.processor_machine.specs.State.{putOf}
 use Rattle.processor_step.specs.Step.{nextOf}
-use Rattle.processor_fast_compute.specs.Fast.{addressOf, machineOf, Does}
+use Rattle.processor_fast_compute.specs.inner.Fast.{addressOf, machineOf, Does}
 use Rattle.processor_fast_compute.specs.declared.Fast.the-variants.{Done}
 
 -- the following instruction

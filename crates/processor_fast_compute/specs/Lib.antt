@@ -1,1 +1,1 @@
-pub mod Fast
+pub mod inner

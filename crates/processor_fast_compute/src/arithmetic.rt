@@ -26,9 +26,9 @@ ghost use Prim.Native.Nat.{_/_, _%_, _<_};
 ghost use Rattle.processor_decode.specs.Format as format;
 ghost use Rattle.processor_decode.specs.declared.Decoded as decoded;
 ghost use Rattle.processor_decode.specs.declared.Instruction as instruction;
-ghost use Rattle.processor_lazy_flags.specs.Packed.{packedValueOf};
+ghost use Rattle.processor_lazy_flags.specs.inner.Packed.{packedValueOf};
 ghost use Rattle.processor_machine.specs.State.{putOf};
-ghost use Rattle.processor_fast_compute.specs.Fast.{Computes};
+ghost use Rattle.processor_fast_compute.specs.inner.Fast.{Computes};
 
 // A result for register n with its flags.
 fn result(regs: &mut [u32; 32], n: u32, flags: Flags, x: u32) -> Fast

@@ -19,7 +19,7 @@ ghost use mathlib.Core.Bool.{true, false};
 ghost use Prim.Native.Nat.{_+_, _%_, _^_};
 ghost use Rattle.processor_decode.specs.Format as format;
 ghost use Rattle.processor_decode.specs.SubOpcode.{extendedOf};
-ghost use Rattle.processor_fast_compute.specs.Fast.{Computes, Settles};
+ghost use Rattle.processor_fast_compute.specs.inner.Fast.{Computes, Settles};
 
 // What an outcome leaves, for register n.
 fn settle(regs: &mut [u32; 32], n: u32, o: FloatOutcome, x: u32, flags: Flags) -> Fast

@@ -12,11 +12,11 @@ use Rattle.bus.specs.Memory.{Memory}
 use Rattle.processor_arithmetic.specs.Condition.{conditionOf}
 use Rattle.processor_decode.specs.Format as format
 use Rattle.processor_execute.specs.Execute.{executeOf, plusOf}
-use Rattle.processor_lazy_flags.specs.Packed.{packedOf}
+use Rattle.processor_lazy_flags.specs.inner.Packed.{packedOf}
 use Rattle.processor_lazy_flags.specs.declared.Flags.{Flags}
 use Rattle.processor_machine.specs.State.{evenOf}
 use Rattle.processor_step.specs.Step.{nextOf, performOf}
-use Rattle.processor_fast_compute.specs.Fast.{addressOf, machineOf, Does}
+use Rattle.processor_fast_compute.specs.inner.Fast.{addressOf, machineOf, Does}
 use Rattle.processor_fast_compute.specs.declared.Fast.the-variants.{Done}
 use Rattle.processor_fast_compute.proofs.Results.{after-one, one-even}
 

@@ -18,7 +18,7 @@ ghost use Rattle.bus.specs.Memory.{Memory};
 ghost use Rattle.processor_decode.specs.Format as format;
 ghost use Rattle.processor_decode.specs.declared.Decoded as decoded;
 ghost use Rattle.processor_decode.specs.declared.Instruction as instruction;
-ghost use Rattle.processor_fast_compute.specs.Fast.{Computes, PerformsAt};
+ghost use Rattle.processor_fast_compute.specs.inner.Fast.{Computes, PerformsAt};
 
 // To the target, or on.
 fn branch(taken: bool, f: u32, x: u32, flags: Flags) -> Fast

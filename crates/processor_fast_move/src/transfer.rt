@@ -22,7 +22,7 @@ ghost use Rattle.bus.specs.Lent.{entering};
 ghost use Rattle.processor_decode.specs.Format as format;
 ghost use Rattle.processor_execute.specs.Execute.{plusOf};
 ghost use Rattle.processor_machine.specs.State.{putOf};
-ghost use Rattle.processor_fast_compute.specs.Fast.{Performs};
+ghost use Rattle.processor_fast_compute.specs.inner.Fast.{Performs};
 
 // The effective address.
 fn address(regs: &[u32; 32], f: u32, s: u32) -> u32

@@ -5,7 +5,7 @@ use native.Mathlib.Omega.{arith}
 use lib.Dec.{eqb}
 use Rattle.processor_arithmetic.specs.Flag.{bitOf, zeroOf, flagsOf, keepCarryOf}
 use Rattle.processor_arithmetic.proofs.Bits.{bit-small}
-use Rattle.processor_lazy_flags.specs.Packed.{packedValueOf, carryOf, overflowOf, packedOf, Gives, GivesPair}
+use Rattle.processor_lazy_flags.specs.inner.Packed.{packedValueOf, carryOf, overflowOf, packedOf, Gives, GivesPair}
 use Rattle.processor_lazy_flags.specs.declared.Flags.{Flags}
 use Rattle.processor_lazy_flags.specs.declared.Pair.{Pair}
 

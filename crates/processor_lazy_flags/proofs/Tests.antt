@@ -12,7 +12,7 @@ use Rattle.word.specs.Choose.{pick}
 use Rattle.processor_arithmetic.proofs.Bits.{bit-small}
 use Rattle.processor_arithmetic.specs.Condition.{_xor_, conditionOf}
 use Rattle.processor_arithmetic.specs.Flag.{bitOf, zeroOf, flagsOf, sFlag, ovFlag}
-use Rattle.processor_lazy_flags.specs.Packed.{packedValueOf, carryOf, overflowOf, packedOf}
+use Rattle.processor_lazy_flags.specs.inner.Packed.{packedValueOf, carryOf, overflowOf, packedOf}
 use Rattle.processor_lazy_flags.specs.declared.Flags.{Flags}
 
 module _ (psw : ℕ) (g : Flags) where

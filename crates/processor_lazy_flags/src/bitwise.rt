@@ -4,7 +4,7 @@ use crate::status::kept;
 ghost use mathlib.Core.Path.{_≡_};
 ghost use Prim.Native.Nat.{ℕ};
 ghost use Rattle.processor_arithmetic.specs.Bitwise.{bitsOf, andOf, orOf, xorOf, notOf};
-ghost use Rattle.processor_lazy_flags.specs.Packed.{packedOf, Gives};
+ghost use Rattle.processor_lazy_flags.specs.inner.Packed.{packedOf, Gives};
 
 // A value with its S and Z.
 pub fn value(v: u32, flags: Flags) -> Flags

@@ -5,7 +5,7 @@ use crate::status::packed;
 ghost use mathlib.Core.Path.{_≡_};
 ghost use Prim.Native.Nat.{ℕ};
 ghost use Rattle.processor_arithmetic.specs.Condition.{conditionOf};
-ghost use Rattle.processor_lazy_flags.specs.Packed.{packedOf};
+ghost use Rattle.processor_lazy_flags.specs.inner.Packed.{packedOf};
 
 // V.
 pub fn overflowed(flags: Flags) -> bool

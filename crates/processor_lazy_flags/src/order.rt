@@ -4,7 +4,7 @@ ghost use mathlib.Core.Path.{_≡_};
 ghost use mathlib.Core.Bool.{true, false};
 ghost use Prim.Native.Nat.{ℕ, _%_, _^_};
 ghost use lib.Dec.{eqb, ltb};
-ghost use Rattle.processor_lazy_flags.specs.Packed.{packedOf, orderedOf};
+ghost use Rattle.processor_lazy_flags.specs.inner.Packed.{packedOf, orderedOf};
 
 pub fn lower() -> Flags
     ensures { λ r. ⌜ ((psw : ℕ) → packedOf psw r ≡ orderedOf psw false true) ⌝ }

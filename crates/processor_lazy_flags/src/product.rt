@@ -5,7 +5,7 @@ use crate::status::kept;
 ghost use mathlib.Core.Path.{_≡_};
 ghost use Prim.Native.Nat.{ℕ, _+_, _*_, _/_, _%_, _^_};
 ghost use Rattle.processor_arithmetic.specs.Product.{overflowsOf, wordsOf, productOf, multiplyOf, multiplyUnsignedOf};
-ghost use Rattle.processor_lazy_flags.specs.Packed.{packedOf, GivesPair};
+ghost use Rattle.processor_lazy_flags.specs.inner.Packed.{packedOf, GivesPair};
 
 // The top bit where a 64-bit product is not its low word read signed.
 fn overflow(high: u32, low: u32) -> u32

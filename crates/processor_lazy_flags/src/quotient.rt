@@ -6,7 +6,7 @@ use crate::status::packed;
 ghost use mathlib.Core.Path.{_≡_};
 ghost use Prim.Native.Nat.{ℕ, _<_};
 ghost use Rattle.processor_arithmetic.specs.Quotient.{divideOf, divideUnsignedOf};
-ghost use Rattle.processor_lazy_flags.specs.Packed.{packedOf, GivesPair};
+ghost use Rattle.processor_lazy_flags.specs.inner.Packed.{packedOf, GivesPair};
 
 pub fn divu(a: u32, b: u32, flags: Flags) -> Pair
     requires { ⌜ 0 < b ⌝ }

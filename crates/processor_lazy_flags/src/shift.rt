@@ -5,7 +5,7 @@ ghost use mathlib.Core.Path.{_≡_};
 ghost use Prim.Native.Nat.{ℕ, _<_};
 ghost use Rattle.processor_arithmetic.specs.Shift.{rightOutOf, arithmeticRightOf, shiftLeftOf, shiftRightOf};
 ghost use Rattle.processor_arithmetic.specs.Shift.{shiftArithmeticOf};
-ghost use Rattle.processor_lazy_flags.specs.Packed.{packedOf, Gives};
+ghost use Rattle.processor_lazy_flags.specs.inner.Packed.{packedOf, Gives};
 
 pub fn shl(a: u32, b: u32) -> Flags
     ensures { λ r. ⌜ ((psw : ℕ) (g : Flags) → Gives psw r (shiftLeftOf a b (packedOf psw g))) ⌝ }

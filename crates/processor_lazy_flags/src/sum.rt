@@ -7,7 +7,7 @@ ghost use lib.IntN.{_+ℤ_};
 ghost use Rattle.processor_arithmetic.specs.Flag.{bitOf};
 ghost use Rattle.processor_arithmetic.specs.Integer.{signed, outside};
 ghost use Rattle.processor_arithmetic.specs.Sum.{sumOf, differenceOf};
-ghost use Rattle.processor_lazy_flags.specs.Packed.{packedOf, Gives};
+ghost use Rattle.processor_lazy_flags.specs.inner.Packed.{packedOf, Gives};
 
 // A word whose top bit is set where the signed sum of a and b is no signed word.
 fn overflow(a: u32, b: u32, sum: u32) -> u32

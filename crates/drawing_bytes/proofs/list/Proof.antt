@@ -2,7 +2,7 @@
 use borrow.Author.Needs.{needs}
 use Rattle.drawing_bytes.proofs.list.Statement.{statement}
 use Rattle.drawing_bytes.proofs.list.Tie as tie
-use Rattle.drawing_laws.specs.SourceBytes.{sourceBytesOf}
+use Rattle.drawing_laws.specs.inner.SourceBytes.{sourceBytesOf}
 use Rattle.drawing_bytes.proofs.Listings.{listing-more}
 
 returns : tie.Need-returns

@@ -7,7 +7,7 @@ use borrow.Author.Needs.{needs}
 use borrow.Author.Tests.{not-true, not-false}
 use mathlib.Core.Path.{_≡_, sym, _∙_}
 use Rattle.drawing_pixel.specs.Object.{objectPixelOf}
-use Rattle.drawing_pixel.specs.Buffer.{Rows}
+use Rattle.drawing_pixel.specs.inner.Buffer.{Rows}
 use Rattle.drawing_pixel.proofs.Spans.{rows-none, rows-more, rows-all, strip-kept}
 use Rattle.drawing_pixel.proofs.Small.{object-small}
 use Rattle.drawing_pixel.proofs.Windows.{object-hidden}

@@ -6,7 +6,7 @@ use native.Mathlib.Omega.{arith}
 use borrow.Author.Needs.{needs}
 use mathlib.Core.Path.{_≡_}
 use lib.ListN.{length-set}
-use Rattle.drawing_strip.specs.Stored.{Stored}
+use Rattle.drawing_strip.specs.inner.Stored.{Stored}
 use Rattle.drawing_strip.proofs.Stores.{stored-none, stored-more}
 
 abbrev Inv-loop : tie.InvT-loop

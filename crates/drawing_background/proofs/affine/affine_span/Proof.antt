@@ -7,9 +7,9 @@ use Prim.Native.Nat.{ℕ, _+_, _-_, _/_, _<_, _≤_}
 use mathlib.Core.Path.{_≡_, ap, sym, _∙_}
 use lib.ListN.{getD}
 use Rattle.drawing_pixel.specs.Background.{sourcePixelOf, affineFloorOf}
-use Rattle.drawing_pixel.specs.Buffer.{repaintedOf, Span}
+use Rattle.drawing_pixel.specs.inner.Buffer.{repaintedOf, Span}
 use Rattle.drawing_pixel.proofs.Spans.{span-none, span-more}
-use Rattle.drawing_background.specs.Row.{affineSumOf, CellAt, Inked}
+use Rattle.drawing_background.specs.inner.Row.{affineSumOf, CellAt, Inked}
 use Rattle.drawing_background.proofs.Sources.{source-repainted, sum-least, sum-most, sum-on, floor-sum}
 
 abbrev Inv-loop : tie.InvT-loop

@@ -4,7 +4,7 @@ use Rattle.drawing_background.proofs.ink.inks.Statement.{statement}
 use Rattle.drawing_background.proofs.ink.inks.Tie as tie
 use native.Mathlib.Omega.{arith}
 use Rattle.drawing_pixel.specs.Character.{twoBitsOf}
-use Rattle.drawing_background.specs.Row.{inksOf}
+use Rattle.drawing_background.specs.inner.Row.{inksOf}
 use Rattle.drawing_background.proofs.Inks.{inks-fit}
 
 returns : tie.Need-returns

@@ -6,7 +6,7 @@ use native.Mathlib.Omega.{arith}
 use mathlib.Core.Path.{_≡_, ap}
 use borrow.Author.Needs.{needs}
 use Rattle.drawing_pixel.specs.Background.{sourcePixelOf}
-use Rattle.drawing_pixel.specs.Buffer.{Block}
+use Rattle.drawing_pixel.specs.inner.Buffer.{Block}
 use Rattle.drawing_pixel.proofs.Blocks.{block-no-column, block-beside, block-change}
 
 abbrev Inv-loop : tie.InvT-loop

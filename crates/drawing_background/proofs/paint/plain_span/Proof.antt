@@ -5,7 +5,7 @@ use native.Mathlib.Omega.{arith}
 use Prim.Native.Nat.{_+_, _-_, _≤_}
 use mathlib.Core.Path.{_≡_, ap}
 use Rattle.drawing_pixel.specs.Background.{sourcePixelOf}
-use Rattle.drawing_pixel.specs.Buffer.{Span}
+use Rattle.drawing_pixel.specs.inner.Buffer.{Span}
 use Rattle.drawing_pixel.proofs.Spans.{span-none, span-join, span-change}
 use borrow.Author.Needs.{needs}
 

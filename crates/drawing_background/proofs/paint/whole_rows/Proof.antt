@@ -6,7 +6,7 @@ use native.Mathlib.Omega.{arith}
 use mathlib.Core.Path.{_≡_, ap, _∙_}
 use Rattle.word.specs.LittleEndian.{halfAt}
 use Rattle.drawing_pixel.specs.Character.{rowAddressOf, pixelValueOf, shadeOf}
-use Rattle.drawing_pixel.specs.Buffer.{Block}
+use Rattle.drawing_pixel.specs.inner.Buffer.{Block}
 use Rattle.drawing_pixel.proofs.Spans.{span-change}
 use Rattle.drawing_pixel.proofs.Blocks.{block-no-row, block-row}
 use Rattle.drawing_pixel.proofs.Small.{shade-small}

@@ -1,7 +1,7 @@
 -- `drawing_background::source::affine_floor` meets its contract: the sum, without what is below one. Assumes nothing.
 use mathlib.Core.Path.{refl}
 use Rattle.drawing_pixel.specs.Background.{affineFloorOf}
-use Rattle.drawing_background.specs.Row.{affineSumOf}
+use Rattle.drawing_background.specs.inner.Row.{affineSumOf}
 use Rattle.drawing_background.proofs.source.affine_floor.Statement.{statement}
 use Rattle.drawing_background.proofs.source.affine_floor.Tie as tie
 

@@ -4,7 +4,7 @@ use Rattle.drawing_background.proofs.source.affine_sum.Statement.{state
 use Rattle.drawing_background.proofs.source.affine_sum.Tie as tie
 use native.Mathlib.Omega.{arith}
 use mathlib.Core.Path.{refl}
-use Rattle.drawing_background.specs.Row.{affineSumOf}
+use Rattle.drawing_background.specs.inner.Row.{affineSumOf}
 use Rattle.drawing_background.proofs.Powers.{product-lt}
 
 mul-result-2 : tie.Need-mul-result-2

@@ -4,7 +4,7 @@ use Rattle.drawing_background.proofs.world.row_bias.Statement.{statemen
 use Rattle.drawing_background.proofs.world.row_bias.Tie as tie
 use native.Mathlib.Omega.{arith}
 use borrow.Author.Tests.{eq-eqb, ne-eqb}
-use Rattle.drawing_background.specs.Row.{rowBiasOf}
+use Rattle.drawing_background.specs.inner.Row.{rowBiasOf}
 
 returns : tie.Need-returns
 unfolding rowBiasOf

@@ -9,7 +9,7 @@ use borrow.Author.Tests.{not-true, not-false}
 use mathlib.Core.Path.{sym, _∙_}
 use Rattle.drawing_pixel.specs.World.{worldShownOf}
 use Rattle.drawing_pixel.specs.Background.{backgroundPixelOf}
-use Rattle.drawing_pixel.specs.Buffer.{Rows}
+use Rattle.drawing_pixel.specs.inner.Buffer.{Rows}
 use Rattle.drawing_pixel.proofs.Spans.{rows-none, rows-more, rows-all, strip-kept}
 use Rattle.drawing_pixel.proofs.Blocks.{block-strip}
 use Rattle.drawing_pixel.proofs.Small.{background-small}

@@ -10,7 +10,7 @@ use lib.ListN.{getD}
 use borrow.Author.Tests.{eq-eqb, ne-eqb}
 use Rattle.drawing_pixel.specs.World.{worldOf}
 use Rattle.drawing_strip.proofs.Worlds.{world-flags}
-use Rattle.drawing_laws.specs.SourceBytes.{worldsBytesOf}
+use Rattle.drawing_laws.specs.inner.SourceBytes.{worldsBytesOf}
 use Rattle.drawing_bytes.proofs.Listings.{Left, left-begun, left-more, left-done, left-size}
 use Rattle.drawing_bytes.proofs.Worlds.{worlds-step, worlds-ended, worlds-none}
 

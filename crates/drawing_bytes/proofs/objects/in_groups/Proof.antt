@@ -6,7 +6,7 @@ use borrow.Author.Needs.{needs}
 use native.Mathlib.Omega.{arith}
 use Prim.Native.Nat.{_<_, _≤_}
 use mathlib.Core.Path.{_≡_, sym, _∙_}
-use Rattle.drawing_bytes.specs.Groups.{inGroupsOf}
+use Rattle.drawing_bytes.specs.inner.Groups.{inGroupsOf}
 use Rattle.drawing_bytes.proofs.Drawn.{groups-none, groups-found, groups-on}
 
 abbrev Inv-loop : tie.InvT-loop

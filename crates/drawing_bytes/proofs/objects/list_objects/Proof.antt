@@ -5,7 +5,7 @@ use Rattle.drawing_bytes.proofs.objects.list_objects.Tie as tie
 use borrow.Author.Needs.{needs}
 use native.Mathlib.Omega.{arith}
 use Prim.Native.Nat.{_+_, _-_, _*_, _≤_}
-use Rattle.drawing_laws.specs.SourceBytes.{objectsBytesOf}
+use Rattle.drawing_laws.specs.inner.SourceBytes.{objectsBytesOf}
 use Rattle.drawing_bytes.proofs.Listings.{Left, left-begun, left-more, left-done, left-size}
 use Rattle.drawing_bytes.proofs.Drawn.{objects-step, objects-none}
 

@@ -9,7 +9,7 @@ use lib.ListN.{getD}
 use borrow.Author.Tests.{eq-eqb, ne-eqb}
 use Rattle.drawing_pixel.specs.World.{worldOf}
 use Rattle.drawing_strip.proofs.Worlds.{world-flags}
-use Rattle.drawing_bytes.specs.Groups.{reachedObjectWorldsOf}
+use Rattle.drawing_bytes.specs.inner.Groups.{reachedObjectWorldsOf}
 use Rattle.drawing_bytes.proofs.Worlds.{reached-step, reached-ended, reached-none}
 
 abbrev Inv-loop : tie.InvT-loop

@@ -2,7 +2,7 @@
 use Prim.Native.Nat.{_-_, _≤_}
 use native.Mathlib.Omega.{arith}
 use mathlib.Core.Path.{_≡_, refl, sym, _∙_}
-use Rattle.drawing_display.specs.Room.{Strips, pixelIn}
+use Rattle.drawing_display.specs.inner.Room.{Strips, pixelIn}
 use Rattle.drawing_display.proofs.Filling.{strips-none, strips-more, all-shown}
 use borrow.Author.Needs.{needs}
 use Rattle.drawing_display.proofs.brightness.show.Statement.{statement}

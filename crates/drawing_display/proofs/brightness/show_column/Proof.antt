@@ -6,7 +6,7 @@ use native.Mathlib.Omega.{arith}
 use mathlib.Core.Path.{_≡_, ap}
 use lib.ListN.{getD}
 use Rattle.drawing_pixel.specs.Character.{twoBitsOf}
-use Rattle.drawing_display.specs.Room.{Column}
+use Rattle.drawing_display.specs.inner.Room.{Column}
 use Rattle.drawing_display.proofs.Filling.{column-none, column-more}
 use Rattle.drawing_display.proofs.brightness.show_column.Statement.{statement}
 use Rattle.drawing_display.proofs.brightness.show_column.Tie as tie

@@ -3,7 +3,7 @@ use borrow.Author.Needs.{needs}
 use Prim.Native.Nat.{_-_, _≤_}
 use native.Mathlib.Omega.{arith}
 use mathlib.Core.Path.{_≡_, refl, _∙_}
-use Rattle.drawing_display.specs.Room.{Columns, pixelIn}
+use Rattle.drawing_display.specs.inner.Room.{Columns, pixelIn}
 use Rattle.drawing_display.proofs.Filling.{columns-none, columns-more, column-pixels}
 use Rattle.drawing_display.proofs.brightness.show_strip.Statement.{statement}
 use Rattle.drawing_display.proofs.brightness.show_strip.Tie as tie

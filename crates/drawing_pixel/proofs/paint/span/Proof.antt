@@ -4,7 +4,7 @@ use Prim.Native.Nat.{_+_, _-_, _≤_}
 use native.Mathlib.Omega.{arith}
 use Rattle.drawing_pixel.specs.Character.{shadeOf, pixelValueOf}
 use mathlib.Core.Path.{_≡_, ap}
-use Rattle.drawing_pixel.specs.Buffer.{Span}
+use Rattle.drawing_pixel.specs.inner.Buffer.{Span}
 use Rattle.drawing_pixel.proofs.Spans.{span-none, span-more, span-change}
 use Rattle.drawing_pixel.proofs.paint.span.Statement.{statement}
 use Rattle.drawing_pixel.proofs.paint.span.Tie as tie

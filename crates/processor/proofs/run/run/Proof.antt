@@ -5,7 +5,7 @@ use native.Mathlib.Omega.{arith}
 use lib.ListN.{length}
 use Rattle.bus.specs.Memory.{memoryOf}
 use Rattle.processor_machine.specs.State.{stateOf}
-use Rattle.processor.specs.Follows.{Follows}
+use Rattle.processor.specs.inner.Follows.{Follows}
 use Rattle.processor.proofs.Follows.{follows-start, follows-counted, follows-on, follows-stopped, follows-finished}
 use Rattle.processor.proofs.run.run.Statement.{statement}
 use Rattle.processor.proofs.run.run.Tie as tie

@@ -9,9 +9,9 @@ use Rattle.bus.specs.Memory.{memoryOf}
 use Rattle.bus.specs.Registers.{linesPlace}
 use Rattle.processor_machine.specs.State.{stateOf}
 use Rattle.processor_machine.specs.declared.Mode.the-variants.{Running}
-use Rattle.processor_fast_compute.specs.Fast.{machineOf}
-use Rattle.processor_fast.specs.Leads.{Leads}
-use Rattle.processor_fast.specs.Turns.{Quiet}
+use Rattle.processor_fast_compute.specs.inner.Fast.{machineOf}
+use Rattle.processor_fast.specs.inner.Leads.{Leads}
+use Rattle.processor_fast.specs.inner.Turns.{Quiet}
 use Rattle.processor_fast.proofs.Fetches.{fetches, stands-even, stands-room}
 use Rattle.processor_fast_compute.proofs.Results.{one-even}
 use Rattle.processor_fast.proofs.Leading.{stays-here, leads-more, aligned-more, leads-masked, quiet-masked, leads-same, leads-none, start-even, ends}

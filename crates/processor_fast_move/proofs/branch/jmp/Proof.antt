@@ -6,7 +6,7 @@ use Prim.Native.Nat.{ℕ, _-_, _%_}
 use Rattle.processor_execute.specs.Execute.{executeOf}
 use Rattle.processor_machine.specs.State.{evenOf}
 use lib.ListN.{getD}
-use Rattle.processor_fast_compute.specs.Fast.{addressOf}
+use Rattle.processor_fast_compute.specs.inner.Fast.{addressOf}
 use Rattle.processor_fast_move.proofs.Branches.{address-jump, address-even}
 use borrow.Author.Needs.{needs}
 use Rattle.processor_fast_move.proofs.branch.jmp.Statement.{statement}

@@ -1,6 +1,6 @@
 -- `processor_lazy_flags::condition::greater`: neither Z nor a difference of OV and S.
 use mathlib.Core.Path.{_≡_, refl, sym, ap, _∙_}
-use Rattle.processor_lazy_flags.specs.Packed.{packedOf}
+use Rattle.processor_lazy_flags.specs.inner.Packed.{packedOf}
 use Rattle.processor_lazy_flags.proofs.Tests.{greater-zero, greater-none}
 use borrow.Author.Needs.{needs}
 use Rattle.processor_lazy_flags.proofs.condition.greater.Statement.{statement}

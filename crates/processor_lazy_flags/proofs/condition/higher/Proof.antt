@@ -1,7 +1,7 @@
 -- `processor_lazy_flags::condition::higher`: neither CY nor Z.
 use mathlib.Core.Path.{_≡_, refl, sym, ap, _∙_}
 use borrow.Author.Tests.{not-true}
-use Rattle.processor_lazy_flags.specs.Packed.{packedOf}
+use Rattle.processor_lazy_flags.specs.inner.Packed.{packedOf}
 use Rattle.processor_lazy_flags.proofs.Tests.{higher-carry, higher-none}
 use borrow.Author.Needs.{needs}
 use Rattle.processor_lazy_flags.proofs.condition.higher.Statement.{statement}

@@ -9,7 +9,7 @@ use Rattle.processor_arithmetic.specs.Quotient.{divideOf}
 use Rattle.processor_arithmetic.proofs.Bits.{bit-small}
 use Rattle.processor_arithmetic.proofs.Division.{complement-word}
 use Rattle.processor_arithmetic.specs.declared.Pair.{Pair}
-use Rattle.processor_lazy_flags.specs.Packed.{packedOf}
+use Rattle.processor_lazy_flags.specs.inner.Packed.{packedOf}
 use Rattle.processor_lazy_flags.proofs.Quotients.{divide-plain, keep-overflow}
 use Rattle.processor_lazy_flags.proofs.Kept.{gives-pair}
 use borrow.Author.Needs.{needs}

@@ -1,6 +1,6 @@
 -- `processor_lazy_flags::status::packed`: by its definition.
 use Rattle.processor_arithmetic.specs.Flag.{flagsOf}
-use Rattle.processor_lazy_flags.specs.Packed.{packedOf}
+use Rattle.processor_lazy_flags.specs.inner.Packed.{packedOf}
 use borrow.Author.Needs.{needs}
 use Rattle.processor_lazy_flags.proofs.status.packed.Statement.{statement}
 use Rattle.processor_lazy_flags.proofs.status.packed.Tie as tie

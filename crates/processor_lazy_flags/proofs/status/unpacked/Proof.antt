@@ -4,7 +4,7 @@ use Prim.Native.Nat.{ℕ, _+_, _-_, _*_, _/_, _%_, _^_, _<_}
 use mathlib.Core.Path.{_≡_, refl, sym, ap, _∙_}
 use native.Mathlib.Omega.{arith}
 use Rattle.processor_arithmetic.specs.Flag.{flagsOf}
-use Rattle.processor_lazy_flags.specs.Packed.{packedOf}
+use Rattle.processor_lazy_flags.specs.inner.Packed.{packedOf}
 use borrow.Author.Needs.{needs}
 use Rattle.processor_lazy_flags.proofs.status.unpacked.Statement.{statement}
 use Rattle.processor_lazy_flags.proofs.status.unpacked.Tie as tie

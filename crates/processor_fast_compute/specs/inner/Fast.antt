@@ -9,7 +9,7 @@ use Rattle.bus.specs.Memory.{Memory}
 use Rattle.processor_decode.specs.declared.Decoded.{Decoded}
 use Rattle.processor_execute.specs.Execute.{settlesOf}
 use Rattle.processor_float.specs.declared.FloatOutcome.{FloatOutcome}
-use Rattle.processor_lazy_flags.specs.Packed.{packedOf}
+use Rattle.processor_lazy_flags.specs.inner.Packed.{packedOf}
 use Rattle.processor_lazy_flags.specs.declared.Flags.{Flags}
 use Rattle.processor_machine.specs.State.{State, Stepped, stateOf, steppedOf}
 use Rattle.processor_machine.specs.declared.Answer.the-variants.{Ended}

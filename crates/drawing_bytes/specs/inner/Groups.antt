@@ -8,7 +8,7 @@ use Rattle.drawing_pixel.specs.World.{worldOf, endOf}
 use Rattle.drawing_pixel.specs.Object.{objectOf}
 use Rattle.drawing_pixel.specs.Pixel.{counterAfterOf, drawsObjectsOf}
 use Rattle.drawing_laws.specs.Covers.{inGroupOf}
-use Rattle.drawing_laws.specs.SourceBytes.{worldsDrawOf, objectBytesOf}
+use Rattle.drawing_laws.specs.inner.SourceBytes.{worldsDrawOf, objectBytesOf}
 
 -- how many of worlds n - 1 to 0 draw objects before END
 unfoldable pub reachedObjectWorldsOf : List ℕ → ℕ → ℕ

@@ -15,7 +15,7 @@ use Rattle.processor_interrupt.specs.Interrupt.{acceptsOf}
 use Rattle.processor_machine.specs.State.{Stepped, steppedOf}
 use Rattle.processor_machine.specs.declared.Answer.the-variants.{Ended}
 use Rattle.processor_machine.specs.declared.Mode.the-variants.{Running}
-use Rattle.processor_fast_compute.specs.Fast.{addressOf, machineOf}
+use Rattle.processor_fast_compute.specs.inner.Fast.{addressOf, machineOf}
 use Rattle.processor_fast_compute.specs.declared.Fast.{Fast}
 use Rattle.processor_fast_compute.specs.declared.Fast.the-variants.{Done, Masked, NotHere}
 use Rattle.processor_step.specs.Step.{nextOf, performOf}

@@ -1,0 +1,4 @@
+-- Forms made for the code: no public contract and no public theorem rests on them.
+pub mod Leads
+pub mod Stands
+pub mod Turns
