@@ -103,8 +103,8 @@ fn every_character() {
     }
 }
 
-/// A refused lookup has length 0, and its offset is 0 by vb.h ("Where refused,
-/// the other answers are 0").
+/// A refused lookup has length 0, and its offset is 0 by vb.h ("its other
+/// answers are 0").
 #[test]
 fn refused_characters() {
     for length in [0, 262_143, 262_144, 262_145, 524_288] {
