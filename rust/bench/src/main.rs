@@ -1,10 +1,10 @@
-//! Times the library, through its C interface, beside the independent model:
+//! Times the library, through its C interface, and the independent model:
 //! the same input, the same buffers, which are not cleared between calls. A
 //! figure is the least of many rounds.
 //!
 //! `cargo run --release --offline --manifest-path rust/Cargo.toml -p bench [-- bus|cpu|replay|draw|rows]`
 //!
-//! `rust/bench/peer/run [cpu|draw|all]` times it beside an emulator instead.
+//! `rust/bench/peer/run [cpu|draw|all]` times it and an emulator instead.
 
 #![forbid(unsafe_code)]
 

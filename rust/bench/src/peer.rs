@@ -1,7 +1,7 @@
-//! The library beside Beetle VB, an emulator of the console: the same loops,
+//! The library compared with Beetle VB, an emulator of the console: the same loops,
 //! memories and registers, the same pictures, in rounds that time both in turn.
 //!
-//! The emulator runs whole frames in a process of its own (`peer/frontend.c`).
+//! The emulator runs whole frames in a separate process (`peer/frontend.c`).
 //! Its time is that of a frame less that of one in which its processor is
 //! halted, or its drawing off; the library's, of a run of as many instructions
 //! as the emulator does in a frame, or of `vb_draw_frame`. Of each side the

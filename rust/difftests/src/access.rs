@@ -156,7 +156,7 @@ fn repeating_address(random: &mut Random, length: usize) -> u32 {
     }
 }
 
-/// An address of region 2 at or beside the timer's registers, or as far from them
+/// An address of region 2 at or next to the timer's registers, or as far from them
 /// as a mirror would be.
 pub fn timer_address(random: &mut Random) -> u32 {
     let low = random.pick(&[0x18, 0x1C, 0x20]) + random.below(4);

@@ -1,5 +1,5 @@
 //! Memory that ends, or begins, at a page that may not be touched: an access
-//! one byte outside a lent buffer stops the test. ROM may not be written.
+//! one byte outside the caller's buffer stops the test. ROM may not be written.
 
 use std::ptr::null_mut;
 use std::slice;

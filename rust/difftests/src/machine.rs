@@ -4,7 +4,7 @@
 use crate::random::Random;
 use model::{DrawingRegisters, Hardware};
 
-/// Lent memories. Each vector is allocated at exactly the length it lends.
+/// The caller's memories. Each vector is allocated at exactly its length.
 #[derive(Clone, Debug, PartialEq, Eq)]
 pub struct Buffers {
     pub rom: Box<[u8]>,

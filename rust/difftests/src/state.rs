@@ -9,7 +9,7 @@ use crate::twin::processor_to_library;
 use model::saved::{file_length, Form};
 use model::{DrawingRegisters, Hardware, Mode, Processor, Refusal};
 
-/// What rooms hold before they are written.
+/// What output buffers hold before they are written.
 pub const FILLED: u8 = 0xA5;
 
 /// The 26 lengths of pak RAM.
@@ -32,7 +32,7 @@ pub fn filled(length: usize) -> Box<[u8]> {
     vec![FILLED; length].into_boxed_slice()
 }
 
-/// Whether nothing was written into a room.
+/// Whether nothing was written into an output buffer.
 pub fn is_untouched(room: &[u8]) -> bool {
     room.iter().all(|&byte| byte == FILLED)
 }
@@ -62,7 +62,7 @@ impl State {
         state
     }
 
-    /// Writes with the library into room of this length.
+    /// Writes with the library into an output buffer of this length.
     pub fn write(&self, form: Form, room: usize) -> (u32, Box<[u8]>) {
         let write = write_by_library(form);
         let mut bytes = filled(room);
@@ -121,8 +121,8 @@ impl State {
         (restored.refusal, model)
     }
 
-    /// Writes this state into rooms of its file's length, one byte less and none, and
-    /// reads from as many bytes of the file: no byte outside what is lent is touched,
+    /// Writes this state into output buffers of its file's length, one byte less and none, and
+    /// reads from as many bytes of the file: no byte outside the caller's buffers is touched,
     /// and what is only read may not be written.
     #[cfg(target_os = "linux")]
     pub fn expect_between_fences(&self, form: Form, side: Side) {

@@ -5,7 +5,7 @@ use model::bus::{place_of, Place};
 use model::exception::interrupt_code;
 use model::{DrawingRegisters, Mode, Processor, Refusal, StepAnswer, Stepped, Undefined};
 
-/// Two sets of lent memories, and the records that both sides are given.
+/// Two sets of memories, and the records that both sides are given.
 #[derive(Clone, Debug)]
 pub struct Twin {
     pub library: Buffers,

@@ -332,7 +332,7 @@ fn parts_of_accesses() {
     }
 }
 
-/// Every set of broken conditions 1 to 5, a list that is no whole number of
+/// Every set of broken conditions 1 to 5, a list whose length is not a whole number of
 /// accesses, and 11, each in two ways.
 #[test]
 fn the_order_of_refusals() {
@@ -369,7 +369,7 @@ fn the_order_of_refusals() {
     }
 }
 
-/// No byte outside what is lent is touched, and ROM is only read.
+/// No byte outside the caller's buffers is touched, and ROM is only read.
 #[cfg(target_os = "linux")]
 #[test]
 fn between_fences() {

@@ -7,7 +7,7 @@ use model::display::{display, load_column_table, ROOM_LENGTH};
 
 const VRAM: usize = 262_144;
 
-/// What a call is given beside VRAM and room.
+/// What a call takes besides VRAM and output buffer.
 #[derive(Clone, Copy, Debug)]
 struct Given {
     frame: u32,
@@ -24,8 +24,8 @@ fn random_bytes(random: &mut Random, length: usize) -> Box<[u8]> {
     bytes
 }
 
-/// Makes the call on both sides, the rooms filled alike before, and compares
-/// number, room and VRAM. Gives the number and the room.
+/// Makes the call on both sides, the output buffers filled alike before, and compares
+/// number, output buffer and VRAM. Gives the number and the output buffer.
 fn expect_same(vram: &[u8], given: Given, room: usize, what: &str) -> (u32, Box<[u8]>) {
     let Given { frame, eye, start, brightness } = given;
     let before = random_bytes(&mut Random::new(0x0B1C), room);
@@ -245,7 +245,7 @@ fn loading_is_refused_by_3_alone() {
     }
 }
 
-/// Neither call touches a byte outside what it is lent, and VRAM of the display
+/// Neither call touches a byte outside the caller's buffers, and VRAM of the display
 /// is only read.
 #[cfg(target_os = "linux")]
 #[test]

@@ -7,7 +7,7 @@ use difftests::random::Random;
 use difftests::scene::{crowded, draw_by_library, draw_by_model, Draw};
 use model::DrawingRegisters;
 
-/// VRAM of a length, with a picture in as much of it as there is room for.
+/// VRAM of a length, with a picture as far as it fits.
 fn vram_of(length: usize) -> Box<[u8]> {
     let scene = crowded(&mut Random::new(0xAE_0001), 12);
     let mut vram = vec![0x5A; length].into_boxed_slice();

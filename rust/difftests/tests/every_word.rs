@@ -1,7 +1,7 @@
 //! CVT.WS, CVT.SW and TRNC.SW of all 2^32 words (W4), the library against the
 //! model's whole numbers. A program converts 8,192 words in one run of the
 //! library, so that the call costs next to nothing for each word; where the first
-//! and the last of them trap, each is a step of its own, which costs less than a
+//! and the last of them trap, each is a separate step, which costs less than a
 //! handler.
 //!
 //! Compared for every word: reg2 after, PSW after, and where the conversion traps
@@ -18,7 +18,7 @@ use model::arithmetic::{CY, OV, S, Z};
 use model::floating::{execute, Floating, Trap};
 use model::Cause;
 
-/// Words of one run: what WRAM has room for, two words of it for each.
+/// Words of one run: what fits into WRAM, two words of it for each.
 const WORDS: u32 = 8_192;
 /// Runs that all words take.
 const RUNS: u32 = 524_288;

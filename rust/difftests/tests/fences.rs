@@ -1,4 +1,4 @@
-//! The library touches no byte outside what it is lent, and writes no ROM: the
+//! The library touches no byte outside the caller's buffers, and writes no ROM: the
 //! buffers lie between pages that may not be touched, at exactly their length.
 
 #![cfg(target_os = "linux")]
@@ -22,7 +22,7 @@ type Store = fn(&mut vbsys::Memories, vbsys::Drawing, vbsys::Hardware, u32, u32)
 type ModelStore =
     fn(&mut Memories, &mut DrawingRegisters, &mut Hardware, u32, u32) -> Result<(), Refusal>;
 
-/// The calls of each width, the library's beside the model's.
+/// The calls of each width, the library's and the model's.
 const WIDTHS: [(Load, ModelLoad, Store, ModelStore); 3] = [
     (vbsys::load_byte, bus::load_byte, vbsys::store_byte, bus::store_byte),
     (vbsys::load_half, bus::load_half, vbsys::store_half, bus::store_half),

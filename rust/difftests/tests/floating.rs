@@ -390,7 +390,7 @@ fn words_rearranged_and_multiplied() {
 }
 
 /// An instruction whose second halfword is undefined reads sub-opcode 0, CMPF.S;
-/// where that traps the step still tells of the halfword (W2).
+/// where that traps the step still reports the halfword (W2).
 #[test]
 fn undefined_second_halfwords() {
     let mut bench = Bench::new(CMPF);

@@ -503,7 +503,7 @@ impl Tally {
 }
 
 /// Programs stepped on both sides; between steps the bench raises and lowers lines
-/// and tells of ticks.
+/// and ticks.
 #[test]
 fn programs_step_by_step() {
     let mut random = Random::new(0x6008_0000);
@@ -600,7 +600,7 @@ fn runs_and_steps() {
     assert!(least > Some(20), "{midway} midway, {first} first, {halted} halted, {refused} refused");
 }
 
-/// No byte outside what is lent is touched; ROM may not be written; pak RAM may be
+/// No byte outside the caller's buffers is touched; ROM may not be written; pak RAM may be
 /// empty.
 #[cfg(target_os = "linux")]
 #[test]

@@ -1,5 +1,5 @@
-//! The call that lists the bytes a pixel answers to: its count and its room
-//! against the independent model's list, with rooms of every kind of length,
+//! The call that lists the bytes a pixel answers to: its count and its output buffer
+//! against the independent model's list, with output buffers of every kind of length,
 //! and every refusal on both sides of its limit.
 
 use difftests::machine::{drawings_about_limits, to_library, VRAM_LENGTHS};
@@ -10,19 +10,19 @@ use model::world::Eye;
 use model::DrawingRegisters;
 use vbsys::{pixel_bytes, Listed, MISUSE};
 
-/// What a word of the room holds before the call.
+/// What a word of the output buffer holds before the call.
 const KEPT: u32 = 0xA5C3_0FF0;
 
 /// Scenes, and pixels of each.
 const SCENES: u64 = 600;
 const PIXELS: u32 = 40;
 
-/// The room's words after a call.
+/// The output buffer's words after a call.
 fn room_after(list: &[u32], length: usize) -> Vec<u32> {
     (0..length).map(|word| list.get(word).copied().unwrap_or(KEPT)).collect()
 }
 
-/// Makes the call with a room of a length; VRAM is lent unchanged.
+/// Makes the call with an output buffer of a length; VRAM is passed unchanged.
 fn call(
     vram: &[u8],
     drawing: &DrawingRegisters,
@@ -35,7 +35,7 @@ fn call(
     (listed, room)
 }
 
-/// The count, and the room's first words: rooms of length 0, too short, exact
+/// The count, and the output buffer's first words: output buffers of length 0, too short, exact
 /// and too long.
 fn expect_list(scene: &Scene, account: &Answers, what: &str) {
     let list: Vec<u32> = account.listed().iter().map(|&address| address as u32).collect();
@@ -140,7 +140,7 @@ fn the_longest_lists() {
     }
 }
 
-/// Every corner of both images is a pixel; one beyond is none.
+/// Every corner of both images is a pixel; one beyond is not.
 #[test]
 fn both_sides_of_the_images() {
     let scene = crowded(&mut Random::new(0xB9_0000), 24);

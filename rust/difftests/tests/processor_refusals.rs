@@ -30,7 +30,7 @@ fn accepted(random: &mut Random) -> Given {
     Given { buffers, processor, drawing }
 }
 
-/// Puts the next instruction and a HALT, where WRAM has room for them.
+/// Puts the next instruction and a HALT, where they fit into WRAM.
 fn put_instruction(buffers: &mut Buffers, instruction: u16) {
     if buffers.wram.len() >= 4 {
         buffers.wram[..2].copy_from_slice(&instruction.to_le_bytes());

@@ -157,7 +157,7 @@ fn cut_traces() {
 }
 
 /// Every set of wrong words, at the first, a middle and the last record: the lowest
-/// is told, the step stays made, and records after it do not count.
+/// is reported, the step stays made, and records after it do not count.
 #[test]
 fn changed_words() {
     let mut random = Random::new(0xA003_0000);
@@ -205,7 +205,7 @@ fn records_past_the_end(random: &mut Random, processor: &Processor) -> [Record; 
 }
 
 /// Random programs, with records past the point where they stop: that the model
-/// refused, took no step or turned fatal is told whatever the record holds.
+/// refused, took no step or turned fatal is reported whatever the record holds.
 #[test]
 fn past_the_end() {
     let mut random = Random::new(0xA004_0000);
@@ -255,7 +255,7 @@ fn programmed(code: &[u16], psw: u32, lines: u16) -> Twin {
 
 const ADD_ONE: u16 = half(0b010001, 1, 1);
 
-/// Each row of what a step beside a record gives, by the library's own answers.
+/// Each row of what comparing a step with a record gives, by the library's own answers.
 #[test]
 fn worked_records() {
     let first = [0x0500_0000, 0x0500_0002, 0, 1];
@@ -379,7 +379,7 @@ fn the_order_of_refusals() {
     }
 }
 
-/// No byte outside what is lent is touched; ROM and the trace are only read; the
+/// No byte outside the caller's buffers is touched; ROM and the trace are only read; the
 /// trace and pak RAM may be empty.
 #[cfg(target_os = "linux")]
 #[test]

@@ -1,12 +1,12 @@
 //! Salvage of a saved state (W13): damaged files of form 2, by single bytes and
-//! whole; which bodies are kept, what is told, and that the output is right.
+//! whole; which bodies are kept, what is reported, and that the output is right.
 
 use difftests::machine::expect_same_bytes;
 use difftests::random::Random;
 use difftests::state::{bodies, field_values, filled, is_untouched, pak_lengths, sum, Body, State};
 use model::saved::{file_length, Form};
 
-/// What a salvage told and wrote.
+/// What a salvage reported and wrote.
 #[derive(Clone, Debug, PartialEq, Eq)]
 struct Salvage {
     kinds: Vec<u32>,
@@ -14,7 +14,7 @@ struct Salvage {
     output: Box<[u8]>,
 }
 
-/// Salvages on both sides into room of this length and compares; none where it is
+/// Salvages on both sides into an output buffer of this length and compares; none where it is
 /// refused, with its number.
 fn salvage_into(file: &[u8], room: usize, what: &str) -> Result<Salvage, u32> {
     let (mut library, mut model) = (filled(room), filled(room));
@@ -42,7 +42,7 @@ fn salvage_into(file: &[u8], room: usize, what: &str) -> Result<Salvage, u32> {
 }
 
 /// Salvages a file of a length that is due; the output, salvaged again, is the same
-/// and nothing is told of it.
+/// and nothing is reported about it.
 fn salvage(file: &[u8], what: &str) -> Salvage {
     let salvage = salvage_into(file, file.len(), what).unwrap();
     let again = salvage_into(&salvage.output, file.len(), what).unwrap();
@@ -51,7 +51,7 @@ fn salvage(file: &[u8], what: &str) -> Salvage {
     salvage
 }
 
-/// The output is a right file: it is read without refusal and written as it is.
+/// The output is a valid file: it is read without refusal and written as it is.
 fn expect_right(output: &[u8], pak: usize, what: &str) {
     let other = State::random(&mut Random::new(0x1300_0000), pak);
     let (number, read) = other.read(output, what);
@@ -257,7 +257,7 @@ fn damage_that_is_not_seen() {
     }
 }
 
-/// A body that is replaced by its own bytes is told: memories of zeros whose stored
+/// A body that is replaced by its own bytes is reported: memories of zeros whose stored
 /// sum was damaged.
 #[test]
 fn replaced_by_its_own_bytes() {
@@ -352,7 +352,7 @@ fn files_of_form_1() {
     }
 }
 
-/// 9 where room and file differ in length, legal or not; then 17. Two empty slices
+/// 9 where output buffer and file differ in length, legal or not; then 17. Two empty slices
 /// are 17.
 #[test]
 fn lengths() {
@@ -382,7 +382,7 @@ fn lengths() {
     }
 }
 
-/// No byte outside what is lent is touched; the file is only read; both may be
+/// No byte outside the caller's buffers is touched; the file is only read; both may be
 /// empty.
 #[cfg(target_os = "linux")]
 #[test]

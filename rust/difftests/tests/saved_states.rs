@@ -88,7 +88,7 @@ const FIRST: usize = 42;
 const SECOND: usize = 214;
 
 /// Every word of kind 1 and every halfword of kind 2 with each bit alone and all
-/// set: whether it is refused by 10 is the papers' condition of that field.
+/// set: whether it is refused by 10 is the specification's condition of that field.
 #[test]
 fn every_bit_of_the_records() {
     let state = State::at_reset(&mut Random::new(0x1006_0000), 0);
@@ -180,7 +180,7 @@ fn the_order_of_refusals() {
     }
 }
 
-/// No byte outside what is lent is touched; what is only read may not be written.
+/// No byte outside the caller's buffers is touched; what is only read may not be written.
 #[cfg(target_os = "linux")]
 #[test]
 fn between_fences() {

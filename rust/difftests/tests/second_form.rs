@@ -11,7 +11,7 @@ use difftests::twin::processor_to_library;
 use model::saved::{file_length, Form};
 use model::{Hardware, Refusal};
 
-/// Moves a file on both sides into room of this length and compares.
+/// Moves a file on both sides into an output buffer of this length and compares.
 fn moved(file: &[u8], room: usize, what: &str) -> (u32, Box<[u8]>) {
     let (mut library, mut model) = (filled(room), filled(room));
     let number = vbsys::move_state(file, &mut library);
@@ -68,7 +68,7 @@ fn moves() {
 }
 
 /// File lengths from 0 on that fit one form, the other, both or none, with each
-/// first halfword and each room that could be due.
+/// first halfword and each output length that could be due.
 #[test]
 fn lengths_of_moved_files() {
     let mut lengths =
@@ -368,8 +368,8 @@ fn the_order_of_a_move() {
     }
 }
 
-/// No byte outside what is lent is touched; what is only read may not be written;
-/// room and file may be empty.
+/// No byte outside the caller's buffers is touched; what is only read may not be written;
+/// output buffer and file may be empty.
 #[cfg(target_os = "linux")]
 #[test]
 fn between_fences() {

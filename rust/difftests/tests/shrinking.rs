@@ -115,7 +115,7 @@ proptest! {
     }
 }
 
-/// A mistake that only MUL shows is told by a program of one instruction.
+/// A mistake that only MUL shows is found by a program of one instruction.
 #[test]
 fn a_failing_program_shrinks_to_the_instruction_that_fails() {
     let mut runner = TestRunner::new(config(2_000));
@@ -130,7 +130,7 @@ fn a_failing_program_shrinks_to_the_instruction_that_fails() {
     assert_eq!(program[0][0] >> 10, 0b001000);
 }
 
-/// A mistake in wide affine worlds is told by one world with the least width.
+/// A mistake in wide affine worlds is found by one world with the least width.
 #[test]
 fn a_failing_scene_shrinks_to_the_world_that_fails() {
     let mut runner = TestRunner::new(config(2_000));

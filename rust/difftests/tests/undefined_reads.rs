@@ -7,7 +7,7 @@ use difftests::machine::{random_drawing, Buffers};
 use difftests::random::Random;
 use model::DrawingRegisters;
 
-/// Where the bytes of the VIP turn defined or undefined, by the papers.
+/// Where the bytes of the VIP turn defined or undefined, by the specification.
 const BORDERS: [u32; 14] = [
     0x40000, 0x5F800, 0x5F806, 0x5F820, 0x5F82C, 0x5F82E, 0x5F832, 0x5F840, 0x5F846, 0x5F848,
     0x5F850, 0x5F860, 0x5F872, 0x78000,
@@ -25,7 +25,7 @@ fn expect_same(call: Call, buffers: &mut Buffers, drawing: &DrawingRegisters, ad
 }
 
 /// Each of the 524,288 addresses by each width, at each mirror: the undefined
-/// bytes are counted as the papers' ranges have them.
+/// bytes are counted as the specification's ranges have them.
 #[test]
 fn every_address_of_the_vip() {
     let mut random = Random::new(0x2001_0000);
@@ -93,7 +93,7 @@ fn worked_loads() {
     }
 }
 
-/// A refused load of an undefined byte tells of none.
+/// A refused load of an undefined byte reports none.
 #[test]
 fn refused_loads() {
     let wide = DrawingRegisters { bkcol: 4, ..DrawingRegisters::default() };
@@ -275,7 +275,7 @@ mod steps {
         }
     }
 
-    /// Refused by 1 to 6 or for its mode, a step tells of no undefined byte,
+    /// Refused by 1 to 6 or for its mode, a step reports no undefined byte,
     /// wherever PC is.
     #[test]
     fn refused_steps() {

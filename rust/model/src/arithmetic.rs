@@ -68,7 +68,7 @@ pub fn operate(operation: Operation, left: u32, right: u32) -> Result<Outcome, Z
     })
 }
 
-/// Whether a signed number is no 32-bit word.
+/// Whether a signed number does not fit in a 32-bit word.
 fn leaves_signed_word(value: i64) -> bool {
     i32::try_from(value).is_err()
 }

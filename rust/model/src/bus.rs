@@ -8,7 +8,7 @@ use crate::hardware::{timer_register_at, Hardware, TimerRegister};
 use crate::number::field;
 use crate::refusal::{check_drawing, check_pak, check_rom, check_vram, check_wram, Refusal};
 
-/// The lent memories of a load.
+/// The caller's memories for a load (the specification says: lent).
 #[derive(Clone, Copy, Debug)]
 pub struct ReadMemories<'a> {
     pub rom: &'a [u8],
@@ -17,7 +17,7 @@ pub struct ReadMemories<'a> {
     pub pak: &'a [u8],
 }
 
-/// The lent memories of a store, a step or a run. ROM is read only.
+/// The caller's memories for a store, a step or a run. ROM is read only.
 #[derive(Debug)]
 pub struct Memories<'a> {
     pub rom: &'a [u8],

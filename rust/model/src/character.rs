@@ -14,7 +14,7 @@ pub fn character_address(character: u32) -> usize {
     0x6000 + (character / 512) * 0x8000 + 16 * (character % 512)
 }
 
-/// The character's 16 bytes as a part of the lent VRAM; refusals 3, then 8.
+/// The character's 16 bytes as a part of the caller's VRAM; refusals 3, then 8.
 pub fn character(vram: &[u8], character: u32) -> Result<&[u8], Refusal> {
     check_vram(vram.len())?;
     refuse_unless(character < CHARACTERS, Refusal::StripOrCharacter)?;

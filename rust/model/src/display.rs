@@ -6,7 +6,7 @@ use crate::number::half_at;
 use crate::refusal::{check_vram, refuse_unless, Refusal};
 use crate::world::{Eye, HEIGHT, WIDTH};
 
-/// The bytes of a room: 384 columns by 224 rows.
+/// The bytes of an output buffer: 384 columns by 224 rows.
 pub const ROOM_LENGTH: usize = 86_016;
 /// "the lesser of 128 and shade time times repeats".
 const BRIGHTEST: u32 = 128;
@@ -49,7 +49,7 @@ fn check(vram: &[u8], frame: u32, eye: u32, start: u32, room: usize) -> Result<E
     Ok(Eye::BOTH[eye as usize])
 }
 
-/// Puts the brightness of pixel (x, y) into byte 384y + x of the room.
+/// Puts the brightness of pixel (x, y) into byte 384y + x of the output buffer.
 pub fn display(
     vram: &[u8],
     frame: u32,

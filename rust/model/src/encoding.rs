@@ -61,7 +61,7 @@ enum Layout {
     SubOneRegister,
 }
 
-/// The layout of an operation; none for a number that is no operation.
+/// The layout of an operation; `None` for a number that is not an operation.
 fn layout_of(operation: u32) -> Option<Layout> {
     Some(match operation {
         6 => Layout::OneRegister,

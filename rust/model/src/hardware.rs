@@ -3,7 +3,7 @@
 //!
 //! 02, W6: "The timer, its registers and line 1 follow the Scroll's Timer
 //! section". This copy of 000 lists that section and lacks it; what stands here
-//! in its place is told row by row in docs/DECISIONS.md.
+//! in its place is described row by row in docs/DECISIONS.md.
 
 use crate::refusal::{refuse_unless, Refusal};
 

@@ -1,4 +1,4 @@
-//! An independent model of the console, written from the papers alone.
+//! An independent model of the console, written from the specification alone.
 //!
 //! It shares no code and no definition with the proved library; the
 //! differential tests hold the two against each other. Signed quantities are
@@ -8,7 +8,7 @@
 //! and R1 to R8 are the rulings on the places where they differ
 //! (docs/DECISIONS.md).
 //!
-//! Three layers: [`bus`], [`processor`] over it, and [`drawing`] over lent VRAM.
+//! Three layers: [`bus`], [`processor`] over it, and [`drawing`] over the caller's VRAM.
 //! [`hardware`] has the request lines and the timer; [`answers`] explains a drawn
 //! pixel.
 

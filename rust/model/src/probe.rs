@@ -5,7 +5,7 @@ use crate::bus::{place_of, Place};
 use crate::instruction::Width;
 use crate::refusal::{check_pak, check_rom, check_vram, check_wram, Refusal};
 
-/// The lent memories of a probe's write, of which VRAM alone can change.
+/// The caller's memories for a probe's write; only VRAM can change.
 #[derive(Debug)]
 pub struct ProbeMemories<'a> {
     pub rom: &'a [u8],

@@ -2,7 +2,7 @@
 
 use crate::bus::DrawingRegisters;
 
-/// Why a call did nothing. The order is the order of the papers' numbers: the
+/// Why a call did nothing. The order is the order of the specification's numbers: the
 /// lowest whose condition holds is given, but for W10's 14, which comes before 6.
 #[derive(Clone, Copy, Debug, PartialEq, Eq, PartialOrd, Ord, Hash)]
 pub enum Refusal {
@@ -22,7 +22,7 @@ pub enum Refusal {
     Frame = 7,
     /// Strip above 27, or character above 2,047.
     StripOrCharacter = 8,
-    /// W1: the room or the file isn't of the length due.
+    /// W1: the output buffer or the file does not have the required length.
     FileLength = 9,
     /// W1: the file's bytes aren't what the writer makes.
     FileBytes = 10,
@@ -34,7 +34,7 @@ pub enum Refusal {
     ProbeTarget = 13,
     /// W10: the trace's length isn't a multiple of 16.
     TraceLength = 14,
-    /// W11: an eye, a start or a room that the display can't have.
+    /// W11: an eye, a start or an output buffer that the display can't have.
     Display = 15,
     /// W12: lines and timer aren't at reset.
     NotAtReset = 16,
@@ -43,12 +43,12 @@ pub enum Refusal {
 }
 
 impl Refusal {
-    /// The papers' number.
+    /// The specification's number.
     pub fn number(self) -> u32 {
         self as u32
     }
 
-    /// The papers' row, for a person.
+    /// The specification's row, for a person.
     pub fn sentence(self) -> &'static str {
         match self {
             Refusal::RomLength => "ROM length isn't a power of two from 1,024 to 16,777,216",

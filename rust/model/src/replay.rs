@@ -1,4 +1,4 @@
-//! Replay of a recorded trace (W10): the model steps beside the records of a die
+//! Replay of a recorded trace (W10): the model steps along the records of a die
 //! and tells the first one that differs.
 
 use crate::bus::{DrawingRegisters, Memories};
@@ -59,7 +59,7 @@ fn check(
     refuse_unless(trace.len().is_multiple_of(RECORD_LENGTH), Refusal::TraceLength)
 }
 
-/// One step beside a record; none where it agrees. That the model refused, took no
+/// One step compared with a record; none where it agrees. That the model refused, took no
 /// step or turned fatal "is told first", whatever the record holds.
 fn beside(
     memories: &mut Memories,
@@ -82,7 +82,7 @@ fn beside(
     })
 }
 
-/// Steps beside the whole trace. "Memory and state afterwards are those after the
+/// Steps along the whole trace. "Memory and state afterwards are those after the
 /// agreed records, plus a differing step or a turn to fatal."
 pub fn replay(
     memories: &mut Memories,

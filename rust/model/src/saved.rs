@@ -107,7 +107,7 @@ fn pak_lengths() -> impl Iterator<Item = usize> {
     std::iter::once(0).chain(powers.take_while(|&power| power <= PAK_LARGEST))
 }
 
-/// The length of a file that the lent pak RAM's length calls for.
+/// The length of a file that the caller's pak RAM's length calls for.
 pub fn file_length(form: Form, pak: usize) -> usize {
     let bodies = form.bodies(pak).iter().map(|(_, length)| length).sum::<usize>();
     form.contents_length(pak) + bodies
@@ -147,7 +147,7 @@ pub(crate) fn processor_bytes(processor: &Processor) -> Vec<u8> {
     processor.registers.into_iter().chain(others).flat_map(u32::to_le_bytes).collect()
 }
 
-/// The processor of a body of kind 1; none for a mode that is none. W6: "W1's
+/// The processor of a body of kind 1; `None` for an invalid mode. W6: "W1's
 /// files leave them out and load them at reset", the lines and the timer.
 fn read_processor(body: &[u8]) -> Option<Processor> {
     let word = |n: usize| word_at(body, 4 * n);
@@ -269,7 +269,7 @@ fn check(
     check_drawing(drawing)
 }
 
-/// Refusal 9, by the length that the lent pak RAM's length calls for.
+/// Refusal 9, by the length that the caller's pak RAM's length calls for.
 fn check_length(form: Form, memories: &ReadMemories, length: usize) -> Result<(), Refusal> {
     refuse_unless(length == file_length(form, memories.pak.len()), Refusal::FileLength)
 }
@@ -279,7 +279,7 @@ fn check_at_reset(processor: &Processor) -> Result<(), Refusal> {
     refuse_unless(processor.hardware == Hardware::default(), Refusal::NotAtReset)
 }
 
-/// Writes form 1 into room of exactly the length due; refusals 1 to 5, 9, 16.
+/// Writes form 1 into an output buffer of exactly the length due; refusals 1 to 5, 9, 16.
 pub fn write_state(
     memories: &ReadMemories,
     processor: &Processor,
@@ -293,7 +293,7 @@ pub fn write_state(
     Ok(())
 }
 
-/// Writes form 2 into room of exactly the length due; refusals 1 to 5, 9.
+/// Writes form 2 into an output buffer of exactly the length due; refusals 1 to 5, 9.
 pub fn write_state_2(
     memories: &ReadMemories,
     processor: &Processor,

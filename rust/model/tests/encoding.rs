@@ -1,4 +1,4 @@
-//! The encoder's worked rows (W8), and the decoder of the processor beside it.
+//! The encoder's worked rows (W8), and the processor's decoder.
 
 use model::encoding::{decode, encode, Fields, Halfwords, ILLEGAL};
 use model::instruction::{self, Decoded, Instruction};

@@ -343,7 +343,7 @@ fn undefined_bytes_of_steps() {
     }
 }
 
-/// A step that is refused or does nothing tells of no undefined byte.
+/// A step that is refused or does nothing reports no undefined byte.
 #[test]
 fn steps_that_read_nothing() {
     let mut machine = Machine::new(&[]);

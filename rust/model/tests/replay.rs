@@ -1,4 +1,4 @@
-//! Replay of a recorded trace (W10): each row of what a step beside a record gives.
+//! Replay of a recorded trace (W10): each row of what comparing a step with a record gives.
 
 mod common;
 
@@ -35,7 +35,7 @@ fn all_agreed() {
     assert_eq!(replayed, Replayed { ending: Ending::Agreed, agreed: 0 });
 }
 
-/// The lowest wrong word is told, and the differing step stays made.
+/// The lowest wrong word is reported, and the differing step stays made.
 #[test]
 fn differing_words() {
     for set in 1..16u32 {
@@ -52,7 +52,7 @@ fn differing_words() {
     }
 }
 
-/// What the model itself does at a record is told first, whatever the record holds.
+/// What the model itself does at a record is reported first, whatever the record holds.
 #[test]
 fn told_first() {
     for (code, psw, ending) in [

@@ -1,4 +1,4 @@
-//! The calls of the library. The library decides; a refusal's number is told with what the caller gave.
+//! The calls of the library. The library decides; a refusal's number is reported with what the caller gave.
 
 use vbsys::{Memories, ReadMemories};
 

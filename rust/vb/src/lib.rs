@@ -1,6 +1,6 @@
 //! The console reference model as a safe Rust crate over the proved library.
 //!
-//! The caller lends the memories; the machine's records go by value. A call
+//! The caller passes the memories; the machine's records go by value. A call
 //! that is refused changes nothing and says which rule of paper 01 it broke,
 //! what was given and what is allowed.
 //!
@@ -55,12 +55,12 @@ pub const PROCESSOR_WORDS_LENGTH: usize = 172;
 pub const DRAWING_LENGTH: usize = 26;
 /// Columns of a picture.
 pub const COLUMNS: usize = 384;
-/// Rows of a picture; the image has room for 256, and those below are never drawn.
+/// Rows of a picture; the image has 256, and those below are never drawn.
 pub const ROWS: usize = 224;
 /// Bytes of an image: 384 columns of 64 bytes.
 pub const IMAGE_LENGTH: usize = 24_576;
 
-/// Bytes of a room for the brightness of an eye's pixels, one a pixel.
+/// Bytes of an output buffer for the brightness of an eye's pixels, one per pixel.
 pub const ROOM_LENGTH: usize = COLUMNS * ROWS;
 /// The brightness that no pixel exceeds.
 pub const FULL_BRIGHTNESS: u8 = 128;

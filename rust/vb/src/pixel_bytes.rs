@@ -9,9 +9,9 @@ use crate::refusal::Refusal;
 /// Why no list was made.
 #[derive(Clone, Debug, PartialEq, Eq)]
 pub enum NoList {
-    /// A refusal of the papers: 3 or 5.
+    /// A refusal of the specification: 3 or 5.
     Refused(Refusal),
-    /// No image has the pixel, which the papers have no number for.
+    /// No image has the pixel, for which the specification has no number.
     Outside {
         /// The eye that was asked for.
         eye: u32,
@@ -37,8 +37,8 @@ impl fmt::Display for NoList {
 impl std::error::Error for NoList {}
 
 impl Drawing {
-    /// How many bytes of VRAM the pixel (x, y) of an eye (0 left, 1 right) answers to. Their addresses go into the
-    /// room's first words in the order of docs/PROMISES.md, as far as the room reaches; its other words are kept.
+    /// How many bytes of VRAM the pixel (x, y) of an eye (0 left, 1 right) depends on. Their addresses go into
+    /// the output buffer's first words in the order of docs/PROMISES.md, as many as fit; its other words are kept.
     pub fn pixel_bytes_into(
         &self,
         vram: &[u8],

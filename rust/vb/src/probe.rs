@@ -15,7 +15,7 @@ pub enum Width {
     Word,
 }
 
-/// What the probe can write to: memories that lend it VRAM.
+/// What the probe can write to: memories that it may write VRAM of.
 pub trait Probe {
     /// Writes the low 8, 16 or 32 bits of `value` at a bus address, whose bits below the width are dropped. Characters
     /// 1,536 to 2,047 and background maps 12 and 13 alone can be written, by any mirror.

@@ -1,4 +1,4 @@
-//! The papers' refusals, each with what was given.
+//! The specification's refusals, each with what was given.
 
 use std::fmt;
 

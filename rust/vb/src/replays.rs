@@ -24,7 +24,7 @@ pub enum Word {
 /// What a replay found.
 #[derive(Clone, Debug, PartialEq, Eq)]
 pub struct Replayed {
-    /// How many records agreed; below the trace's number of records it is the index of the record told of.
+    /// How many records agreed; below the trace's number of records it is the index of the record reported.
     pub agreed: u64,
     /// How it ended.
     pub end: End,
@@ -58,7 +58,7 @@ pub fn record(before: u32, after: &Processor) -> [u8; RECORD_LENGTH] {
 }
 
 impl Machine {
-    /// Steps this machine beside a trace, as far as they agree.
+    /// Steps this machine along a trace, as far as they agree.
     pub fn replay(&mut self, memories: &mut Memories, trace: &[u8]) -> Result<Replayed, Refusal> {
         let done = vbsys::replay(memories, (&self.processor).into(), (&self.drawing).into(), trace);
         match done.refusal {

@@ -56,7 +56,7 @@ impl Machine {
     }
 }
 
-/// Moves a saved state into the other form; the room must have the length that is due there.
+/// Moves a saved state into the other form; the output buffer must have the length that is due there.
 pub fn move_state(file: &[u8], room: &mut [u8]) -> Result<(), Refusal> {
     match vbsys::move_state(file, room) {
         0 => Ok(()),
@@ -76,7 +76,7 @@ pub struct Salvaged {
     pub contents_differ: bool,
 }
 
-/// Writes a right file of form 2 of what a damaged one still holds into room as long as it.
+/// Writes a valid file of form 2 with every recoverable body of a damaged one into an output buffer as long as it.
 pub fn salvage_state(file: &[u8], room: &mut [u8]) -> Result<Salvaged, Refusal> {
     let done = vbsys::salvage_state(file, room);
     match done.refusal {

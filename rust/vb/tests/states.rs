@@ -1,4 +1,4 @@
-//! Saved states through the library: the contents as the papers lay them out, read back, and every refusal.
+//! Saved states through the library: the contents as the specification lays them out, read back, and every refusal.
 
 mod common;
 

@@ -1,5 +1,5 @@
-//! Safe wrappers over slices: each is lent with its own length, and the borrow
-//! checker keeps the lent buffers apart.
+//! Safe wrappers over slices: each is passed with its own length, and the borrow
+//! checker keeps the buffers apart.
 
 use std::ffi::{c_char, CStr};
 
@@ -7,10 +7,10 @@ use crate::raw::*;
 use crate::*;
 
 /// A call with each memory's pointer and length first, then the other arguments.
-/// ROM is always lent to be read, the other three by the method that is named.
+/// ROM is always passed to be read, the other three by the method that is named.
 macro_rules! lending {
     ($memories:ident, $wram:ident $vram:ident $pak:ident, $function:ident($($other:expr),*)) => {
-        // SAFETY: each pointer is lent with its slice's own length, and a slice
+        // SAFETY: each pointer is passed with its slice's own length, and a slice
         // that is written is borrowed mutably, apart from the others.
         unsafe {
             $function(
@@ -28,7 +28,7 @@ macro_rules! lending {
     };
 }
 
-/// A wrapper of a call that is lent memories to be read, and has no other buffer.
+/// A wrapper of a call that only reads the memories, and has no other buffer.
 macro_rules! reading {
     ($($wrapper:ident, $function:ident($($name:ident: $kind:ty),*) -> $answer:ty;)*) => {$(
         #[doc = concat!("`", stringify!($function), "`")]
@@ -82,13 +82,13 @@ probing! {
 /// `vb_tick`
 #[inline]
 pub fn tick(hardware: Hardware) -> Ticked {
-    // SAFETY: nothing is lent.
+    // SAFETY: no buffer is passed.
     unsafe { vb_tick(hardware) }
 }
 
 /// `vb_version`: VB_VERSION of the linked library.
 pub fn version() -> u32 {
-    // SAFETY: nothing is lent.
+    // SAFETY: no buffer is passed.
     unsafe { vb_version() }
 }
 
@@ -101,13 +101,13 @@ fn text(constant: *const c_char) -> &'static str {
 
 /// `vb_version_text`
 pub fn version_text() -> &'static str {
-    // SAFETY: nothing is lent.
+    // SAFETY: no buffer is passed.
     text(unsafe { vb_version_text() })
 }
 
 /// `vb_refusal_text`
 pub fn refusal_text(refusal: u32) -> &'static str {
-    // SAFETY: nothing is lent.
+    // SAFETY: no buffer is passed.
     text(unsafe { vb_refusal_text(refusal) })
 }
 
@@ -123,25 +123,25 @@ mod processor {
     /// `vb_reset`
     #[inline]
     pub fn reset() -> Machine {
-        // SAFETY: nothing is lent.
+        // SAFETY: no buffer is passed.
         unsafe { vb_reset() }
     }
 
     /// `vb_encode`
     #[inline]
     pub fn encode(instruction: Instruction) -> Encoded {
-        // SAFETY: nothing is lent.
+        // SAFETY: no buffer is passed.
         unsafe { vb_encode(instruction) }
     }
 
     /// `vb_decode`
     #[inline]
     pub fn decode(first: u16, second: u16) -> Decoded {
-        // SAFETY: nothing is lent.
+        // SAFETY: no buffer is passed.
         unsafe { vb_decode(first, second) }
     }
 
-    /// Wrappers that write a state into a room.
+    /// Wrappers that write a state into an output buffer.
     macro_rules! saving {
         ($($wrapper:ident, $function:ident;)*) => {$(
             #[doc = concat!("`", stringify!($function), "`")]
@@ -167,7 +167,7 @@ mod processor {
         write_state_2, vb_write_state_2;
     }
 
-    /// Wrappers that read a file or a trace beside the machine.
+    /// Wrappers that read a file or a trace with the machine.
     macro_rules! beside {
         ($($wrapper:ident, $function:ident($file:ident) -> $answer:ty;)*) => {$(
             #[doc = concat!("`", stringify!($function), "`")]
@@ -196,8 +196,8 @@ mod processor {
     /// `vb_move_state`
     #[inline]
     pub fn move_state(file: &[u8], room: &mut [u8]) -> u32 {
-        // SAFETY: each pointer is lent with its slice's own length; the file is only read, and the
-        // room is borrowed mutably and apart.
+        // SAFETY: each pointer is passed with its slice's own length; the file is only read, and the
+        // output buffer is borrowed mutably and apart.
         unsafe { vb_move_state(file.as_ptr(), file.len(), room.as_mut_ptr(), room.len()) }
     }
 
@@ -233,7 +233,7 @@ mod processor {
         list: &mut [Access],
     ) -> Stored {
         let length = std::mem::size_of_val(list);
-        // SAFETY: an access is five words with no room between them, so that the list is that many
+        // SAFETY: an access is five words with no space between them, so that the list is that many
         // bytes, and any bytes are accesses. The library runs on a little-endian processor.
         let bytes =
             unsafe { std::slice::from_raw_parts_mut(list.as_mut_ptr().cast::<u8>(), length) };
@@ -250,21 +250,21 @@ mod drawing {
     /// `vb_draw_strip`
     #[inline]
     pub fn draw_strip(vram: &mut [u8], drawing: Drawing, frame: u32, strip: u32) -> u32 {
-        // SAFETY: the pointer is lent with its slice's own length.
+        // SAFETY: the pointer is passed with its slice's own length.
         unsafe { vb_draw_strip(vram.as_mut_ptr(), vram.len(), drawing, frame, strip) }
     }
 
     /// `vb_draw_frame`
     #[inline]
     pub fn draw_frame(vram: &mut [u8], drawing: Drawing, frame: u32) -> u32 {
-        // SAFETY: the pointer is lent with its slice's own length.
+        // SAFETY: the pointer is passed with its slice's own length.
         unsafe { vb_draw_frame(vram.as_mut_ptr(), vram.len(), drawing, frame) }
     }
 
     /// `vb_character`
     #[inline]
     pub fn character(vram: &[u8], character: u32) -> Part {
-        // SAFETY: the pointer is lent with its slice's own length.
+        // SAFETY: the pointer is passed with its slice's own length.
         unsafe { vb_character(vram.as_ptr(), vram.len(), character) }
     }
 
@@ -279,8 +279,8 @@ mod drawing {
         room: &mut [u32],
     ) -> Listed {
         let (words, length) = (room.as_mut_ptr(), room.len());
-        // SAFETY: each pointer is lent with its slice's own length; VRAM is only read, and the
-        // room is borrowed mutably and apart.
+        // SAFETY: each pointer is passed with its slice's own length; VRAM is only read, and the
+        // output buffer is borrowed mutably and apart.
         unsafe { vb_pixel_bytes(vram.as_ptr(), vram.len(), drawing, eye, x, y, words, length) }
     }
 
@@ -296,15 +296,15 @@ mod drawing {
     ) -> u32 {
         let (memory, length) = (vram.as_ptr(), vram.len());
         let ([a, b, c], at, room_length) = (durations, room.as_mut_ptr(), room.len());
-        // SAFETY: each pointer is lent with its slice's own length; VRAM is only read, and the
-        // room is borrowed mutably and apart.
+        // SAFETY: each pointer is passed with its slice's own length; VRAM is only read, and the
+        // output buffer is borrowed mutably and apart.
         unsafe { vb_display(memory, length, frame, eye, start, a, b, c, at, room_length) }
     }
 
     /// `vb_load_column_table`
     #[inline]
     pub fn load_column_table(vram: &mut [u8]) -> u32 {
-        // SAFETY: the pointer is lent with its slice's own length.
+        // SAFETY: the pointer is passed with its slice's own length.
         unsafe { vb_load_column_table(vram.as_mut_ptr(), vram.len()) }
     }
 }

@@ -5,7 +5,7 @@ use std::ffi::c_char;
 
 use crate::*;
 
-/// Declares calls of vb.h that are lent the four memories, ROM to be read and the
+/// Declares calls of vb.h that take the four memories, ROM to be read and the
 /// other three as said, and then take the arguments in parentheses.
 macro_rules! on_memories {
     ([wram: $wram:tt, vram: $vram:tt, pak: $pak:tt]

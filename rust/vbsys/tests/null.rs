@@ -10,7 +10,7 @@ type Pointers = [(*const u8, usize); 4];
 
 fn load(memories: Pointers, address: u32) -> Loaded {
     let [rom, wram, vram, pak] = memories;
-    // SAFETY: each pointer is null with length 0 or lent with its length.
+    // SAFETY: each pointer is null with length 0 or passed with its length.
     unsafe {
         vb_load_word(
             rom.0,
@@ -47,7 +47,7 @@ fn empty_pak_ram_may_be_null() {
 #[test]
 fn a_store_to_null_pak_ram_writes_nothing() {
     let (rom, mut wram, mut vram) = (vec![7u8; 1_024], vec![8u8; 65_536], vec![9u8; 262_144]);
-    // SAFETY: pak RAM is null with length 0; the others are lent with their lengths.
+    // SAFETY: pak RAM is null with length 0; the others are passed with their lengths.
     let stored = unsafe {
         vb_store_word(
             rom.as_ptr(),
@@ -89,7 +89,7 @@ fn null_vram_of_length_0_is_refused() {
 #[test]
 fn a_null_room_of_length_0_takes_no_address() {
     let vram = vec![0xFFu8; 262_144];
-    // SAFETY: null is passed with length 0; VRAM is lent with its length.
+    // SAFETY: null is passed with length 0; VRAM is passed with its length.
     let (none, listed) = unsafe {
         (
             vb_pixel_bytes(null(), 0, Drawing::default(), 2, 0, 0, null_mut(), 0),
@@ -104,7 +104,7 @@ fn a_null_room_of_length_0_takes_no_address() {
 #[test]
 fn null_buffers_of_the_display_unit_are_refused() {
     let vram = vec![9u8; 262_144];
-    // SAFETY: null is passed with length 0; VRAM is lent with its length.
+    // SAFETY: null is passed with length 0; VRAM is passed with its length.
     let (both, room, loaded) = unsafe {
         (
             vb_display(null(), 0, 2, 2, 0, 1, 2, 3, null_mut(), 0),
@@ -118,7 +118,7 @@ fn null_buffers_of_the_display_unit_are_refused() {
 #[test]
 fn a_probe_may_be_lent_null_memories_of_length_0() {
     let (rom, wram, mut vram) = (vec![7u8; 1_024], vec![8u8; 65_536], vec![9u8; 262_144]);
-    // SAFETY: each pointer is null with length 0 or lent with its length.
+    // SAFETY: each pointer is null with length 0 or passed with its length.
     let probe = |wram: (*const u8, usize), vram: (*mut u8, usize)| unsafe {
         vb_probe_word(
             rom.as_ptr(),

@@ -1,4 +1,4 @@
-//! Rows that the papers work out, each written once: the tests of the model, of
+//! Rows that the specification works out, each written once: the tests of the model, of
 //! the library and of the crate over it all go through them.
 
 pub mod floating;

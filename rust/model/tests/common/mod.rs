@@ -46,7 +46,7 @@ impl Machine {
         machine
     }
 
-    /// The memories and the records that a call is lent.
+    /// The memories and the records that a call takes.
     pub fn lend(&mut self) -> (Memories<'_>, &mut Processor, &mut DrawingRegisters) {
         let Machine { rom, wram, vram, pak, processor, drawing } = self;
         (Memories { rom, wram, vram, pak }, processor, drawing)
