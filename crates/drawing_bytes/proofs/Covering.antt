@@ -47,24 +47,24 @@ module _ (w : List ℕ) (eye x y : ℕ) where
       (and-left _ _ (and-left _ (columnCoveredOf w eye x) (and-right (worldShownOf w eye) _ e)))
 
 module _ (o : List ℕ) (eye x y : ℕ) where
-  pub object-hidden : eyeFlagOf eye (getD o 1 0) ≡ false → false ≡ objectCoversOf [] o eye x y
+  pub object-hidden : eyeFlagOf eye (getD o 1 0) ≡ false → false ≡ objectCoversOf o eye x y
   unfolding objectCoversOf objectShownOf
   object-hidden e = rw e
 
-  pub object-elsewhere : 8 ≤ objectRowOf o y → false ≡ objectCoversOf [] o eye x y
+  pub object-elsewhere : 8 ≤ objectRowOf o y → false ≡ objectCoversOf o eye x y
   unfolding objectCoversOf
   object-elsewhere h = simp (le-ltb _ _ h, and-false)
 
-  pub object-right : x + 1024 < objectLeftOf o eye → false ≡ objectCoversOf [] o eye x y
+  pub object-right : x + 1024 < objectLeftOf o eye → false ≡ objectCoversOf o eye x y
   unfolding objectCoversOf
   object-right h = simp (lt-leb _ _ h, and-false)
 
   pub object-there : eyeFlagOf eye (getD o 1 0) ≡ true → objectRowOf o y < 8 → objectLeftOf o eye ≤ x + 1024
-      → ltb (x + 1024) (objectLeftOf o eye + 8) ≡ objectCoversOf [] o eye x y
+      → ltb (x + 1024) (objectLeftOf o eye + 8) ≡ objectCoversOf o eye x y
   unfolding objectCoversOf objectShownOf
   object-there e r l = rw e (simp (lt-ltb _ _ r, le-leb _ _ l))
 
   -- an object that covers the pixel has a row there
-  pub object-row-there : objectCoversOf [] o eye x y ≡ true → objectRowOf o y < 8
+  pub object-row-there : objectCoversOf o eye x y ≡ true → objectRowOf o y < 8
   unfolding objectCoversOf
-  object-row-there e = ltb-true (objectRowOf o y) 8 (and-left _ _ (and-right (objectShownOf [] o eye) _ e))
+  object-row-there e = ltb-true (objectRowOf o y) 8 (and-left _ _ (and-right (objectShownOf o eye) _ e))

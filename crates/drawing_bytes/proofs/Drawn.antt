@@ -10,7 +10,7 @@ use Rattle.word.specs.Choose.{pick}
 use Rattle.drawing_pixel.specs.Character.{rowAddressOf}
 use Rattle.bus.specs.Registers.{sptOf}
 use Rattle.drawing_pixel.specs.World.{worldOf, endOf}
-use Rattle.drawing_pixel.specs.Object.{objectOf, objectShownOf, objectRowOf, objectCoversOf, groupCountOf}
+use Rattle.drawing_pixel.specs.Object.{objectOf, objectRowOf, objectCoversOf, groupCountOf}
 use Rattle.drawing_pixel.specs.Pixel.{counterAfterOf, drawsObjectsOf, counterOf}
 use Rattle.drawing_laws.specs.Covers.{inGroupOf}
 use Rattle.drawing_laws.specs.PixelBytes.{halfBytesOf, amongOf}
@@ -37,16 +37,11 @@ module _ (vram regs : List ℕ) (spts : (g : ℕ) → g < 4 → sptOf regs g < 1
   among-same : (counter : ℕ) → counter < 4 → amongOf (groupCountOf regs counter) (sptOf regs counter) k ≡ inGroupOf regs counter k
   among-same counter l = same-test _ _ (among-in-group regs counter k h) (in-group-among regs counter k (spts counter l) h)
 
-  -- the world has no say in which objects of its group cover a pixel
-  covers-any : (w o : List ℕ) → objectCoversOf w o eye x y ≡ objectCoversOf [] o eye x y
-  unfolding objectCoversOf objectShownOf
-  covers-any w o = refl
-
   draws-world : (n counter : ℕ) → counter < 4
       → worldDrawsOf vram regs (worldOf vram n) counter eye x y k
-      ≡ (drawsObjectsOf (worldOf vram n) && (inGroupOf regs counter k && objectCoversOf [] (objectOf vram k) eye x y))
+      ≡ (drawsObjectsOf (worldOf vram n) && (inGroupOf regs counter k && objectCoversOf (objectOf vram k) eye x y))
   unfolding worldDrawsOf
-  draws-world n counter l = rw (among-same counter l, covers-any (worldOf vram n) (objectOf vram k))
+  draws-world n counter l = rw (among-same counter l)
 
   or-and : (a b c : Bool) → ((a && c) || (b && c)) ≡ ((a || b) && c)
   or-and true true true = refl
@@ -58,27 +53,27 @@ module _ (vram regs : List ℕ) (spts : (g : ℕ) → g < 4 → sptOf regs g < 1
   -- one world more: END draws nothing, a world that draws objects its own group and those after it
   one-world : (n counter : ℕ) (end draws : Bool) → drawsObjectsOf (worldOf vram n) ≡ draws
       → worldsDrawOf vram regs eye x y n (counterAfterOf counter) k
-      ≡ (inGroupsOf regs (reachedObjectWorldsOf vram n) (counterAfterOf counter) k && objectCoversOf [] (objectOf vram k) eye x y)
+      ≡ (inGroupsOf regs (reachedObjectWorldsOf vram n) (counterAfterOf counter) k && objectCoversOf (objectOf vram k) eye x y)
       → worldsDrawOf vram regs eye x y n counter k
-      ≡ (inGroupsOf regs (reachedObjectWorldsOf vram n) counter k && objectCoversOf [] (objectOf vram k) eye x y)
+      ≡ (inGroupsOf regs (reachedObjectWorldsOf vram n) counter k && objectCoversOf (objectOf vram k) eye x y)
       → pick end false
-      ((draws && (inGroupOf regs counter k && objectCoversOf [] (objectOf vram k) eye x y))
+      ((draws && (inGroupOf regs counter k && objectCoversOf (objectOf vram k) eye x y))
       || worldsDrawOf vram regs eye x y n (counterOf (worldOf vram n) counter) k)
-      ≡ (inGroupsOf regs (pick end 0 (pick draws 1 0 + reachedObjectWorldsOf vram n)) counter k && objectCoversOf [] (objectOf vram k) eye x y)
+      ≡ (inGroupsOf regs (pick end 0 (pick draws 1 0 + reachedObjectWorldsOf vram n)) counter k && objectCoversOf (objectOf vram k) eye x y)
   unfolding counterOf inGroupsOf
   one-world n counter true draws f p q = refl
   one-world n counter false true f p q =
       let z : 1 + reachedObjectWorldsOf vram n ≡ suc (reachedObjectWorldsOf vram n) = omega arith in
       rw (f, z)
-      (ap (λ (b : Bool). (inGroupOf regs counter k && objectCoversOf [] (objectOf vram k) eye x y) || b) p
+      (ap (λ (b : Bool). (inGroupOf regs counter k && objectCoversOf (objectOf vram k) eye x y) || b) p
       ∙ or-and (inGroupOf regs counter k) (inGroupsOf regs (reachedObjectWorldsOf vram n) (counterAfterOf counter) k)
-      (objectCoversOf [] (objectOf vram k) eye x y))
+      (objectCoversOf (objectOf vram k) eye x y))
   one-world n counter false false f p q =
       let z : 0 + reachedObjectWorldsOf vram n ≡ reachedObjectWorldsOf vram n = omega arith in rw (f, z) q
 
   pub draws-in-groups : (n counter : ℕ) → counter < 4
       → worldsDrawOf vram regs eye x y n counter k
-      ≡ (inGroupsOf regs (reachedObjectWorldsOf vram n) counter k && objectCoversOf [] (objectOf vram k) eye x y)
+      ≡ (inGroupsOf regs (reachedObjectWorldsOf vram n) counter k && objectCoversOf (objectOf vram k) eye x y)
   unfolding worldsDrawOf inGroupsOf reachedObjectWorldsOf
   draws-in-groups zero counter l = refl
   draws-in-groups (suc n) counter l =
@@ -87,7 +82,7 @@ module _ (vram regs : List ℕ) (spts : (g : ℕ) → g < 4 → sptOf regs g < 1
       (draws-in-groups n (counterAfterOf counter) (after-below counter l)) (draws-in-groups n counter l))
 
   module _ (worlds : ℕ) (e : worlds ≡ reachedObjectWorldsOf vram 32) where
-    pub object-not-covering : objectCoversOf [] (objectOf vram k) eye x y ≡ false → [] ≡ objectListOf vram regs eye x y k
+    pub object-not-covering : objectCoversOf (objectOf vram k) eye x y ≡ false → [] ≡ objectListOf vram regs eye x y k
     unfolding objectListOf
     object-not-covering f = rw (draws-in-groups 32 3 (omega arith), f) (simp and-false)
 
@@ -95,7 +90,7 @@ module _ (vram regs : List ℕ) (spts : (g : ℕ) → g < 4 → sptOf regs g < 1
     unfolding objectListOf
     object-not-drawn f = rw (draws-in-groups 32 3 (omega arith), ← e, f)
 
-    pub object-drawn : objectCoversOf [] (objectOf vram k) eye x y ≡ true → inGroupsOf regs worlds 3 k ≡ true
+    pub object-drawn : objectCoversOf (objectOf vram k) eye x y ≡ true → inGroupsOf regs worlds 3 k ≡ true
         → objectBytesOf (objectOf vram k) y ≡ objectListOf vram regs eye x y k
     unfolding objectListOf
     object-drawn f g = rw (draws-in-groups 32 3 (omega arith), ← e, f, g)

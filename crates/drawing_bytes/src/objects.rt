@@ -83,7 +83,7 @@ pub fn in_groups(registers: &DrawingRegisters, worlds: usize, k: usize) -> bool
 // Whether an object's square holds a pixel, and the object is shown to the eye.
 pub fn covers(o: &[u16; 4], eye: usize, x: usize, y: usize) -> bool
     requires { ⌜ (x < 384) × (y < 224) ⌝ }
-    ensures { λ r. ⌜ r ≡ objectCoversOf [] (now (o .entry)) eye x y ⌝ }
+    ensures { λ r. ⌜ r ≡ objectCoversOf (now (o .entry)) eye x y ⌝ }
 {
     if !flag(eye, o[1]) {
         return false;

@@ -61,7 +61,7 @@ module _ (vram regs : List ℕ) (starts : Starts regs) (eye x y j : ℕ) (b : j 
       and-both (drawsObjectsOf w) _ (and-left (drawsObjectsOf w) _ drawn)
       (and-both (amongOf (groupCountOf regs counter) (sptOf regs counter) j) _
       (in-group-among regs counter j (starts counter c) b (and-left (inGroupOf regs counter j) _ rest))
-      (object-covered w (objectOf vram j) eye x y ∙ and-right (inGroupOf regs counter j) _ rest))
+      (object-covered (objectOf vram j) eye x y ∙ and-right (inGroupOf regs counter j) _ rest))
 
   some-drawn : (n k counter : ℕ) → n + k ≡ 32
       → noEndOf vram n k ≡ true

@@ -46,7 +46,7 @@ module _ (vram regs : List ℕ) (eye x y j : ℕ) (b : j < 1024) where
       (rw g
       (and-both (inGroupOf regs counter j) _
       (among-in-group regs counter j b (and-left (amongOf (groupCountOf regs counter) (sptOf regs counter) j) _ rest))
-      (sym (object-covered w (objectOf vram j) eye x y)
+      (sym (object-covered (objectOf vram j) eye x y)
       ∙ and-right (amongOf (groupCountOf regs counter) (sptOf regs counter) j) _ rest))))
 
   worlds-draw : (n k counter : ℕ) → n + k ≡ 32

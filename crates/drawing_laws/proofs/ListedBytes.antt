@@ -24,10 +24,10 @@ use Rattle.drawing_laws.proofs.Each.{each-join, each-pick}
 use Rattle.word.proofs.Choices.{and-left, and-right, or-cases, pick-second}
 
 -- an object that covers a pixel has a row there
-covers-row : (w o : List ℕ) (eye x y : ℕ) → objectCoversOf w o eye x y ≡ true → objectRowOf o y < 8
+covers-row : (o : List ℕ) (eye x y : ℕ) → objectCoversOf o eye x y ≡ true → objectRowOf o y < 8
 unfolding objectCoversOf
-covers-row w o eye x y e =
-    ltb-true (objectRowOf o y) 8 (and-left _ _ (and-right (objectShownOf w o eye) _ e))
+covers-row o eye x y e =
+    ltb-true (objectRowOf o y) 8 (and-left _ _ (and-right (objectShownOf o eye) _ e))
 
 -- an object that a world draws has a row there
 pub drawn-row : (vram regs : List ℕ) (eye x y n counter k : ℕ) → worldsDrawOf vram regs eye x y n counter k ≡ true
@@ -38,7 +38,7 @@ drawn-row vram regs eye x y (suc n) counter k e =
     pick-second (endOf (worldOf vram n)) _ e
     (λ _ f.
     or-cases (worldDrawsOf vram regs (worldOf vram n) counter eye x y k) _ f
-    (λ d. covers-row (worldOf vram n) (objectOf vram k) eye x y (and-right (amongOf (groupCountOf regs counter)
+    (λ d. covers-row (objectOf vram k) eye x y (and-right (amongOf (groupCountOf regs counter)
     (sptOf regs counter) k) _ (and-right (drawsObjectsOf (worldOf vram n)) _ d)))
     (drawn-row vram regs eye x y n (counterOf (worldOf vram n) counter) k))
 

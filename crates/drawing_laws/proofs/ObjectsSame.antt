@@ -22,45 +22,45 @@ unfolding objectAfterOf
 after-below k = omega arith
 
 module _ (first second : List ℕ) where
-  object-pixel-same : (regs w o : List ℕ) (eye x y before : ℕ)
-      → (objectCoversOf w o eye x y ≡ true → Each (SameByte first second) (objectBytesOf o y))
-      → objectPixelOf second regs w o eye x y before ≡ objectPixelOf first regs w o eye x y before
+  object-pixel-same : (regs o : List ℕ) (eye x y before : ℕ)
+      → (objectCoversOf o eye x y ≡ true → Each (SameByte first second) (objectBytesOf o y))
+      → objectPixelOf second regs o eye x y before ≡ objectPixelOf first regs o eye x y before
   unfolding objectPixelOf objectBytesOf
-  object-pixel-same regs w o eye x y before h =
-      pick-same (objectCoversOf w o eye x y)
+  object-pixel-same regs o eye x y before h =
+      pick-same (objectCoversOf o eye x y)
       (λ e. cell-pixel-same first second (jpltOf regs) (getD o 3 0) (objectColumnOf o eye x) (objectRowOf o y) before (h e))
       (λ _. refl)
 
 -- the rows of `count` objects from object k downwards that cover the pixel are the same
-abbrev pub RowsSame : List ℕ → List ℕ → List ℕ → ℕ → ℕ → ℕ → ℕ → ℕ → Type 0
-RowsSame first second w eye x y count k =
+abbrev pub RowsSame : List ℕ → List ℕ → ℕ → ℕ → ℕ → ℕ → ℕ → Type 0
+RowsSame first second eye x y count k =
     (j : ℕ) → j < 1024
     → amongOf count k j ≡ true
-    → objectCoversOf w (objectOf first j) eye x y ≡ true
+    → objectCoversOf (objectOf first j) eye x y ≡ true
     → Each (SameByte first second) (objectBytesOf (objectOf first j) y)
 
-rows-first : (first second w : List ℕ) (eye x y count k : ℕ) → k < 1024
-    → RowsSame first second w eye x y (suc count) k
-    → objectCoversOf w (objectOf first k) eye x y ≡ true
+rows-first : (first second : List ℕ) (eye x y count k : ℕ) → k < 1024
+    → RowsSame first second eye x y (suc count) k
+    → objectCoversOf (objectOf first k) eye x y ≡ true
     → Each (SameByte first second) (objectBytesOf (objectOf first k) y)
 unfolding amongOf
-rows-first first second w eye x y count k b h e = h k b (or-left (eqb k k) _ (eq-eqb k k refl)) e
+rows-first first second eye x y count k b h e = h k b (or-left (eqb k k) _ (eq-eqb k k refl)) e
 
-rows-later : (first second w : List ℕ) (eye x y count k : ℕ) → RowsSame first second w eye x y (suc count) k
-    → RowsSame first second w eye x y count (objectAfterOf k)
+rows-later : (first second : List ℕ) (eye x y count k : ℕ) → RowsSame first second eye x y (suc count) k
+    → RowsSame first second eye x y count (objectAfterOf k)
 unfolding amongOf
-rows-later first second w eye x y count k h j b a e = h j b (or-right (eqb k j) _ a) e
+rows-later first second eye x y count k h j b a e = h j b (or-right (eqb k j) _ a) e
 
 pub objects-same : (first second : List ℕ) → SameTables first second
-    → (regs w : List ℕ) (eye x y count k before : ℕ) → k < 1024
-    → RowsSame first second w eye x y count k
-    → objectsPixelOf second regs w eye x y count k before ≡ objectsPixelOf first regs w eye x y count k before
+    → (regs : List ℕ) (eye x y count k before : ℕ) → k < 1024
+    → RowsSame first second eye x y count k
+    → objectsPixelOf second regs eye x y count k before ≡ objectsPixelOf first regs eye x y count k before
 unfolding objectsPixelOf
-objects-same first second t regs w eye x y zero k before b h = refl
-objects-same first second t regs w eye x y (suc count) k before b h =
+objects-same first second t regs eye x y zero k before b h = refl
+objects-same first second t regs eye x y (suc count) k before b h =
     rw (
       object-same first second t k b,
-      object-pixel-same first second regs w (objectOf first k) eye x y before (rows-first first second w eye x y count k b h),
+      object-pixel-same first second regs (objectOf first k) eye x y before (rows-first first second eye x y count k b h),
     )
-    (objects-same first second t regs w eye x y count (objectAfterOf k) _ (after-below k)
-    (rows-later first second w eye x y count k h))
+    (objects-same first second t regs eye x y count (objectAfterOf k) _ (after-below k)
+    (rows-later first second eye x y count k h))

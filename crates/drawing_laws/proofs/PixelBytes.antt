@@ -62,7 +62,7 @@ module _ (vram regs : List ℕ) (eye x y : ℕ) where
   unfolding worldsDrawOf worldsDraw worldDrawsOf
   worlds-draw zero counter k = refl
   worlds-draw (suc n) counter k =
-      rw (object-covered (worldOf vram n) (objectOf vram k) eye x y, worlds-draw n (counterOf (worldOf vram n) counter) k)
+      rw (object-covered (objectOf vram k) eye x y, worlds-draw n (counterOf (worldOf vram n) counter) k)
 
   objects-bytes : (n : ℕ) → objectsBytesOf vram regs eye x y n ≡ objectsBytes vram regs eye x y n
   unfolding objectsBytesOf objectsBytes objectBytesOf

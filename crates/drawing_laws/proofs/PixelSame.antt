@@ -56,7 +56,7 @@ module _ (first second : List ℕ) (t : SameTables first second) (regs : List �
       (λ e.
       pick-same (eqb (bgmOf w) 3)
       (λ f.
-      objects-same first second t regs w eye x y (groupCountOf regs counter) (sptOf regs counter) before (starts counter c)
+      objects-same first second t regs eye x y (groupCountOf regs counter) (sptOf regs counter) before (starts counter c)
       (λ j b a o. d j b (and-both _ _ (and-both _ _ (not-of-false (skippedOf w) e) f) (and-both _ _ a o))))
       (λ f. background-same first second regs w eye x y before (rw f at (rw e at h))))
 

@@ -27,15 +27,15 @@ unfolding cellPixelOf
 cell-below vram palettes cell column r before h = shade-below _ _ before h
 
 module _ (vram regs : List ℕ) where
-  object-below : (w o : List ℕ) (eye x y before : ℕ) → before < 4 → objectPixelOf vram regs w o eye x y before < 4
+  object-below : (o : List ℕ) (eye x y before : ℕ) → before < 4 → objectPixelOf vram regs o eye x y before < 4
   unfolding objectPixelOf
-  object-below w o eye x y before h = pick-below (objectCoversOf w o eye x y) (cell-below vram (jpltOf regs) _ _ _ before h) h
+  object-below o eye x y before h = pick-below (objectCoversOf o eye x y) (cell-below vram (jpltOf regs) _ _ _ before h) h
 
-  objects-below : (w : List ℕ) (eye x y count k before : ℕ) → before < 4 → objectsPixelOf vram regs w eye x y count k before < 4
+  objects-below : (eye x y count k before : ℕ) → before < 4 → objectsPixelOf vram regs eye x y count k before < 4
   unfolding objectsPixelOf
-  objects-below w eye x y zero k before h = h
-  objects-below w eye x y (suc count) k before h =
-      objects-below w eye x y count (objectAfterOf k) _ (object-below w (objectOf vram k) eye x y before h)
+  objects-below eye x y zero k before h = h
+  objects-below eye x y (suc count) k before h =
+      objects-below eye x y count (objectAfterOf k) _ (object-below (objectOf vram k) eye x y before h)
 
   background-below : (w : List ℕ) (eye x y before : ℕ) → before < 4 → backgroundPixelOf vram regs w eye x y before < 4
   unfolding backgroundPixelOf sourcePixelOf
@@ -46,7 +46,7 @@ module _ (vram regs : List ℕ) where
   world-below w counter eye x y before h =
       pick-below (skippedOf w) h
       (pick-below (eqb (bgmOf w) 3)
-      (objects-below w eye x y (groupCountOf regs counter) (sptOf regs counter) before h)
+      (objects-below eye x y (groupCountOf regs counter) (sptOf regs counter) before h)
       (background-below w eye x y before h))
 
   worlds-below : (eye x y n counter before : ℕ) → before < 4 → worldsPixelOf vram regs eye x y n counter before < 4

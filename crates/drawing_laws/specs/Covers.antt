@@ -43,7 +43,7 @@ unfoldable pub drawsOverOf : List ℕ → List ℕ → ℕ → ℕ → ℕ → �
 drawsOverOf vram regs eye x y k n =
     reachedOf vram n
     && (drawsObjectsOf (worldOf vram n)
-    && (inGroupOf regs (groupOf vram n) k && objectCovers (worldOf vram n) (objectOf vram k) eye x y))
+    && (inGroupOf regs (groupOf vram n) k && objectCovers (objectOf vram k) eye x y))
 
 -- whether a test holds of a number below n
 unfoldable pub someBelow : ℕ → (ℕ → Bool) → Bool

@@ -73,7 +73,7 @@ amongOf (suc count) j k = eqb j k || amongOf count (objectAfterOf j) k
 abbrev pub worldDraws : List ℕ → List ℕ → List ℕ → ℕ → ℕ → ℕ → ℕ → ℕ → Bool
 worldDraws vram regs w counter eye x y k =
     drawsObjectsOf w
-    && (amongOf (groupCountOf regs counter) (sptOf regs counter) k && objectCovers w (objectOf vram k) eye x y)
+    && (amongOf (groupCountOf regs counter) (sptOf regs counter) k && objectCovers (objectOf vram k) eye x y)
 
 -- the same of worlds n - 1 to 0, at an object counter; END stops
 unfoldable pub worldsDraw : List ℕ → List ℕ → ℕ → ℕ → ℕ → ℕ → ℕ → ℕ → Bool

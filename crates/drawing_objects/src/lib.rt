@@ -21,9 +21,9 @@ use drawing_pixel::paint::Run;
 use drawing_pixel::paint::View;
 use drawing_pixel::paint::span;
 
-// Whether an object of an object world is shown to an eye; the world's own flags hide nothing.
-pub fn shown(w: &[u16; 11], o: &[u16; 4], eye: usize) -> bool
-    ensures { λ r. ⌜ r ≡ objectShownOf (now (w .entry)) (now (o .entry)) eye ⌝ }
+// Whether an object is shown to an eye; its world's own flags hide nothing.
+pub fn shown(o: &[u16; 4], eye: usize) -> bool
+    ensures { λ r. ⌜ r ≡ objectShownOf (now (o .entry)) eye ⌝ }
 {
     flag(eye, o[1])
 }
@@ -40,7 +40,6 @@ pub fn object_row(o: &[u16; 4], y: usize) -> usize
 pub fn object_span(
     vram: &[u8],
     registers: &DrawingRegisters,
-    w: &[u16; 11],
     o: &[u16; 4],
     buffer: &mut [u16; 384],
     run: Run,
@@ -52,13 +51,13 @@ pub fn object_span(
         × ((run .from ≤ run .to) × ((run .to ≤ 384) × ((run .row < 8) × (view .strip < 28))))
         ⌝ }
     requires { ⌜
-        (objectShownOf (now w) (now o) (view .eye) ≡ true)
+        (objectShownOf (now o) (view .eye) ≡ true)
         × ((objectLeftOf (now o) (view .eye) ≤ run .from + 1024)
         × (run .to + 1024 ≤ objectLeftOf (now o) (view .eye) + 8))
         ⌝ }
     ensures { λ _. ⌜
         Span (run .row) (run .from) (run .to)
-        (λ x. objectPixelOf (now (vram .entry)) (now (registers .entry)) (now (w .entry)) (now (o .entry)) (view .eye)
+        (λ x. objectPixelOf (now (vram .entry)) (now (registers .entry)) (now (o .entry)) (view .eye)
         x (8 * view .strip + run .row))
         (now (buffer .entry)) (now (buffer .exit))
         ⌝ }
@@ -78,7 +77,6 @@ pub fn object_span(
 pub fn object_strip(
     vram: &[u8],
     registers: &DrawingRegisters,
-    w: &[u16; 11],
     o: &[u16; 4],
     buffer: &mut [u16; 384],
     eye: usize,
@@ -88,12 +86,12 @@ pub fn object_strip(
     requires { ⌜ (length (now vram) ≡ vramBytes) × (strip < 28) ⌝ }
     ensures { λ _. ⌜
         Strip
-        (λ x r. objectPixelOf (now (vram .entry)) (now (registers .entry)) (now (w .entry)) (now (o .entry)) eye
+        (λ x r. objectPixelOf (now (vram .entry)) (now (registers .entry)) (now (o .entry)) eye
         x (8 * strip + r))
         (now (buffer .entry)) (now (buffer .exit))
         ⌝ }
 {
-    if !shown(w, o, eye) {
+    if !shown(o, eye) {
         return;
     }
     let left = object_left(o, eye);
@@ -105,7 +103,7 @@ pub fn object_strip(
     let mut r = 0;
     while r < 8 {
         let run = Run { row: r, from, to };
-        object_span(vram, registers, w, o, buffer, run, View { eye, strip });
+        object_span(vram, registers, o, buffer, run, View { eye, strip });
         r += 1;
     }
 }
@@ -114,7 +112,6 @@ pub fn object_strip(
 pub fn paint_object(
     vram: &[u8],
     registers: &DrawingRegisters,
-    w: &[u16; 11],
     buffer: &mut [u16; 384],
     k: usize,
     eye: usize,
@@ -124,7 +121,7 @@ pub fn paint_object(
     requires { ⌜ (length (now vram) ≡ vramBytes) × ((strip < 28) × (k < 1024)) ⌝ }
     ensures { λ _. ⌜
         Strip
-        (λ x r. objectPixelOf (now (vram .entry)) (now (registers .entry)) (now (w .entry))
+        (λ x r. objectPixelOf (now (vram .entry)) (now (registers .entry))
         (objectOf (now (vram .entry)) k) eye x (8 * strip + r))
         (now (buffer .entry)) (now (buffer .exit))
         ⌝ }
@@ -134,7 +131,7 @@ pub fn paint_object(
         return;
     }
     let o = object(vram, k);
-    object_strip(vram, registers, w, &o, buffer, eye, strip);
+    object_strip(vram, registers, &o, buffer, eye, strip);
 }
 
 // How many objects group n has.
@@ -152,7 +149,6 @@ pub fn group_count(registers: &DrawingRegisters, n: usize) -> usize
 pub fn group(
     vram: &[u8],
     registers: &DrawingRegisters,
-    w: &[u16; 11],
     buffer: &mut [u16; 384],
     n: usize,
     eye: usize,
@@ -163,14 +159,14 @@ pub fn group(
     requires { ⌜ (n < 4) × ((k : ℕ) → k < 4 → sptOf (now registers) k < 1024) ⌝ }
     ensures { λ _. ⌜
         Strip
-        (λ x r. groupPixelOf (now (vram .entry)) (now (registers .entry)) (now (w .entry)) n eye x (8 * strip + r))
+        (λ x r. groupPixelOf (now (vram .entry)) (now (registers .entry)) n eye x (8 * strip + r))
         (now (buffer .entry)) (now (buffer .exit))
         ⌝ }
 {
     let mut left = group_count(registers, n);
     let mut k = wide(registers[n]);
     while 0 < left {
-        paint_object(vram, registers, w, buffer, k, eye, strip);
+        paint_object(vram, registers, buffer, k, eye, strip);
         k = (k + 1023) % 1024;
         left -= 1;
     }

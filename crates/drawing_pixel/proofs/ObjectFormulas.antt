@@ -31,7 +31,7 @@ object-row o y = is-mod 256 1 (omega arith) (is-moved (is-difference (is-pos y) 
 
 pub object-covers : ObjectCovers
 unfolding objectCoversOf
-object-covers w o eye x y = rw (← (object-row o y), ← (span 8 x (is-left o eye)))
+object-covers o eye x y = rw (← (object-row o y), ← (span 8 x (is-left o eye)))
 
 pub object-column : ObjectColumn
 unfolding objectColumnOf
@@ -61,11 +61,11 @@ drawn-next (suc i) k = ap objectAfterOf (drawn-next i k)
 
 pub objects-in-order : ObjectsInOrder
 unfolding objectsPixelOf drawnOf
-objects-in-order vram regs w eye x y zero k before = refl
-objects-in-order vram regs w eye x y (suc n) k before =
-    objects-in-order vram regs w eye x y n (objectAfterOf k) (objectPixelOf vram regs w (objectOf vram k) eye x y before)
-    ∙ ap (λ m. objectPixelOf vram regs w (objectOf vram m) eye x y
-    (objectsPixelOf vram regs w eye x y n (objectAfterOf k) (objectPixelOf vram regs w (objectOf vram k) eye x y before))) (drawn-next n k)
+objects-in-order vram regs eye x y zero k before = refl
+objects-in-order vram regs eye x y (suc n) k before =
+    objects-in-order vram regs eye x y n (objectAfterOf k) (objectPixelOf vram regs (objectOf vram k) eye x y before)
+    ∙ ap (λ m. objectPixelOf vram regs (objectOf vram m) eye x y
+    (objectsPixelOf vram regs eye x y n (objectAfterOf k) (objectPixelOf vram regs (objectOf vram k) eye x y before))) (drawn-next n k)
 
 -- c objects below a is b, around 1,024 (t is 1) or not
 reached : (a b c t : ℕ) → b < 1024 → t ≤ c → a + 1024 * t ≡ b + c → (a + 1023 * c) % 1024 ≡ b

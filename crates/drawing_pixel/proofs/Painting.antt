@@ -77,7 +77,7 @@ pub background-formula : BackgroundFormula
 background-formula vram regs w eye x y before = at-window vram regs w eye x y before
 
 pub object-covered : ObjectCovered
-object-covered w o eye x y = object-covers w o eye x y
+object-covered o eye x y = object-covers o eye x y
 
 -- the object's row, as a natural number
 pub object-line : (o : List ℕ) (y : ℕ) → objectRowOf o y ≡ aboveZero (objectRow o y)
@@ -85,22 +85,22 @@ object-line o y = ap aboveZero (object-row o y)
 
 pub object-formula : ObjectFormula
 unfolding objectPixelOf
-object-formula vram regs w o eye x y before =
-    rw (object-covered w o eye x y, object-offset o eye x, object-line o y)
+object-formula vram regs o eye x y before =
+    rw (object-covered o eye x y, object-offset o eye x, object-line o y)
 
 module _ (vram regs : List ℕ) (eye x y : ℕ) where
-  objects-formula : (w : List ℕ) (count k before : ℕ)
-      → objectsPixelOf vram regs w eye x y count k before ≡ objectsPixel vram regs w eye x y count k before
+  objects-formula : (count k before : ℕ)
+      → objectsPixelOf vram regs eye x y count k before ≡ objectsPixel vram regs eye x y count k before
   unfolding objectsPixelOf objectsPixel
-  objects-formula w zero k before = refl
-  objects-formula w (suc count) k before =
-      rw (object-formula vram regs w (objectOf vram k) eye x y before) (objects-formula w count (objectAfterOf k) _)
+  objects-formula zero k before = refl
+  objects-formula (suc count) k before =
+      rw (object-formula vram regs (objectOf vram k) eye x y before) (objects-formula count (objectAfterOf k) _)
 
   world-formula : (w : List ℕ) (counter before : ℕ)
       → worldPixelOf vram regs w counter eye x y before ≡ worldPixel vram regs w counter eye x y before
   unfolding worldPixelOf worldPixel groupPixelOf
   world-formula w counter before =
-      rw (background-formula vram regs w eye x y before, objects-formula w (groupCountOf regs counter) (sptOf regs counter) before)
+      rw (background-formula vram regs w eye x y before, objects-formula (groupCountOf regs counter) (sptOf regs counter) before)
 
   worlds-formula : (n counter before : ℕ)
       → worldsPixelOf vram regs eye x y n counter before ≡ worldsPixel vram regs eye x y n counter before

@@ -34,23 +34,23 @@ pub background-small : (vram regs w : List ℕ) (eye x y v : ℕ) → v < 4 → 
 unfolding backgroundPixelOf
 background-small vram regs w eye x y v h = pick-small (worldCoversOf w eye x y) (source-small vram regs w _ _ v h) h
 
-pub object-small : (vram regs w o : List ℕ) (eye x y v : ℕ) → v < 4 → objectPixelOf vram regs w o eye x y v < 4
+pub object-small : (vram regs o : List ℕ) (eye x y v : ℕ) → v < 4 → objectPixelOf vram regs o eye x y v < 4
 unfolding objectPixelOf
-object-small vram regs w o eye x y v h = pick-small (objectCoversOf w o eye x y) (cell-small vram _ _ _ _ v h) h
+object-small vram regs o eye x y v h = pick-small (objectCoversOf o eye x y) (cell-small vram _ _ _ _ v h) h
 
-pub objects-small : (vram regs w : List ℕ) (eye x y count k v : ℕ) → v < 4 → objectsPixelOf vram regs w eye x y count k v < 4
+pub objects-small : (vram regs : List ℕ) (eye x y count k v : ℕ) → v < 4 → objectsPixelOf vram regs eye x y count k v < 4
 unfolding objectsPixelOf
-objects-small vram regs w eye x y zero k v h = h
-objects-small vram regs w eye x y (suc n) k v h =
-    objects-small vram regs w eye x y n (objectAfterOf k) (objectPixelOf vram regs w (objectOf vram k) eye x y v)
-    (object-small vram regs w (objectOf vram k) eye x y v h)
+objects-small vram regs eye x y zero k v h = h
+objects-small vram regs eye x y (suc n) k v h =
+    objects-small vram regs eye x y n (objectAfterOf k) (objectPixelOf vram regs (objectOf vram k) eye x y v)
+    (object-small vram regs (objectOf vram k) eye x y v h)
 
 pub world-small : (vram regs w : List ℕ) (counter eye x y v : ℕ) → v < 4 → worldPixelOf vram regs w counter eye x y v < 4
 unfolding worldPixelOf groupPixelOf
 world-small vram regs w counter eye x y v h =
     pick-small (skippedOf w) h
     (pick-small (eqb (bgmOf w) 3)
-    (objects-small vram regs w eye x y (groupCountOf regs counter) (sptOf regs counter) v h)
+    (objects-small vram regs eye x y (groupCountOf regs counter) (sptOf regs counter) v h)
     (background-small vram regs w eye x y v h))
 
 pub worlds-small : (vram regs : List ℕ) (eye x y n counter v : ℕ) → v < 4 → worldsPixelOf vram regs eye x y n counter v < 4

@@ -42,25 +42,25 @@ module _ (vram regs w : List ℕ) (eye x y v : ℕ) where
   unfolding backgroundPixelOf worldCoversOf columnCoveredOf
   background-right h = simp (le-ltb _ _ h, and-false)
 
-module _ (vram regs w o : List ℕ) (eye x y v : ℕ) where
-  pub object-inside : objectShownOf w o eye ≡ true → objectRowOf o y < 8 → objectLeftOf o eye ≤ x + 1024 → x + 1024 < objectLeftOf o eye + 8
-      → objectPixelOf vram regs w o eye x y v
+module _ (vram regs o : List ℕ) (eye x y v : ℕ) where
+  pub object-inside : objectShownOf o eye ≡ true → objectRowOf o y < 8 → objectLeftOf o eye ≤ x + 1024 → x + 1024 < objectLeftOf o eye + 8
+      → objectPixelOf vram regs o eye x y v
       ≡ cellPixelOf vram (jpltOf regs) (getD o 3 0) (x + 1024 - objectLeftOf o eye) (objectRowOf o y) v
   unfolding objectPixelOf objectCoversOf objectColumnOf
   object-inside s r a b = rw s (simp (lt-ltb _ _ r, le-leb _ _ a, lt-ltb _ _ b))
 
-  pub object-hidden : objectShownOf w o eye ≡ false → objectPixelOf vram regs w o eye x y v ≡ v
+  pub object-hidden : objectShownOf o eye ≡ false → objectPixelOf vram regs o eye x y v ≡ v
   unfolding objectPixelOf objectCoversOf
   object-hidden s = rw s
 
-  pub object-outside-rows : 8 ≤ objectRowOf o y → objectPixelOf vram regs w o eye x y v ≡ v
+  pub object-outside-rows : 8 ≤ objectRowOf o y → objectPixelOf vram regs o eye x y v ≡ v
   unfolding objectPixelOf objectCoversOf
   object-outside-rows h = simp (le-ltb _ _ h, and-false)
 
-  pub object-left : x + 1024 < objectLeftOf o eye → objectPixelOf vram regs w o eye x y v ≡ v
+  pub object-left : x + 1024 < objectLeftOf o eye → objectPixelOf vram regs o eye x y v ≡ v
   unfolding objectPixelOf objectCoversOf
   object-left h = simp (lt-leb _ _ h, and-false)
 
-  pub object-right : objectLeftOf o eye + 8 ≤ x + 1024 → objectPixelOf vram regs w o eye x y v ≡ v
+  pub object-right : objectLeftOf o eye + 8 ≤ x + 1024 → objectPixelOf vram regs o eye x y v ≡ v
   unfolding objectPixelOf objectCoversOf
   object-right h = simp (le-ltb _ _ h, and-false)

@@ -28,9 +28,9 @@ objectOf vram k =
 unfoldable pub objectLeftOf : List ℕ → ℕ → ℕ
 objectLeftOf o eye = edgeOf eye (biasedOf 512 (getD o 0 0)) (biasedOf 512 (getD o 1 0))
 
--- whether an object of an object world is shown to an eye: by JLON or JRON; the world's own flags hide nothing
-unfoldable pub objectShownOf : List ℕ → List ℕ → ℕ → Bool
-objectShownOf w o eye = eyeFlagOf eye (getD o 1 0)
+-- whether an object is shown to an eye: by JLON or JRON; its world's own flags hide nothing (reading R7)
+unfoldable pub objectShownOf : List ℕ → ℕ → Bool
+objectShownOf o eye = eyeFlagOf eye (getD o 1 0)
 
 -- the object's row at an image row: (y - JY) mod 256, shown below 8
 unfoldable pub objectRowOf : List ℕ → ℕ → ℕ
@@ -41,15 +41,15 @@ unfoldable pub objectColumnOf : List ℕ → ℕ → ℕ → ℕ
 objectColumnOf o eye x = x + 1024 - objectLeftOf o eye
 
 -- 01's "covers", of an object: shown to the eye, and its 8 by 8 square holds the pixel
-unfoldable pub objectCoversOf : List ℕ → List ℕ → ℕ → ℕ → ℕ → Bool
-objectCoversOf w o eye x y =
-    objectShownOf w o eye
+unfoldable pub objectCoversOf : List ℕ → ℕ → ℕ → ℕ → Bool
+objectCoversOf o eye x y =
+    objectShownOf o eye
     && (ltb (objectRowOf o y) 8 && (leb (objectLeftOf o eye) (x + 1024) && ltb (x + 1024) (objectLeftOf o eye + 8)))
 
--- what an object of an object world makes of a pixel
-unfoldable pub objectPixelOf : List ℕ → List ℕ → List ℕ → List ℕ → ℕ → ℕ → ℕ → ℕ → ℕ
-objectPixelOf vram regs w o eye x y before =
-    pick (objectCoversOf w o eye x y)
+-- what an object makes of a pixel
+unfoldable pub objectPixelOf : List ℕ → List ℕ → List ℕ → ℕ → ℕ → ℕ → ℕ → ℕ
+objectPixelOf vram regs o eye x y before =
+    pick (objectCoversOf o eye x y)
     (cellPixelOf vram (jpltOf regs) (getD o 3 0) (objectColumnOf o eye x) (objectRowOf o y) before)
     before
 
@@ -63,13 +63,13 @@ groupCountOf regs zero = sptOf regs 0 + 1
 groupCountOf regs (suc n) = (sptOf regs (suc n) + 1023 - sptOf regs n) % 1024 + 1
 
 -- what `count` objects from object k downwards make of a pixel, one over the other
-unfoldable pub objectsPixelOf : List ℕ → List ℕ → List ℕ → ℕ → ℕ → ℕ → ℕ → ℕ → ℕ → ℕ
-objectsPixelOf vram regs w eye x y zero k before = before
-objectsPixelOf vram regs w eye x y (suc count) k before =
-    objectsPixelOf vram regs w eye x y count (objectAfterOf k)
-    (objectPixelOf vram regs w (objectOf vram k) eye x y before)
+unfoldable pub objectsPixelOf : List ℕ → List ℕ → ℕ → ℕ → ℕ → ℕ → ℕ → ℕ → ℕ
+objectsPixelOf vram regs eye x y zero k before = before
+objectsPixelOf vram regs eye x y (suc count) k before =
+    objectsPixelOf vram regs eye x y count (objectAfterOf k)
+    (objectPixelOf vram regs (objectOf vram k) eye x y before)
 
 -- what group n makes of a pixel
-unfoldable pub groupPixelOf : List ℕ → List ℕ → List ℕ → ℕ → ℕ → ℕ → ℕ → ℕ → ℕ
-groupPixelOf vram regs w n eye x y before =
-    objectsPixelOf vram regs w eye x y (groupCountOf regs n) (sptOf regs n) before
+unfoldable pub groupPixelOf : List ℕ → List ℕ → ℕ → ℕ → ℕ → ℕ → ℕ → ℕ
+groupPixelOf vram regs n eye x y before =
+    objectsPixelOf vram regs eye x y (groupCountOf regs n) (sptOf regs n) before

@@ -34,9 +34,9 @@ ObjectRow =
 -- 01: "shown below 8", and the columns from JX -/+ JP on: the 8 by 8 square that holds the pixel
 abbrev pub ObjectCovers : Type 0
 ObjectCovers =
-    (w o : List ℕ) (eye x y : ℕ)
-    → objectCoversOf w o eye x y
-    ≡ objectShownOf w o eye
+    (o : List ℕ) (eye x y : ℕ)
+    → objectCoversOf o eye x y
+    ≡ objectShownOf o eye
     && (ltZ (modZ (pos y -ℤ JY o) 256) (pos 8)
     && (leZ (objectLeft o eye) (pos x) && ltZ (pos x) (objectLeft o eye +ℤ pos 8)))
 
@@ -58,9 +58,9 @@ ObjectDrawn =
 -- the last of n + 1 objects is drawn over the n before it, and it is the one n objects after the first
 abbrev pub ObjectsInOrder : Type 0
 ObjectsInOrder =
-    (vram regs w : List ℕ) (eye x y n k before : ℕ)
-    → objectsPixelOf vram regs w eye x y (suc n) k before
-    ≡ objectPixelOf vram regs w (objectOf vram (drawnOf n k)) eye x y (objectsPixelOf vram regs w eye x y n k before)
+    (vram regs : List ℕ) (eye x y n k before : ℕ)
+    → objectsPixelOf vram regs eye x y (suc n) k before
+    ≡ objectPixelOf vram regs (objectOf vram (drawnOf n k)) eye x y (objectsPixelOf vram regs eye x y n k before)
 
 -- 01: "group 0 ends at object 0": its objects are SPT0, SPT0 - 1, .., 0
 abbrev pub GroupZero : Type 0

@@ -65,15 +65,15 @@ abbrev pub objectRow : List ℕ → ℕ → ℤ
 objectRow o y = modZ (pos y -ℤ JY o) 256
 
 -- shown to the eye, and the 8 by 8 square from JX -/+ JP on holds the pixel
-abbrev pub objectCovers : List ℕ → List ℕ → ℕ → ℕ → ℕ → Bool
-objectCovers w o eye x y =
-    objectShownOf w o eye
+abbrev pub objectCovers : List ℕ → ℕ → ℕ → ℕ → Bool
+objectCovers o eye x y =
+    objectShownOf o eye
     && (ltZ (objectRow o y) (pos 8) && (leZ (objectLeft o eye) (pos x) && ltZ (pos x) (objectLeft o eye +ℤ pos 8)))
 
 -- what an object makes of a pixel, at column x - (JX -/+ JP) and that row
-abbrev pub objectPixel : List ℕ → List ℕ → List ℕ → List ℕ → ℕ → ℕ → ℕ → ℕ → ℕ
-objectPixel vram regs w o eye x y before =
-    pick (objectCovers w o eye x y)
+abbrev pub objectPixel : List ℕ → List ℕ → List ℕ → ℕ → ℕ → ℕ → ℕ → ℕ
+objectPixel vram regs o eye x y before =
+    pick (objectCovers o eye x y)
     (cellPixelOf vram (jpltOf regs) (getD o 3 0) (aboveZero (pos x -ℤ objectLeft o eye))
     (aboveZero (objectRow o y)) before)
     before
@@ -92,17 +92,17 @@ unfoldable pub counterOf : List ℕ → ℕ → ℕ
 counterOf w counter = pick (drawsObjectsOf w) (counterAfterOf counter) counter
 
 -- `count` objects from object k downwards
-unfoldable pub objectsPixel : List ℕ → List ℕ → List ℕ → ℕ → ℕ → ℕ → ℕ → ℕ → ℕ → ℕ
-objectsPixel vram regs w eye x y zero k before = before
-objectsPixel vram regs w eye x y (suc count) k before =
-    objectsPixel vram regs w eye x y count (objectAfterOf k) (objectPixel vram regs w (objectOf vram k) eye x y before)
+unfoldable pub objectsPixel : List ℕ → List ℕ → ℕ → ℕ → ℕ → ℕ → ℕ → ℕ → ℕ
+objectsPixel vram regs eye x y zero k before = before
+objectsPixel vram regs eye x y (suc count) k before =
+    objectsPixel vram regs eye x y count (objectAfterOf k) (objectPixel vram regs (objectOf vram k) eye x y before)
 
 -- a world, at an object counter
 unfoldable pub worldPixel : List ℕ → List ℕ → List ℕ → ℕ → ℕ → ℕ → ℕ → ℕ → ℕ
 worldPixel vram regs w counter eye x y before =
     pick (skippedOf w) before
     (pick (eqb (bgmOf w) 3)
-    (objectsPixel vram regs w eye x y (groupCountOf regs counter) (sptOf regs counter) before)
+    (objectsPixel vram regs eye x y (groupCountOf regs counter) (sptOf regs counter) before)
     (backgroundPixel vram regs w eye x y before))
 
 -- worlds n - 1 to 0

@@ -39,7 +39,7 @@ module _ (vram regs w : List ℕ) (counter eye x y v : ℕ) where
   unfolding worldPixelOf
   pixel-skipped e = rw e
 
-  pub pixel-objects : skippedOf w ≡ false → bgmOf w ≡ 3 → groupPixelOf vram regs w counter eye x y v ≡ worldPixelOf vram regs w counter eye x y v
+  pub pixel-objects : skippedOf w ≡ false → bgmOf w ≡ 3 → groupPixelOf vram regs counter eye x y v ≡ worldPixelOf vram regs w counter eye x y v
   unfolding worldPixelOf
   pixel-objects e f = rw e (simp (eq-eqb (bgmOf w) 3 f))
 

@@ -41,14 +41,14 @@ pub fn paint_world(
     if flags < 16384 {
         return counter;
     }
-    let w = world(vram, n);
     if flags / 4096 % 4 == 3 {
-        drawing_objects::group(vram, registers, &w, buffer, counter, eye, strip);
+        drawing_objects::group(vram, registers, buffer, counter, eye, strip);
         if counter == 0 {
             return 3;
         }
         return counter - 1;
     }
+    let w = world(vram, n);
     drawing_background::world::strip(vram, registers, &w, buffer, eye, strip);
     counter
 }

@@ -47,7 +47,7 @@ worldsBytesOf vram eye x y (suc n) =
 unfoldable pub worldDrawsOf : List ℕ → List ℕ → List ℕ → ℕ → ℕ → ℕ → ℕ → ℕ → Bool
 worldDrawsOf vram regs w counter eye x y k =
     drawsObjectsOf w
-    && (amongOf (groupCountOf regs counter) (sptOf regs counter) k && objectCoversOf w (objectOf vram k) eye x y)
+    && (amongOf (groupCountOf regs counter) (sptOf regs counter) k && objectCoversOf (objectOf vram k) eye x y)
 
 -- the same of worlds n - 1 to 0, at an object counter; END stops
 unfoldable pub worldsDrawOf : List ℕ → List ℕ → ℕ → ℕ → ℕ → ℕ → ℕ → ℕ → Bool

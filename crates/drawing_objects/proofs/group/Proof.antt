@@ -9,10 +9,10 @@ use Rattle.bus.specs.Registers.{sptOf}
 use Rattle.drawing_objects.proofs.Groups.{Drawing, group-begun, group-more, group-done}
 
 abbrev Inv-loop : tie.InvT-loop
-Inv-loop vram registers w buffer₀ n eye strip left₀ k₀ buffer left k = (k < 1024) × Drawing vram registers w eye strip n left k buffer₀ buffer
+Inv-loop vram registers buffer₀ n eye strip left₀ k₀ buffer left k = (k < 1024) × Drawing vram registers eye strip n left k buffer₀ buffer
 
 abbrev μ-loop : tie.MeasureT-loop
-μ-loop vram registers w buffer₀ n eye strip left₀ k₀ buffer left k = left
+μ-loop vram registers buffer₀ n eye strip left₀ k₀ buffer left k = left
 
 group-count-requires : tie.Need-group-count-requires Inv-loop μ-loop
 group-count-requires c κs = c .before .pre .1 .1
@@ -30,7 +30,7 @@ loop-holds : tie.Need-loop-holds Inv-loop μ-loop
 unfolding sptOf
 loop-holds c = (
   omega (arith, c .before .before .before .before .pre .1 .1 .1 (c .before .before .before .before .args .n) (omega arith)),
-  group-begun _ _ _ _ _ _ _ _ _ (c .before .before .group-count .ensures .0) (c .wide .ensures .0),
+  group-begun _ _ _ _ _ _ _ _ (c .before .before .group-count .ensures .0) (c .wide .ensures .0),
 )
 
 paint-object-requires : tie.Need-paint-object-requires Inv-loop μ-loop
@@ -48,12 +48,12 @@ loop-less c = omega arith
 loop-again : tie.Need-loop-again Inv-loop μ-loop
 loop-again c = (
   omega arith,
-  group-more _ _ _ _ _ _ _ _ _ _ _ (c .before .before .loop-test .taken)
+  group-more _ _ _ _ _ _ _ _ _ _ (c .before .before .loop-test .taken)
       (c .before .before .before .loop .inv .1) (c .paint-object .ensures),
 )
 
 returns : tie.Need-returns Inv-loop μ-loop
-returns c = group-done _ _ _ _ _ _ _ _ _ _ (omega arith) (c .before .loop .inv .1)
+returns c = group-done _ _ _ _ _ _ _ _ _ (omega arith) (c .before .loop .inv .1)
 
 pub group-spec : {M : Type 1} → statement M
 group-spec =

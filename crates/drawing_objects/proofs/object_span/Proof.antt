@@ -12,14 +12,14 @@ use Rattle.drawing_objects.proofs.Squares.{square-inside}
 returns : tie.Need-returns
 returns c = let a = c .before .before .before .before .before .args in
     span-kept _ _ _ _ _ (omega arith)
-    (λ x v l h. object-outside-rows (a .vram .now) (a .registers .now) (a .w .now) (a .o .now) (a .view .eye) x
+    (λ x v l h. object-outside-rows (a .vram .now) (a .registers .now) (a .o .now) (a .view .eye) x
     (8 * a .view .strip + a .run .row) v (omega arith))
 
 returns-2 : tie.Need-returns-2
 returns-2 c = let a = c .before .before .before .before .before .before .before .before .before .before .before .before .before .before .before .before .args in
     let pre = c .before .before .before .before .before .before .before .before .before .before .before .before .before .before .before .before .pre in
     span-change _ _ _ _ _ _ _
-    (λ x v l h. square-inside (a .vram .now) (a .registers .now) (a .w .now) (a .o .now) (a .view .eye) x
+    (λ x v l h. square-inside (a .vram .now) (a .registers .now) (a .o .now) (a .view .eye) x
     (8 * a .view .strip + a .run .row) v (a .run .from) _ _ _ _ _
     (pre .1 .1 .0) (c .before .before .before .before .before .before .before .before .before .before .before .before
     .object-row .ensures) (c .before .before .before .before .before .before .before .before .before .before .before

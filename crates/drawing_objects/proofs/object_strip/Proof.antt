@@ -14,18 +14,18 @@ use Rattle.drawing_pixel.proofs.Windows.{object-hidden}
 use Rattle.drawing_objects.proofs.Squares.{square-outside, square-empty}
 
 abbrev Inv-loop : tie.InvT-loop
-Inv-loop vram registers w o buffer₀ eye strip left from to r₀ buffer r = (r ≤ 8) × Rows r
-    (λ x q. objectPixelOf vram registers w o eye x (8 * strip + q)) buffer₀ buffer
+Inv-loop vram registers o buffer₀ eye strip left from to r₀ buffer r = (r ≤ 8) × Rows r
+    (λ x q. objectPixelOf vram registers o eye x (8 * strip + q)) buffer₀ buffer
 
 abbrev μ-loop : tie.MeasureT-loop
-μ-loop vram registers w o buffer₀ eye strip left from to r₀ buffer r = 8 - r
+μ-loop vram registers o buffer₀ eye strip left from to r₀ buffer r = 8 - r
 
 shown-requires : tie.Need-shown-requires Inv-loop μ-loop
 shown-requires c κs = search needs
 
 returns : tie.Need-returns Inv-loop μ-loop
 returns c = let a = c .before .before .before .args in
-    strip-kept _ _ (λ x r v u q. object-hidden (a .vram .now) (a .registers .now) (a .w .now) (a .o .now) (a .eye) x
+    strip-kept _ _ (λ x r v u q. object-hidden (a .vram .now) (a .registers .now) (a .o .now) (a .eye) x
     (8 * a .strip + r) v (sym (c .before .shown .ensures) ∙ not-true _ (c .if1 .taken)))
 
 object-left-requires : tie.Need-object-left-requires Inv-loop μ-loop
@@ -42,7 +42,7 @@ clipped-requires-2 c κs = omega arith
 
 returns-2 : tie.Need-returns-2 Inv-loop μ-loop
 returns-2 c = let a = c .before .before .before .before .before .before .before .args in
-    strip-kept _ _ (λ x r v u q. square-empty (a .vram .now) (a .registers .now) (a .w .now) (a .o .now) (a .eye) x (8 * a .strip + r) v _ _ u
+    strip-kept _ _ (λ x r v u q. square-empty (a .vram .now) (a .registers .now) (a .o .now) (a .eye) x (8 * a .strip + r) v _ _ u
     (omega (arith, c .before .before .clipped .ensures)) (omega (arith, c .before .clipped2 .ensures)) (c .if2 .taken))
 
 loop-holds : tie.Need-loop-holds Inv-loop μ-loop
@@ -71,8 +71,8 @@ loop-again : tie.Need-loop-again Inv-loop μ-loop
 loop-again c = let a = c .before .before .before .before .before .before .before .before .before .before .before .args in (
   omega arith,
   rows-more _ _ _ _ _ _ _ (c .before .before .loop-test .taken)
-      (λ x v h. object-small (a .vram .now) (a .registers .now) (a .w .now) (a .o .now) (a .eye) x _ v h)
-      (λ x v u. square-outside (a .vram .now) (a .registers .now) (a .w .now) (a .o .now) (a .eye) x _ v _ _ u
+      (λ x v h. object-small (a .vram .now) (a .registers .now) (a .o .now) (a .eye) x _ v h)
+      (λ x v u. square-outside (a .vram .now) (a .registers .now) (a .o .now) (a .eye) x _ v _ _ u
       (omega (arith, c .before .before .before .before .before .before .clipped .ensures)) (omega
       (arith, c .before .before .before .before .before .clipped2 .ensures)))
       (c .before .before .before .loop .inv .1) (c .object-span .ensures),

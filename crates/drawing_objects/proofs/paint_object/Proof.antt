@@ -8,7 +8,7 @@ use Rattle.drawing_objects.proofs.Squares.{square-far}
 
 returns : tie.Need-returns
 returns c = let a = c .before .before .before .before .args in
-    strip-kept _ _ (λ x r v u q. square-far (a .vram .now) (a .registers .now) (a .w .now) (a .k) (a .eye) x v (a .strip) r _ (omega arith) q
+    strip-kept _ _ (λ x r v u q. square-far (a .vram .now) (a .registers .now) (a .k) (a .eye) x v (a .strip) r _ (omega arith) q
     (rw (c .before .wide .ensures .0, c .before .before .half .ensures)) (c .if1 .taken))
 
 returns-2 : tie.Need-returns-2

@@ -15,7 +15,7 @@ use Rattle.drawing_pixel.specs.Pixel.{counterOf, worldCovers, background
 unfoldable pub worldPixelOf : List ℕ → List ℕ → List ℕ → ℕ → ℕ → ℕ → ℕ → ℕ → ℕ
 worldPixelOf vram regs w counter eye x y before =
     pick (skippedOf w) before
-    (pick (eqb (bgmOf w) 3) (groupPixelOf vram regs w counter eye x y before)
+    (pick (eqb (bgmOf w) 3) (groupPixelOf vram regs counter eye x y before)
     (backgroundPixelOf vram regs w eye x y before))
 
 -- what worlds n - 1 to 0 make of a pixel, at an object counter; END stops
@@ -35,7 +35,7 @@ abbrev pub WorldCovers : Type 0
 WorldCovers = (w : List ℕ) (eye x y : ℕ) → worldCoversOf w eye x y ≡ worldCovers w eye x y
 
 abbrev pub ObjectCovered : Type 0
-ObjectCovered = (w o : List ℕ) (eye x y : ℕ) → objectCoversOf w o eye x y ≡ objectCovers w o eye x y
+ObjectCovered = (o : List ℕ) (eye x y : ℕ) → objectCoversOf o eye x y ≡ objectCovers o eye x y
 
 -- a background world makes of every pixel what paper 01's formulas say
 abbrev pub BackgroundFormula : Type 0
@@ -46,8 +46,8 @@ BackgroundFormula =
 -- and so does an object
 abbrev pub ObjectFormula : Type 0
 ObjectFormula =
-    (vram regs w o : List ℕ) (eye x y before : ℕ)
-    → objectPixelOf vram regs w o eye x y before ≡ objectPixel vram regs w o eye x y before
+    (vram regs o : List ℕ) (eye x y before : ℕ)
+    → objectPixelOf vram regs o eye x y before ≡ objectPixel vram regs o eye x y before
 
 -- and so do BKCOL and worlds 31 to 0, one after the other
 abbrev pub PixelFormula : Type 0
