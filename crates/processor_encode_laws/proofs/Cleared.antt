@@ -3,6 +3,7 @@
 use Prim.Native.Nat.{ℕ, _+_, _/_, _≤_, _<_}
 use mathlib.Core.Bool.{true, false}
 use mathlib.Core.Path.{_≡_, refl, sym, _∙_, ap}
+use native.Mathlib.Decide.{ℕ-discrete, decLt}
 use native.Mathlib.Omega.{arith}
 use borrow.Author.Tests.{lt-ltb, le-ltb, eq-eqb, ne-eqb}
 use lib.Dec.{ltb, eqb}
@@ -123,6 +124,25 @@ operation-extended m f s e h =
     let b : 40 ≤ f / 1024 = omega arith in
     simp (le-ltb (f / 1024) 32 a, le-ltb (f / 1024) 40 b, eq-eqb (f / 1024) 62 e) (ap (λ (k : ℕ). 64 + k) h)
 
+-- so an operation is one of these
+pub operation-view : (P : ℕ → Type 0) (f s : ℕ) → (f / 1024 < 32 → P (f / 1024)) → (32 ≤ f / 1024 → f / 1024 < 40 → P 32) →
+    (40 ≤ f / 1024 → (f / 1024 ≡ 62 → ⊥) → P (f / 1024)) → (f / 1024 ≡ 62 → P (64 + s / 1024)) → P (operationAt f s)
+operation-view P f s short branch long extended =
+    elim (decLt (f / 1024) 32) [
+      | yes h ↦ rw (operation-short (f / 1024) f s refl h) (short h)
+      | no a ↦ elim (decLt (f / 1024) 40) [
+        | yes h ↦
+            let from : 32 ≤ f / 1024 = omega arith in
+            rw (operation-branch f s from h) (branch from h)
+        | no b ↦
+            let from : 40 ≤ f / 1024 = omega arith in
+            elim (ℕ-discrete (f / 1024) 62) [
+              | yes e ↦ rw (operation-extended (s / 1024) f s e refl) (extended e)
+              | no ne ↦ rw (operation-long (f / 1024) f s refl from ne) (long from ne)
+            ]
+      ]
+    ]
+
 -- how many halfwords
 pub two-short : (f : ℕ) → f / 1024 < 40 → twoOf f ≡ false
 two-short f h = simp (lt-ltb (f / 1024) 40 h)
@@ -168,11 +188,3 @@ pub cleared-extended : (t : format.Format) (m f s : ℕ) → formatOf
     (64 + m) ≡ t → f / 1024 ≡ 62 → s / 1024 ≡ m → clearedOf f s ≡ Two (firstWithout t f) (secondWithout t s)
 cleared-extended t m f s known e h =
     cleared-two t (64 + m) f s known (operation-extended m f s e h) (two-long 62 f e (omega arith) (λ q. absurd (omega arith)) (λ q. absurd (omega arith)))
-
--- halfwords whose operation is not listed stay as they are
-module _ (n f s : ℕ) (known : formatOf n ≡ Unlisted) where
-  pub unlisted-first : operationAt f s ≡ n → clearedFirst f s ≡ f
-  unlisted-first at = cleared-first Unlisted n f s known at
-
-  pub unlisted-second : operationAt f s ≡ n → clearedSecond f s ≡ s
-  unlisted-second at = cleared-second Unlisted n f s known at

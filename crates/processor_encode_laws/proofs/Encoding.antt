@@ -1,8 +1,8 @@
 -- What is to be shown of each row of the decoder's list: `Facts`, and the two ways to show it, for a legal instruction and
 -- for a row that is invalid or not modelled. Assumes nothing.
-use Prim.Native.Nat.{ℕ, _<_}
+use Prim.Native.Nat.{ℕ}
 use mathlib.Core.Bool.{Bool, true, false}
-use mathlib.Core.Path.{_≡_, refl, sym, _∙_}
+use mathlib.Core.Path.{_≡_, sym}
 use native.Mathlib.Omega.{arith}
 use Rattle.word.specs.Choose.{pick}
 use Rattle.processor_decode.specs.Format.{twoOf}
@@ -12,13 +12,11 @@ use Rattle.processor_decode.specs.declared.Instruction.the-variants.{Illegal}
 use Rattle.processor_decode.specs.declared.Decoded.{Decoded}
 use Rattle.processor_decode.specs.declared.Decoded.the-variants.{Modelled, NotModelled}
 use Rattle.processor_encode.specs.Format.{formatOf}
-use Rattle.processor_encode.specs.Fields.{fieldsOf}
 use Rattle.processor_encode.specs.Range.{inRange}
 use Rattle.processor_encode.specs.Place.{halfwordsOf}
 use Rattle.processor_encode.specs.Encode.{encodeOf, encodedOf}
 use Rattle.processor_encode.specs.Unused.{clearedOf, clearedFirst, clearedSecond}
 use Rattle.processor_encode.specs.declared.Fields.{Fields}
-use Rattle.processor_encode.specs.declared.Encoded.{Encoded}
 use Rattle.processor_encode.specs.declared.Encoded.the-variants.{One, Two}
 use Rattle.processor_encode_laws.specs.RoundTrip.{DecodesTo, Legal}
 

@@ -10,10 +10,10 @@ use Rattle.word.proofs.Choices.{pick-both}
 use Rattle.processor_encode.specs.Range.{within, signedIn, evenIn, systemFits}
 use Rattle.processor_encode.specs.declared.Fields.{Fields}
 
--- a choice whose test is known to hold in the first case
-pub pick-known : {A : Type 0} (P : A → Type 0) (t : Bool) (a b : A) → (t ≡ true → P a) → P b → P (pick t a b)
-pick-known P true a b p q = p refl
-pick-known P false a b p q = q
+-- a choice by its test
+pub pick-case : {A : Type 0} (P : A → Type 0) (t : Bool) (a b : A) → (t ≡ true → P a) → (t ≡ false → P b) → P (pick t a b)
+pick-case P true a b p q = p refl
+pick-case P false a b p q = q refl
 
 -- each field is in its range
 pub record Within (x : Fields) (reg1 reg2 condition : ℕ) (immediate : Bool) : Type 0 where

@@ -3,12 +3,11 @@ mod Fitting
 mod Places
 pub mod Cleared
 mod Encoding
-mod ShortFormats
-mod LongFormats
-mod Instructions
 mod Rows
+mod Instructions
+mod Formats
+mod Placing
 pub mod RoundTrip
 pub mod RangeExactly
-pub mod FieldsExactly
 pub mod SignedRange
 pub mod SecondIgnored

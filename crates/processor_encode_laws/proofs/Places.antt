@@ -1,6 +1,6 @@
 -- The fields of a halfword that was put together, and a halfword put together from its own fields. Assumes nothing.
 use Prim.Native.Nat.{ℕ, _+_, _-_, _*_, _/_, _%_, _≤_, _<_}
-use mathlib.Core.Path.{_≡_, refl, _∙_, ap}
+use mathlib.Core.Path.{_≡_, _∙_, ap}
 use native.Mathlib.Omega.{arith}
 use Rattle.processor_encode.specs.Place.{placed, branchPlaced, jumpPlaced, lowHalf, subOpcode}
 use Rattle.processor_encode.specs.Unused.{without}
@@ -43,6 +43,21 @@ condition-again n f h e =
     let again : f % 32 % 32 ≡ f % 32 = omega arith in
     take-away (n % 64 * 1024 + f / 32 % 32 % 32 * 32) (f % 16 % 32) (f / 16 % 2 * 16) f (f % 32 % 32) (placed-again n f h e)
     (rw (small, again) (bit-four f))
+
+-- the halfword of a branch
+module _ (a d : ℕ) (ha : a < 16) where
+  pub branch-opcode : (32 ≤ branchPlaced a d / 1024) × (branchPlaced a d / 1024 < 40)
+  branch-opcode = (omega arith, omega arith)
+
+  pub branch-condition : branchPlaced a d / 512 % 16 ≡ a
+  branch-condition =
+      let q : branchPlaced a d / 512 ≡ 64 + a = omega arith in
+      omega arith
+
+  pub branch-offset : d % 2 ≡ 0 → branchPlaced a d % 512 / 2 * 2 ≡ d % 512
+  branch-offset e =
+      let q : branchPlaced a d % 512 ≡ d % 512 = omega arith in
+      omega arith
 
 bit-cleared : (f : ℕ) → f - f % 2 ≡ without 0 1 f
 bit-cleared f = omega arith
