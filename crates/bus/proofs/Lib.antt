@@ -2,6 +2,8 @@ mod OneOf
 pub mod Devices
 mod Indices
 mod Power
+pub mod Sizes
+pub mod Led
 pub mod Places
 pub mod Halfwords
 pub mod Spans

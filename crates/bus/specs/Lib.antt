@@ -3,3 +3,4 @@ pub mod Registers
 pub mod Place
 pub mod Memory
 pub mod Lent
+pub mod inner

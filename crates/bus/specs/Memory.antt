@@ -6,6 +6,7 @@ use mathlib.Core.Bool.{Bool, true}
 use mathlib.Core.List.{List, [], _∷_}
 use mathlib.Core.Path.{_≡_}
 use lib.ListN.{getD, set, length}
+use Rattle.word.specs.Choose.{member}
 use Rattle.word.specs.LittleEndian.{littleEndian}
 use Rattle.bus_timer.specs.Ports.{portByteOf, portWrittenOf}
 use Rattle.bus.specs.Registers.{version, keptOf, hardwareIn, withHardware, registersOk}
@@ -91,7 +92,11 @@ abbrev pub bytesFrom : Memory → ℕ → ℕ → List ℕ
 bytesFrom m a zero = []
 bytesFrom m a (suc n) = byteOf m a ∷ bytesFrom m (a + 1) n
 
--- an access of `size` bytes (1, 2 or 4) drops the address bits below its size
+-- an access has 1, 2 or 4 bytes
+abbrev pub sizeOk : ℕ → Bool
+sizeOk size = member size (1 ∷ 2 ∷ 4 ∷ [])
+
+-- it drops the address bits below its size
 abbrev pub alignedOf : ℕ → ℕ → ℕ
 alignedOf size a = a - a % size
 

@@ -3,6 +3,7 @@
 // their arguments and refuse are those of the crate bus_calls.
 pub mod device;
 pub mod load;
+pub mod map;
 pub mod outside;
 mod pak;
 mod ports;
@@ -36,4 +37,16 @@ pub struct Drawing {
 // What an access read.
 pub struct Loaded {
     pub value: u32,
+}
+
+// Where an address leads: a byte of WRAM or of VRAM, an address of ROM or of pak RAM, which repeat, an address of the
+// VIP's registers, an offset in region 2, or nothing.
+pub enum Place {
+    Wram(usize),
+    Vram(usize),
+    Rom(u32),
+    Pak(u32),
+    Register(u32),
+    Port(u32),
+    Nothing,
 }

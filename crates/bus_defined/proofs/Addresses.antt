@@ -16,6 +16,10 @@ use Rattle.bus.specs.Place.{Place, vramAt, wramAt, pakAt, romAt, drawingAt, ver
 use Rattle.bus.specs.Place.{hardwareAt, soundUnit, nothing, expansion, registerPlace, vipPlace, mirrorOf, regionOf}
 use Rattle.bus.specs.Place.{placeOf}
 use Rattle.bus.specs.Memory.{Memory, byteOf, readPlace, placeIn}
+use Rattle.bus.specs.declared.Place.{Place as Found}
+use Rattle.bus.specs.declared.Place.the-variants.{Wram, Vram, Rom, Pak, Register, Port, Nothing}
+use Rattle.bus.specs.inner.LeadsTo.{LeadsTo, InVram}
+use Rattle.bus.proofs.Led.{NoRegister}
 use Rattle.bus.proofs.Places.{region-code, region-half, place-vip}
 use Rattle.bus_defined.specs.Defined.{definedPlace, definedOf, undefinedOf, registerAddresses}
 use Rattle.bus_defined.specs.Addresses.{Unmapped, Unlisted, UndefinedAt, UndefinedExactly, UndefinedReadsZero, HalfMask}
@@ -188,7 +192,18 @@ unfolding definedAt
 half-kind a j h =
     rw (region-half a j h, low-even a j h, even-low (a % 524288) j h)
 
--- by the tests that the code makes
+defined-region : (a : ℕ) → (regionOf a ≡ 0 → ⊥) → definedAt a ≡ true
+unfolding definedAt
+defined-region a n = simp (ne-eqb (regionOf a) 0 n)
+
+in-vram : (a i : ℕ) → regionOf a ≡ 0 → InVram (a % 524288) i → definedAt a ≡ true
+unfolding definedAt
+in-vram a i here e =
+    let z : a % 524288 + 0 ≡ a % 524288 = omega arith in
+    let first : vipPlace (a % 524288) ≡ vramAt (i + 0) = rw z at (e .each 0 (omega arith)) in
+    simp (eq-eqb (regionOf a) 0 here) (sym (vip-defined (a % 524288)) ∙ ap definedPlace first)
+
+-- by region and the 19 bits that the VIP keeps
 module _ (a : ℕ) where
   pub defined-outside : 0 < a / 16777216 % 8 → definedAt a ≡ true
   unfolding definedAt
@@ -219,6 +234,19 @@ module _ (a : ℕ) where
         let f : 0x40000 ≤ evenOf a = omega arith in
         let g : evenOf a < 0x78000 = omega arith in
         simp (eq-eqb (regionOf a) 0 region, le-ltb (evenOf a) 0x40000 f, lt-ltb (evenOf a) 0x78000 g)
+
+-- by the place that the code finds
+pub led-register : (a v : ℕ) → LeadsTo a (Register v) → definedAt a ≡ member (v - v % 2) registerAddresses
+led-register a v (here, (e, b)) = rw e (defined-between a (omega (arith, region-code a, here)) (b .low) (b .high))
+
+pub led-defined : (a : ℕ) (p : Found) → NoRegister p → LeadsTo a p → definedAt a ≡ true
+led-defined a (Register v) n e = absurd n
+led-defined a (Vram i) n (here, e) = in-vram a i here e
+led-defined a (Wram i) n (here, e) = defined-region a (λ z. omega arith)
+led-defined a (Rom x) n (here, e) = defined-region a (λ z. omega arith)
+led-defined a (Pak x) n (here, e) = defined-region a (λ z. omega arith)
+led-defined a (Port o) n (here, e) = defined-region a (λ z. omega arith)
+led-defined a Nothing n e = defined-region a (e .no-vip)
 
 -- undefined addresses
 between : (a : ℕ) → definedAt a ≡ false → (a / 16777216 % 8 ≤ 0) × ((0x40000 ≤ a % 524288) × (a % 524288 < 0x78000))

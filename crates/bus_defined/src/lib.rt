@@ -1,6 +1,8 @@
 // Which bytes of an access are undefined (paper 02, W2): a mask with bit k set where byte k, counted from the aligned
 // address, is undefined. The address alone decides, so no memory is read for it, and the loads and stores of the crate
 // bus and a run of instructions carry no masks. These functions are `pub` for the crates above.
+use bus::Place;
+use bus::map;
 ghost use mathlib.Core.Path.{_≡_};
 ghost use Prim.Native.Nat.{_≤_};
 ghost use Rattle.word.specs.Choose.{member};
@@ -48,21 +50,15 @@ fn listed(h: u32) -> bool
 pub fn half(address: u32) -> u32
     ensures { λ r. ⌜ ((m : Memory) → r ≡ undefinedOf m 2 address) × (r ≤ 3) ⌝ }
 {
-    let region = address / 16777216 % 8;
-    if 0 < region {
-        return 0;
+    match map::place_of(address) {
+        Place::Register(v) => {
+            if listed(v - v % 2) {
+                return 0;
+            }
+            3
+        }
+        _ => 0,
     }
-    let v = address % 524288;
-    if v < 0x40000 {
-        return 0;
-    }
-    if 0x78000 <= v {
-        return 0;
-    }
-    if listed(v - v % 2) {
-        return 0;
-    }
-    3
 }
 
 // The mask of a byte: the low bit of its halfword's.

@@ -13,6 +13,10 @@ use Rattle.bus.specs.Registers.{drawingAddresses, silentAddresses, versionAddre
 use Rattle.bus.specs.Place.{Place, vramAt, wramAt, pakAt, romAt, drawingAt, versionAt, silent, unlisted, unmapped}
 use Rattle.bus.specs.Place.{hardwareAt, soundUnit, nothing, expansion, registerPlace, mirrorOf, vipPlace, regionOf}
 use Rattle.bus.specs.Place.{placeOf}
+use Rattle.bus.specs.declared.Place.{Place as Found}
+use Rattle.bus.specs.declared.Place.the-variants.{Wram, Vram, Rom, Pak, Register, Port, Nothing}
+use Rattle.bus.specs.inner.LeadsTo.{LeadsTo}
+use Rattle.bus.proofs.Led.{NoVram}
 use Rattle.bus.proofs.Places.{region-code, place-vip}
 use Rattle.bus_probe.specs.Probe.{vramIndexOf, targetOf}
 
@@ -75,6 +79,27 @@ module _ (rom pak a : ℕ) where
       let r : 0x60000 ≤ a % 524288 = omega arith in
       rw (place-vip rom pak a (sym (region-code a) ∙ e))
       (simp (le-ltb (a % 524288) 0x40000 p, le-ltb (a % 524288) 0x5E000 q, le-ltb (a % 524288) 0x60000 r, le-ltb (a % 524288) 0x78000 l))
+
+-- by the place that the code finds
+module _ (rom pak a : ℕ) where
+  pub led-vram : (i : ℕ) → LeadsTo a (Vram i) → i ≡ vramIndexOf (placeOf rom pak a)
+  led-vram i (here, e) =
+      let z : a % 524288 + 0 ≡ a % 524288 = omega arith in
+      let f : i + 0 ≡ i = omega arith in
+      let first : vipPlace (a % 524288) ≡ vramAt i = rw (z, f) at (e .each 0 (omega arith)) in
+      sym (rw (place-vip rom pak a here, first))
+
+  outside : (regionOf a ≡ 0 → ⊥) → 0x40000 ≡ vramIndexOf (placeOf rom pak a)
+  outside n = sym (elsewhere rom pak a (λ e. n (sym (region-code a) ∙ e)))
+
+  pub led-elsewhere : (p : Found) → NoVram p → LeadsTo a p → 0x40000 ≡ vramIndexOf (placeOf rom pak a)
+  led-elsewhere (Vram i) n e = absurd n
+  led-elsewhere (Register v) n (here, (e, b)) = sym (between rom pak a (region-code a ∙ here) (b .low) (b .high))
+  led-elsewhere (Wram i) n (here, e) = outside (λ z. omega arith)
+  led-elsewhere (Rom x) n (here, e) = outside (λ z. omega arith)
+  led-elsewhere (Pak x) n (here, e) = outside (λ z. omega arith)
+  led-elsewhere (Port o) n (here, e) = outside (λ z. omega arith)
+  led-elsewhere Nothing n e = outside (e .no-vip)
 
 -- the target from what the code finds for the aligned address
 module _ (rom pak a at : ℕ) where

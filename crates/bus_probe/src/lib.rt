@@ -1,6 +1,8 @@
 // The probe: the bench's overlay painter writes a byte, a halfword or a word into the VRAM that the program draws
 // from, into characters 1,536 to 2,047 and background maps 12 and 13 alone. The four memories are lent, and VRAM alone
 // can change.
+use bus::Place;
+use bus::map;
 use bus::refusals;
 use refusal::Refusal;
 use refusal::Verdict;
@@ -14,18 +16,10 @@ ghost use Rattle.bus_probe.specs.Lent.{lentVerdictOf, vramOf};
 fn vram_index(address: u32) -> usize
     ensures { λ r. ⌜ ((rom pak : ℕ) → r ≡ vramIndexOf (placeOf rom pak address)) ⌝ }
 {
-    if address / 16777216 % 8 != 0 {
-        return 0x40000;
+    match map::place_of(address) {
+        Place::Vram(i) => i,
+        _ => 0x40000,
     }
-    let v = address % 524288;
-    if v < 0x40000 {
-        return v as usize;
-    }
-    if v < 0x78000 {
-        return 0x40000;
-    }
-    let k = v - 0x78000;
-    (0x6000 + k / 0x2000 * 0x8000 + k % 0x2000) as usize
 }
 
 // Whether byte i of VRAM is of characters 1,536 to 2,047 or of background maps 12 and 13.
