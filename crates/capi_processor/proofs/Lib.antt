@@ -1,2 +1,3 @@
 mod Boundary
+mod Levels
 pub mod Misused

@@ -13,8 +13,8 @@ use Rattle.refusal.proofs.Numbers.{verdicts-apart}
 use Rattle.bus.specs.Memory.{Memory}
 use Rattle.processor.specs.Acceptance.{acceptanceIn}
 use Rattle.capi_bus.specs.Misuse.{misuseNumber}
-use Rattle.capi_processor.specs.Misuse.{misuseAt}
-use Rattle.capi_processor.specs.Record.{processorIn}
+use Rattle.capi_processor.specs.inner.Misuse.{misuseAt}
+use Rattle.capi_processor.specs.Record.{processorIn, unlessMisused}
 use Rattle.capi_processor.specs.declared.record.VbProcessor.{VbProcessor}
 
 misuse-positive : (v : Verdict) → misuseNumber v ≡ 0 → ⊥
@@ -32,15 +32,13 @@ by-test false v f d = refl
 module _ (p : VbProcessor) (m : Memory) where
   -- f makes the answer of the number, d is the answer for a mode up to 2
   by-misuse : {A : Type 0} (f : ℕ → A) (d : A)
-      → pick (ltb 2 (p .mode)) (f (misuseNumber (acceptanceIn (processorIn p) m))) d
-      ≡ pick (eqb (misuseAt p m) 0) d (f (misuseAt p m))
+      → unlessMisused p m f d ≡ pick (eqb (misuseAt p m) 0) d (f (misuseAt p m))
   unfolding misuseAt
   by-misuse f d = by-test (ltb 2 (p .mode)) (acceptanceIn (processorIn p) m) f d
 
   module _ {A : Type 0} (f : ℕ → A) (d : A) (n : ℕ) (e : n ≡ misuseAt p m) where
-    pub mode-above : (n ≡ 0 → ⊥)
-        → f n ≡ pick (ltb 2 (p .mode)) (f (misuseNumber (acceptanceIn (processorIn p) m))) d
+    pub mode-above : (n ≡ 0 → ⊥) → f n ≡ unlessMisused p m f d
     mode-above h = rw (by-misuse f d, ← e) (simp (ne-eqb n 0 h))
 
-    pub mode-within : n ≡ 0 → d ≡ pick (ltb 2 (p .mode)) (f (misuseNumber (acceptanceIn (processorIn p) m))) d
+    pub mode-within : n ≡ 0 → d ≡ unlessMisused p m f d
     mode-within h = rw (by-misuse f d, ← e) (simp (eq-eqb n 0 h))

@@ -1,8 +1,6 @@
 -- What the C boundary gives for a step and a run (include/vb.h): paper 01's refusal number or VB_MISUSE, the number of
 -- the answer and the code of its cause, and the records with the mode as a number.
-use Prim.Native.Nat.{ℕ, _%_}
-use lib.Dec.{ltb}
-use Rattle.word.specs.Choose.{pick}
+use Prim.Native.Nat.{ℕ}
 use Rattle.refusal.specs.Number.{numberOf, verdictNumber}
 use Rattle.bus.specs.Memory.{Memory}
 use Rattle.processor_machine.specs.Exception.{codeOf}
@@ -12,10 +10,8 @@ use Rattle.processor_machine.specs.declared.Answer.the-variants.{WasFatal, Refu
 use Rattle.processor_interrupt.specs.Interrupt.{interruptCodeOf}
 use Rattle.processor_undefined.specs.Reads.{noneOf}
 use Rattle.processor_undefined.specs.declared.Undefined.{Undefined}
-use Rattle.processor.specs.Acceptance.{acceptanceIn}
 use Rattle.processor.specs.Calls.{Done, Ran, checkedStepOf, checkedRunOf}
-use Rattle.capi_bus.specs.Misuse.{misuseNumber}
-use Rattle.capi_processor.specs.Record.{processorIn, processorOut}
+use Rattle.capi_processor.specs.Record.{processorIn, processorOut, unlessMisused}
 use Rattle.capi_processor.specs.declared.record.VbProcessor.{VbProcessor}
 use Rattle.capi_processor.specs.declared.execution.VbUndefined.{VbUndefined}
 
@@ -39,11 +35,11 @@ answerNumber WasHalted = 3
 answerNumber WasFatal = 4
 answerNumber (Refused n) = 0
 
--- the code of the exception that a step raised, or of the interrupt that it accepted, whose level has three bits
+-- the code of the exception that a step raised, or of the interrupt that it accepted
 abbrev pub answerCode : Answer → ℕ
 answerCode Ended = 0
 answerCode (Trapped cause) = codeOf cause
-answerCode (Interrupted level) = interruptCodeOf (level % 8)
+answerCode (Interrupted level) = interruptCodeOf level
 answerCode (TurnedFatal cause) = codeOf cause
 answerCode WasHalted = 0
 answerCode WasFatal = 0
@@ -73,7 +69,7 @@ stepDone d =
 
 unfoldable pub stepAt : VbProcessor → Memory → StepAtBoundary
 stepAt p m =
-    pick (ltb 2 (p .mode)) (stepGives (misuseNumber (acceptanceIn (processorIn p) m)) 0 0 (undefinedOut noneOf) p m)
+    unlessMisused p m (λ (n : ℕ). stepGives n 0 0 (undefinedOut noneOf) p m)
     (stepDone (checkedStepOf (processorIn p) m))
 
 -- what vb_run gives
@@ -91,5 +87,5 @@ runDone r = runGives (verdictNumber (r .verdict)) (r .count) (processorOut (r .p
 
 unfoldable pub runAt : ℕ → VbProcessor → Memory → RunAtBoundary
 runAt budget p m =
-    pick (ltb 2 (p .mode)) (runGives (misuseNumber (acceptanceIn (processorIn p) m)) 0 p m)
+    unlessMisused p m (λ (n : ℕ). runGives n 0 p m)
     (runDone (checkedRunOf budget (processorIn p) m))

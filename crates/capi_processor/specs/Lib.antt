@@ -1,4 +1,4 @@
 pub mod Execution
-pub mod Misuse
 pub mod Record
 pub mod Replays
+pub mod inner

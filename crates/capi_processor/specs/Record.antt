@@ -1,10 +1,14 @@
--- The processor's record at the C boundary (include/vb.h, `vb_processor`): the same words, the mode as a number.
+-- The processor's record at the C boundary (include/vb.h, `vb_processor`): the same words, the mode as a number; and what
+-- a call answers where that is above 2.
 use Prim.Native.Nat.{ℕ}
-use lib.Dec.{eqb}
+use lib.Dec.{eqb, ltb}
 use Rattle.word.specs.Choose.{pick}
+use Rattle.bus.specs.Memory.{Memory}
 use Rattle.processor_machine.specs.declared.Mode.{Mode}
 use Rattle.processor_machine.specs.declared.Mode.the-variants.{Running, Halted, Fatal}
+use Rattle.processor.specs.Acceptance.{acceptanceIn}
 use Rattle.processor.specs.declared.Processor.{Processor}
+use Rattle.capi_bus.specs.Misuse.{misuseNumber}
 use Rattle.capi_bus.specs.TimerLines.{hardwareGiven, hardwareOut}
 use Rattle.capi_processor.specs.declared.record.VbProcessor.{VbProcessor}
 
@@ -53,3 +57,8 @@ processorOut p =
       mode = modeNumber (p .mode);
       hardware = hardwareOut (p .hardware);
     }
+
+-- a mode above 2 is VB_MISUSE, after 1 to 5: `misused` makes the answer of that number, `done` is the call's own answer
+abbrev pub unlessMisused : {A : Type 0} (p : VbProcessor) (m : Memory) (misused : ℕ → A) (done : A) → A
+unlessMisused p m misused done =
+    pick (ltb 2 (p .mode)) (misused (misuseNumber (acceptanceIn (processorIn p) m))) done

@@ -2,16 +2,12 @@
 -- to 5 and before 14, how it ended as a number, and the first wrong word where it differed.
 use Prim.Native.Nat.{ℕ}
 use mathlib.Core.List.{List}
-use lib.Dec.{ltb}
-use Rattle.word.specs.Choose.{pick}
 use Rattle.refusal.specs.Number.{numberOf}
 use Rattle.bus.specs.Memory.{Memory}
-use Rattle.processor.specs.Acceptance.{acceptanceIn}
 use Rattle.processor_replay.specs.declared.End.{End}
 use Rattle.processor_replay.specs.declared.End.the-variants.{Refused, Agreed, Differed, WasHalted, WasFatal, TurnedFatal}
 use Rattle.processor_replay.specs.Calls.{Replayed, checkedReplayOf}
-use Rattle.capi_processor.specs.Record.{processorIn, processorOut}
-use Rattle.capi_bus.specs.Misuse.{misuseNumber}
+use Rattle.capi_processor.specs.Record.{processorIn, processorOut, unlessMisused}
 use Rattle.capi_processor.specs.declared.record.VbProcessor.{VbProcessor}
 
 -- the refusal: of the call, or 6, met at a record
@@ -61,5 +57,5 @@ replayDone r =
 
 unfoldable pub replayAt : VbProcessor → Memory → List ℕ → ReplayAtBoundary
 replayAt p m trace =
-    pick (ltb 2 (p .mode)) (replayGives (misuseNumber (acceptanceIn (processorIn p) m)) 0 0 0 p m)
+    unlessMisused p m (λ (n : ℕ). replayGives n 0 0 0 p m)
     (replayDone (checkedReplayOf (processorIn p) m trace))

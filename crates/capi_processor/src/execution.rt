@@ -10,11 +10,13 @@ use processor_undefined::Undefined;
 use refusal::number;
 use refusal::verdict_number;
 ghost use mathlib.Core.Path.{_≡_};
+ghost use Prim.Native.Nat.{_<_};
 ghost use Rattle.bus.specs.Lent.{enteringWith, leavingWith};
 ghost use Rattle.processor.specs.Calls.{resetOf};
 ghost use Rattle.capi_processor.specs.Record.{processorOut};
 ghost use Rattle.capi_processor.specs.Execution.{answerRefusal, answerNumber, answerCode, undefinedOut, stepGives};
 ghost use Rattle.capi_processor.specs.Execution.{stepAt, runGives, runAt};
+ghost use Rattle.capi_processor.specs.inner.Level.{answerLevel};
 
 // Which bytes that a step read are undefined: of its first halfword, of its second, and of its load.
 #[repr(C)]
@@ -86,13 +88,15 @@ fn answer_number(answer: Answer) -> u32
     }
 }
 
+// An interrupt's code is 0xFE00 and 16 times its level.
 fn answer_code(answer: Answer) -> u32
+    requires { ⌜ answerLevel answer < 5 ⌝ }
     ensures { λ r. ⌜ r ≡ answerCode answer ⌝ }
 {
     match answer {
         Answer::Ended => 0,
         Answer::Trapped(cause) => processor_machine::exception::code(cause),
-        Answer::Interrupted(level) => 0xFE00 + 16 * (level % 8),
+        Answer::Interrupted(level) => 0xFE00 + 16 * level,
         Answer::TurnedFatal(cause) => processor_machine::exception::code(cause),
         Answer::WasHalted => 0,
         Answer::WasFatal => 0,

@@ -6,7 +6,7 @@ use capi_bus::accesses::VbDrawing;
 use capi_bus::misuse::misuse_number;
 ghost use mathlib.Core.Path.{_≡_};
 ghost use Rattle.bus.specs.Lent.{enteringWith};
-ghost use Rattle.capi_processor.specs.Misuse.{misuseAt};
+ghost use Rattle.capi_processor.specs.inner.Misuse.{misuseAt};
 
 // 0 for a mode up to 2; else VB_MISUSE, or the one of refusals 1 to 5 that comes before it.
 pub fn misuse(

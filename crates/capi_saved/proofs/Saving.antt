@@ -8,7 +8,7 @@ use Rattle.bus.specs.Memory.{Memory}
 use Rattle.processor.specs.declared.Processor.{Processor}
 use Rattle.saved_layout.specs.declared.Form.{Form}
 use Rattle.saved.specs.Calls.{writeVerdictOf, writtenRoomOf, Restored, readBackOf}
-use Rattle.capi_processor.specs.Misuse.{misuseAt}
+use Rattle.capi_processor.specs.inner.Misuse.{misuseAt}
 use Rattle.capi_processor.specs.Record.{processorIn}
 use Rattle.capi_processor.specs.declared.record.VbProcessor.{VbProcessor}
 use Rattle.capi_processor.proofs.Misused.{mode-above, mode-within}

@@ -4,15 +4,12 @@
 use Prim.Native.Nat.{ℕ}
 use mathlib.Core.Bool.{Bool}
 use mathlib.Core.List.{List}
-use lib.Dec.{ltb}
 use Rattle.word.specs.Choose.{pick}
 use Rattle.refusal.specs.Number.{verdictNumber}
 use Rattle.bus.specs.Memory.{Memory}
-use Rattle.processor.specs.Acceptance.{acceptanceIn}
 use Rattle.saved_layout.specs.declared.Form.{Form}
 use Rattle.saved.specs.Calls.{writeVerdictOf, writtenRoomOf, Restored, readBackOf}
-use Rattle.capi_processor.specs.Record.{processorIn, processorOut}
-use Rattle.capi_bus.specs.Misuse.{misuseNumber}
+use Rattle.capi_processor.specs.Record.{processorIn, processorOut, unlessMisused}
 use Rattle.saved_salvage.specs.declared.Salvaged.{Salvaged}
 use Rattle.capi_saved.specs.declared.states.VbSalvaged.{VbSalvaged}
 use Rattle.capi_processor.specs.declared.record.VbProcessor.{VbProcessor}
@@ -20,11 +17,10 @@ use Rattle.capi_processor.specs.declared.record.VbProcessor.{VbProcessor}
 -- what vb_write_state (form 1) and vb_write_state_2 (form 2) answer, and the room afterwards
 unfoldable pub writeNumberAt : Form → VbProcessor → Memory → List ℕ → ℕ
 writeNumberAt form p m room =
-    pick (ltb 2 (p .mode)) (misuseNumber (acceptanceIn (processorIn p) m))
-    (verdictNumber (writeVerdictOf form (processorIn p) m room))
+    unlessMisused p m (λ (n : ℕ). n) (verdictNumber (writeVerdictOf form (processorIn p) m room))
 
 unfoldable pub writtenAt : Form → VbProcessor → Memory → List ℕ → List ℕ
-writtenAt form p m room = pick (ltb 2 (p .mode)) room (writtenRoomOf form (processorIn p) m room)
+writtenAt form p m room = unlessMisused p m (λ (n : ℕ). room) (writtenRoomOf form (processorIn p) m room)
 
 -- what vb_read_state gives
 pub record RestoredAtBoundary : Type 0 where
@@ -40,8 +36,7 @@ restoredDone r = restoredGives (verdictNumber (r .verdict)) (processorOut (r .pr
 
 unfoldable pub readAt : VbProcessor → Memory → List ℕ → RestoredAtBoundary
 readAt p m file =
-    pick (ltb 2 (p .mode)) (restoredGives (misuseNumber (acceptanceIn (processorIn p) m)) p m)
-    (restoredDone (readBackOf (processorIn p) m file))
+    unlessMisused p m (λ (n : ℕ). restoredGives n p m) (restoredDone (readBackOf (processorIn p) m file))
 
 -- what vb_salvage_state gives: the number, the kinds replaced, and 1 where the contents differ
 unfoldable pub salvagedAt : Salvaged → VbSalvaged

@@ -1,7 +1,7 @@
 -- `capi_processor::misuse::misuse`: 0, or the number of what the call below answers.
 use borrow.Author.Needs.{needs}
 use borrow.Author.Tests.{lt-ltb, le-ltb}
-use Rattle.capi_processor.specs.Misuse.{misuseAt}
+use Rattle.capi_processor.specs.inner.Misuse.{misuseAt}
 use Rattle.capi_processor.proofs.misuse.misuse.Statement.{statement}
 use Rattle.capi_processor.proofs.misuse.misuse.Tie as tie
 
