@@ -168,6 +168,13 @@ fn a_trace_that_differs_is_explained() {
     assert_eq!(totals["tests"][0], serde_json::json!({"what": "picture", "parts": 4}));
 }
 
+/// The model's pictures, each frame and eye once; all PNGs, with what the capture changes and where for each of the ten
+/// captures that differ; and pictures that are shown: model, capture, what differs and two enlarged pieces for each.
+fn pictures(page: &str) -> (usize, usize, usize) {
+    let count = |text: &str| page.matches(text).count();
+    (count("<image id=\"model-"), count("href=\"data:image/png;base64,"), count("role=\"img\""))
+}
+
 #[test]
 fn the_page_has_maps_failures_first_and_needs_nothing_else() {
     let folder = with_lot("reports-page");
@@ -178,7 +185,7 @@ fn the_page_has_maps_failures_first_and_needs_nothing_else() {
         "24 parts: 19 pass, 3 fail, 2 invalid, 1 unknown file; yield 79.2 %",
         "&lt;b&gt; &amp; x.txt",
         "<figcaption>wafer W1: 19 of 24 parts pass</figcaption>",
-        "<title>die-14: fail, bin 4</title>",
+        " data-dies=\"0,2,0 0,3,1 1,1,2 ",
         "<h3>die-04: fail, bin 3</h3>",
         "\u{2717} fail",
         "? invalid",
@@ -192,8 +199,7 @@ fn the_page_has_maps_failures_first_and_needs_nothing_else() {
     assert!(
         at("<h2 id=\"failed\">") < at("<h3>die-04") && at("<h3>die-20") < at("Parts that passed")
     );
-    // model, capture, difference and two enlarged pieces for each eye that differs: 2 + 4 + 4
-    assert_eq!(page.matches("src=\"data:image/png;base64,").count(), 50);
+    assert_eq!(pictures(&page), (4, 24, 50));
     for outside in ["http://", "https://", "src=\"/", "<link", "url("] {
         assert!(!page.contains(outside), "{outside}");
     }
@@ -216,7 +222,7 @@ fn shards_put_together_are_the_report_of_the_whole_lot() {
     let (whole, merged) = (report(&folder, "whole.json"), report(&folder, "merged.json"));
     assert!(whole[1..] == merged[1..], "parts and totals are the same");
     let page = String::from_utf8(folder.read("r.html")).unwrap();
-    assert_eq!(page.matches("src=\"data:image/png;base64,").count(), 50);
+    assert_eq!(pictures(&page), (4, 24, 50));
     for (arguments, message) in [
         ("1.json 2.json", "shard 3 of 3 is missing"),
         ("1.json 2.json 2.json", "2.json: is shard 2 of 3, as is 2.json"),

@@ -89,13 +89,15 @@ fn how_far(done: usize, all: usize, seconds: f64) -> String {
     format!("{done} of {all} parts, {left} left")
 }
 
-/// The pictures of the first parts that failed, by their last tests first.
+/// The pictures of the first parts of each verdict that differ in one.
 fn pictures(model: Model, lot: &Lot, report: &mut Report, pixels: usize) -> Result<(), Failure> {
-    let failed = report.parts.iter_mut().filter(|part| {
-        matches!(part.verdict, Verdict::Fail | Verdict::Fault | Verdict::Invalid)
-            && part.tests.iter().any(|test| !test.eyes.is_empty())
+    let mut left = [Verdict::Fault, Verdict::Fail, Verdict::Invalid].map(|one| (one, PICTURED));
+    let first = report.parts.iter_mut().filter(|part| {
+        let differs = part.tests.iter().any(|test| !test.eyes.is_empty());
+        let left = left.iter_mut().find(|(verdict, _)| differs && *verdict == part.verdict);
+        left.is_some_and(|(_, left)| std::mem::replace(left, left.saturating_sub(1)) > 0)
     });
-    let first: Vec<&mut report::Part> = failed.take(PICTURED).collect();
+    let first: Vec<&mut report::Part> = first.collect();
     first.into_par_iter().try_for_each(|part| picture(model, lot, part, pixels))
 }
 

@@ -11,18 +11,16 @@ use crate::inputs::trace::Record;
 use crate::lot::{Attempt, Lot};
 use crate::pictures::difference::Difference;
 use crate::pictures::explain::{explain, eye_name, Question};
-use crate::pictures::picture::Picture;
 use crate::plan::{self, watched, Frame, Records};
 use crate::programs::disassembly::disassemble;
 use crate::report::{Detail, Part, Pixel, TraceExplained, Zoom};
 
-/// Failed parts that have pictures.
+/// Parts of a verdict that have pictures.
 pub const PICTURED: usize = 200;
 /// Instructions that are shown before a record.
 const BEFORE: u64 = 8;
-/// Columns and rows of a zoomed piece, and its scale.
+/// Columns and rows of an enlarged piece.
 const PIECE: (usize, usize) = (32, 24);
-const SCALE: usize = 8;
 
 /// Says of every trace that differs what the model did there. Each program is run once more.
 pub fn explain_traces(model: Model, parts: &mut [Part]) -> Result<(), Failure> {
@@ -137,19 +135,21 @@ fn detail(model: Model, attempt: &Attempt, place: Place, pixels: usize) -> Resul
         frame: place.frame,
         eye: eye_name(place.eye).to_string(),
         model: base64::encode(expected.png(1)),
-        capture: base64::encode(seen.png(1)),
-        difference: base64::encode(expected.marked(&seen, 1)),
-        zoom: zoom(expected, &seen, first),
+        changes: base64::encode(expected.changes(&seen)),
+        marks: base64::encode(expected.marks(&seen)),
+        zoom: Zoom::around(first),
         pixels: why.collect::<Result<_, _>>()?,
     })
 }
 
-fn zoom(expected: &Picture, seen: &Picture, first: &Difference) -> Zoom {
-    let (width, height) = PIECE;
-    let left = first.x.saturating_sub(width / 2).min(vb::COLUMNS - width);
-    let top = first.y.saturating_sub(height / 2).min(vb::ROWS - height);
-    let piece = |picture: &Picture| base64::encode(picture.piece((left, top), PIECE, SCALE));
-    Zoom { left, top, model: piece(expected), capture: piece(seen) }
+impl Zoom {
+    fn around(first: &Difference) -> Zoom {
+        let (width, height) = PIECE;
+        Zoom {
+            left: first.x.saturating_sub(width / 2).min(vb::COLUMNS - width),
+            top: first.y.saturating_sub(height / 2).min(vb::ROWS - height),
+        }
+    }
 }
 
 fn explained_pixel(frame: &Frame, eye: Eye, pixel: &Difference) -> Result<Pixel, Failure> {

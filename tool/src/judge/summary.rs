@@ -34,16 +34,17 @@ impl Summary {
 
     /// `3 parts: 1 pass, 1 fail, 1 invalid`
     pub fn text(&self) -> String {
-        let mut counts = vec![format!("{} pass", self.pass), format!("{} fail", self.fail)];
+        let count = |count: usize, what: &str| format!("{} {what}", vb::grouped(count as u64));
+        let mut counts = vec![count(self.pass, "pass"), count(self.fail, "fail")];
         let s = if self.unknown_files == 1 { "" } else { "s" };
-        for (count, what) in [
+        for (number, what) in [
             (self.invalid, "invalid".to_string()),
             (self.fault, "where the independent model and the proved library differ".to_string()),
             (self.not_judged, "not judged".to_string()),
             (self.unknown_files, format!("unknown file{s}")),
         ] {
-            if count > 0 {
-                counts.push(format!("{count} {what}"));
+            if number > 0 {
+                counts.push(count(number, &what));
             }
         }
         let s = if self.parts == 1 { "" } else { "s" };

@@ -6,8 +6,12 @@ use vb::{COLUMNS, ROWS};
 /// The red of pixel values 0 to 3 in a PNG.
 pub const SHADES: [u8; 4] = [0x00, 0x55, 0xAA, 0xFF];
 
-/// The largest number of PNG pixels to a pixel's side.
+/// How many times a pixel can be enlarged at most.
 pub const LARGEST_SCALE: usize = 16;
+
+/// Yellow and cyan, for pixels that a capture has brighter or darker.
+const BRIGHTER: [u8; 3] = [0xFF, 0xE0, 0x00];
+const DARKER: [u8; 3] = [0x00, 0xD0, 0xFF];
 
 /// One eye's picture: 384 by 224 values of 0 to 3, row by row.
 #[derive(Clone, Debug, PartialEq, Eq)]
@@ -44,12 +48,6 @@ impl Picture {
         Sheet::new(COLUMNS, reds(), |x, y| self.value(x, y)).png(scale)
     }
 
-    /// A piece of it, so many columns and rows from a column and row on.
-    pub fn piece(&self, at: (usize, usize), size: (usize, usize), scale: usize) -> Vec<u8> {
-        let value = |x: usize, y: usize| self.value(at.0 + x, at.1 + y);
-        Sheet::sized(size, reds(), value).png(scale)
-    }
-
     /// The left eye's picture, then the right one's.
     pub fn side_by_side(&self, right: &Picture, scale: usize) -> Vec<u8> {
         let at = |x: usize, y: usize| match x {
@@ -69,13 +67,33 @@ impl Picture {
     /// This picture in grey; yellow where `seen` is brighter, cyan where it is darker.
     pub fn marked(&self, seen: &Picture, scale: usize) -> Vec<u8> {
         let mut palette: Vec<u8> = [0x00, 0x2A, 0x48, 0x66].iter().flat_map(|&g| [g; 3]).collect();
-        palette.extend([0xFF, 0xE0, 0x00, 0x00, 0xD0, 0xFF]);
+        palette.extend([BRIGHTER, DARKER].concat());
         let at = |x: usize, y: usize| match (self.value(x, y), seen.value(x, y)) {
             (expected, seen) if seen > expected => 4,
             (expected, seen) if seen < expected => 5,
             (expected, _) => expected,
         };
         Sheet::new(COLUMNS, palette, at).png(scale)
+    }
+
+    /// The pixels of `seen` that differ from this picture, in red; the others are transparent. Over this picture it
+    /// shows `seen`.
+    pub fn changes(&self, seen: &Picture) -> Vec<u8> {
+        let at = |x: usize, y: usize| match (self.value(x, y), seen.value(x, y)) {
+            (expected, seen) if seen == expected => 0,
+            (_, seen) => seen + 1,
+        };
+        Sheet::over(&reds(), at).png(1)
+    }
+
+    /// Yellow where `seen` is brighter, cyan where it is darker; the other pixels are transparent.
+    pub fn marks(&self, seen: &Picture) -> Vec<u8> {
+        let at = |x: usize, y: usize| match (self.value(x, y), seen.value(x, y)) {
+            (expected, seen) if seen > expected => 1,
+            (expected, seen) if seen < expected => 2,
+            _ => 0,
+        };
+        Sheet::over(&[BRIGHTER, DARKER].concat(), at).png(1)
     }
 }
 
@@ -88,36 +106,50 @@ pub struct Sheet {
     width: usize,
     palette: Vec<u8>,
     indices: Vec<u8>,
+    /// Whether colour 0 is transparent.
+    clear: bool,
 }
 
 impl Sheet {
     pub fn new(width: usize, palette: Vec<u8>, at: impl Fn(usize, usize) -> u8) -> Sheet {
-        Sheet::sized((width, ROWS), palette, at)
+        let indices = (0..width * ROWS).map(|i| at(i % width, i / width)).collect();
+        Sheet { width, palette, indices, clear: false }
     }
 
-    fn sized(
-        (width, height): (usize, usize),
-        palette: Vec<u8>,
-        at: impl Fn(usize, usize) -> u8,
-    ) -> Sheet {
-        let indices = (0..width * height).map(|i| at(i % width, i / width)).collect();
-        Sheet { width, palette, indices }
+    /// One to lay over another picture: index 0 is transparent, the palette's colours begin at 1.
+    fn over(palette: &[u8], at: impl Fn(usize, usize) -> u8) -> Sheet {
+        Sheet { clear: true, ..Sheet::new(COLUMNS, [&[0; 3], palette].concat(), at) }
     }
 
-    /// A PNG with `scale` by `scale` pixels for each.
+    /// A PNG with `scale` by `scale` pixels for each, in as few bits as the palette needs.
     pub fn png(&self, scale: usize) -> Vec<u8> {
-        let mut pixels = Vec::with_capacity(self.indices.len() * scale * scale);
+        let (depth, bits) = match self.palette.len() / 3 {
+            0..=2 => (BitDepth::One, 1),
+            3..=4 => (BitDepth::Two, 2),
+            5..=16 => (BitDepth::Four, 4),
+            _ => (BitDepth::Eight, 8),
+        };
+        let mut pixels = Vec::with_capacity(self.indices.len() * scale * scale * bits / 8);
         for row in self.indices.chunks(self.width) {
             let wide: Vec<u8> = row.iter().flat_map(|&i| std::iter::repeat_n(i, scale)).collect();
-            (0..scale).for_each(|_| pixels.extend_from_slice(&wide));
+            // the first pixel lies in a byte's high bits
+            let pack = |some: &[u8]| {
+                let byte = some.iter().fold(0, |byte: u32, &i| byte << bits | u32::from(i));
+                (byte << (8 - bits * some.len())) as u8
+            };
+            let packed: Vec<u8> = wide.chunks(8 / bits).map(pack).collect();
+            (0..scale).for_each(|_| pixels.extend_from_slice(&packed));
         }
         let mut bytes = Vec::new();
         let height = self.indices.len() / self.width;
         let mut encoder =
             Encoder::new(&mut bytes, (self.width * scale) as u32, (height * scale) as u32);
         encoder.set_color(ColorType::Indexed);
-        encoder.set_depth(BitDepth::Eight);
+        encoder.set_depth(depth);
         encoder.set_palette(self.palette.as_slice());
+        if self.clear {
+            encoder.set_trns(vec![0]);
+        }
         let mut writer = encoder.write_header().expect("a PNG in memory");
         writer.write_image_data(&pixels).expect("a PNG in memory");
         writer.finish().expect("a PNG in memory");
@@ -143,6 +175,56 @@ mod tests {
         let picture = Picture::of_image(&image);
         for (x, y) in (0..ROWS).flat_map(|y| (0..COLUMNS).map(move |x| (x, y))) {
             assert_eq!(picture.value(x, y), vb::pixel(&image, x, y), "({x}, {y})");
+        }
+    }
+
+    /// Width, height, bits of a pixel, and red, green, blue and opacity of each.
+    fn read(bytes: &[u8]) -> (u32, u32, BitDepth, Vec<[u8; 4]>) {
+        let depth = png::Decoder::new(bytes).read_info().unwrap().info().bit_depth;
+        let mut decoder = png::Decoder::new(bytes);
+        decoder.set_transformations(png::Transformations::EXPAND);
+        let mut reader = decoder.read_info().unwrap();
+        let mut buffer = vec![0; reader.output_buffer_size()];
+        let frame = reader.next_frame(&mut buffer).unwrap();
+        let samples = frame.color_type.samples();
+        let pixel = |p: &[u8]| [p[0], p[1], p[2], p.get(3).copied().unwrap_or(0xFF)];
+        (frame.width, frame.height, depth, buffer.chunks(samples).map(pixel).collect())
+    }
+
+    #[test]
+    fn a_picture_has_two_bits_for_each_pixel() {
+        let values: Vec<u8> = (0..COLUMNS * ROWS).map(|i| (i * 7 / 5 % 4) as u8).collect();
+        let picture = Picture::of_values(values.clone());
+        for scale in [1, 3] {
+            let (width, height, depth, pixels) = read(&picture.png(scale));
+            let size = ((COLUMNS * scale) as u32, (ROWS * scale) as u32);
+            assert_eq!(((width, height), depth), (size, BitDepth::Two));
+            for (i, pixel) in pixels.iter().enumerate() {
+                let (x, y) = (i % (COLUMNS * scale) / scale, i / (COLUMNS * scale) / scale);
+                let red = SHADES[usize::from(picture.value(x, y))];
+                assert_eq!(*pixel, [red, 0, 0, 0xFF], "({x}, {y})");
+            }
+        }
+    }
+
+    #[test]
+    fn changes_over_the_model_are_the_capture() {
+        let model = Picture::of_values((0..COLUMNS * ROWS).map(|i| (i % 4) as u8).collect());
+        let seen = (0..COLUMNS * ROWS).map(|i| if i % 11 == 0 { i / 11 % 4 } else { i % 4 } as u8);
+        let seen = Picture::of_values(seen.collect());
+        let (_, _, _, below) = read(&model.png(1));
+        let (_, _, _, above) = read(&model.changes(&seen));
+        let (_, _, _, marks) = read(&model.marks(&seen));
+        let (_, _, _, wanted) = read(&seen.png(1));
+        for (i, want) in wanted.iter().enumerate() {
+            let shown = if above[i][3] == 0 { below[i] } else { above[i] };
+            assert_eq!(shown, *want, "pixel {i}");
+            let mark = match seen.values[i].cmp(&model.values[i]) {
+                std::cmp::Ordering::Greater => [0xFF, 0xE0, 0x00, 0xFF],
+                std::cmp::Ordering::Less => [0x00, 0xD0, 0xFF, 0xFF],
+                std::cmp::Ordering::Equal => [0; 4],
+            };
+            assert_eq!(marks[i], mark, "mark {i}");
         }
     }
 }

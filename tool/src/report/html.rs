@@ -5,7 +5,7 @@ use tinytemplate::TinyTemplate;
 use vb::grouped;
 
 use super::lines::read;
-use super::section::{section, Section};
+use super::section::{section, Model, Reason, Section, Shared};
 use super::wafers::{fills, wafers, Wafer};
 use super::{Count, Part, Report, Totals};
 use crate::failure::Failure;
@@ -13,6 +13,10 @@ use crate::judge::{plain, Verdict};
 
 /// Rows of a table of what fails most.
 const LISTED: usize = 10;
+/// Parts of a verdict that have a section with their pictures and traces.
+const SHOWN: usize = 200;
+/// Rows of the table of parts that a browser lays out at once.
+const CHUNK: usize = 200;
 
 #[derive(Serialize)]
 struct Page {
@@ -27,11 +31,13 @@ struct Page {
     bins: Vec<BinRow>,
     counts: Vec<Counted>,
     wafers: Vec<Wafer>,
-    failed: Vec<Row>,
+    failed: Vec<Rows>,
     more: String,
+    models: Vec<Model>,
     sections: Vec<Section>,
+    reasons: Vec<Reason>,
     passed_count: String,
-    passed: Vec<Row>,
+    passed: Vec<Rows>,
     files_count: String,
     files: String,
 }
@@ -60,10 +66,17 @@ struct Counted {
     more: String,
 }
 
+/// A piece of the table of parts.
+#[derive(Serialize)]
+struct Rows {
+    /// Whether it is left until it comes into view.
+    later: bool,
+    rows: Vec<Row>,
+}
+
 #[derive(Serialize)]
 struct Row {
-    id: String,
-    section: String,
+    number: usize,
     linked: bool,
     name: String,
     verdict: &'static str,
@@ -71,6 +84,7 @@ struct Row {
     sign: &'static str,
     bin: u16,
     place: String,
+    /// Empty where every test passes.
     line: String,
 }
 
@@ -88,16 +102,20 @@ pub fn page(report: &Report, totals: &Totals) -> Result<String, Failure> {
 }
 
 fn view(report: &Report, totals: &Totals) -> Page {
-    let numbered = || report.parts.iter().enumerate();
-    let is_shown = |part: &Part| part.verdict != Verdict::Pass && has_section(part);
-    let order = [Verdict::Fault, Verdict::Fail, Verdict::Invalid];
-    let failed: Vec<(usize, &Part)> =
-        order.iter().flat_map(|one| numbered().filter(move |(_, p)| p.verdict == *one)).collect();
-    let passed = numbered().filter(|(_, part)| part.verdict == Verdict::Pass);
-    let passed: Vec<Row> = passed.map(|(number, part)| row(number, part, false)).collect();
-    let shown = failed.iter().filter(|(_, part)| is_shown(part));
-    let pictured = report.parts.iter().filter(|part| !part.details.is_empty()).count();
-    let differing = failed.iter().filter(|(_, part)| part.tests.iter().any(|t| !t.eyes.is_empty()));
+    let of = |verdict: Verdict| {
+        let all = report.parts.iter().enumerate();
+        all.filter(move |(_, part)| part.verdict == verdict)
+    };
+    let wrong = [Verdict::Fault, Verdict::Fail, Verdict::Invalid];
+    let mut shared = Shared::default();
+    let first = wrong.iter().flat_map(|one| of(*one).take(SHOWN));
+    let sections = first.map(|(number, part)| section(number, part, &mut shared)).collect();
+    let (models, reasons) = shared.all();
+    let failed = wrong.iter().flat_map(|one| {
+        of(*one).enumerate().map(|(n, (number, part))| row(number, part, n < SHOWN))
+    });
+    let passed = of(Verdict::Pass).map(|(number, part)| row(number, part, false));
+    let more = wrong.iter().map(|one| of(*one).count().saturating_sub(SHOWN)).sum();
     Page {
         title: format!("{}: {}", plain(&report.header.plan), plain(&report.header.lot)),
         css: include_str!("page.css"),
@@ -117,11 +135,13 @@ fn view(report: &Report, totals: &Totals) -> Page {
         bins: bins(report, totals),
         counts: counts(totals),
         wafers: wafers(report),
-        failed: failed.iter().map(|(n, part)| row(*n, part, is_shown(part))).collect(),
-        more: more(differing.count(), pictured, &report.header.plan_file),
-        sections: shown.map(|(number, part)| section(*number, part)).collect(),
-        passed_count: format!("{} parts", grouped(passed.len() as u64)),
-        passed,
+        failed: chunks(failed.collect()),
+        more: self::more(more, &report.header.plan_file),
+        models,
+        sections,
+        reasons,
+        passed_count: format!("{} parts", grouped(of(Verdict::Pass).count() as u64)),
+        passed: chunks(passed.collect()),
         files_count: grouped(report.files().count() as u64),
         files: report
             .files()
@@ -132,12 +152,13 @@ fn view(report: &Report, totals: &Totals) -> Page {
     }
 }
 
-/// Parts that have more to show than their line.
-fn has_section(part: &Part) -> bool {
-    !part.details.is_empty()
-        || part.tests.iter().any(|test| test.trace.is_some())
-        || !part.problems.is_empty()
-        || part.tests.iter().any(|test| !test.problems.is_empty())
+fn chunks(rows: Vec<Row>) -> Vec<Rows> {
+    let mut rows = rows.into_iter();
+    let chunk = || {
+        let rows: Vec<Row> = rows.by_ref().take(CHUNK).collect();
+        (!rows.is_empty()).then_some(Rows { later: rows.len() == CHUNK, rows })
+    };
+    std::iter::from_fn(chunk).collect()
 }
 
 fn header(report: &Report) -> Vec<Named> {
@@ -189,18 +210,17 @@ fn counts(totals: &Totals) -> Vec<Counted> {
     all.into_iter().filter(|table| !table.rows.is_empty()).collect()
 }
 
-/// How to see why where a part has no pictures.
-fn more(differing: usize, pictured: usize, plan: &str) -> String {
-    if differing <= pictured {
+/// How to see why where a part has no section.
+fn more(count: usize, plan: &str) -> String {
+    if count == 0 {
         return String::new();
     }
-    let plan = plain(plan);
     format!(
-        "{} parts whose captures differ have pictures below, {} have none. For a pixel of those: vbmodel expect --plan {plan} \
-         --out expected, then vbmodel why EYE COLUMN ROW --vram expected/TEST.frameN.vram --drawing \
-         expected/TEST.frameN.drawing",
-        grouped(pictured as u64),
-        grouped((differing - pictured) as u64)
+        "The first {SHOWN} parts of each verdict have their pictures and traces below; {} have the line above alone. For a \
+         pixel of those: vbmodel expect --plan {} --out expected, then vbmodel why EYE COLUMN ROW --vram \
+         expected/TEST.frameN.vram --drawing expected/TEST.frameN.drawing",
+        grouped(count as u64),
+        plain(plan)
     )
 }
 
@@ -210,8 +230,7 @@ fn row(number: usize, part: &Part, linked: bool) -> Row {
     let place: Vec<String> = wafer.chain(part.x.zip(part.y).map(at)).collect();
     let note = if part.decides { "" } else { " (tested again)" };
     Row {
-        id: format!("row-{number}"),
-        section: format!("part-{number}"),
+        number,
         linked,
         name: plain(&part.title()) + note,
         verdict: part.verdict.word(),
@@ -223,6 +242,113 @@ fn row(number: usize, part: &Part, linked: bool) -> Row {
         },
         bin: part.bin,
         place: place.join(", "),
-        line: plain(&part.line()),
+        line: match part.verdict {
+            Verdict::Pass => String::new(),
+            _ => plain(&part.line()),
+        },
+    }
+}
+
+#[cfg(test)]
+mod tests {
+    use super::*;
+    use crate::pictures::difference::{Bounds, Difference};
+    use crate::pictures::picture::Picture;
+    use crate::report::{
+        Detail, EyeFound, FileRead, Hash, Header, Pixel, TestHeader, Tested, Zoom,
+    };
+
+    /// A lot of 10,000 parts that all fail: four captures of each differ, each in a few pixels of its own.
+    fn lot() -> Report {
+        let values: Vec<u8> = (0..vb::COLUMNS * vb::ROWS).map(|i| (i * i / 97 % 4) as u8).collect();
+        let model = Picture::of_values(values.clone());
+        let part = |number: usize| {
+            let eyes = [(0, "left"), (0, "right"), (1, "left"), (1, "right")];
+            let eye = |(frame, eye): (usize, &str)| {
+                let first = Difference { x: number % 384, y: number % 224, expected: 1, seen: 2 };
+                let bounds = Bounds { left: first.x, top: first.y, right: 383, bottom: 223 };
+                let (eye, capture) =
+                    (eye.to_string(), format!("lot/{number}/a.frame{frame}.{eye}.png"));
+                EyeFound {
+                    frame,
+                    eye,
+                    capture,
+                    different: 2,
+                    bounds,
+                    first,
+                    shares: Vec::new(),
+                    more_shares: 0,
+                }
+            };
+            let eyes: Vec<EyeFound> = eyes.into_iter().map(eye).collect();
+            let detail = |found: &EyeFound| {
+                let mut values = values.clone();
+                let worn = (0..vb::ROWS).map(|y| y * vb::COLUMNS + found.first.x);
+                worn.for_each(|at| values[at] ^= 1);
+                let seen = Picture::of_values(values);
+                let text = "covered by a world\n".repeat(100);
+                Detail {
+                    test: "a".to_string(),
+                    frame: found.frame,
+                    eye: found.eye.clone(),
+                    model: base64::encode(model.png(1)),
+                    changes: base64::encode(model.changes(&seen)),
+                    marks: base64::encode(model.marks(&seen)),
+                    zoom: Zoom { left: 0, top: 0 },
+                    pixels: vec![Pixel {
+                        pixel: found.first,
+                        because: "world 3".to_string(),
+                        text,
+                    }],
+                }
+            };
+            let details = if number < 300 { eyes.iter().map(detail).collect() } else { Vec::new() };
+            let file = |name: &str| FileRead {
+                path: format!("lot/{number}/{name}"),
+                bytes: 1_000,
+                sha256: Hash::of(name.as_bytes()),
+            };
+            Part {
+                part: format!("die-{number}"),
+                attempt: 1,
+                decides: true,
+                verdict: Verdict::Fail,
+                bin: 2,
+                wafer: Some("W".to_string()),
+                x: Some((number % 100) as i16),
+                y: Some((number / 100) as i16),
+                columns: Default::default(),
+                problems: Vec::new(),
+                tests: vec![Tested {
+                    test: "a".to_string(),
+                    verdict: Verdict::Fail,
+                    problems: Vec::new(),
+                    eyes,
+                    trace: None,
+                }],
+                files: ["a.frame0.left.png", "a.frame0.right.png"].map(file).to_vec(),
+                details,
+            }
+        };
+        let mut header = Header::bare("lot");
+        let test =
+            TestHeader { name: "a".to_string(), bin: 2, frames: 2, records: None, instructions: 0 };
+        header.tests.push(test);
+        Report { header, parts: (0..10_000).map(part).collect(), not_judged: 0 }
+    }
+
+    #[test]
+    fn a_page_of_ten_thousand_failed_parts_has_pictures_of_the_first_200_and_stays_small() {
+        let report = lot();
+        let page = page(&report, &Totals::of(&report)).unwrap();
+        let count = |text: &str| page.matches(text).count();
+        assert_eq!(count("<tr id=\"row-"), 10_000);
+        assert_eq!((count("<section "), count("href=\"#part-")), (200, 200));
+        assert_eq!(count("<image id=\"model-"), 1, "the model's picture is there once");
+        assert_eq!(count("<image id=\"capture-"), 800);
+        assert_eq!(count("<details class=\"why\""), 1, "a reason is there once");
+        assert_eq!(count("<text "), 0, "a map of so many dies has no numbers on them");
+        assert_eq!(count("<path class=\"fail\""), 1, "the dies of a bin are one path");
+        assert!(count("style=\"") == 0 && page.len() < 8_000_000, "{} bytes", page.len());
     }
 }

@@ -131,19 +131,20 @@ pub struct Detail {
     pub frame: usize,
     pub eye: String,
     pub model: String,
-    pub capture: String,
-    pub difference: String,
+    /// The capture's pixels that differ; the others are transparent. Over the model's picture it shows the capture.
+    pub changes: String,
+    /// Yellow where the capture is brighter, cyan where it is darker; the others are transparent.
+    pub marks: String,
+    /// The upper left corner of the piece that is enlarged.
     pub zoom: Zoom,
     pub pixels: Vec<Pixel>,
 }
 
-/// A piece of both pictures around the first pixel that differs.
-#[derive(Clone, Debug, Deserialize, Serialize)]
+/// A piece of 32 by 24 pixels around the first one that differs.
+#[derive(Clone, Copy, Debug, Deserialize, Serialize)]
 pub struct Zoom {
     pub left: usize,
     pub top: usize,
-    pub model: String,
-    pub capture: String,
 }
 
 #[derive(Clone, Debug, Deserialize, Serialize)]

@@ -1,17 +1,67 @@
 //! What the page shows of one part that did not pass.
 
+use std::collections::BTreeMap;
+
 use serde::Serialize;
 use vb::grouped;
 
 use super::{Detail, EyeFound, Part, Tested, TraceFound};
 use crate::inputs::trace::Record;
 use crate::judge::plain;
+use crate::pictures::difference::{Bounds, Difference};
 use crate::pictures::sources::Share;
+
+/// What several parts share and the page has once: the model's pictures, and why it has a pixel.
+#[derive(Default)]
+pub struct Shared {
+    pictures: BTreeMap<String, String>,
+    reasons: BTreeMap<String, Reason>,
+    /// How many captures have pictures.
+    captures: usize,
+}
+
+/// A picture of the model's.
+#[derive(Serialize)]
+pub struct Model {
+    id: String,
+    png: String,
+}
+
+/// Why the model has a pixel.
+#[derive(Clone, Serialize)]
+pub struct Reason {
+    id: String,
+    #[serde(skip)]
+    number: usize,
+    title: String,
+    text: String,
+}
+
+impl Shared {
+    fn picture(&mut self, png: &str) -> String {
+        let next = format!("model-{}", self.pictures.len());
+        self.pictures.entry(png.to_string()).or_insert(next).clone()
+    }
+
+    fn reason(&mut self, title: String, text: &str) -> String {
+        let number = self.reasons.len();
+        let id = format!("why-{number}");
+        let next = || Reason { id, number, title, text: text.to_string() };
+        self.reasons.entry(text.to_string()).or_insert_with(next).id.clone()
+    }
+
+    /// The pictures, and the reasons in the order in which they were met.
+    pub fn all(self) -> (Vec<Model>, Vec<Reason>) {
+        let pictures = self.pictures.into_iter().map(|(png, id)| Model { id, png }).collect();
+        let mut reasons: Vec<Reason> = self.reasons.into_values().collect();
+        reasons.sort_by_key(|reason| reason.number);
+        (pictures, reasons)
+    }
+}
 
 #[derive(Serialize)]
 pub struct Section {
-    id: String,
-    section: String,
+    number: usize,
     name: String,
     verdict: &'static str,
     bin: u16,
@@ -36,21 +86,24 @@ struct EyeView {
     /// Its pictures, one or none.
     shown: Vec<Shown>,
     shares: Vec<Share>,
-    pixels: Vec<super::Pixel>,
+    pixels: Vec<PixelView>,
 }
 
 #[derive(Serialize)]
 struct Shown {
+    /// The ids of the model's picture and of the capture's changes to it.
     model: String,
-    capture: String,
-    difference: String,
+    changes_id: String,
+    changes: String,
+    marks: String,
     /// The frame around what differs lies outside it.
     box_x: f64,
     box_y: f64,
     box_width: f64,
     box_height: f64,
-    zooms: Vec<Zoomed>,
-    /// The frame around the first pixel, within the enlarged piece.
+    /// The enlarged piece, and the frame around the first pixel.
+    left: usize,
+    top: usize,
     mark_x: f64,
     mark_y: f64,
     column: usize,
@@ -58,9 +111,12 @@ struct Shown {
 }
 
 #[derive(Serialize)]
-struct Zoomed {
-    what: &'static str,
-    png: String,
+struct PixelView {
+    #[serde(flatten)]
+    pixel: Difference,
+    because: String,
+    /// The id of the whole reason.
+    why: String,
 }
 
 #[derive(Serialize)]
@@ -75,7 +131,7 @@ struct TraceView {
     before: String,
 }
 
-pub fn section(number: usize, part: &Part) -> Section {
+pub fn section(number: usize, part: &Part, shared: &mut Shared) -> Section {
     let wrong = part.tests.iter().filter(|test| test.verdict != crate::judge::Verdict::Pass);
     let columns =
         part.columns.iter().map(|(name, value)| format!("{} {}", plain(name), plain(value)));
@@ -88,23 +144,22 @@ pub fn section(number: usize, part: &Part) -> Section {
         false => format!("test {} of the part, which was tested again", part.attempt),
     });
     Section {
-        id: format!("row-{number}"),
-        section: format!("part-{number}"),
+        number,
         name: plain(&part.title()),
         verdict: part.verdict.word(),
         bin: part.bin,
         about: about.join("; "),
         problems: part.problems.iter().map(|one| plain(one)).collect(),
-        tests: wrong.map(|test| test_view(part, test)).collect(),
+        tests: wrong.map(|test| test_view(part, test, shared)).collect(),
     }
 }
 
-fn test_view(part: &Part, test: &Tested) -> TestView {
+fn test_view(part: &Part, test: &Tested, shared: &mut Shared) -> TestView {
     let eye = |found: &EyeFound| {
         let is = |one: &&Detail| {
             one.test == test.test && one.frame == found.frame && one.eye == found.eye
         };
-        eye_view(found, part.details.iter().find(is))
+        eye_view(test, found, part.details.iter().find(is), shared)
     };
     TestView {
         name: test.test.clone(),
@@ -115,32 +170,47 @@ fn test_view(part: &Part, test: &Tested) -> TestView {
     }
 }
 
-fn eye_view(found: &EyeFound, detail: Option<&Detail>) -> EyeView {
-    let (width, height) =
-        (found.bounds.right - found.bounds.left, found.bounds.bottom - found.bounds.top);
-    let shown = |detail: &Detail| Shown {
-        model: detail.model.clone(),
-        capture: detail.capture.clone(),
-        difference: detail.difference.clone(),
-        box_x: found.bounds.left as f64 - 1.5,
-        box_y: found.bounds.top as f64 - 1.5,
-        box_width: width as f64 + 4.0,
-        box_height: height as f64 + 4.0,
-        zooms: vec![
-            Zoomed { what: "the model", png: detail.zoom.model.clone() },
-            Zoomed { what: "the capture", png: detail.zoom.capture.clone() },
-        ],
-        mark_x: found.first.x as f64 - detail.zoom.left as f64 - 0.5,
-        mark_y: found.first.y as f64 - detail.zoom.top as f64 - 0.5,
+fn eye_view(
+    test: &Tested,
+    found: &EyeFound,
+    detail: Option<&Detail>,
+    shared: &mut Shared,
+) -> EyeView {
+    let name = format!("frame {}, {} eye", found.frame, found.eye);
+    let pixel = |one: &super::Pixel, shared: &mut Shared| {
+        let Difference { x, y, .. } = one.pixel;
+        let title = format!("{}, {name}, column {x}, row {y}: {}", test.test, one.because);
+        let why = shared.reason(title, &one.text);
+        PixelView { pixel: one.pixel, because: one.because.clone(), why }
+    };
+    let pixels = detail.iter().flat_map(|detail| &detail.pixels);
+    EyeView {
+        line: format!("{}; capture {}", found.line(), plain(&found.capture)),
+        pixels: pixels.map(|one| pixel(one, shared)).collect(),
+        shown: detail.map(|detail| shown(found, detail, shared)).into_iter().collect(),
+        shares: found.shares.clone(),
+        name,
+    }
+}
+
+fn shown(found: &EyeFound, detail: &Detail, shared: &mut Shared) -> Shown {
+    let Bounds { left, top, right, bottom } = found.bounds;
+    shared.captures += 1;
+    Shown {
+        model: shared.picture(&detail.model),
+        changes_id: format!("capture-{}", shared.captures),
+        changes: detail.changes.clone(),
+        marks: detail.marks.clone(),
+        box_x: left as f64 - 1.5,
+        box_y: top as f64 - 1.5,
+        box_width: (right - left) as f64 + 4.0,
+        box_height: (bottom - top) as f64 + 4.0,
+        left: detail.zoom.left,
+        top: detail.zoom.top,
+        mark_x: found.first.x as f64 - 0.5,
+        mark_y: found.first.y as f64 - 0.5,
         column: found.first.x,
         row: found.first.y,
-    };
-    EyeView {
-        name: format!("frame {}, {} eye", found.frame, found.eye),
-        line: format!("{}; capture {}", found.line(), plain(&found.capture)),
-        shown: detail.map(shown).into_iter().collect(),
-        shares: found.shares.clone(),
-        pixels: detail.map_or_else(Vec::new, |detail| detail.pixels.clone()),
     }
 }
 
