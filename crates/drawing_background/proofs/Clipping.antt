@@ -6,8 +6,11 @@ use native.Mathlib.Nat.{le-trans, lt-of-lt-of-le}
 use mathlib.Core.Path.{_≡_, refl, sym, _∙_}
 use mathlib.Core.Bool.{true}
 use mathlib.Core.List.{List}
-use Rattle.drawing_pixel.specs.World.{bgmOf, gyOf, rowsOf, columnsOf, windowLeftOf, worldShownOf}
-use Rattle.drawing_pixel.specs.Background.{sourcePixelOf, sourceXOf, sourceYOf, plainLeftOf, normalYOf, backgroundPixelOf}
+use Rattle.drawing_pixel.specs.World.{bgmOf, worldShownOf}
+use Rattle.drawing_pixel.specs.inner.BiasedFields.{gyBiased}
+use Rattle.drawing_pixel.specs.inner.BiasedWindow.{rowsBiased, columnsBiased, windowLeftBiased}
+use Rattle.drawing_pixel.specs.inner.BiasedCell.{sourcePixelBiased, backgroundPixelBiased}
+use Rattle.drawing_pixel.specs.inner.BiasedSource.{sourceXBiased, sourceYBiased, plainLeftBiased, normalYBiased}
 use Rattle.drawing_pixel.specs.inner.Buffer.{Block}
 use Rattle.drawing_pixel.proofs.Blocks.{block-tall, block-kept}
 use Rattle.drawing_pixel.proofs.Windows.{background-inside, background-left, background-right, background-above, background-below}
@@ -15,19 +18,19 @@ use Rattle.drawing_background.proofs.Modes.{normal-pixel}
 
 -- a column of a row that is in the window, offsets counted from the first clipped column
 pub row-inside : (vram regs w : List ℕ) (eye x y v from i j : ℕ) → worldShownOf w eye ≡ true
-    → gyOf w ≤ y + 32768 → y + 32768 < gyOf w + rowsOf w
-    → windowLeftOf w eye ≤ from + 1024 → from ≤ x → x + 1024 < windowLeftOf w eye + columnsOf w
-    → i ≡ from + 1024 - windowLeftOf w eye → j ≡ y + 32768 - gyOf w
-    → sourcePixelOf vram regs w (sourceXOf vram w eye (i + (x - from)) j) (sourceYOf vram w eye (i + (x - from)) j) v
-    ≡ backgroundPixelOf vram regs w eye x y v
+    → gyBiased w ≤ y + 32768 → y + 32768 < gyBiased w + rowsBiased w
+    → windowLeftBiased w eye ≤ from + 1024 → from ≤ x → x + 1024 < windowLeftBiased w eye + columnsBiased w
+    → i ≡ from + 1024 - windowLeftBiased w eye → j ≡ y + 32768 - gyBiased w
+    → sourcePixelBiased vram regs w (sourceXBiased vram w eye (i + (x - from)) j) (sourceYBiased vram w eye (i + (x - from)) j) v
+    ≡ backgroundPixelBiased vram regs w eye x y v
 row-inside vram regs w eye x y v from i j s a b l m r e f =
-    let g : i + (x - from) ≡ x + 1024 - windowLeftOf w eye = omega arith in
+    let g : i + (x - from) ≡ x + 1024 - windowLeftBiased w eye = omega arith in
     rw (g, f) (sym (background-inside vram regs w eye x y v s a b (omega arith) r))
 
 -- the columns outside the clipped window are kept
 pub clipped-outside : (vram regs w : List ℕ) (eye x y v from to : ℕ) → x < 384
-    → from ≡ min (windowLeftOf w eye) 1408 - 1024 → to ≡ min (windowLeftOf w eye + columnsOf w) 1408 - 1024
-    → (x < from → backgroundPixelOf vram regs w eye x y v ≡ v) × (to ≤ x → backgroundPixelOf vram regs w eye x y v ≡ v)
+    → from ≡ min (windowLeftBiased w eye) 1408 - 1024 → to ≡ min (windowLeftBiased w eye + columnsBiased w) 1408 - 1024
+    → (x < from → backgroundPixelBiased vram regs w eye x y v ≡ v) × (to ≤ x → backgroundPixelBiased vram regs w eye x y v ≡ v)
 clipped-outside vram regs w eye x y v from to h e f = (
   (λ l. background-left vram regs w eye x y v (omega arith)),
   (λ l. background-right vram regs w eye x y v (omega arith)),
@@ -35,8 +38,8 @@ clipped-outside vram regs w eye x y v from to h e f = (
 
 -- a window with no column left keeps every pixel
 pub clipped-empty : (vram regs w : List ℕ) (eye x y v from to : ℕ) → x < 384
-    → from ≡ min (windowLeftOf w eye) 1408 - 1024 → to ≡ min (windowLeftOf w eye + columnsOf w) 1408 - 1024
-    → to ≤ from → backgroundPixelOf vram regs w eye x y v ≡ v
+    → from ≡ min (windowLeftBiased w eye) 1408 - 1024 → to ≡ min (windowLeftBiased w eye + columnsBiased w) 1408 - 1024
+    → to ≤ from → backgroundPixelBiased vram regs w eye x y v ≡ v
 clipped-empty vram regs w eye x y v from to h e f n =
     elim (decLt x from) [
       | yes l ↦ clipped-outside vram regs w eye x y v from to h e f .0 l
@@ -66,19 +69,19 @@ column-in : (x to left wide : ℕ) → x < to → to + 1024 ≤ left + wide → 
 column-in x to left wide h l = omega arith
 
 -- the rows first to last - 1 of a strip are those in a world's window
-module _ (vram regs w : List ℕ) (eye strip first last : ℕ) (f : first ≡ min 8 (gyOf w - (8 * strip + 32768)))
-    (g : last ≡ min 8 (gyOf w + rowsOf w - (8 * strip + 32768))) where
+module _ (vram regs w : List ℕ) (eye strip first last : ℕ) (f : first ≡ min 8 (gyBiased w - (8 * strip + 32768)))
+    (g : last ≡ min 8 (gyBiased w + rowsBiased w - (8 * strip + 32768))) where
   rows-outside : (x r v : ℕ) → r < 8
-      → (r < first → backgroundPixelOf vram regs w eye x (8 * strip + r) v ≡ v) × (last ≤ r → backgroundPixelOf vram regs w eye x (8 * strip + r) v ≡ v)
+      → (r < first → backgroundPixelBiased vram regs w eye x (8 * strip + r) v ≡ v) × (last ≤ r → backgroundPixelBiased vram regs w eye x (8 * strip + r) v ≡ v)
   rows-outside x r v u = (
     (λ l. background-above vram regs w eye x (8 * strip + r) v (omega arith)),
     (λ l. background-below vram regs w eye x (8 * strip + r) v (omega arith)),
   )
 
   -- no such row: all are kept
-  pub no-row-inside : (from to : ℕ) (a : List ℕ) → last ≤ first → Block 0 8 from to (λ x r. backgroundPixelOf vram regs w eye x (8 * strip + r)) a a
+  pub no-row-inside : (from to : ℕ) (a : List ℕ) → last ≤ first → Block 0 8 from to (λ x r. backgroundPixelBiased vram regs w eye x (8 * strip + r)) a a
   no-row-inside from to a n =
-      block-kept from to (λ x r. backgroundPixelOf vram regs w eye x (8 * strip + r)) a
+      block-kept from to (λ x r. backgroundPixelBiased vram regs w eye x (8 * strip + r)) a
       (λ x r v u. elim (decLt r first) [
         | yes l ↦ rows-outside x r v u .0 l
         | no m ↦ rows-outside x r v u .1 (omega arith)
@@ -86,26 +89,27 @@ module _ (vram regs w : List ℕ) (eye strip first last : ℕ) (f : first ≡ mi
 
   -- those rows of a normal world, painted from where its window's column `from` and row `first` read
   module _ (normal : bgmOf w ≡ 0) (shown : worldShownOf w eye ≡ true) (few : first < last) (from to : ℕ)
-      (left : windowLeftOf w eye ≤ from + 1024) (right : to + 1024 ≤ windowLeftOf w eye + columnsOf w) where
-    inside : (sx sy : ℕ) → sx ≡ plainLeftOf w eye + (from + 1024 - windowLeftOf w eye) → sy ≡ normalYOf w (8 * strip + 32768 + first - gyOf w)
+      (left : windowLeftBiased w eye ≤ from + 1024) (right : to + 1024 ≤ windowLeftBiased w eye + columnsBiased w) where
+    inside : (sx sy : ℕ) → sx ≡ plainLeftBiased w eye + (from + 1024 - windowLeftBiased w eye) → sy ≡ normalYBiased w (8 * strip + 32768 + first - gyBiased w)
         → (x r v : ℕ) → from ≤ x → x < to → first ≤ r → r < last
-        → sourcePixelOf vram regs w (sx + (x - from)) (sy + (r - first)) v ≡ backgroundPixelOf vram regs w eye x (8 * strip + r) v
+        → sourcePixelBiased vram regs w (sx + (x - from)) (sy + (r - first)) v ≡ backgroundPixelBiased vram regs w eye x (8 * strip + r) v
     inside sx sy p q x r v l h t u =
         let y = 8 * strip + 32768 in
         let k : last ≤ 8 = eight-at-most y _ last g in
-        let m : gyOf w ≤ y + first = row-starts y _ first f (lt-of-lt-of-le few k) in
-        let n : y + r < gyOf w + rowsOf w = row-ends y _ last r g u in
+        let m : gyBiased w ≤ y + first = row-starts y _ first f (lt-of-lt-of-le few k) in
+        let n : y + r < gyBiased w + rowsBiased w = row-ends y _ last r g u in
         let c : 8 * strip + r + 32768 ≡ y + r = row-moved strip r in
-        let d : y + first - gyOf w + (r - first) ≡ y + r - gyOf w = row-offset y _ first r m t in
+        let d : y + first - gyBiased w + (r - first) ≡ y + r - gyBiased w = row-offset y _ first r m t in
         rw (p, q)
-        (normal-pixel vram regs w eye (from + 1024 - windowLeftOf w eye) (y + first - gyOf w) (x - from) (r - first) normal v
+        (normal-pixel vram regs w eye (from + 1024 - windowLeftBiased w eye) (y + first - gyBiased w) (x - from) (r - first) normal v
         ∙ row-inside vram regs w eye x (8 * strip + r) v from _ _ shown (rw c (le-trans m (row-later y first r t)))
         (rw c n) left l (column-in x to _ _ h right) refl (rw c d))
 
-    pub rows-inside : (sx sy : ℕ) → sx ≡ plainLeftOf w eye + (from + 1024 - windowLeftOf w eye) → sy ≡ normalYOf w (8 * strip + 32768 + first - gyOf w)
-        → (a b : List ℕ) → Block first last from to (λ x r. sourcePixelOf vram regs w (sx + (x - from)) (sy + (r - first))) a b
-        → Block 0 8 from to (λ x r. backgroundPixelOf vram regs w eye x (8 * strip + r)) a b
+    pub rows-inside : (sx sy : ℕ) → sx ≡ plainLeftBiased w eye + (from + 1024 - windowLeftBiased w eye)
+        → sy ≡ normalYBiased w (8 * strip + 32768 + first - gyBiased w)
+        → (a b : List ℕ) → Block first last from to (λ x r. sourcePixelBiased vram regs w (sx + (x - from)) (sy + (r - first))) a b
+        → Block 0 8 from to (λ x r. backgroundPixelBiased vram regs w eye x (8 * strip + r)) a b
     rows-inside sx sy p q a b s =
-        block-tall first last from to (λ x r. sourcePixelOf vram regs w (sx + (x - from)) (sy + (r - first)))
-        (λ x r. backgroundPixelOf vram regs w eye x (8 * strip + r)) a b
+        block-tall first last from to (λ x r. sourcePixelBiased vram regs w (sx + (x - from)) (sy + (r - first)))
+        (λ x r. backgroundPixelBiased vram regs w eye x (8 * strip + r)) a b
         (inside sx sy p q) rows-outside s

@@ -8,7 +8,7 @@ use mathlib.Core.Path.{_≡_, refl, sym, ap, _∙_}
 use lib.Dec.{eqb}
 use lib.Bits.{bitAnd, bitXor, xor-zero-r}
 use Rattle.word.specs.Choose.{pick}
-use Rattle.drawing_pixel.specs.Signed.{bitSet}
+use Rattle.drawing_pixel.specs.Flags.{bitSet}
 use Rattle.drawing_pixel.specs.Character.{twoBitsOf, shadeOf, flippedOf, pixelValueOf}
 use Rattle.drawing_pixel.specs.inner.Buffer.{repaintedOf}
 use Rattle.drawing_pixel.proofs.Pairs.{below-eight, pair-lt}

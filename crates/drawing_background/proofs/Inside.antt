@@ -8,43 +8,44 @@ use lib.ListN.{getD}
 use lib.Dec.{ltb}
 use borrow.Author.Tests.{lt-leb, le-leb, le-ltb, lt-ltb, eq-eqb, ne-eqb}
 use Rattle.drawing_pixel.specs.World.{scxOf, scyOf, overOf}
-use Rattle.drawing_pixel.specs.Background.{insideOf, cellAddressOf, mapCellAddressOf, mapNumberOf, mapsAcrossOf}
+use Rattle.drawing_pixel.specs.inner.BiasedCell.{insideBiased, cellAddressBiased, mapCellAddressBiased}
+use Rattle.drawing_pixel.specs.Background.{mapNumberOf, mapsAcrossOf}
 use Rattle.drawing_background.specs.inner.Row.{MapsOf}
 
-pub outside-left : (w : List ℕ) (u v : ℕ) → u < 1048576 → false ≡ insideOf w u v
-unfolding insideOf
+pub outside-left : (w : List ℕ) (u v : ℕ) → u < 1048576 → false ≡ insideBiased w u v
+unfolding insideBiased
 outside-left w u v h = simp (lt-leb _ _ h)
 
-pub outside-right : (w : List ℕ) (u v a : ℕ) → a ≡ 2 ^ (6 + scxOf w) → 1048576 + a ≤ u → false ≡ insideOf w u v
-unfolding insideOf
+pub outside-right : (w : List ℕ) (u v a : ℕ) → a ≡ 2 ^ (6 + scxOf w) → 1048576 + a ≤ u → false ≡ insideBiased w u v
+unfolding insideBiased
 outside-right w u v a e h = rw (← e) (simp (le-ltb _ _ h, and-false))
 
-pub outside-above : (w : List ℕ) (u v : ℕ) → v < 1048576 → false ≡ insideOf w u v
-unfolding insideOf
+pub outside-above : (w : List ℕ) (u v : ℕ) → v < 1048576 → false ≡ insideBiased w u v
+unfolding insideBiased
 outside-above w u v h = simp (lt-leb _ _ h, and-false)
 
 pub inside-down : (w : List ℕ) (u v a d : ℕ) → a ≡ 2 ^ (6 + scxOf w) → d ≡ 2 ^ (6 + scyOf w)
-    → 1048576 ≤ u → u < 1048576 + a → 1048576 ≤ v → ltb v (1048576 + d) ≡ insideOf w u v
-unfolding insideOf
+    → 1048576 ≤ u → u < 1048576 + a → 1048576 ≤ v → ltb v (1048576 + d) ≡ insideBiased w u v
+unfolding insideBiased
 inside-down w u v a d e f l h m = rw (← e, ← f) (simp (le-leb _ _ l, lt-ltb _ _ h, le-leb _ _ m))
 
 -- OVER clear, or inside: the cell of the map; else the overplane's
-pub cell-wrapped : (w : List ℕ) (u v : ℕ) → getD w 0 0 / 128 % 2 ≡ 0 → mapCellAddressOf w u v ≡ cellAddressOf w u v
-unfolding cellAddressOf
+pub cell-wrapped : (w : List ℕ) (u v : ℕ) → getD w 0 0 / 128 % 2 ≡ 0 → mapCellAddressBiased w u v ≡ cellAddressBiased w u v
+unfolding cellAddressBiased
 cell-wrapped w u v e = simp (ne-eqb (getD w 0 0 / 128 % 2) 1 (λ f. omega arith))
 
 -- .. by what the maps of a world are
 pub cell-arranged : (w : List ℕ) (u v : ℕ) {over : Bool} {first beside across down : ℕ} → MapsOf w over first beside across down → over ≡ false
     → 131072 + 8192 * ((first + (v % 2 ^ down / 64 * 2 ^ beside + u % 2 ^ across / 64 % 2 ^ beside)) % 16) + 2 * (64 * (v % 64) + u % 64)
-    ≡ cellAddressOf w u v
-unfolding cellAddressOf mapCellAddressOf mapNumberOf mapsAcrossOf
+    ≡ cellAddressBiased w u v
+unfolding cellAddressBiased mapCellAddressBiased mapNumberOf mapsAcrossOf
 cell-arranged w u v m e = rw (sym (m .overplane) ∙ e, m .first, m .repeats, m .width, m .height)
 
-pub cell-inside : (w : List ℕ) (u v : ℕ) → insideOf w u v ≡ true → mapCellAddressOf w u v ≡ cellAddressOf w u v
-unfolding cellAddressOf
+pub cell-inside : (w : List ℕ) (u v : ℕ) → insideBiased w u v ≡ true → mapCellAddressBiased w u v ≡ cellAddressBiased w u v
+unfolding cellAddressBiased
 cell-inside w u v e = rw e (simp and-false)
 
-pub cell-outside : (w : List ℕ) (u v : ℕ) → (getD w 0 0 / 128 % 2 ≡ 0 → ⊥) → insideOf w u v ≡ false
-    → 131072 + 2 * getD w 10 0 ≡ cellAddressOf w u v
-unfolding cellAddressOf
+pub cell-outside : (w : List ℕ) (u v : ℕ) → (getD w 0 0 / 128 % 2 ≡ 0 → ⊥) → insideBiased w u v ≡ false
+    → 131072 + 2 * getD w 10 0 ≡ cellAddressBiased w u v
+unfolding cellAddressBiased
 cell-outside w u v n e = rw e (simp (eq-eqb (getD w 0 0 / 128 % 2) 1 (omega arith)))

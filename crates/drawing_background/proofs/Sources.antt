@@ -8,9 +8,10 @@ use mathlib.Core.List.{List}
 use lib.ListN.{getD}
 use Rattle.word.specs.LittleEndian.{halfAt}
 use Rattle.bus.specs.Registers.{gpltOf}
-use Rattle.drawing_pixel.specs.Signed.{bitSet}
+use Rattle.drawing_pixel.specs.Flags.{bitSet}
 use Rattle.drawing_pixel.specs.Character.{shadeOf, pixelValueOf, flippedOf, rowAddressOf, cellPixelOf, twoBitsOf}
-use Rattle.drawing_pixel.specs.Background.{cellAddressOf, sourceCellAddressOf, sourcePixelOf, affineFloorOf}
+use Rattle.drawing_pixel.specs.inner.BiasedCell.{cellAddressBiased, sourceCellAddressBiased, sourcePixelBiased}
+use Rattle.drawing_pixel.specs.inner.BiasedSource.{affineFloorBiased}
 use Rattle.drawing_pixel.specs.inner.Buffer.{repaintedOf, Block}
 use Rattle.drawing_background.specs.inner.Row.{affineSumOf, CellAt}
 use Rattle.drawing_background.proofs.Powers.{product-lt}
@@ -22,22 +23,22 @@ unfolding repaintedOf
 repainted-change r f g h e = rw (e (twoBitsOf h r))
 
 module _ (vram regs w : List ℕ) (sx sy cell row palette : ℕ) where
-  module _ (e : cell ≡ halfAt vram (cellAddressOf w (sx / 8) (sy / 8))) (f : row ≡ halfAt vram (rowAddressOf cell
+  module _ (e : cell ≡ halfAt vram (cellAddressBiased w (sx / 8) (sy / 8))) (f : row ≡ halfAt vram (rowAddressOf cell
       (sy % 8))) (g : palette ≡ getD regs (4 + cell / 16384) 0) where
     pub source-pixel-along : (k : ℕ) → sx % 8 + k < 8 → (v : ℕ) → shadeOf palette (pixelValueOf cell row
-        (sx % 8 + k)) v ≡ sourcePixelOf vram regs w (sx + k) sy v
-    unfolding sourcePixelOf sourceCellAddressOf cellPixelOf gpltOf
+        (sx % 8 + k)) v ≡ sourcePixelBiased vram regs w (sx + k) sy v
+    unfolding sourcePixelBiased sourceCellAddressBiased cellPixelOf gpltOf
     source-pixel-along k h v =
         let d : (sx + k) / 8 ≡ sx / 8 = omega arith in
         let m : (sx + k) % 8 ≡ sx % 8 + k = omega arith in
         rw (d, m, ← e, ← f, ← g)
 
 -- a source pixel k columns and j rows further in the same cell
-module _ (vram regs w : List ℕ) (sx sy cell palette : ℕ) (e : cell ≡ halfAt vram (cellAddressOf w (sx / 8) (sy / 8)))
+module _ (vram regs w : List ℕ) (sx sy cell palette : ℕ) (e : cell ≡ halfAt vram (cellAddressBiased w (sx / 8) (sy / 8)))
     (g : palette ≡ getD regs (4 + cell / 16384) 0) where
   pub source-pixel-near : (k j : ℕ) → sx % 8 + k < 8 → sy % 8 + j < 8 → (v : ℕ)
-      → shadeOf palette (pixelValueOf cell (halfAt vram (rowAddressOf cell (sy % 8 + j))) (sx % 8 + k)) v ≡ sourcePixelOf vram regs w (sx + k) (sy + j) v
-  unfolding sourcePixelOf sourceCellAddressOf cellPixelOf gpltOf
+      → shadeOf palette (pixelValueOf cell (halfAt vram (rowAddressOf cell (sy % 8 + j))) (sx % 8 + k)) v ≡ sourcePixelBiased vram regs w (sx + k) (sy + j) v
+  unfolding sourcePixelBiased sourceCellAddressBiased cellPixelOf gpltOf
   source-pixel-near k j h l v =
       let d : (sx + k) / 8 ≡ sx / 8 = omega arith in
       let m : (sx + k) % 8 ≡ sx % 8 + k = omega arith in
@@ -47,12 +48,12 @@ module _ (vram regs w : List ℕ) (sx sy cell palette : ℕ) (e : cell ≡ halfA
 
 -- a block that was painted from one cell shows source pixels
 module _ (vram regs w : List ℕ) (top bottom from to sx sy half address cell palette : ℕ) (a b : List ℕ) where
-  module _ (c : cell ≡ half) (d : half ≡ halfAt vram address) (e : address ≡ cellAddressOf w (sx / 8) (sy / 8))
+  module _ (c : cell ≡ half) (d : half ≡ halfAt vram address) (e : address ≡ cellAddressBiased w (sx / 8) (sy / 8))
       (g : palette ≡ getD regs (4 + cell / 16384) 0) (across : sx % 8 + (to - from) ≤ 8) (down : sy % 8 +
       (bottom - top) ≤ 8) where
     pub block-of-part : Block top bottom from to (λ x r. shadeOf palette (pixelValueOf cell (halfAt vram
         (rowAddressOf cell (sy % 8 + (r - top)))) (sx % 8 + (x - from)))) a b
-        → Block top bottom from to (λ x r. sourcePixelOf vram regs w (sx + (x - from)) (sy + (r - top))) a b
+        → Block top bottom from to (λ x r. sourcePixelBiased vram regs w (sx + (x - from)) (sy + (r - top))) a b
     block-of-part s =
         block-change top bottom from to _ _ a b
         (λ x r v l h t u. source-pixel-near vram regs w sx sy cell palette (c ∙ (d ∙ ap (halfAt vram) e)) g (x - from) (r - top) (omega arith) (omega arith) v)
@@ -60,7 +61,7 @@ module _ (vram regs w : List ℕ) (top bottom from to sx sy half address cell pa
 
     pub block-of-whole : from + 8 ≡ to → Block top bottom from to (λ x r. shadeOf palette (pixelValueOf cell
         (halfAt vram (rowAddressOf cell (sy % 8 + (r - top)))) (x - from))) a b
-        → Block top bottom from to (λ x r. sourcePixelOf vram regs w (sx + (x - from)) (sy + (r - top))) a b
+        → Block top bottom from to (λ x r. sourcePixelBiased vram regs w (sx + (x - from)) (sy + (r - top))) a b
     block-of-whole q s = block-of-part (block-change top bottom from to _ _ a b zero s)
       where
         zero : (x r v : ℕ) → from ≤ x → x < to → top ≤ r → r < bottom
@@ -74,12 +75,12 @@ module _ (vram regs w : List ℕ) (top bottom from to sx sy half address cell pa
 pub source-repainted : (vram regs w : List ℕ) (q sx sy u v cell palette character h : ℕ) → u ≡ sx / 8 → v ≡ sy / 8
     → CellAt vram regs w u v cell palette character
     → repaintedOf q (shadeOf palette (pixelValueOf cell (halfAt vram (character + 2 * flippedOf (bitSet 12 cell) (sy % 8))) (sx % 8))) h
-    ≡ repaintedOf q (sourcePixelOf vram regs w sx sy) h
-unfolding sourcePixelOf sourceCellAddressOf cellPixelOf rowAddressOf
+    ≡ repaintedOf q (sourcePixelBiased vram regs w sx sy) h
+unfolding sourcePixelBiased sourceCellAddressBiased cellPixelOf rowAddressOf
 source-repainted vram regs w q sx sy u v cell palette character h e f c =
     repainted-change q
     (shadeOf palette (pixelValueOf cell (halfAt vram (character + 2 * flippedOf (bitSet 12 cell) (sy % 8))) (sx % 8)))
-    (sourcePixelOf vram regs w sx sy) h (λ p. rw (c .shades, c .begins, c .same, e, f))
+    (sourcePixelBiased vram regs w sx sy) h (λ p. rw (c .shades, c .begins, c .same, e, f))
 
 -- the sum of an affine row: its bounds, and one step further
 module _ (m d n : ℕ) where
@@ -97,28 +98,28 @@ module _ (m d n : ℕ) where
       let p : d * (n + 1) ≡ d * n + d * 1 = mul-add d n 1 in
       omega (arith, p)
 
-  pub floor-sum : (s : ℕ) → s ≡ affineSumOf m d n → s / 512 ≡ affineFloorOf m d n
-  unfolding affineSumOf affineFloorOf
+  pub floor-sum : (s : ℕ) → s ≡ affineSumOf m d n → s / 512 ≡ affineFloorBiased m d n
+  unfolding affineSumOf affineFloorBiased
   floor-sum s e = ap (λ (k : ℕ). k / 512) e
 
 -- a row whose steps are one pixel to the right
-pub level-x : (m n k : ℕ) → affineFloorOf m 33280 n + k ≡ affineFloorOf m 33280 (n + k)
-unfolding affineFloorOf
+pub level-x : (m n k : ℕ) → affineFloorBiased m 33280 n + k ≡ affineFloorBiased m 33280 (n + k)
+unfolding affineFloorBiased
 level-x m n k = omega arith
 
-pub level-y : (m n k : ℕ) → affineFloorOf m 32768 n ≡ affineFloorOf m 32768 (n + k)
-unfolding affineFloorOf
+pub level-y : (m n k : ℕ) → affineFloorBiased m 32768 n ≡ affineFloorBiased m 32768 (n + k)
+unfolding affineFloorBiased
 level-y m n k = omega arith
 
-pub level-low : (m n : ℕ) → m < 65536 → n < 65536 → affineFloorOf m 33280 n < 33554432
-unfolding affineFloorOf
+pub level-low : (m n : ℕ) → m < 65536 → n < 65536 → affineFloorBiased m 33280 n < 33554432
+unfolding affineFloorBiased
 level-low m n h l = omega arith
 
-pub level-pixel : (vram regs w : List ℕ) (mx my n k sx sy v : ℕ) → sx ≡ affineFloorOf mx 33280 n → sy ≡ affineFloorOf my 32768 n
-    → sourcePixelOf vram regs w (sx + k) sy v ≡ sourcePixelOf vram regs w (affineFloorOf mx 33280 (n + k)) (affineFloorOf my 32768 (n + k)) v
+pub level-pixel : (vram regs w : List ℕ) (mx my n k sx sy v : ℕ) → sx ≡ affineFloorBiased mx 33280 n → sy ≡ affineFloorBiased my 32768 n
+    → sourcePixelBiased vram regs w (sx + k) sy v ≡ sourcePixelBiased vram regs w (affineFloorBiased mx 33280 (n + k)) (affineFloorBiased my 32768 (n + k)) v
 level-pixel vram regs w mx my n k sx sy v e f = rw (e, f, level-x mx n k, level-y my n k)
 
 pub level-steps : (vram regs w : List ℕ) (mx my dx dy n v : ℕ) → dx ≡ 33280 → dy ≡ 32768
-    → sourcePixelOf vram regs w (affineFloorOf mx 33280 n) (affineFloorOf my 32768 n) v ≡ sourcePixelOf vram regs w
-    (affineFloorOf mx dx n) (affineFloorOf my dy n) v
+    → sourcePixelBiased vram regs w (affineFloorBiased mx 33280 n) (affineFloorBiased my 32768 n) v ≡ sourcePixelBiased vram regs w
+    (affineFloorBiased mx dx n) (affineFloorBiased my dy n) v
 level-steps vram regs w mx my dx dy n v e f = rw (e, f)

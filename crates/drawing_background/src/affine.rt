@@ -6,8 +6,9 @@ ghost use lib.ListN.{length};
 ghost use Rattle.bus.specs.Refusal.{vramBytes};
 ghost use Rattle.word.specs.LittleEndian.{halfAt};
 ghost use Rattle.drawing_pixel.specs.Character.{flippedOf, pixelValueOf, shadeOf};
-ghost use Rattle.drawing_pixel.specs.Signed.{bitSet};
-ghost use Rattle.drawing_pixel.specs.Background.{sourcePixelOf, affineFloorOf};
+ghost use Rattle.drawing_pixel.specs.Flags.{bitSet};
+ghost use Rattle.drawing_pixel.specs.inner.BiasedCell.{sourcePixelBiased};
+ghost use Rattle.drawing_pixel.specs.inner.BiasedSource.{affineFloorBiased};
 ghost use Rattle.drawing_pixel.specs.inner.Buffer.{repaintedOf, Span};
 ghost use Rattle.drawing_background.specs.inner.Row.{inksOf, MapsOf, CellAt, Inked};
 use crate::cell::Maps;
@@ -177,9 +178,9 @@ pub fn affine_span(
         ⌝ }
     ensures { λ _. ⌜
         Span (run .row) (run .from) (run .to)
-        (λ x. sourcePixelOf (now (vram .entry)) (now (registers .entry)) (now (w .entry))
-        (affineFloorOf (course .mx) (course .dx) (course .n + (x - run .from)))
-        (affineFloorOf (course .my) (course .dy) (course .n + (x - run .from))))
+        (λ x. sourcePixelBiased (now (vram .entry)) (now (registers .entry)) (now (w .entry))
+        (affineFloorBiased (course .mx) (course .dx) (course .n + (x - run .from)))
+        (affineFloorBiased (course .my) (course .dy) (course .n + (x - run .from))))
         (now (buffer .entry)) (now (buffer .exit))
         ⌝ }
 {
@@ -222,9 +223,9 @@ pub fn level_span(
         ⌝ }
     ensures { λ _. ⌜
         Span (run .row) (run .from) (run .to)
-        (λ x. sourcePixelOf (now (vram .entry)) (now (registers .entry)) (now (w .entry))
-        (affineFloorOf (course .mx) (course .dx) (course .n + (x - run .from)))
-        (affineFloorOf (course .my) (course .dy) (course .n + (x - run .from))))
+        (λ x. sourcePixelBiased (now (vram .entry)) (now (registers .entry)) (now (w .entry))
+        (affineFloorBiased (course .mx) (course .dx) (course .n + (x - run .from)))
+        (affineFloorBiased (course .my) (course .dy) (course .n + (x - run .from))))
         (now (buffer .entry)) (now (buffer .exit))
         ⌝ }
 {
@@ -254,9 +255,9 @@ pub fn along_span(
         ⌝ }
     ensures { λ _. ⌜
         Span (run .row) (run .from) (run .to)
-        (λ x. sourcePixelOf (now (vram .entry)) (now (registers .entry)) (now (w .entry))
-        (affineFloorOf (course .mx) (course .dx) (course .n + (x - run .from)))
-        (affineFloorOf (course .my) (course .dy) (course .n + (x - run .from))))
+        (λ x. sourcePixelBiased (now (vram .entry)) (now (registers .entry)) (now (w .entry))
+        (affineFloorBiased (course .mx) (course .dx) (course .n + (x - run .from)))
+        (affineFloorBiased (course .my) (course .dy) (course .n + (x - run .from))))
         (now (buffer .entry)) (now (buffer .exit))
         ⌝ }
 {

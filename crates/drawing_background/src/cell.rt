@@ -1,7 +1,8 @@
 // Where the cell of a background lies: wrapping, the arrangement of maps, and the overplane.
 ghost use mathlib.Core.Path.{_≡_};
 ghost use Prim.Native.Nat.{_+_, _*_, _-_, _%_, _<_, _≤_, _^_, min};
-ghost use Rattle.drawing_pixel.specs.Background.{cellAddressOf, insideOf, mapNumberOf, mapCellAddressOf};
+ghost use Rattle.drawing_pixel.specs.inner.BiasedCell.{cellAddressBiased, insideBiased, mapCellAddressBiased};
+ghost use Rattle.drawing_pixel.specs.Background.{mapNumberOf};
 ghost use Rattle.drawing_background.specs.inner.Row.{MapsOf};
 use drawing_pixel::field::wide;
 
@@ -58,28 +59,31 @@ pub fn map_number(w: &[u16; 11], column: usize, r: usize) -> usize
     map_at(flags % 16, k, column, r)
 }
 
+// A cell column or row is kept plus an eighth of a source pixel's 2^23.
+const CELL_BIAS: usize = 1048576;
+
 // Whether a cell column and row lie in a world's background.
 pub fn inside(w: &[u16; 11], u: usize, v: usize) -> bool
-    ensures { λ r. ⌜ r ≡ insideOf (now (w .entry)) u v ⌝ }
+    ensures { λ r. ⌜ r ≡ insideBiased (now (w .entry)) u v ⌝ }
 {
     let flags = wide(w[0]);
     let across = cells(flags / 1024 % 4);
     let down = cells(flags / 256 % 4);
-    if u < 1048576 {
+    if u < CELL_BIAS {
         return false;
     }
-    if 1048576 + across <= u {
+    if CELL_BIAS + across <= u {
         return false;
     }
-    if v < 1048576 {
+    if v < CELL_BIAS {
         return false;
     }
-    v < 1048576 + down
+    v < CELL_BIAS + down
 }
 
 // Where the cell of a map lies, column and row wrapped to the background's size.
 pub fn map_cell_address(w: &[u16; 11], u: usize, v: usize) -> usize
-    ensures { λ r. ⌜ (r ≡ mapCellAddressOf (now (w .entry)) u v) × (r < 262143) ⌝ }
+    ensures { λ r. ⌜ (r ≡ mapCellAddressBiased (now (w .entry)) u v) × (r < 262143) ⌝ }
 {
     let flags = wide(w[0]);
     let column = low_bits(u, 6 + flags / 1024 % 4) / 64;
@@ -90,7 +94,7 @@ pub fn map_cell_address(w: &[u16; 11], u: usize, v: usize) -> usize
 
 // Where the cell used at a cell column and row lies.
 pub fn cell_address(w: &[u16; 11], u: usize, v: usize) -> usize
-    ensures { λ r. ⌜ (r ≡ cellAddressOf (now (w .entry)) u v) × (r < 262143) ⌝ }
+    ensures { λ r. ⌜ (r ≡ cellAddressBiased (now (w .entry)) u v) × (r < 262143) ⌝ }
 {
     if w[0] / 128 % 2 == 0 {
         return map_cell_address(w, u, v);
@@ -137,7 +141,7 @@ pub fn maps_of(w: &[u16; 11]) -> Maps
 // Where the cell used at a cell column and row lies, by the maps of its world.
 pub fn address_in(w: &[u16; 11], maps: Maps, u: usize, v: usize) -> usize
     requires { ⌜ MapsOf (now w) (maps .over) (maps .first) (maps .beside) (maps .across) (maps .down) ⌝ }
-    ensures { λ r. ⌜ (r ≡ cellAddressOf (now (w .entry)) u v) × (r < 262143) ⌝ }
+    ensures { λ r. ⌜ (r ≡ cellAddressBiased (now (w .entry)) u v) × (r < 262143) ⌝ }
 {
     if maps.over {
         return cell_address(w, u, v);

@@ -6,7 +6,7 @@ ghost use lib.ListN.{length, getD};
 ghost use Rattle.bus.specs.Refusal.{vramBytes};
 ghost use Rattle.word.specs.LittleEndian.{halfAt};
 ghost use Rattle.drawing_pixel.specs.Character.{rowAddressOf, pixelValueOf, shadeOf};
-ghost use Rattle.drawing_pixel.specs.Background.{cellAddressOf, sourcePixelOf};
+ghost use Rattle.drawing_pixel.specs.inner.BiasedCell.{cellAddressBiased, sourcePixelBiased};
 ghost use Rattle.drawing_pixel.specs.inner.Buffer.{Span, Block};
 use crate::cell::cell_address;
 use drawing_pixel::character::row_address;
@@ -49,7 +49,7 @@ pub fn fetch(
 ) -> Fetched
     requires { ⌜ length (now vram) ≡ vramBytes ⌝ }
     ensures { λ r. ⌜
-        (r .cell ≡ halfAt (now (vram .entry)) (cellAddressOf (now (w .entry)) (sx / 8) (sy / 8)))
+        (r .cell ≡ halfAt (now (vram .entry)) (cellAddressBiased (now (w .entry)) (sx / 8) (sy / 8)))
         × ((r .row ≡ halfAt (now (vram .entry)) (rowAddressOf (r .cell) (sy % 8)))
         × (r .palette ≡ getD (now (registers .entry)) (4 + r .cell / 16384) 0))
         ⌝ }
@@ -77,7 +77,7 @@ pub fn cell_span(
         ⌝ }
     ensures { λ _. ⌜
         Span (run .row) (run .from) (run .to)
-        (λ x. sourcePixelOf (now (vram .entry)) (now (registers .entry)) (now (w .entry))
+        (λ x. sourcePixelBiased (now (vram .entry)) (now (registers .entry)) (now (w .entry))
         (source .x + (x - run .from)) (source .y))
         (now (buffer .entry)) (now (buffer .exit))
         ⌝ }
@@ -102,7 +102,7 @@ pub fn plain_span(
         ⌝ }
     ensures { λ _. ⌜
         Span (run .row) (run .from) (run .to)
-        (λ x. sourcePixelOf (now (vram .entry)) (now (registers .entry)) (now (w .entry))
+        (λ x. sourcePixelBiased (now (vram .entry)) (now (registers .entry)) (now (w .entry))
         (source .x + (x - run .from)) (source .y))
         (now (buffer .entry)) (now (buffer .exit))
         ⌝ }
@@ -219,7 +219,7 @@ pub fn cell_block(
         ⌝ }
     ensures { λ _. ⌜
         Block (area .top) (area .bottom) (area .from) (area .to)
-        (λ x r. sourcePixelOf (now (vram .entry)) (now (registers .entry)) (now (w .entry))
+        (λ x r. sourcePixelBiased (now (vram .entry)) (now (registers .entry)) (now (w .entry))
         (source .x + (x - area .from)) (source .y + (r - area .top)))
         (now (buffer .entry)) (now (buffer .exit))
         ⌝ }
@@ -261,7 +261,7 @@ pub fn cells_block(
         ⌝ }
     ensures { λ _. ⌜
         Block (area .top) (area .bottom) (area .from) (area .to)
-        (λ x r. sourcePixelOf (now (vram .entry)) (now (registers .entry)) (now (w .entry))
+        (λ x r. sourcePixelBiased (now (vram .entry)) (now (registers .entry)) (now (w .entry))
         (source .x + (x - area .from)) (source .y + (r - area .top)))
         (now (buffer .entry)) (now (buffer .exit))
         ⌝ }
@@ -309,7 +309,7 @@ pub fn plain_block(
         ⌝ }
     ensures { λ _. ⌜
         Block (area .top) (area .bottom) (area .from) (area .to)
-        (λ x r. sourcePixelOf (now (vram .entry)) (now (registers .entry)) (now (w .entry))
+        (λ x r. sourcePixelBiased (now (vram .entry)) (now (registers .entry)) (now (w .entry))
         (source .x + (x - area .from)) (source .y + (r - area .top)))
         (now (buffer .entry)) (now (buffer .exit))
         ⌝ }

@@ -3,11 +3,25 @@ ghost use mathlib.Core.Path.{_≡_};
 ghost use Prim.Native.Nat.{_+_, _*_, _%_, _^_, _<_, _≤_};
 ghost use lib.ListN.{length};
 ghost use Rattle.bus.specs.Refusal.{vramBytes};
-ghost use Rattle.drawing_pixel.specs.Background.{parameterAddressOf, parameterOf, plainLeftOf, normalYOf, biasIndexOf};
-ghost use Rattle.drawing_pixel.specs.Background.{affineShiftOf, affineFloorOf, affineParameterOf};
+ghost use Rattle.drawing_pixel.specs.Background.{parameterAddressOf, parameterOf, biasIndexOf};
+ghost use Rattle.drawing_pixel.specs.inner.BiasedSource.{plainLeftBiased, normalYBiased, affineShiftBiased};
+ghost use Rattle.drawing_pixel.specs.inner.BiasedSource.{affineFloorBiased, affineParameterBiased};
 ghost use Rattle.drawing_background.specs.inner.Row.{affineSumOf};
 use drawing_pixel::field::half;
 use drawing_pixel::field::wide;
+
+// Source x and y are kept plus 2^23, a multiple of every background's size, so that wrapping needs no correction. What a
+// sum of biased fields is kept with is that less the fields' own biases: MX and MY have 4,096, MP 16,384 and an affine
+// row's parameters 32,768 (drawing_pixel: specs/inner/BiasedSource).
+
+// MX - MP: 2^23 - 4,096 + 16,384.
+const LEFT_BIAS: usize = 8400896;
+// MX + MP: 2^23 - 4,096 - 16,384.
+const RIGHT_BIAS: usize = 8368128;
+// MY: 2^23 - 4,096.
+const DOWN_BIAS: usize = 8384512;
+// 64 M + D n before it is divided by 512: 512 * 2^23 - 64 * 32,768. D's own bias, n times, is taken off by itself.
+const AFFINE_BIAS: usize = 4292870144;
 
 // Where parameter k of a world lies; its index wraps at 16 bits.
 pub fn parameter_address(w: &[u16; 11], k: usize) -> usize
@@ -27,22 +41,22 @@ pub fn parameter(vram: &[u8], w: &[u16; 11], k: usize) -> usize
 
 // MX less MP for the left eye, plus MP for the right one.
 pub fn plain_left(w: &[u16; 11], eye: usize) -> usize
-    ensures { λ r. ⌜ (r ≡ plainLeftOf (now (w .entry)) eye) × ((8368128 ≤ r) × (r < 8409088)) ⌝ }
+    ensures { λ r. ⌜ (r ≡ plainLeftBiased (now (w .entry)) eye) × ((8368128 ≤ r) × (r < 8409088)) ⌝ }
 {
     let mx = (wide(w[4]) + 4096) % 8192;
     let mp = (wide(w[5]) + 16384) % 32768;
     if eye == 0 {
-        return mx + 8400896 - mp;
+        return mx + LEFT_BIAS - mp;
     }
-    mx + mp + 8368128
+    mx + mp + RIGHT_BIAS
 }
 
 // The source row of a normal or H-bias world's row j.
 pub fn normal_y(w: &[u16; 11], j: usize) -> usize
     requires { ⌜ j < 65536 ⌝ }
-    ensures { λ r. ⌜ (r ≡ normalYOf (now (w .entry)) j) × (r < 16777216) ⌝ }
+    ensures { λ r. ⌜ (r ≡ normalYBiased (now (w .entry)) j) × (r < 16777216) ⌝ }
 {
-    (wide(w[6]) + 4096) % 8192 + 8384512 + j
+    (wide(w[6]) + 4096) % 8192 + DOWN_BIAS + j
 }
 
 // The index of an H-bias parameter.
@@ -59,7 +73,7 @@ pub fn bias_index(eye: usize, j: usize) -> usize
 // Parameter k of row j of an affine world, biased by 32,768.
 pub fn affine_parameter(vram: &[u8], w: &[u16; 11], j: usize, k: usize) -> usize
     requires { ⌜ (length (now vram) ≡ vramBytes) × ((j < 65536) × (k < 8)) ⌝ }
-    ensures { λ r. ⌜ (r ≡ affineParameterOf (now (vram .entry)) (now (w .entry)) j k) × (r < 65536) ⌝ }
+    ensures { λ r. ⌜ (r ≡ affineParameterBiased (now (vram .entry)) (now (w .entry)) j k) × (r < 65536) ⌝ }
 {
     (parameter(vram, w, 8 * j + k) + 32768) % 65536
 }
@@ -67,7 +81,7 @@ pub fn affine_parameter(vram: &[u8], w: &[u16; 11], j: usize, k: usize) -> usize
 // How far an affine row's MP moves an eye.
 pub fn affine_shift(eye: usize, mp: usize) -> usize
     requires { ⌜ mp < 65536 ⌝ }
-    ensures { λ r. ⌜ (r ≡ affineShiftOf eye mp) × (r ≤ 32768) ⌝ }
+    ensures { λ r. ⌜ (r ≡ affineShiftBiased eye mp) × (r ≤ 32768) ⌝ }
 {
     if eye == 0 {
         if mp < 32768 {
@@ -86,7 +100,7 @@ pub fn affine_sum(m: usize, d: usize, n: usize) -> usize
     requires { ⌜ (m < 65536) × ((d < 65536) × (n < 65536)) ⌝ }
     ensures { λ r. ⌜ r ≡ affineSumOf m d n ⌝ }
 {
-    64 * m + d * n + 4292870144 - 32768 * n
+    64 * m + d * n + AFFINE_BIAS - 32768 * n
 }
 
 // The same one step further.
@@ -100,7 +114,7 @@ pub fn affine_on(sum: usize, d: usize) -> usize
 // A source coordinate n steps along an affine row.
 pub fn affine_floor(m: usize, d: usize, n: usize) -> usize
     requires { ⌜ (m < 65536) × ((d < 65536) × (n < 65536)) ⌝ }
-    ensures { λ r. ⌜ r ≡ affineFloorOf m d n ⌝ }
+    ensures { λ r. ⌜ r ≡ affineFloorBiased m d n ⌝ }
 {
     affine_sum(m, d, n) / 512
 }

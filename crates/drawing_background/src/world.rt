@@ -5,8 +5,10 @@ ghost use mathlib.Core.Bool.{true};
 ghost use Prim.Native.Nat.{_+_, _-_, _*_, _<_, _≤_};
 ghost use lib.ListN.{length};
 ghost use Rattle.bus.specs.Refusal.{vramBytes};
-ghost use Rattle.drawing_pixel.specs.World.{bgmOf, windowLeftOf, columnsOf, worldShownOf};
-ghost use Rattle.drawing_pixel.specs.Background.{sourcePixelOf, sourceXOf, sourceYOf, backgroundPixelOf};
+ghost use Rattle.drawing_pixel.specs.World.{bgmOf, worldShownOf};
+ghost use Rattle.drawing_pixel.specs.inner.BiasedWindow.{windowLeftBiased, columnsBiased};
+ghost use Rattle.drawing_pixel.specs.inner.BiasedCell.{sourcePixelBiased, backgroundPixelBiased};
+ghost use Rattle.drawing_pixel.specs.inner.BiasedSource.{sourceXBiased, sourceYBiased};
 ghost use Rattle.drawing_pixel.specs.inner.Buffer.{Span, Block, Strip};
 ghost use Rattle.drawing_background.specs.inner.Row.{rowBiasOf};
 use crate::affine::Course;
@@ -56,9 +58,9 @@ pub fn affine_row(
         ⌝ }
     ensures { λ _. ⌜
         Span (run .row) (run .from) (run .to)
-        (λ x. sourcePixelOf (now (vram .entry)) (now (registers .entry)) (now (w .entry))
-        (sourceXOf (now (vram .entry)) (now (w .entry)) eye (offsets .i + (x - run .from)) (offsets .j))
-        (sourceYOf (now (vram .entry)) (now (w .entry)) eye (offsets .i + (x - run .from)) (offsets .j)))
+        (λ x. sourcePixelBiased (now (vram .entry)) (now (registers .entry)) (now (w .entry))
+        (sourceXBiased (now (vram .entry)) (now (w .entry)) eye (offsets .i + (x - run .from)) (offsets .j))
+        (sourceYBiased (now (vram .entry)) (now (w .entry)) eye (offsets .i + (x - run .from)) (offsets .j)))
         (now (buffer .entry)) (now (buffer .exit))
         ⌝ }
 {
@@ -107,9 +109,9 @@ pub fn row(
         ⌝ }
     ensures { λ _. ⌜
         Span (run .row) (run .from) (run .to)
-        (λ x. sourcePixelOf (now (vram .entry)) (now (registers .entry)) (now (w .entry))
-        (sourceXOf (now (vram .entry)) (now (w .entry)) eye (offsets .i + (x - run .from)) (offsets .j))
-        (sourceYOf (now (vram .entry)) (now (w .entry)) eye (offsets .i + (x - run .from)) (offsets .j)))
+        (λ x. sourcePixelBiased (now (vram .entry)) (now (registers .entry)) (now (w .entry))
+        (sourceXBiased (now (vram .entry)) (now (w .entry)) eye (offsets .i + (x - run .from)) (offsets .j))
+        (sourceYBiased (now (vram .entry)) (now (w .entry)) eye (offsets .i + (x - run .from)) (offsets .j)))
         (now (buffer .entry)) (now (buffer .exit))
         ⌝ }
 {
@@ -138,12 +140,12 @@ pub fn strip_row(
         ⌝ }
     requires { ⌜
         (worldShownOf (now w) (view .eye) ≡ true)
-        × ((windowLeftOf (now w) (view .eye) ≤ run .from + 1024)
-        × (run .to + 1024 ≤ windowLeftOf (now w) (view .eye) + columnsOf (now w)))
+        × ((windowLeftBiased (now w) (view .eye) ≤ run .from + 1024)
+        × (run .to + 1024 ≤ windowLeftBiased (now w) (view .eye) + columnsBiased (now w)))
         ⌝ }
     ensures { λ _. ⌜
         Span (run .row) (run .from) (run .to)
-        (λ x. backgroundPixelOf (now (vram .entry)) (now (registers .entry)) (now (w .entry)) (view .eye)
+        (λ x. backgroundPixelBiased (now (vram .entry)) (now (registers .entry)) (now (w .entry)) (view .eye)
         x (8 * view .strip + run .row))
         (now (buffer .entry)) (now (buffer .exit))
         ⌝ }
@@ -187,12 +189,12 @@ pub fn normal_block(
         ⌝ }
     requires { ⌜
         (worldShownOf (now w) (view .eye) ≡ true)
-        × ((windowLeftOf (now w) (view .eye) ≤ from + 1024)
-        × (to + 1024 ≤ windowLeftOf (now w) (view .eye) + columnsOf (now w)))
+        × ((windowLeftBiased (now w) (view .eye) ≤ from + 1024)
+        × (to + 1024 ≤ windowLeftBiased (now w) (view .eye) + columnsBiased (now w)))
         ⌝ }
     ensures { λ _. ⌜
         Block 0 8 from to
-        (λ x r. backgroundPixelOf (now (vram .entry)) (now (registers .entry)) (now (w .entry)) (view .eye)
+        (λ x r. backgroundPixelBiased (now (vram .entry)) (now (registers .entry)) (now (w .entry)) (view .eye)
         x (8 * view .strip + r))
         (now (buffer .entry)) (now (buffer .exit))
         ⌝ }
@@ -228,7 +230,8 @@ pub fn strip(
     requires { ⌜ (length (now vram) ≡ vramBytes) × (strip < 28) ⌝ }
     ensures { λ _. ⌜
         Strip
-        (λ x r. backgroundPixelOf (now (vram .entry)) (now (registers .entry)) (now (w .entry)) eye x (8 * strip + r))
+        (λ x r. backgroundPixelBiased (now (vram .entry)) (now (registers .entry)) (now (w .entry)) eye
+        x (8 * strip + r))
         (now (buffer .entry)) (now (buffer .exit))
         ⌝ }
 {

@@ -10,7 +10,7 @@ use Rattle.refusal.specs.declared.Refusal.the-variants.{VramLength, State}
 use Rattle.bus.specs.Refusal.{vramOk}
 use Rattle.bus.specs.Registers.{drawingOk}
 use Rattle.drawing_laws.specs.PixelBytes.{pixelBytesOf}
-use Rattle.drawing_laws.specs.inner.SourceBytes.{sourceBytesOf}
+use Rattle.drawing_laws.specs.inner.SourceBytes.{pixelBytesBiased}
 use Rattle.drawing_laws.proofs.PixelBytes.{listed-formula}
 use Rattle.drawing_bytes.specs.declared.Listed.the-variants.{Count, Refused, Outside}
 use Rattle.drawing_bytes.specs.inner.Room.{Listing}
@@ -52,7 +52,7 @@ module _ (v regs : List ℕ) (eye x y : ℕ) (room : List ℕ) where
         simp (eq-eqb _ _ e, r, f) (l .words ∙ sets-filled room (pixelBytesOf v regs eye x y)),
       )
 
-      pub list-done : eye < 2 → x < 384 → y < 224 → (n : ℕ) (after : List ℕ) → Listing 0 (sourceBytesOf v regs eye x y) n room after
+      pub list-done : eye < 2 → x < 384 → y < 224 → (n : ℕ) (after : List ℕ) → Listing 0 (pixelBytesBiased v regs eye x y) n room after
           → (Count n ≡ listedOf v regs eye x y) × (after ≡ roomOf v regs eye x y room)
       unfolding inImageOf
       list-done a b c n after l = inside (simp (lt-ltb _ _ a, lt-ltb _ _ b, lt-ltb _ _ c)) n after (rw (← listed-formula v regs eye x y) l)

@@ -10,12 +10,14 @@ use Rattle.word.specs.Choose.{pick}
 use Rattle.drawing_pixel.specs.Character.{rowAddressOf}
 use Rattle.bus.specs.Registers.{sptOf}
 use Rattle.drawing_pixel.specs.World.{worldOf, endOf}
-use Rattle.drawing_pixel.specs.Object.{objectOf, objectRowOf, objectCoversOf, groupCountOf}
+use Rattle.drawing_pixel.specs.Object.{objectOf, groupCountOf}
+use Rattle.drawing_pixel.specs.inner.BiasedObject.{objectRowBiased, objectCoversBiased}
 use Rattle.drawing_pixel.specs.Pixel.{counterAfterOf, drawsObjectsOf, counterOf}
 use Rattle.drawing_laws.specs.Covers.{inGroupOf}
 use Rattle.drawing_laws.specs.PixelBytes.{halfBytesOf, amongOf}
-use Rattle.drawing_laws.specs.inner.SourceBytes.{worldDrawsOf, worldsDrawOf, objectBytesOf, objectsBytesOf}
+use Rattle.drawing_laws.specs.inner.SourceBytes.{worldDrawsBiased, worldsDrawBiased, objectBytesBiased, objectsBytesBiased}
 use Rattle.drawing_laws.proofs.Groups.{in-group-among, among-in-group}
+use Rattle.drawing_laws.proofs.PixelSame.{counter-after-below}
 use Rattle.drawing_bytes.specs.inner.Groups.{reachedObjectWorldsOf, inGroupsOf, objectListOf}
 
 -- two tests that imply each other
@@ -29,18 +31,14 @@ pub group-after : (group : ℕ) → group < 4 → (group + 3) % 4 ≡ counterAft
 group-after zero h = refl
 group-after (suc c) h = omega arith
 
-after-below : (group : ℕ) → group < 4 → counterAfterOf group < 4
-after-below zero h = omega arith
-after-below (suc c) h = omega arith
-
 module _ (vram regs : List ℕ) (spts : (g : ℕ) → g < 4 → sptOf regs g < 1024) (eye x y k : ℕ) (h : k < 1024) where
   among-same : (counter : ℕ) → counter < 4 → amongOf (groupCountOf regs counter) (sptOf regs counter) k ≡ inGroupOf regs counter k
   among-same counter l = same-test _ _ (among-in-group regs counter k h) (in-group-among regs counter k (spts counter l) h)
 
   draws-world : (n counter : ℕ) → counter < 4
-      → worldDrawsOf vram regs (worldOf vram n) counter eye x y k
-      ≡ (drawsObjectsOf (worldOf vram n) && (inGroupOf regs counter k && objectCoversOf (objectOf vram k) eye x y))
-  unfolding worldDrawsOf
+      → worldDrawsBiased vram regs (worldOf vram n) counter eye x y k
+      ≡ (drawsObjectsOf (worldOf vram n) && (inGroupOf regs counter k && objectCoversBiased (objectOf vram k) eye x y))
+  unfolding worldDrawsBiased
   draws-world n counter l = rw (among-same counter l)
 
   or-and : (a b c : Bool) → ((a && c) || (b && c)) ≡ ((a || b) && c)
@@ -52,37 +50,37 @@ module _ (vram regs : List ℕ) (spts : (g : ℕ) → g < 4 → sptOf regs g < 1
 
   -- one world more: END draws nothing, a world that draws objects its own group and those after it
   one-world : (n counter : ℕ) (end draws : Bool) → drawsObjectsOf (worldOf vram n) ≡ draws
-      → worldsDrawOf vram regs eye x y n (counterAfterOf counter) k
-      ≡ (inGroupsOf regs (reachedObjectWorldsOf vram n) (counterAfterOf counter) k && objectCoversOf (objectOf vram k) eye x y)
-      → worldsDrawOf vram regs eye x y n counter k
-      ≡ (inGroupsOf regs (reachedObjectWorldsOf vram n) counter k && objectCoversOf (objectOf vram k) eye x y)
+      → worldsDrawBiased vram regs eye x y n (counterAfterOf counter) k
+      ≡ (inGroupsOf regs (reachedObjectWorldsOf vram n) (counterAfterOf counter) k && objectCoversBiased (objectOf vram k) eye x y)
+      → worldsDrawBiased vram regs eye x y n counter k
+      ≡ (inGroupsOf regs (reachedObjectWorldsOf vram n) counter k && objectCoversBiased (objectOf vram k) eye x y)
       → pick end false
-      ((draws && (inGroupOf regs counter k && objectCoversOf (objectOf vram k) eye x y))
-      || worldsDrawOf vram regs eye x y n (counterOf (worldOf vram n) counter) k)
-      ≡ (inGroupsOf regs (pick end 0 (pick draws 1 0 + reachedObjectWorldsOf vram n)) counter k && objectCoversOf (objectOf vram k) eye x y)
+      ((draws && (inGroupOf regs counter k && objectCoversBiased (objectOf vram k) eye x y))
+      || worldsDrawBiased vram regs eye x y n (counterOf (worldOf vram n) counter) k)
+      ≡ (inGroupsOf regs (pick end 0 (pick draws 1 0 + reachedObjectWorldsOf vram n)) counter k && objectCoversBiased (objectOf vram k) eye x y)
   unfolding counterOf inGroupsOf
   one-world n counter true draws f p q = refl
   one-world n counter false true f p q =
       let z : 1 + reachedObjectWorldsOf vram n ≡ suc (reachedObjectWorldsOf vram n) = omega arith in
       rw (f, z)
-      (ap (λ (b : Bool). (inGroupOf regs counter k && objectCoversOf (objectOf vram k) eye x y) || b) p
+      (ap (λ (b : Bool). (inGroupOf regs counter k && objectCoversBiased (objectOf vram k) eye x y) || b) p
       ∙ or-and (inGroupOf regs counter k) (inGroupsOf regs (reachedObjectWorldsOf vram n) (counterAfterOf counter) k)
-      (objectCoversOf (objectOf vram k) eye x y))
+      (objectCoversBiased (objectOf vram k) eye x y))
   one-world n counter false false f p q =
       let z : 0 + reachedObjectWorldsOf vram n ≡ reachedObjectWorldsOf vram n = omega arith in rw (f, z) q
 
   pub draws-in-groups : (n counter : ℕ) → counter < 4
-      → worldsDrawOf vram regs eye x y n counter k
-      ≡ (inGroupsOf regs (reachedObjectWorldsOf vram n) counter k && objectCoversOf (objectOf vram k) eye x y)
-  unfolding worldsDrawOf inGroupsOf reachedObjectWorldsOf
+      → worldsDrawBiased vram regs eye x y n counter k
+      ≡ (inGroupsOf regs (reachedObjectWorldsOf vram n) counter k && objectCoversBiased (objectOf vram k) eye x y)
+  unfolding worldsDrawBiased inGroupsOf reachedObjectWorldsOf
   draws-in-groups zero counter l = refl
   draws-in-groups (suc n) counter l =
       rw (draws-world n counter l)
       (one-world n counter (endOf (worldOf vram n)) (drawsObjectsOf (worldOf vram n)) refl
-      (draws-in-groups n (counterAfterOf counter) (after-below counter l)) (draws-in-groups n counter l))
+      (draws-in-groups n (counterAfterOf counter) (counter-after-below counter l)) (draws-in-groups n counter l))
 
   module _ (worlds : ℕ) (e : worlds ≡ reachedObjectWorldsOf vram 32) where
-    pub object-not-covering : objectCoversOf (objectOf vram k) eye x y ≡ false → [] ≡ objectListOf vram regs eye x y k
+    pub object-not-covering : objectCoversBiased (objectOf vram k) eye x y ≡ false → [] ≡ objectListOf vram regs eye x y k
     unfolding objectListOf
     object-not-covering f = rw (draws-in-groups 32 3 (omega arith), f) (simp and-false)
 
@@ -90,20 +88,20 @@ module _ (vram regs : List ℕ) (spts : (g : ℕ) → g < 4 → sptOf regs g < 1
     unfolding objectListOf
     object-not-drawn f = rw (draws-in-groups 32 3 (omega arith), ← e, f)
 
-    pub object-drawn : objectCoversOf (objectOf vram k) eye x y ≡ true → inGroupsOf regs worlds 3 k ≡ true
-        → objectBytesOf (objectOf vram k) y ≡ objectListOf vram regs eye x y k
+    pub object-drawn : objectCoversBiased (objectOf vram k) eye x y ≡ true → inGroupsOf regs worlds 3 k ≡ true
+        → objectBytesBiased (objectOf vram k) y ≡ objectListOf vram regs eye x y k
     unfolding objectListOf
     object-drawn f g = rw (draws-in-groups 32 3 (omega arith), ← e, f, g)
 
 module _ (vram regs : List ℕ) (eye x y : ℕ) where
   pub objects-step : (n : ℕ) → 0 < n
-      → objectsBytesOf vram regs eye x y n ≡ objectListOf vram regs eye x y (n - 1) ++ objectsBytesOf vram regs eye x y (n - 1)
-  unfolding objectsBytesOf objectListOf
+      → objectsBytesBiased vram regs eye x y n ≡ objectListOf vram regs eye x y (n - 1) ++ objectsBytesBiased vram regs eye x y (n - 1)
+  unfolding objectsBytesBiased objectListOf
   objects-step zero h = absurd (omega arith)
   objects-step (suc m) h = let f : suc m - 1 ≡ m = omega arith in rw f
 
-  pub objects-none : (n : ℕ) → n ≡ 0 → objectsBytesOf vram regs eye x y n ≡ []
-  unfolding objectsBytesOf
+  pub objects-none : (n : ℕ) → n ≡ 0 → objectsBytesBiased vram regs eye x y n ≡ []
+  unfolding objectsBytesBiased
   objects-none n e = rw e
 
 module _ (regs : List ℕ) (k : ℕ) where
@@ -125,7 +123,7 @@ module _ (regs : List ℕ) (k : ℕ) where
   groups-on worlds group h l e = rw (groups-step worlds group h l, e)
 
 -- an object's bytes from its halfwords as they were read
-pub object-row-bytes : (o : List ℕ) (y cell row a : ℕ) → a ≡ rowAddressOf cell row → cell ≡ getD o 3 0 → row ≡ objectRowOf o y
-    → halfBytesOf a ≡ objectBytesOf o y
-unfolding objectBytesOf
+pub object-row-bytes : (o : List ℕ) (y cell row a : ℕ) → a ≡ rowAddressOf cell row → cell ≡ getD o 3 0 → row ≡ objectRowBiased o y
+    → halfBytesOf a ≡ objectBytesBiased o y
+unfolding objectBytesBiased
 object-row-bytes o y cell row a e f g = rw (e, f, g)

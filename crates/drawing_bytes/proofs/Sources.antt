@@ -9,43 +9,44 @@ use lib.ListN.{getD, length}
 use Rattle.word.specs.LittleEndian.{halfAt}
 use Rattle.drawing_pixel.specs.Character.{rowAddressOf}
 use borrow.Author.Tests.{eq-eqb, ne-eqb}
-use Rattle.drawing_pixel.specs.Signed.{biasedOf}
-use Rattle.drawing_pixel.specs.World.{bgmOf, gyOf, windowLeftOf, columnInOf, rowInOf, worldCoversOf, skippedOf}
-use Rattle.drawing_pixel.specs.Background.{parameterAddressOf, parameterOf, biasIndexOf, plainLeftOf, normalXOf}
-use Rattle.drawing_pixel.specs.Background.{normalYOf, biasXOf, affineShiftOf, affineFloorOf, affineParameterOf}
-use Rattle.drawing_pixel.specs.Background.{affineXOf, affineYOf, sourceXOf, sourceYOf, cellAddressOf}
-use Rattle.drawing_pixel.specs.Background.{sourceCellAddressOf}
+use Rattle.drawing_pixel.specs.inner.BiasedFields.{biasedOf, gyBiased}
+use Rattle.drawing_pixel.specs.World.{bgmOf, skippedOf}
+use Rattle.drawing_pixel.specs.inner.BiasedWindow.{windowLeftBiased, columnInBiased, rowInBiased, worldCoversBiased}
+use Rattle.drawing_pixel.specs.Background.{parameterAddressOf, parameterOf, biasIndexOf}
+use Rattle.drawing_pixel.specs.inner.BiasedSource.{plainLeftBiased, normalXBiased, normalYBiased, biasXBiased, affineShiftBiased, affineFloorBiased}
+use Rattle.drawing_pixel.specs.inner.BiasedSource.{affineParameterBiased, affineXBiased, affineYBiased, sourceXBiased, sourceYBiased}
+use Rattle.drawing_pixel.specs.inner.BiasedCell.{cellAddressBiased, sourceCellAddressBiased}
 use Rattle.drawing_laws.specs.PixelBytes.{halfBytesOf, affineBytesOf, parameterBytesOf}
-use Rattle.drawing_laws.specs.inner.SourceBytes.{cellBytesOf, backgroundBytesOf, worldBytesOf}
+use Rattle.drawing_laws.specs.inner.SourceBytes.{cellBytesBiased, backgroundBytesBiased, worldBytesBiased}
 use Rattle.drawing_bytes.specs.inner.Room.{Listing}
 use Rattle.drawing_bytes.proofs.Listings.{listing-more, listing-as}
 
 module _ (vram w : List ℕ) (eye i j : ℕ) where
-  pub normal-x : bgmOf w ≡ 0 → plainLeftOf w eye + i ≡ sourceXOf vram w eye i j
-  unfolding sourceXOf normalXOf
+  pub normal-x : bgmOf w ≡ 0 → plainLeftBiased w eye + i ≡ sourceXBiased vram w eye i j
+  unfolding sourceXBiased normalXBiased
   normal-x e = simp (eq-eqb (bgmOf w) 0 e)
 
-  pub bias-x : bgmOf w ≡ 1 → plainLeftOf w eye + i + biasedOf 4096 (parameterOf vram w (biasIndexOf eye j)) - 4096 ≡ sourceXOf vram w eye i j
-  unfolding sourceXOf biasXOf normalXOf
+  pub bias-x : bgmOf w ≡ 1 → plainLeftBiased w eye + i + biasedOf 4096 (parameterOf vram w (biasIndexOf eye j)) - 4096 ≡ sourceXBiased vram w eye i j
+  unfolding sourceXBiased biasXBiased normalXBiased
   bias-x e = simp (ne-eqb (bgmOf w) 0 (λ f. omega arith), eq-eqb (bgmOf w) 1 e)
 
   pub affine-x : (bgmOf w ≡ 0 → ⊥) → (bgmOf w ≡ 1 → ⊥)
-      → affineFloorOf (affineParameterOf vram w j 0) (affineParameterOf vram w j 3) (i + affineShiftOf eye (affineParameterOf vram w j 1))
-      ≡ sourceXOf vram w eye i j
-  unfolding sourceXOf affineXOf
+      → affineFloorBiased (affineParameterBiased vram w j 0) (affineParameterBiased vram w j 3) (i + affineShiftBiased eye (affineParameterBiased vram w j 1))
+      ≡ sourceXBiased vram w eye i j
+  unfolding sourceXBiased affineXBiased
   affine-x m n = simp (ne-eqb (bgmOf w) 0 m, ne-eqb (bgmOf w) 1 n)
 
-  pub plain-y : bgmOf w < 2 → normalYOf w j ≡ sourceYOf vram w eye i j
-  unfolding sourceYOf
+  pub plain-y : bgmOf w < 2 → normalYBiased w j ≡ sourceYBiased vram w eye i j
+  unfolding sourceYBiased
   plain-y h = elim (ℕ-discrete (bgmOf w) 1) [
     | yes e ↦ simp (ne-eqb (bgmOf w) 0 (λ f. omega arith), eq-eqb (bgmOf w) 1 e)
     | no n ↦ simp (eq-eqb (bgmOf w) 0 (omega arith))
   ]
 
   pub affine-y : 2 ≤ bgmOf w
-      → affineFloorOf (affineParameterOf vram w j 2) (affineParameterOf vram w j 4) (i + affineShiftOf eye (affineParameterOf vram w j 1))
-      ≡ sourceYOf vram w eye i j
-  unfolding sourceYOf affineYOf
+      → affineFloorBiased (affineParameterBiased vram w j 2) (affineParameterBiased vram w j 4) (i + affineShiftBiased eye (affineParameterBiased vram w j 1))
+      ≡ sourceYBiased vram w eye i j
+  unfolding sourceYBiased affineYBiased
   affine-y h = simp (ne-eqb (bgmOf w) 0 (λ e. omega arith), ne-eqb (bgmOf w) 1 (λ e. omega arith))
 
 module _ (w : List ℕ) (eye j : ℕ) where
@@ -62,26 +63,26 @@ module _ (w : List ℕ) (eye j : ℕ) where
   affine-parameters m n = simp (ne-eqb (bgmOf w) 0 m, ne-eqb (bgmOf w) 1 n)
 
 module _ (vram w : List ℕ) (eye x y : ℕ) where
-  pub background-none : worldCoversOf w eye x y ≡ false → [] ≡ backgroundBytesOf vram w eye x y
-  unfolding backgroundBytesOf
+  pub background-none : worldCoversBiased w eye x y ≡ false → [] ≡ backgroundBytesBiased vram w eye x y
+  unfolding backgroundBytesBiased
   background-none e = rw e
 
-  pub background-there : (i j sx sy : ℕ) → worldCoversOf w eye x y ≡ true → i ≡ x + 1024 - windowLeftOf w eye → j ≡ y + 32768 - gyOf w
-      → sx ≡ sourceXOf vram w eye i j → sy ≡ sourceYOf vram w eye i j
-      → parameterBytesOf w eye j ++ cellBytesOf vram w sx sy ≡ backgroundBytesOf vram w eye x y
-  unfolding backgroundBytesOf columnInOf rowInOf
+  pub background-there : (i j sx sy : ℕ) → worldCoversBiased w eye x y ≡ true → i ≡ x + 1024 - windowLeftBiased w eye → j ≡ y + 32768 - gyBiased w
+      → sx ≡ sourceXBiased vram w eye i j → sy ≡ sourceYBiased vram w eye i j
+      → parameterBytesOf w eye j ++ cellBytesBiased vram w sx sy ≡ backgroundBytesBiased vram w eye x y
+  unfolding backgroundBytesBiased columnInBiased rowInBiased
   background-there i j sx sy e f g p q = rw (p, q, f, g, e)
 
-  pub world-skipped : skippedOf w ≡ true → [] ≡ worldBytesOf vram w eye x y
-  unfolding worldBytesOf
+  pub world-skipped : skippedOf w ≡ true → [] ≡ worldBytesBiased vram w eye x y
+  unfolding worldBytesBiased
   world-skipped e = rw e
 
-  pub world-objects : skippedOf w ≡ false → bgmOf w ≡ 3 → [] ≡ worldBytesOf vram w eye x y
-  unfolding worldBytesOf
+  pub world-objects : skippedOf w ≡ false → bgmOf w ≡ 3 → [] ≡ worldBytesBiased vram w eye x y
+  unfolding worldBytesBiased
   world-objects e f = rw e (simp (eq-eqb (bgmOf w) 3 f))
 
-  pub world-background : skippedOf w ≡ false → (bgmOf w ≡ 3 → ⊥) → backgroundBytesOf vram w eye x y ≡ worldBytesOf vram w eye x y
-  unfolding worldBytesOf
+  pub world-background : skippedOf w ≡ false → (bgmOf w ≡ 3 → ⊥) → backgroundBytesBiased vram w eye x y ≡ worldBytesBiased vram w eye x y
+  unfolding worldBytesBiased
   world-background e f = rw e (simp (ne-eqb (bgmOf w) 3 f))
 
 -- the lists that are written halfword by halfword
@@ -107,13 +108,13 @@ pub affine-length : (w : List ℕ) (j : ℕ) → length (affineBytesOf w j) ≡ 
 unfolding affineBytesOf
 affine-length w j = refl
 
-pub cell-listing : (vram w : List ℕ) (sx sy n r s at cell row : ℕ) (m₀ m₁ m₂ : List ℕ) → at ≡ cellAddressOf w (sx / 8) (sy / 8)
+pub cell-listing : (vram w : List ℕ) (sx sy n r s at cell row : ℕ) (m₀ m₁ m₂ : List ℕ) → at ≡ cellAddressBiased w (sx / 8) (sy / 8)
     → cell ≡ halfAt vram at → row ≡ rowAddressOf cell (sy % 8) → Listing n (halfBytesOf at) r m₀ m₁ → Listing r (halfBytesOf row) s m₁ m₂
-    → Listing n (cellBytesOf vram w sx sy) s m₀ m₂
-unfolding cellBytesOf sourceCellAddressOf
+    → Listing n (cellBytesBiased vram w sx sy) s m₀ m₂
+unfolding cellBytesBiased sourceCellAddressBiased
 cell-listing vram w sx sy n r s at cell row m₀ m₁ m₂ e f g p q =
-    listing-more n r s (halfBytesOf (cellAddressOf w (sx / 8) (sy / 8))) _ m₀ m₁ m₂ (rw e at p) (rw (g, f, e) at q)
+    listing-more n r s (halfBytesOf (cellAddressBiased w (sx / 8) (sy / 8))) _ m₀ m₁ m₂ (rw e at p) (rw (g, f, e) at q)
 
-pub cell-length : (vram w : List ℕ) (sx sy : ℕ) → length (cellBytesOf vram w sx sy) ≡ 4
-unfolding cellBytesOf
+pub cell-length : (vram w : List ℕ) (sx sy : ℕ) → length (cellBytesBiased vram w sx sy) ≡ 4
+unfolding cellBytesBiased
 cell-length vram w sx sy = refl

@@ -9,24 +9,24 @@ use borrow.Author.Tests.{eq-eqb, ne-eqb}
 use Rattle.word.specs.Choose.{pick}
 use Rattle.drawing_pixel.specs.World.{worldOf, endOf, skippedOf, bgmOf}
 use Rattle.drawing_pixel.specs.Pixel.{drawsObjectsOf}
-use Rattle.drawing_laws.specs.inner.SourceBytes.{worldBytesOf, worldsBytesOf}
+use Rattle.drawing_laws.specs.inner.SourceBytes.{worldBytesBiased, worldsBytesBiased}
 use Rattle.drawing_bytes.specs.inner.Groups.{reachedObjectWorldsOf}
 
 module _ (vram : List ℕ) where
   module _ (eye x y : ℕ) where
     pub worlds-step : (n : ℕ) → 0 < n → endOf (worldOf vram (n - 1)) ≡ false
-        → worldsBytesOf vram eye x y n ≡ worldBytesOf vram (worldOf vram (n - 1)) eye x y ++ worldsBytesOf vram eye x y (n - 1)
-    unfolding worldsBytesOf
+        → worldsBytesBiased vram eye x y n ≡ worldBytesBiased vram (worldOf vram (n - 1)) eye x y ++ worldsBytesBiased vram eye x y (n - 1)
+    unfolding worldsBytesBiased
     worlds-step zero h e = absurd (omega arith)
     worlds-step (suc m) h e = let f : suc m - 1 ≡ m = omega arith in rw f (rw (rw f at e))
 
-    pub worlds-ended : (n : ℕ) → 0 < n → endOf (worldOf vram (n - 1)) ≡ true → worldsBytesOf vram eye x y n ≡ []
-    unfolding worldsBytesOf
+    pub worlds-ended : (n : ℕ) → 0 < n → endOf (worldOf vram (n - 1)) ≡ true → worldsBytesBiased vram eye x y n ≡ []
+    unfolding worldsBytesBiased
     worlds-ended zero h e = absurd (omega arith)
     worlds-ended (suc m) h e = let f : suc m - 1 ≡ m = omega arith in rw (rw f at e)
 
-    pub worlds-none : (n : ℕ) → n ≡ 0 → worldsBytesOf vram eye x y n ≡ []
-    unfolding worldsBytesOf
+    pub worlds-none : (n : ℕ) → n ≡ 0 → worldsBytesBiased vram eye x y n ≡ []
+    unfolding worldsBytesBiased
     worlds-none n e = rw e
 
   pub reached-step : (n : ℕ) → 0 < n → endOf (worldOf vram (n - 1)) ≡ false

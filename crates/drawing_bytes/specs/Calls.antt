@@ -31,7 +31,7 @@ answerOf verdict.Accepted false count = Outside
 answerOf verdict.Accepted true count = Count count
 
 -- the answer: how many addresses demand 3's list has
-unfoldable pub listedOf : List ℕ → List ℕ → ℕ → ℕ → ℕ → Listed
+unfoldable pub listedOf : (vram regs : List ℕ) (eye x y : ℕ) → Listed
 listedOf vram regs eye x y =
     answerOf (bytesVerdictOf vram regs) (inImageOf eye x y) (length (pixelBytesOf vram regs eye x y))
 
@@ -46,6 +46,6 @@ whenListed (Refused n) room filled = room
 whenListed Outside room filled = room
 
 -- the room after the call
-unfoldable pub roomOf : List ℕ → List ℕ → ℕ → ℕ → ℕ → List ℕ → List ℕ
+unfoldable pub roomOf : (vram regs : List ℕ) (eye x y : ℕ) (room : List ℕ) → List ℕ
 roomOf vram regs eye x y room =
     whenListed (listedOf vram regs eye x y) room (filledOf (pixelBytesOf vram regs eye x y) room)

@@ -3,11 +3,12 @@ ghost use mathlib.Core.Path.{_≡_};
 ghost use Prim.Native.Nat.{_+_, _*_, _<_, _≤_};
 ghost use lib.ListN.{length};
 ghost use Rattle.bus.specs.Refusal.{vramBytes};
-ghost use Rattle.drawing_pixel.specs.World.{worldOf, worldCoversOf};
-ghost use Rattle.drawing_pixel.specs.Background.{sourceXOf, sourceYOf};
+ghost use Rattle.drawing_pixel.specs.World.{worldOf};
+ghost use Rattle.drawing_pixel.specs.inner.BiasedWindow.{worldCoversBiased};
+ghost use Rattle.drawing_pixel.specs.inner.BiasedSource.{sourceXBiased, sourceYBiased};
 ghost use Rattle.drawing_laws.specs.PixelBytes.{affineBytesOf, parameterBytesOf};
-ghost use Rattle.drawing_laws.specs.inner.SourceBytes.{cellBytesOf};
-ghost use Rattle.drawing_laws.specs.inner.SourceBytes.{backgroundBytesOf, worldBytesOf, worldsBytesOf};
+ghost use Rattle.drawing_laws.specs.inner.SourceBytes.{cellBytesBiased};
+ghost use Rattle.drawing_laws.specs.inner.SourceBytes.{backgroundBytesBiased, worldBytesBiased, worldsBytesBiased};
 ghost use Rattle.drawing_bytes.specs.inner.Room.{Lists};
 use crate::room::put_half;
 use drawing_background::cell::cell_address;
@@ -31,7 +32,7 @@ use drawing_pixel::world::world;
 // Whether a background world covers a pixel.
 pub fn covers(w: &[u16; 11], eye: usize, x: usize, y: usize) -> bool
     requires { ⌜ (x < 384) × (y < 224) ⌝ }
-    ensures { λ r. ⌜ r ≡ worldCoversOf (now (w .entry)) eye x y ⌝ }
+    ensures { λ r. ⌜ r ≡ worldCoversBiased (now (w .entry)) eye x y ⌝ }
 {
     if !flag(eye, w[0]) {
         return false;
@@ -53,7 +54,7 @@ pub fn covers(w: &[u16; 11], eye: usize, x: usize, y: usize) -> bool
 // The source x of a window's offsets.
 pub fn source_x(vram: &[u8], w: &[u16; 11], eye: usize, i: usize, j: usize) -> usize
     requires { ⌜ (length (now vram) ≡ vramBytes) × ((i < 2048) × (j < 65536)) ⌝ }
-    ensures { λ r. ⌜ r ≡ sourceXOf (now (vram .entry)) (now (w .entry)) eye i j ⌝ }
+    ensures { λ r. ⌜ r ≡ sourceXBiased (now (vram .entry)) (now (w .entry)) eye i j ⌝ }
 {
     let bgm = w[0] / 4096 % 4;
     if bgm == 0 {
@@ -74,7 +75,7 @@ pub fn source_x(vram: &[u8], w: &[u16; 11], eye: usize, i: usize, j: usize) -> u
 // The source y of a window's offsets.
 pub fn source_y(vram: &[u8], w: &[u16; 11], eye: usize, i: usize, j: usize) -> usize
     requires { ⌜ (length (now vram) ≡ vramBytes) × ((i < 2048) × (j < 65536)) ⌝ }
-    ensures { λ r. ⌜ r ≡ sourceYOf (now (vram .entry)) (now (w .entry)) eye i j ⌝ }
+    ensures { λ r. ⌜ r ≡ sourceYBiased (now (vram .entry)) (now (w .entry)) eye i j ⌝ }
 {
     let bgm = w[0] / 4096 % 4;
     if bgm < 2 {
@@ -126,7 +127,7 @@ pub fn list_cell(
     sy: usize,
 ) -> usize
     requires { ⌜ (length (now vram) ≡ vramBytes) × (n < 8192) ⌝ }
-    ensures { λ r. ⌜ Lists room n (cellBytesOf (now (vram .entry)) (now (w .entry)) sx sy) r ⌝ }
+    ensures { λ r. ⌜ Lists room n (cellBytesBiased (now (vram .entry)) (now (w .entry)) sx sy) r ⌝ }
 {
     let at = cell_address(w, sx / 8, sy / 8);
     let cell = wide(half(vram, at));
@@ -145,7 +146,7 @@ pub fn list_background(
     y: usize,
 ) -> usize
     requires { ⌜ (length (now vram) ≡ vramBytes) × ((n < 4096) × ((x < 384) × (y < 224))) ⌝ }
-    ensures { λ r. ⌜ Lists room n (backgroundBytesOf (now (vram .entry)) (now (w .entry)) eye x y) r ⌝ }
+    ensures { λ r. ⌜ Lists room n (backgroundBytesBiased (now (vram .entry)) (now (w .entry)) eye x y) r ⌝ }
     ensures { λ r. ⌜ r ≤ n + 14 ⌝ }
 {
     if !covers(w, eye, x, y) {
@@ -175,7 +176,7 @@ pub fn list_world(
     y: usize,
 ) -> usize
     requires { ⌜ (length (now vram) ≡ vramBytes) × ((n < 4096) × ((k < 32) × ((x < 384) × (y < 224)))) ⌝ }
-    ensures { λ r. ⌜ Lists room n (worldBytesOf (now (vram .entry)) (worldOf (now (vram .entry)) k) eye x y) r ⌝ }
+    ensures { λ r. ⌜ Lists room n (worldBytesBiased (now (vram .entry)) (worldOf (now (vram .entry)) k) eye x y) r ⌝ }
     ensures { λ r. ⌜ r ≤ n + 14 ⌝ }
 {
     let w = world(vram, k);
@@ -192,7 +193,7 @@ pub fn list_world(
 // The bytes of worlds 31 to 0; END stops.
 pub fn list_worlds(vram: &[u8], room: &mut [u32], eye: usize, x: usize, y: usize) -> usize
     requires { ⌜ (length (now vram) ≡ vramBytes) × ((x < 384) × (y < 224)) ⌝ }
-    ensures { λ r. ⌜ Lists room 0 (worldsBytesOf (now (vram .entry)) eye x y 32) r ⌝ }
+    ensures { λ r. ⌜ Lists room 0 (worldsBytesBiased (now (vram .entry)) eye x y 32) r ⌝ }
     ensures { λ r. ⌜ r ≤ 448 ⌝ }
 {
     let mut n = 0;

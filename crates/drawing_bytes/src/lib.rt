@@ -13,7 +13,7 @@ ghost use Prim.Native.Nat.{ℕ, _<_};
 ghost use lib.ListN.{length};
 ghost use Rattle.bus.specs.Refusal.{vramBytes};
 ghost use Rattle.bus.specs.Registers.{sptOf};
-ghost use Rattle.drawing_laws.specs.inner.SourceBytes.{sourceBytesOf};
+ghost use Rattle.drawing_laws.specs.inner.SourceBytes.{pixelBytesBiased};
 ghost use Rattle.drawing_bytes.specs.inner.Room.{Lists};
 ghost use Rattle.drawing_bytes.specs.Calls.{listedOf, roomOf};
 
@@ -36,7 +36,7 @@ fn list(
 ) -> usize
     requires { ⌜ (length (now vram) ≡ vramBytes) × ((x < 384) × (y < 224)) ⌝ }
     requires { ⌜ ((g : ℕ) → g < 4 → sptOf (now registers) g < 1024) ⌝ }
-    ensures { λ r. ⌜ Lists room 0 (sourceBytesOf (now (vram .entry)) (now (registers .entry)) eye x y) r ⌝ }
+    ensures { λ r. ⌜ Lists room 0 (pixelBytesBiased (now (vram .entry)) (now (registers .entry)) eye x y) r ⌝ }
 {
     let n = background::list_worlds(vram, room, eye, x, y);
     let worlds = objects::object_worlds(vram);

@@ -1,16 +1,17 @@
 // The bytes of the objects, 1,023 to 0, each once however often it is drawn.
 use bus::DrawingRegisters;
 ghost use mathlib.Core.Path.{_≡_};
-ghost use mathlib.Core.List.{List, []};
+ghost use mathlib.Core.List.{List};
 ghost use Prim.Native.Nat.{ℕ, _+_, _*_, _<_, _≤_};
 ghost use lib.ListN.{length, getD};
 ghost use Rattle.bus.specs.Refusal.{vramBytes};
 ghost use Rattle.word.specs.Choose.{pick};
 ghost use Rattle.bus.specs.Registers.{sptOf};
-ghost use Rattle.drawing_pixel.specs.Object.{objectOf, objectCoversOf};
+ghost use Rattle.drawing_pixel.specs.Object.{objectOf};
+ghost use Rattle.drawing_pixel.specs.inner.BiasedObject.{objectCoversBiased};
 ghost use Rattle.drawing_pixel.specs.Pixel.{drawsObjectsOf};
 ghost use Rattle.drawing_laws.specs.Covers.{inGroupOf};
-ghost use Rattle.drawing_laws.specs.inner.SourceBytes.{objectsBytesOf};
+ghost use Rattle.drawing_laws.specs.inner.SourceBytes.{objectsBytesBiased};
 ghost use Rattle.drawing_bytes.specs.inner.Room.{Lists};
 ghost use Rattle.drawing_bytes.specs.inner.Groups.{reachedObjectWorldsOf, inGroupsOf, objectListOf};
 use crate::room::put_half;
@@ -83,7 +84,7 @@ pub fn in_groups(registers: &DrawingRegisters, worlds: usize, k: usize) -> bool
 // Whether an object's square holds a pixel, and the object is shown to the eye.
 pub fn covers(o: &[u16; 4], eye: usize, x: usize, y: usize) -> bool
     requires { ⌜ (x < 384) × (y < 224) ⌝ }
-    ensures { λ r. ⌜ r ≡ objectCoversOf (now (o .entry)) eye x y ⌝ }
+    ensures { λ r. ⌜ r ≡ objectCoversBiased (now (o .entry)) eye x y ⌝ }
 {
     if !flag(eye, o[1]) {
         return false;
@@ -150,7 +151,7 @@ pub fn list_objects(
     requires { ⌜ ((g : ℕ) → g < 4 → sptOf (now registers) g < 1024) ⌝ }
     ensures { λ r. ⌜
         Lists room start
-        (objectsBytesOf (now (vram .entry)) (now (registers .entry)) (pixel .eye) (pixel .x) (pixel .y) 1024) r
+        (objectsBytesBiased (now (vram .entry)) (now (registers .entry)) (pixel .eye) (pixel .x) (pixel .y) 1024) r
         ⌝ }
 {
     let mut n = start;

@@ -38,7 +38,7 @@ unfoldable pub columnEntryOf : ℕ → ℕ → ℕ
 columnEntryOf start x = start - x / 4
 
 -- the apparent brightness of pixel (x, y)
-unfoldable pub brightnessOf : List ℕ → View → Durations → ℕ → ℕ → ℕ
+unfoldable pub brightnessOf : (vram : List ℕ) (view : View) (d : Durations) (x y : ℕ) → ℕ
 brightnessOf vram view d x y =
     lampLevelOf d (storedPixelOf vram (view .frame) (view .eye) x y)
     (repeatsOf (tableEntryOf vram (view .eye) (columnEntryOf (view .start) x)))

@@ -23,7 +23,7 @@ use Rattle.drawing_laws.specs.Drawn.{frameCall, stripCall, drawsStripOf,
 use Rattle.drawing_laws.proofs.Verdicts.{stripTest, accepted-given}
 use Rattle.drawing_laws.proofs.Registers.{bkcol-below}
 use Rattle.drawing_laws.proofs.Images.{pixel-outside-images}
-use Rattle.drawing_laws.proofs.PixelValue.{pixel-below}
+use Rattle.drawing_pixel.proofs.Small.{pixel-small}
 use Rattle.drawing_laws.proofs.StripBytes.{length-strip, strip-kept}
 use Rattle.drawing_laws.proofs.StripPixel.{byte-drawn, pixel-of-strip, pixel-of-others}
 
@@ -63,7 +63,7 @@ module _ (vram regs : List ℕ) (frame : ℕ) where
           → storedPixelOf (stripOf before regs frame s) frame eye x y ≡ pixelOf before regs eye x y
       strip-pixel before m s r q =
           pixel-of-strip before regs frame eye x s m f e c r
-          (λ row. pixel-below before regs eye x row (bkcol-below regs ok)) y q
+          (λ row. pixel-small before regs eye x row (bkcol-below regs ok)) y q
 
       strips-pixel : (n : ℕ) → n ≤ 28 → y / 8 < n
           → storedPixelOf (stripsOf vram regs frame n) frame eye x y ≡ pixelOf vram regs eye x y

@@ -14,7 +14,7 @@ use Rattle.drawing_pixel.specs.Pixel.{drawsObjectsOf, counterOf}
 use Rattle.drawing_pixel.proofs.Painting.{object-covered}
 use Rattle.drawing_laws.specs.Covers.{noEndOf, reachedOf, objectWorldsOf, groupOf, inGroupOf, drawsOverOf, someBelow, objectCoversPixelOf}
 use Rattle.drawing_laws.specs.PixelBytes.{amongOf}
-use Rattle.drawing_laws.specs.inner.SourceBytes.{worldDrawsOf, worldsDrawOf}
+use Rattle.drawing_laws.specs.inner.SourceBytes.{worldDrawsBiased, worldsDrawBiased}
 use Rattle.word.proofs.Choices.{and-left, and-right, and-both, or-left, or-right, or-cases}
 use Rattle.drawing_laws.proofs.Groups.{in-group-among, object-worlds-below, counter-step}
 use Rattle.drawing_laws.proofs.DrawnCovers.{no-end-more, group-is}
@@ -52,8 +52,8 @@ module _ (vram regs : List ℕ) (starts : Starts regs) (eye x y j : ℕ) (b : j 
   over-draws : (n counter : ℕ) → counter < 4
       → groupOf vram n ≡ counter
       → drawsOverOf vram regs eye x y j n ≡ true
-      → worldDrawsOf vram regs (worldOf vram n) counter eye x y j ≡ true
-  unfolding drawsOverOf worldDrawsOf
+      → worldDrawsBiased vram regs (worldOf vram n) counter eye x y j ≡ true
+  unfolding drawsOverOf worldDrawsBiased
   over-draws n counter c g d =
       let w = worldOf vram n in
       let drawn = and-right (reachedOf vram n) _ d in
@@ -68,8 +68,8 @@ module _ (vram regs : List ℕ) (starts : Starts regs) (eye x y j : ℕ) (b : j 
       → counter < 4
       → counter ≡ (35 - objectWorldsOf vram n k) % 4
       → someBelow n (drawsOverOf vram regs eye x y j) ≡ true
-      → worldsDrawOf vram regs eye x y n counter j ≡ true
-  unfolding worldsDrawOf someBelow objectWorldsOf
+      → worldsDrawBiased vram regs eye x y n counter j ≡ true
+  unfolding worldsDrawBiased someBelow objectWorldsOf
   some-drawn zero k counter q h u c d = absurd (false≢true d)
   some-drawn (suc n) k counter q h u c d =
       go (endOf (worldOf vram n)) refl (some-drawn n (suc k) (counterOf (worldOf vram n) counter) (omega arith))
@@ -79,10 +79,10 @@ module _ (vram regs : List ℕ) (starts : Starts regs) (eye x y j : ℕ) (b : j 
           → counterOf (worldOf vram n) counter < 4
           → counterOf (worldOf vram n) counter ≡ (35 - objectWorldsOf vram n (suc k)) % 4
           → someBelow n (drawsOverOf vram regs eye x y j) ≡ true
-          → worldsDrawOf vram regs eye x y n (counterOf (worldOf vram n) counter) j ≡ true)
+          → worldsDrawBiased vram regs eye x y n (counterOf (worldOf vram n) counter) j ≡ true)
           → pick t false
-          (worldDrawsOf vram regs (worldOf vram n) counter eye x y j
-          || worldsDrawOf vram regs eye x y n (counterOf (worldOf vram n) counter) j)
+          (worldDrawsBiased vram regs (worldOf vram n) counter eye x y j
+          || worldsDrawBiased vram regs eye x y n (counterOf (worldOf vram n) counter) j)
           ≡ true
       go true e later =
           absurd
@@ -93,10 +93,10 @@ module _ (vram regs : List ℕ) (starts : Starts regs) (eye x y j : ℕ) (b : j 
           or-cases (drawsOverOf vram regs eye x y j n) (someBelow n (drawsOverOf vram regs eye x y j)) d
           (λ g. or-left _ _ (over-draws n counter u (group-is vram n k q ∙ sym c) g))
           (λ g.
-          or-right (worldDrawsOf vram regs (worldOf vram n) counter eye x y j) _
+          or-right (worldDrawsBiased vram regs (worldOf vram n) counter eye x y j) _
           (later (no-end-more vram n k e h) (counter-below (worldOf vram n) counter u)
           (counter-step (worldOf vram n) counter (objectWorldsOf vram (suc n) k) (omega arith) c) g))
 
-  pub covers-drawn : objectCoversPixelOf vram regs eye x y j ≡ true → worldsDrawOf vram regs eye x y 32 3 j ≡ true
+  pub covers-drawn : objectCoversPixelOf vram regs eye x y j ≡ true → worldsDrawBiased vram regs eye x y 32 3 j ≡ true
   unfolding objectCoversPixelOf noEndOf objectWorldsOf
   covers-drawn = some-drawn 32 0 3 refl refl (omega arith) refl

@@ -11,7 +11,7 @@ use Rattle.drawing_pixel.specs.Pixel.{drawsObjectsOf, counterOf}
 use Rattle.drawing_pixel.proofs.Painting.{object-covered}
 use Rattle.drawing_laws.specs.Covers.{noEndOf, reachedOf, objectWorldsOf, groupOf, inGroupOf, drawsOverOf, someBelow, objectCoversPixelOf}
 use Rattle.drawing_laws.specs.PixelBytes.{amongOf}
-use Rattle.drawing_laws.specs.inner.SourceBytes.{worldDrawsOf, worldsDrawOf}
+use Rattle.drawing_laws.specs.inner.SourceBytes.{worldDrawsBiased, worldsDrawBiased}
 use Rattle.word.proofs.Choices.{and-left, and-right, and-both, or-left, or-right, or-cases, pick-second, not-of-false}
 use Rattle.drawing_laws.proofs.Groups.{among-in-group, object-worlds-below, counter-step}
 
@@ -35,9 +35,9 @@ group-is vram n k q =
 
 module _ (vram regs : List ℕ) (eye x y j : ℕ) (b : j < 1024) where
   world-draws : (n counter : ℕ) → reachedOf vram n ≡ true → groupOf vram n ≡ counter
-      → worldDrawsOf vram regs (worldOf vram n) counter eye x y j ≡ true
+      → worldDrawsBiased vram regs (worldOf vram n) counter eye x y j ≡ true
       → drawsOverOf vram regs eye x y j n ≡ true
-  unfolding drawsOverOf worldDrawsOf
+  unfolding drawsOverOf worldDrawsBiased
   world-draws n counter r g d =
       let w = worldOf vram n in
       let rest = and-right (drawsObjectsOf w) _ d in
@@ -52,22 +52,22 @@ module _ (vram regs : List ℕ) (eye x y j : ℕ) (b : j < 1024) where
   worlds-draw : (n k counter : ℕ) → n + k ≡ 32
       → noEndOf vram n k ≡ true
       → counter ≡ (35 - objectWorldsOf vram n k) % 4
-      → worldsDrawOf vram regs eye x y n counter j ≡ true
+      → worldsDrawBiased vram regs eye x y n counter j ≡ true
       → someBelow n (drawsOverOf vram regs eye x y j) ≡ true
-  unfolding worldsDrawOf someBelow objectWorldsOf
+  unfolding worldsDrawBiased someBelow objectWorldsOf
   worlds-draw zero k counter q h c d = absurd (false≢true d)
   worlds-draw (suc n) k counter q h c d =
       pick-second (endOf (worldOf vram n)) _ d
       (λ e f.
       let on : noEndOf vram n (suc k) ≡ true = no-end-more vram n k e h in
       let few : objectWorldsOf vram (suc n) k ≤ k = object-worlds-below vram (suc n) k in
-      or-cases (worldDrawsOf vram regs (worldOf vram n) counter eye x y j) _ f
+      or-cases (worldDrawsBiased vram regs (worldOf vram n) counter eye x y j) _ f
       (λ g. or-left _ _ (world-draws n counter (reached vram n k q on) (group-is vram n k q ∙ sym c) g))
       (λ g.
       or-right (drawsOverOf vram regs eye x y j n) _
       (worlds-draw n (suc k) (counterOf (worldOf vram n) counter) (omega arith) on
       (counter-step (worldOf vram n) counter (objectWorldsOf vram (suc n) k) (omega arith) c) g)))
 
-  pub drawn-covers : worldsDrawOf vram regs eye x y 32 3 j ≡ true → objectCoversPixelOf vram regs eye x y j ≡ true
+  pub drawn-covers : worldsDrawBiased vram regs eye x y 32 3 j ≡ true → objectCoversPixelOf vram regs eye x y j ≡ true
   unfolding objectCoversPixelOf noEndOf objectWorldsOf
   drawn-covers = worlds-draw 32 0 3 refl refl refl

@@ -8,7 +8,7 @@ use native.Mathlib.Omega.{arith}
 use borrow.Author.Tests.{ltb-true, le-ltb}
 use Rattle.drawing_laws.specs.Demand3.{SameByte, SameTables, PixelOutsideImages}
 use Rattle.drawing_laws.specs.Drawn.{inImagesOf}
-use Rattle.drawing_laws.specs.inner.SourceBytes.{sourceBytesOf}
+use Rattle.drawing_laws.specs.inner.SourceBytes.{pixelBytesBiased}
 use Rattle.drawing_laws.proofs.Each.{each-map}
 use Rattle.drawing_laws.proofs.Registers.{spt-below}
 use Rattle.drawing_laws.proofs.ListedAddresses.{Clear, listed-clear}
@@ -35,5 +35,5 @@ tables-outside first second frame h =
 pub pixel-outside-images : PixelOutsideImages
 pixel-outside-images first second regs frame eye x y ok h =
     pixel-same first second (tables-outside first second frame h) regs (spt-below regs ok) eye x y
-    (each-map Clear (SameByte first second) (sourceBytesOf first regs eye x y) (λ a c. h a (clear-outside frame a c))
+    (each-map Clear (SameByte first second) (pixelBytesBiased first regs eye x y) (λ a c. h a (clear-outside frame a c))
     (listed-clear first regs eye x y))

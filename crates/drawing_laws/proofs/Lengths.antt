@@ -8,14 +8,16 @@ use native.Mathlib.Omega.{arith}
 use lib.ListN.{length, getD, length-append}
 use lib.Dec.{eqb}
 use Rattle.word.specs.Choose.{pick}
-use Rattle.drawing_pixel.specs.Signed.{bitSet, eyeFlagOf}
-use Rattle.drawing_pixel.specs.World.{worldOf, endOf, skippedOf, worldShownOf, bgmOf, columnInOf, rowInOf, worldCoversOf}
-use Rattle.drawing_pixel.specs.Background.{parameterAddressOf, biasIndexOf, sourceXOf, sourceYOf}
+use Rattle.drawing_pixel.specs.Flags.{bitSet, eyeFlagOf}
+use Rattle.drawing_pixel.specs.World.{worldOf, endOf, skippedOf, worldShownOf, bgmOf}
+use Rattle.drawing_pixel.specs.inner.BiasedWindow.{columnInBiased, rowInBiased, worldCoversBiased}
+use Rattle.drawing_pixel.specs.Background.{parameterAddressOf, biasIndexOf}
+use Rattle.drawing_pixel.specs.inner.BiasedSource.{sourceXBiased, sourceYBiased}
 use Rattle.drawing_pixel.specs.Object.{objectOf}
 use Rattle.drawing_laws.specs.Covers.{noEndOf, reachedOf, backgroundCoversOf, objectCoversPixelOf, countBelow, coveringWorldsOf, coveringObjectsOf}
 use Rattle.drawing_laws.specs.PixelBytes.{halfBytesOf, affineBytesOf, parameterBytesOf}
-use Rattle.drawing_laws.specs.inner.SourceBytes.{cellBytesOf, backgroundBytesOf, worldBytesOf, worldsBytesOf}
-use Rattle.drawing_laws.specs.inner.SourceBytes.{worldsDrawOf, objectBytesOf, objectsBytesOf, sourceBytesOf}
+use Rattle.drawing_laws.specs.inner.SourceBytes.{cellBytesBiased, backgroundBytesBiased, worldBytesBiased, worldsBytesBiased}
+use Rattle.drawing_laws.specs.inner.SourceBytes.{worldsDrawBiased, objectBytesBiased, objectsBytesBiased, pixelBytesBiased}
 use Rattle.drawing_laws.specs.Demand3.{worldBytesCountOf, sumBelow, ListedLength}
 use Rattle.drawing_pixel.proofs.Painting.{world-covers}
 use Rattle.drawing_laws.proofs.PixelBytes.{listed-formula}
@@ -42,8 +44,8 @@ hidden left false true s c = false≢true s
 hidden true false false s c = false≢true c
 hidden false false false s c = false≢true c
 
-skipped-hidden : (w : List ℕ) (eye x y : ℕ) → skippedOf w ≡ true → worldCoversOf w eye x y ≡ true → ⊥
-unfolding skippedOf worldCoversOf worldShownOf eyeFlagOf
+skipped-hidden : (w : List ℕ) (eye x y : ℕ) → skippedOf w ≡ true → worldCoversBiased w eye x y ≡ true → ⊥
+unfolding skippedOf worldCoversBiased worldShownOf eyeFlagOf
 skipped-hidden w eye x y s c =
     hidden (eqb eye 0) (bitSet 15 (getD w 0 0)) (bitSet 14 (getD w 0 0)) s (and-left (pick (eqb eye 0) (bitSet 15 (getD w 0 0)) (bitSet 14 (getD w 0 0))) _ c)
 
@@ -71,19 +73,19 @@ parameters-length w eye j = go (eqb (bgmOf w) 0) (eqb (bgmOf w) 1)
     go false false = refl
 
 world-length : (vram : List ℕ) (n eye x y : ℕ) → reachedOf vram n ≡ true
-    → length (worldBytesOf vram (worldOf vram n) eye x y)
+    → length (worldBytesBiased vram (worldOf vram n) eye x y)
     ≡ pick (backgroundCoversOf vram eye x y n) (worldBytesCountOf (worldOf vram n)) 0
-unfolding worldBytesOf backgroundBytesOf backgroundCoversOf
+unfolding worldBytesBiased backgroundBytesBiased backgroundCoversOf
 world-length vram n eye x y r =
     let w = worldOf vram n in
-    let i = columnInOf w eye x in
-    let j = rowInOf w y in
+    let i = columnInBiased w eye x in
+    let j = rowInBiased w y in
     let parameters = parameterBytesOf w eye j in
-    let cell = cellBytesOf vram w (sourceXOf vram w eye i j) (sourceYOf vram w eye i j) in
-    let c : length (cellBytesOf vram w (sourceXOf vram w eye i j) (sourceYOf vram w eye i j)) ≡ 4
-    = cell-length vram w (sourceXOf vram w eye i j) (sourceYOf vram w eye i j) in
+    let cell = cellBytesBiased vram w (sourceXBiased vram w eye i j) (sourceYBiased vram w eye i j) in
+    let c : length (cellBytesBiased vram w (sourceXBiased vram w eye i j) (sourceYBiased vram w eye i j)) ≡ 4
+    = cell-length vram w (sourceXBiased vram w eye i j) (sourceYBiased vram w eye i j) in
     rw (r, ← world-covers w eye x y)
-    (chosen-length (skippedOf w) (eqb (bgmOf w) 3) (worldCoversOf w eye x y) (parameters ++ cell) (worldBytesCountOf w)
+    (chosen-length (skippedOf w) (eqb (bgmOf w) 3) (worldCoversBiased w eye x y) (parameters ++ cell) (worldBytesCountOf w)
     (length-append parameters cell ∙ ap (λ (m : ℕ). length parameters + m) c ∙ parameters-length w eye j)
     (skipped-hidden w eye x y))
 
@@ -92,18 +94,18 @@ unfolding backgroundCoversOf
 covers-reached vram eye x y n e = and-left (reachedOf vram n) _ e
 
 worlds-length : (vram : List ℕ) (eye x y n k : ℕ) → n + k ≡ 32 → noEndOf vram n k ≡ true
-    → length (worldsBytesOf vram eye x y n)
+    → length (worldsBytesBiased vram eye x y n)
     ≡ sumBelow n (backgroundCoversOf vram eye x y) (λ m. worldBytesCountOf (worldOf vram m))
-unfolding worldsBytesOf sumBelow
+unfolding worldsBytesBiased sumBelow
 worlds-length vram eye x y zero k q h = refl
 worlds-length vram eye x y (suc n) k q h =
     go (endOf (worldOf vram n)) refl (worlds-length vram eye x y n (suc k) (omega arith))
   where
     go : (b : Bool) → endOf (worldOf vram n) ≡ b
         → (noEndOf vram n (suc k) ≡ true
-        → length (worldsBytesOf vram eye x y n)
+        → length (worldsBytesBiased vram eye x y n)
         ≡ sumBelow n (backgroundCoversOf vram eye x y) (λ m. worldBytesCountOf (worldOf vram m)))
-        → length (pick b [] (worldBytesOf vram (worldOf vram n) eye x y ++ worldsBytesOf vram eye x y n))
+        → length (pick b [] (worldBytesBiased vram (worldOf vram n) eye x y ++ worldsBytesBiased vram eye x y n))
         ≡ pick (backgroundCoversOf vram eye x y n) (worldBytesCountOf (worldOf vram n)) 0
         + sumBelow n (backgroundCoversOf vram eye x y) (λ m. worldBytesCountOf (worldOf vram m))
     go true e later =
@@ -113,36 +115,36 @@ worlds-length vram eye x y (suc n) k q h =
         omega arith
     go false e later =
         let on : noEndOf vram n (suc k) ≡ true = no-end-more vram n k e h in
-        length-append (worldBytesOf vram (worldOf vram n) eye x y) (worldsBytesOf vram eye x y n)
+        length-append (worldBytesBiased vram (worldOf vram n) eye x y) (worldsBytesBiased vram eye x y n)
         ∙ rw (world-length vram n eye x y (reached vram n k q on), later on)
 
 objects-no-fewer : (vram regs : List ℕ) (eye x y n : ℕ) → Starts regs → n ≤ 1024
-    → 2 * countBelow n (objectCoversPixelOf vram regs eye x y) ≤ length (objectsBytesOf vram regs eye x y n)
-unfolding objectsBytesOf objectBytesOf countBelow
+    → 2 * countBelow n (objectCoversPixelOf vram regs eye x y) ≤ length (objectsBytesBiased vram regs eye x y n)
+unfolding objectsBytesBiased objectBytesBiased countBelow
 objects-no-fewer vram regs eye x y zero s h = omega arith
 objects-no-fewer vram regs eye x y (suc k) s h =
     rw
-    (length-append (pick (worldsDrawOf vram regs eye x y 32 3 k) (objectBytesOf (objectOf vram k) y) [])
-    (objectsBytesOf vram regs eye x y k))
+    (length-append (pick (worldsDrawBiased vram regs eye x y 32 3 k) (objectBytesBiased (objectOf vram k) y) [])
+    (objectsBytesBiased vram regs eye x y k))
     (let this = go (objectCoversPixelOf vram regs eye x y k) refl in
     let rest = objects-no-fewer vram regs eye x y k s (omega arith) in
     omega arith)
   where
     go : (b : Bool) → objectCoversPixelOf vram regs eye x y k ≡ b
-        → 2 * pick b 1 0 ≤ length (pick (worldsDrawOf vram regs eye x y 32 3 k) (objectBytesOf (objectOf vram k) y) [])
+        → 2 * pick b 1 0 ≤ length (pick (worldsDrawBiased vram regs eye x y 32 3 k) (objectBytesBiased (objectOf vram k) y) [])
     go true e = rw (covers-drawn vram regs s eye x y k h e) (omega arith)
     go false e = omega arith
 
 source-length : (vram regs : List ℕ) (eye x y : ℕ) → Starts regs
-    → length (sourceBytesOf vram regs eye x y)
+    → length (pixelBytesBiased vram regs eye x y)
     ≡ sumBelow 32 (backgroundCoversOf vram eye x y) (λ n. worldBytesCountOf (worldOf vram n))
     + 2 * coveringObjectsOf vram regs eye x y
-unfolding sourceBytesOf coveringObjectsOf noEndOf
+unfolding pixelBytesBiased coveringObjectsOf noEndOf
 source-length vram regs eye x y s =
     let least = objects-no-fewer vram regs eye x y 1024 s (omega arith) in
     let most = objects-few vram regs eye x y 1024 (omega arith) in
     let worlds = worlds-length vram eye x y 32 0 refl refl in
-    length-append (worldsBytesOf vram eye x y 32) (objectsBytesOf vram regs eye x y 1024) ∙ rw worlds (omega arith)
+    length-append (worldsBytesBiased vram eye x y 32) (objectsBytesBiased vram regs eye x y 1024) ∙ rw worlds (omega arith)
 
 pub listed-length : ListedLength
 listed-length vram regs eye x y ok =

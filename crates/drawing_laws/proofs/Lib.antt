@@ -15,7 +15,6 @@ mod Halfwords
 mod ListedBytes
 mod ObjectsSame
 pub mod PixelSame
-mod PixelValue
 mod Registers
 pub mod StripBytes
 mod StripPixel

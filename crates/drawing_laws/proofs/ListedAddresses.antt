@@ -6,14 +6,15 @@ use mathlib.Core.List.{List}
 use lib.ListN.{getD}
 use native.Mathlib.Omega.{arith}
 use Rattle.word.specs.Choose.{pick}
-use Rattle.drawing_pixel.specs.Signed.{bitSet}
+use Rattle.drawing_pixel.specs.Flags.{bitSet}
 use Rattle.drawing_pixel.specs.Character.{characterAddressOf, flippedOf, rowAddressOf}
 use Rattle.drawing_pixel.specs.World.{worldOf, overOf, scxOf, scyOf}
-use Rattle.drawing_pixel.specs.Background.{parameterAddressOf, insideOf, mapNumberOf, mapCellAddressOf, cellAddressOf, sourceCellAddressOf}
+use Rattle.drawing_pixel.specs.Background.{parameterAddressOf, mapNumberOf}
+use Rattle.drawing_pixel.specs.inner.BiasedCell.{insideBiased, mapCellAddressBiased, cellAddressBiased, sourceCellAddressBiased}
 use Rattle.drawing_laws.proofs.PixelBytes.{listed-formula}
 use Rattle.drawing_laws.specs.Demand3.{Each, ListedInVram}
 use Rattle.drawing_laws.specs.PixelBytes.{halfBytesOf}
-use Rattle.drawing_laws.specs.inner.SourceBytes.{sourceBytesOf}
+use Rattle.drawing_laws.specs.inner.SourceBytes.{pixelBytesBiased}
 use Rattle.drawing_laws.proofs.ListedBytes.{listed-each}
 
 -- an address is clear of every image: past the images, or in the last quarter of its 0x8000 bytes
@@ -45,12 +46,12 @@ map-number-below : (w : List ℕ) (c r : ℕ) → mapNumberOf w c r < 16
 unfolding mapNumberOf
 map-number-below w c r = omega arith
 
-map-cell-from : (w : List ℕ) (u v : ℕ) → 0x20000 ≤ mapCellAddressOf w u v
-unfolding mapCellAddressOf
+map-cell-from : (w : List ℕ) (u v : ℕ) → 0x20000 ≤ mapCellAddressBiased w u v
+unfolding mapCellAddressBiased
 map-cell-from w u v = omega arith
 
-map-cell-below : (w : List ℕ) (u v : ℕ) → mapCellAddressOf w u v + 1 < 262144
-unfolding mapCellAddressOf
+map-cell-below : (w : List ℕ) (u v : ℕ) → mapCellAddressBiased w u v + 1 < 262144
+unfolding mapCellAddressBiased
 map-cell-below w u v =
     let n : mapNumberOf w (u % 2 ^ (6 + scxOf w) / 64) (v % 2 ^ (6 + scyOf w) / 64) < 16 = map-number-below w _ _ in
     omega arith
@@ -63,13 +64,13 @@ pick-cell-below : (b : Bool) (p q : ℕ) → p + 1 < 262144 → q + 1 < 262144 �
 pick-cell-below true p q h k = omega arith
 pick-cell-below false p q h k = omega arith
 
-cell-clear : (w : List ℕ) (sx sy : ℕ) → Each Clear (halfBytesOf (sourceCellAddressOf w sx sy))
-unfolding sourceCellAddressOf cellAddressOf
+cell-clear : (w : List ℕ) (sx sy : ℕ) → Each Clear (halfBytesOf (sourceCellAddressBiased w sx sy))
+unfolding sourceCellAddressBiased cellAddressBiased
 cell-clear w sx sy =
-    pick-cell-from (overOf w && not (insideOf w (sx / 8) (sy / 8))) (0x20000 + 2 * getD w 10 0)
-    (mapCellAddressOf w (sx / 8) (sy / 8)) (omega arith) (map-cell-from w (sx / 8) (sy / 8))
+    pick-cell-from (overOf w && not (insideBiased w (sx / 8) (sy / 8))) (0x20000 + 2 * getD w 10 0)
+    (mapCellAddressBiased w (sx / 8) (sy / 8)) (omega arith) (map-cell-from w (sx / 8) (sy / 8))
 
-pub listed-clear : (vram regs : List ℕ) (eye x y : ℕ) → Each Clear (sourceBytesOf vram regs eye x y)
+pub listed-clear : (vram regs : List ℕ) (eye x y : ℕ) → Each Clear (pixelBytesBiased vram regs eye x y)
 listed-clear vram regs eye x y =
     listed-each Clear vram parameter-clear (λ n sx sy. cell-clear (worldOf vram n) sx sy) row-clear regs eye x y
 
@@ -79,13 +80,13 @@ unfolding worldOf
 overplane-below vram n h = omega (arith, h (0x3D800 + 32 * n + 20), h (0x3D800 + 32 * n + 20 + 1))
 
 cell-in-vram : (vram : List ℕ) (n sx sy : ℕ) → ((a : ℕ) → getD vram a 0 < 256)
-    → Each (λ a. a < 262144) (halfBytesOf (sourceCellAddressOf (worldOf vram n) sx sy))
-unfolding sourceCellAddressOf cellAddressOf
+    → Each (λ a. a < 262144) (halfBytesOf (sourceCellAddressBiased (worldOf vram n) sx sy))
+unfolding sourceCellAddressBiased cellAddressBiased
 cell-in-vram vram n sx sy h =
     let w = worldOf vram n in
     let o : getD (worldOf vram n) 10 0 < 65536 = overplane-below vram n h in
-    pick-cell-below (overOf w && not (insideOf w (sx / 8) (sy / 8))) (0x20000 + 2 * getD (worldOf vram n) 10 0)
-    (mapCellAddressOf w (sx / 8) (sy / 8)) (omega arith) (map-cell-below w (sx / 8) (sy / 8))
+    pick-cell-below (overOf w && not (insideBiased w (sx / 8) (sy / 8))) (0x20000 + 2 * getD (worldOf vram n) 10 0)
+    (mapCellAddressBiased w (sx / 8) (sy / 8)) (omega arith) (map-cell-below w (sx / 8) (sy / 8))
 
 pub listed-in-vram : ListedInVram
 listed-in-vram vram regs eye x y h =

@@ -9,10 +9,11 @@ use lib.Dec.{eqb}
 use native.Mathlib.Omega.{arith}
 use borrow.Author.Tests.{eq-eqb}
 use Rattle.bus.specs.Registers.{jpltOf}
-use Rattle.drawing_pixel.specs.Object.{objectOf, objectRowOf, objectColumnOf, objectCoversOf, objectPixelOf, objectAfterOf, objectsPixelOf}
+use Rattle.drawing_pixel.specs.Object.{objectOf, objectAfterOf}
+use Rattle.drawing_pixel.specs.inner.BiasedObject.{objectRowBiased, objectColumnBiased, objectCoversBiased, objectPixelBiased, objectsPixelBiased}
 use Rattle.drawing_laws.specs.Demand3.{Each, SameByte, SameTables}
 use Rattle.drawing_laws.specs.PixelBytes.{amongOf}
-use Rattle.drawing_laws.specs.inner.SourceBytes.{objectBytesOf}
+use Rattle.drawing_laws.specs.inner.SourceBytes.{objectBytesBiased}
 use Rattle.word.proofs.Choices.{pick-same, or-left, or-right}
 use Rattle.drawing_laws.proofs.Halfwords.{object-same}
 use Rattle.drawing_laws.proofs.BackgroundSame.{cell-pixel-same}
@@ -23,12 +24,12 @@ after-below k = omega arith
 
 module _ (first second : List ℕ) where
   object-pixel-same : (regs o : List ℕ) (eye x y before : ℕ)
-      → (objectCoversOf o eye x y ≡ true → Each (SameByte first second) (objectBytesOf o y))
-      → objectPixelOf second regs o eye x y before ≡ objectPixelOf first regs o eye x y before
-  unfolding objectPixelOf objectBytesOf
+      → (objectCoversBiased o eye x y ≡ true → Each (SameByte first second) (objectBytesBiased o y))
+      → objectPixelBiased second regs o eye x y before ≡ objectPixelBiased first regs o eye x y before
+  unfolding objectPixelBiased objectBytesBiased
   object-pixel-same regs o eye x y before h =
-      pick-same (objectCoversOf o eye x y)
-      (λ e. cell-pixel-same first second (jpltOf regs) (getD o 3 0) (objectColumnOf o eye x) (objectRowOf o y) before (h e))
+      pick-same (objectCoversBiased o eye x y)
+      (λ e. cell-pixel-same first second (jpltOf regs) (getD o 3 0) (objectColumnBiased o eye x) (objectRowBiased o y) before (h e))
       (λ _. refl)
 
 -- the rows of `count` objects from object k downwards that cover the pixel are the same
@@ -36,13 +37,13 @@ abbrev pub RowsSame : List ℕ → List ℕ → ℕ → ℕ → ℕ → ℕ → 
 RowsSame first second eye x y count k =
     (j : ℕ) → j < 1024
     → amongOf count k j ≡ true
-    → objectCoversOf (objectOf first j) eye x y ≡ true
-    → Each (SameByte first second) (objectBytesOf (objectOf first j) y)
+    → objectCoversBiased (objectOf first j) eye x y ≡ true
+    → Each (SameByte first second) (objectBytesBiased (objectOf first j) y)
 
 rows-first : (first second : List ℕ) (eye x y count k : ℕ) → k < 1024
     → RowsSame first second eye x y (suc count) k
-    → objectCoversOf (objectOf first k) eye x y ≡ true
-    → Each (SameByte first second) (objectBytesOf (objectOf first k) y)
+    → objectCoversBiased (objectOf first k) eye x y ≡ true
+    → Each (SameByte first second) (objectBytesBiased (objectOf first k) y)
 unfolding amongOf
 rows-first first second eye x y count k b h e = h k b (or-left (eqb k k) _ (eq-eqb k k refl)) e
 
@@ -54,8 +55,8 @@ rows-later first second eye x y count k h j b a e = h j b (or-right (eqb k j) _ 
 pub objects-same : (first second : List ℕ) → SameTables first second
     → (regs : List ℕ) (eye x y count k before : ℕ) → k < 1024
     → RowsSame first second eye x y count k
-    → objectsPixelOf second regs eye x y count k before ≡ objectsPixelOf first regs eye x y count k before
-unfolding objectsPixelOf
+    → objectsPixelBiased second regs eye x y count k before ≡ objectsPixelBiased first regs eye x y count k before
+unfolding objectsPixelBiased
 objects-same first second t regs eye x y zero k before b h = refl
 objects-same first second t regs eye x y (suc count) k before b h =
     rw (

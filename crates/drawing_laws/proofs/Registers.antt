@@ -2,21 +2,14 @@
 use Prim.Native.Nat.{ℕ, zero, suc, _^_, _<_}
 use mathlib.Core.Bool.{Bool, true, false}
 use mathlib.Core.List.{List, [], _∷_}
-use mathlib.Core.Path.{_≡_, refl}
+use mathlib.Core.Path.{_≡_}
 use lib.ListN.{getD}
 use lib.Dec.{ltb}
 use native.Mathlib.Omega.{arith}
 use borrow.Author.Tests.{ltb-true}
 use Rattle.word.specs.Choose.{pick}
+use Rattle.word.proofs.Choices.{pick-both}
 use Rattle.bus.specs.Registers.{sptOf, bkcolOf, widthOf, drawingOk}
-
-first : (a : Bool) (b : Bool) → pick a b false ≡ true → a ≡ true
-first true b e = refl
-first false b e = e
-
-later : (a : Bool) (b : Bool) → pick a b false ≡ true → b ≡ true
-later true b e = e
-later false b e = cc
 
 -- whether each register named is within its width; of all thirteen, this is what `drawingOk` computes to
 abbrev withinEach : List ℕ → List ℕ → Bool
@@ -30,10 +23,9 @@ Within d (k ∷ ks) = (getD d k 0 < 2 ^ widthOf k) × Within d ks
 
 within : (d ks : List ℕ) → withinEach d ks ≡ true → Within d ks
 within d [] e = tt
-within d (k ∷ ks) e = (
-  ltb-true (getD d k 0) (2 ^ widthOf k) (first _ (withinEach d ks) e),
-  within d ks (later (ltb (getD d k 0) (2 ^ widthOf k)) _ e),
-)
+within d (k ∷ ks) e =
+    let both = pick-both (ltb (getD d k 0) (2 ^ widthOf k)) (withinEach d ks) e in
+    (ltb-true (getD d k 0) (2 ^ widthOf k) (both .0), within d ks (both .1))
 
 all : (d : List ℕ) → drawingOk d ≡ true → Within d (0 ∷ 1 ∷ 2 ∷ 3 ∷ 4 ∷ 5 ∷ 6 ∷ 7 ∷ 8 ∷ 9 ∷ 10 ∷ 11 ∷ 12 ∷ [])
 unfolding drawingOk

@@ -34,12 +34,12 @@ unfoldable pub inGroupOf : List ℕ → ℕ → ℕ → Bool
 inGroupOf regs n k = ltb ((sptOf regs n + 1024 - k) % 1024) (groupCountOf regs n)
 
 -- whether world n is a background world that covers the pixel: reached, shown to the eye, the pixel in its window
-unfoldable pub backgroundCoversOf : List ℕ → ℕ → ℕ → ℕ → ℕ → Bool
+unfoldable pub backgroundCoversOf : (vram : List ℕ) (eye x y n : ℕ) → Bool
 backgroundCoversOf vram eye x y n =
     reachedOf vram n && (not (eqb (bgmOf (worldOf vram n)) 3) && worldCovers (worldOf vram n) eye x y)
 
 -- whether world n is a reached object world that draws object k to the eye, the pixel in the object's square
-unfoldable pub drawsOverOf : List ℕ → List ℕ → ℕ → ℕ → ℕ → ℕ → ℕ → Bool
+unfoldable pub drawsOverOf : (vram regs : List ℕ) (eye x y k n : ℕ) → Bool
 drawsOverOf vram regs eye x y k n =
     reachedOf vram n
     && (drawsObjectsOf (worldOf vram n)
@@ -56,7 +56,7 @@ countBelow zero f = 0
 countBelow (suc n) f = pick (f n) 1 0 + countBelow n f
 
 -- whether object k covers the pixel: some object world draws it there
-unfoldable pub objectCoversPixelOf : List ℕ → List ℕ → ℕ → ℕ → ℕ → ℕ → Bool
+unfoldable pub objectCoversPixelOf : (vram regs : List ℕ) (eye x y k : ℕ) → Bool
 objectCoversPixelOf vram regs eye x y k = someBelow 32 (drawsOverOf vram regs eye x y k)
 
 -- the number of background worlds that cover the pixel
@@ -64,5 +64,5 @@ unfoldable pub coveringWorldsOf : List ℕ → ℕ → ℕ → ℕ → ℕ
 coveringWorldsOf vram eye x y = countBelow 32 (backgroundCoversOf vram eye x y)
 
 -- the number of objects that cover the pixel, each counted once
-unfoldable pub coveringObjectsOf : List ℕ → List ℕ → ℕ → ℕ → ℕ → ℕ
+unfoldable pub coveringObjectsOf : (vram regs : List ℕ) (eye x y : ℕ) → ℕ
 coveringObjectsOf vram regs eye x y = countBelow 1024 (objectCoversPixelOf vram regs eye x y)

@@ -47,7 +47,7 @@ cellBytes vram w x y =
     ++ halfBytesOf (rowAddressOf (halfAt vram (cellAddress w x y)) (aboveZero (modZ y 8)))
 
 -- the bytes of a background world, none where it does not cover the pixel; i = x - (GX -/+ GP) and j = y - GY
-abbrev pub backgroundBytes : List ℕ → List ℕ → ℕ → ℕ → ℕ → List ℕ
+abbrev pub backgroundBytes : (vram w : List ℕ) (eye x y : ℕ) → List ℕ
 backgroundBytes vram w eye x y =
     let i = aboveZero (pos x -ℤ windowLeft w eye) in
     let j = aboveZero (pos y -ℤ GY w) in
@@ -55,11 +55,11 @@ backgroundBytes vram w eye x y =
     (parameterBytesOf w eye j ++ cellBytes vram w (sourceX vram w eye i j) (sourceY vram w eye i j)) []
 
 -- the bytes of a world, those of its objects aside
-abbrev pub worldBytes : List ℕ → List ℕ → ℕ → ℕ → ℕ → List ℕ
+abbrev pub worldBytes : (vram w : List ℕ) (eye x y : ℕ) → List ℕ
 worldBytes vram w eye x y = pick (skippedOf w) [] (pick (eqb (bgmOf w) 3) [] (backgroundBytes vram w eye x y))
 
 -- the bytes of worlds n - 1 to 0; END stops
-unfoldable pub worldsBytes : List ℕ → ℕ → ℕ → ℕ → ℕ → List ℕ
+unfoldable pub worldsBytes : (vram : List ℕ) (eye x y n : ℕ) → List ℕ
 worldsBytes vram eye x y zero = []
 worldsBytes vram eye x y (suc n) =
     pick (endOf (worldOf vram n)) [] (worldBytes vram (worldOf vram n) eye x y ++ worldsBytes vram eye x y n)
@@ -70,13 +70,13 @@ amongOf zero j k = false
 amongOf (suc count) j k = eqb j k || amongOf count (objectAfterOf j) k
 
 -- whether a world draws object k of group `counter` to the eye, the pixel in the object's square
-abbrev pub worldDraws : List ℕ → List ℕ → List ℕ → ℕ → ℕ → ℕ → ℕ → ℕ → Bool
+abbrev pub worldDraws : (vram regs w : List ℕ) (counter eye x y k : ℕ) → Bool
 worldDraws vram regs w counter eye x y k =
     drawsObjectsOf w
     && (amongOf (groupCountOf regs counter) (sptOf regs counter) k && objectCovers (objectOf vram k) eye x y)
 
 -- the same of worlds n - 1 to 0, at an object counter; END stops
-unfoldable pub worldsDraw : List ℕ → List ℕ → ℕ → ℕ → ℕ → ℕ → ℕ → ℕ → Bool
+unfoldable pub worldsDraw : (vram regs : List ℕ) (eye x y n counter k : ℕ) → Bool
 worldsDraw vram regs eye x y zero counter k = false
 worldsDraw vram regs eye x y (suc n) counter k =
     pick (endOf (worldOf vram n)) false
@@ -88,11 +88,11 @@ abbrev pub objectBytes : List ℕ → ℕ → List ℕ
 objectBytes o y = halfBytesOf (rowAddressOf (getD o 3 0) (aboveZero (objectRow o y)))
 
 -- the bytes of objects n - 1 to 0, each listed once however often it is drawn
-unfoldable pub objectsBytes : List ℕ → List ℕ → ℕ → ℕ → ℕ → ℕ → List ℕ
+unfoldable pub objectsBytes : (vram regs : List ℕ) (eye x y k : ℕ) → List ℕ
 objectsBytes vram regs eye x y zero = []
 objectsBytes vram regs eye x y (suc k) =
     pick (worldsDraw vram regs eye x y 32 3 k) (objectBytes (objectOf vram k) y) [] ++ objectsBytes vram regs eye x y k
 
 -- the bytes that the pixel at column x and row y of an eye's image answers to
-unfoldable pub pixelBytesOf : List ℕ → List ℕ → ℕ → ℕ → ℕ → List ℕ
+unfoldable pub pixelBytesOf : (vram regs : List ℕ) (eye x y : ℕ) → List ℕ
 pixelBytesOf vram regs eye x y = worldsBytes vram eye x y 32 ++ objectsBytes vram regs eye x y 1024

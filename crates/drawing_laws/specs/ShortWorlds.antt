@@ -3,21 +3,24 @@
 -- proofs/. GY and H are signed; strip s is rows 8s to 8s + 7, so that the strip holding row g ends above row
 -- 8 (g / 8 + 1).
 use Prim.Native.Nat.{ℕ, _+_, _*_, _/_, _≤_, _<_}
-use mathlib.Core.Bool.{true, false}
+use mathlib.Core.Bool.{true, false, _&&_}
 use mathlib.Core.List.{List}
 use mathlib.Core.Path.{_≡_}
-use lib.IntN.{pos}
-use Rattle.drawing_pixel.specs.World.{worldOf, bgmOf, rowsOf, worldShownOf, columnCoveredOf}
-use Rattle.drawing_pixel.specs.Fields.{GY, H}
-use Rattle.drawing_pixel.specs.HeightFormulas.{topInImage}
-use Rattle.drawing_pixel.specs.WindowFormulas.{plainRow}
+use lib.IntN.{pos, _+ℤ_}
+use lib.Signed.{leZ, ltZ}
+use Rattle.drawing_pixel.specs.World.{worldOf, bgmOf, worldShownOf}
+use Rattle.drawing_pixel.specs.Fields.{GY, W, H}
+use Rattle.drawing_pixel.specs.HeightFormulas.{topInImage, rows}
+use Rattle.drawing_pixel.specs.WindowFormulas.{windowLeft, plainRow}
 use Rattle.drawing_laws.specs.Covers.{reachedOf, backgroundCoversOf}
 
--- world n is reached, shown to the eye, and its columns hold column x
+-- world n is reached, shown to the eye, and its columns hold column x: GX -/+ GP ≤ x < GX -/+ GP + (W + 1)
 pub record Showing (vram : List ℕ) (eye x n : ℕ) : Type 0 where
   pub reached : reachedOf vram n ≡ true
   pub shown : worldShownOf (worldOf vram n) eye ≡ true
-  pub column : columnCoveredOf (worldOf vram n) eye x ≡ true
+  pub column :
+      let w = worldOf vram n in
+      leZ (windowLeft w eye) (pos x) && ltZ (pos x) (windowLeft w eye +ℤ (W w +ℤ pos 1)) ≡ true
 
 -- world n is normal or H-bias, and its GY is g, from 0 to 223
 pub record WorldTopInImage (vram : List ℕ) (n g : ℕ) : Type 0 where
@@ -67,4 +70,4 @@ OutsidePlain =
 
 -- "with GY 3 and a stored H of 1, 5 rows"
 abbrev pub FiveRows : Type 0
-FiveRows = (w : List ℕ) → bgmOf w < 2 → GY w ≡ pos 3 → H w ≡ pos 1 → rowsOf w ≡ 5
+FiveRows = (w : List ℕ) → bgmOf w < 2 → GY w ≡ pos 3 → H w ≡ pos 1 → rows w ≡ 5

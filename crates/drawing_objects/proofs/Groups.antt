@@ -7,7 +7,8 @@ use mathlib.Core.List.{List}
 use lib.ListN.{getD, length}
 use Rattle.bus.specs.Registers.{sptOf}
 use Rattle.drawing_pixel.specs.Character.{twoBitsOf}
-use Rattle.drawing_pixel.specs.Object.{objectOf, objectPixelOf, objectAfterOf, objectsPixelOf, groupPixelOf, groupCountOf}
+use Rattle.drawing_pixel.specs.Object.{objectOf, objectAfterOf, groupCountOf}
+use Rattle.drawing_pixel.specs.inner.BiasedObject.{objectPixelBiased, objectsPixelBiased, groupPixelBiased}
 use Rattle.drawing_pixel.specs.inner.Buffer.{Strip}
 
 -- how many objects a group other than 0 has
@@ -25,36 +26,36 @@ module _ (vram regs : List ℕ) (eye strip n : ℕ) where
   pub record Drawing (left k : ℕ) (before after : List ℕ) : Type 0 where
     pub size : length after ≡ length before
     pub pixels : (x r : ℕ) → x < 384 → r < 8
-        → objectsPixelOf vram regs eye x (8 * strip + r) left k (twoBitsOf (getD after x 0) r)
-        ≡ groupPixelOf vram regs n eye x (8 * strip + r) (twoBitsOf (getD before x 0) r)
+        → objectsPixelBiased vram regs eye x (8 * strip + r) left k (twoBitsOf (getD after x 0) r)
+        ≡ groupPixelBiased vram regs n eye x (8 * strip + r) (twoBitsOf (getD before x 0) r)
 
   pub group-begun : (left k : ℕ) (a : List ℕ) → left ≡ groupCountOf regs n → k ≡ sptOf regs n → Drawing left k a a
-  unfolding groupPixelOf
+  unfolding groupPixelBiased
   group-begun left k a e f = record { size = refl; pixels = λ x r u v. rw (e, f) }
 
   objects-step : (x y left k v : ℕ) → 0 < left
-      → objectsPixelOf vram regs eye x y left k v
-      ≡ objectsPixelOf vram regs eye x y (left - 1) (objectAfterOf k) (objectPixelOf vram regs (objectOf vram k) eye x y v)
-  unfolding objectsPixelOf
+      → objectsPixelBiased vram regs eye x y left k v
+      ≡ objectsPixelBiased vram regs eye x y (left - 1) (objectAfterOf k) (objectPixelBiased vram regs (objectOf vram k) eye x y v)
+  unfolding objectsPixelBiased
   objects-step x y zero k v h = absurd (omega arith)
   objects-step x y (suc m) k v h = let e : suc m - 1 ≡ m = omega arith in rw e
 
   pub group-more : (left k : ℕ) (a b c : List ℕ) → 0 < left → Drawing left k a b
-      → Strip (λ x r. objectPixelOf vram regs (objectOf vram k) eye x (8 * strip + r)) b c
+      → Strip (λ x r. objectPixelBiased vram regs (objectOf vram k) eye x (8 * strip + r)) b c
       → Drawing (left - 1) ((k + 1023) % 1024) a c
   unfolding objectAfterOf
   group-more left k a b c h d s =
       record {
         size = s .size ∙ d .size;
         pixels = λ x r u v.
-            ap (objectsPixelOf vram regs eye x (8 * strip + r) (left - 1) ((k + 1023) % 1024)) (s .pixels x r u v)
+            ap (objectsPixelBiased vram regs eye x (8 * strip + r) (left - 1) ((k + 1023) % 1024)) (s .pixels x r u v)
             ∙ (sym (objects-step x (8 * strip + r) left k (twoBitsOf (getD b x 0) r) h) ∙ d .pixels x r u v);
       }
 
   pub group-done : (left k : ℕ) (a b : List ℕ) → left ≡ 0 → Drawing left k a b
-      → Strip (λ x r. groupPixelOf vram regs n eye x (8 * strip + r)) a b
-  unfolding objectsPixelOf
+      → Strip (λ x r. groupPixelBiased vram regs n eye x (8 * strip + r)) a b
+  unfolding objectsPixelBiased
   group-done left k a b e d = record { size = d .size; pixels = λ x r u v. sym (done x r) ∙ d .pixels x r u v }
     where
-      done : (x r : ℕ) → objectsPixelOf vram regs eye x (8 * strip + r) left k (twoBitsOf (getD b x 0) r) ≡ twoBitsOf (getD b x 0) r
+      done : (x r : ℕ) → objectsPixelBiased vram regs eye x (8 * strip + r) left k (twoBitsOf (getD b x 0) r) ≡ twoBitsOf (getD b x 0) r
       done x r = rw e

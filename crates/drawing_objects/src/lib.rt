@@ -7,8 +7,9 @@ ghost use Prim.Native.Nat.{ℕ, _+_, _-_, _*_, _<_, _≤_};
 ghost use lib.ListN.{length};
 ghost use Rattle.bus.specs.Refusal.{vramBytes};
 ghost use Rattle.bus.specs.Registers.{sptOf};
-ghost use Rattle.drawing_pixel.specs.Object.{objectOf, objectShownOf, objectRowOf, objectLeftOf, objectPixelOf};
-ghost use Rattle.drawing_pixel.specs.Object.{groupCountOf, groupPixelOf};
+ghost use Rattle.drawing_pixel.specs.Object.{objectOf, objectShownOf, groupCountOf};
+ghost use Rattle.drawing_pixel.specs.inner.BiasedObject.{objectRowBiased, objectLeftBiased, objectPixelBiased};
+ghost use Rattle.drawing_pixel.specs.inner.BiasedObject.{groupPixelBiased};
 ghost use Rattle.drawing_pixel.specs.inner.Buffer.{Span, Strip};
 use drawing_pixel::character::row_address;
 use drawing_pixel::field::clipped;
@@ -31,7 +32,7 @@ pub fn shown(o: &[u16; 4], eye: usize) -> bool
 // The object's row at image row y.
 pub fn object_row(o: &[u16; 4], y: usize) -> usize
     requires { ⌜ y < 256 ⌝ }
-    ensures { λ r. ⌜ r ≡ objectRowOf (now (o .entry)) y ⌝ }
+    ensures { λ r. ⌜ r ≡ objectRowBiased (now (o .entry)) y ⌝ }
 {
     (y + 256 - wide(o[2]) % 256) % 256
 }
@@ -52,12 +53,12 @@ pub fn object_span(
         ⌝ }
     requires { ⌜
         (objectShownOf (now o) (view .eye) ≡ true)
-        × ((objectLeftOf (now o) (view .eye) ≤ run .from + 1024)
-        × (run .to + 1024 ≤ objectLeftOf (now o) (view .eye) + 8))
+        × ((objectLeftBiased (now o) (view .eye) ≤ run .from + 1024)
+        × (run .to + 1024 ≤ objectLeftBiased (now o) (view .eye) + 8))
         ⌝ }
     ensures { λ _. ⌜
         Span (run .row) (run .from) (run .to)
-        (λ x. objectPixelOf (now (vram .entry)) (now (registers .entry)) (now (o .entry)) (view .eye)
+        (λ x. objectPixelBiased (now (vram .entry)) (now (registers .entry)) (now (o .entry)) (view .eye)
         x (8 * view .strip + run .row))
         (now (buffer .entry)) (now (buffer .exit))
         ⌝ }
@@ -86,7 +87,7 @@ pub fn object_strip(
     requires { ⌜ (length (now vram) ≡ vramBytes) × (strip < 28) ⌝ }
     ensures { λ _. ⌜
         Strip
-        (λ x r. objectPixelOf (now (vram .entry)) (now (registers .entry)) (now (o .entry)) eye
+        (λ x r. objectPixelBiased (now (vram .entry)) (now (registers .entry)) (now (o .entry)) eye
         x (8 * strip + r))
         (now (buffer .entry)) (now (buffer .exit))
         ⌝ }
@@ -121,7 +122,7 @@ pub fn paint_object(
     requires { ⌜ (length (now vram) ≡ vramBytes) × ((strip < 28) × (k < 1024)) ⌝ }
     ensures { λ _. ⌜
         Strip
-        (λ x r. objectPixelOf (now (vram .entry)) (now (registers .entry))
+        (λ x r. objectPixelBiased (now (vram .entry)) (now (registers .entry))
         (objectOf (now (vram .entry)) k) eye x (8 * strip + r))
         (now (buffer .entry)) (now (buffer .exit))
         ⌝ }
@@ -159,7 +160,7 @@ pub fn group(
     requires { ⌜ (n < 4) × ((k : ℕ) → k < 4 → sptOf (now registers) k < 1024) ⌝ }
     ensures { λ _. ⌜
         Strip
-        (λ x r. groupPixelOf (now (vram .entry)) (now (registers .entry)) n eye x (8 * strip + r))
+        (λ x r. groupPixelBiased (now (vram .entry)) (now (registers .entry)) n eye x (8 * strip + r))
         (now (buffer .entry)) (now (buffer .exit))
         ⌝ }
 {

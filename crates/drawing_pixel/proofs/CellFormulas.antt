@@ -7,12 +7,12 @@ use lib.IntN.{ℤ, pos}
 use lib.Signed.{leZ, ltZ}
 use Rattle.word.specs.Choose.{pick}
 use Rattle.drawing_pixel.specs.World.{scxOf, scyOf}
-use Rattle.drawing_pixel.specs.Background.{mapsAcrossOf, insideOf, mapCellAddressOf}
+use Rattle.drawing_pixel.specs.Background.{mapsAcrossOf, MapsAcross}
+use Rattle.drawing_pixel.specs.inner.BiasedCell.{insideBiased, mapCellAddressBiased, SourceWraps, SourceWrapsDown, SourceInCell, SourceInside, MapCell}
 use Rattle.word.proofs.Choices.{bool-same, less-same}
 use Rattle.word.proofs.Integers.{Is, is-of, is-pos, is-le-test, is-lt-test}
 use Rattle.word.specs.Floors.{modZ}
 use Rattle.word.proofs.Floors.{is-mod}
-use Rattle.drawing_pixel.specs.CellFormulas.{SourceWraps, SourceWrapsDown, SourceInCell, SourceInside, MapsAcross, MapCell}
 
 -- a claim about SCX or SCY, by its four values
 four : (P : ℕ → Type 0) → P 0 → P 1 → P 2 → P 3 → (c : ℕ) → c < 4 → P c
@@ -58,7 +58,7 @@ high =
     (λ x a i. eighth a 512 ∙ sym (is-lt-test i (is-pos 4096)))
 
 pub source-inside : SourceInside
-unfolding insideOf
+unfolding insideBiased
 source-inside w x y sx sy e f =
     rw (low x sx (is-of e), high (scxOf w) (omega arith) x sx (is-of e), low y sy (is-of f), high (scyOf w) (omega arith) y sy (is-of f))
 
@@ -94,7 +94,7 @@ cell-column c h x a s i e =
     omega arith
 
 pub map-cell : MapCell
-unfolding mapCellAddressOf
+unfolding mapCellAddressBiased
 map-cell w x y sx sy s t e f g h =
     let mc = map-column (scxOf w) (omega arith) x sx s (is-of e) g in
     let mr = map-column (scyOf w) (omega arith) y sy t (is-of f) h in

@@ -7,8 +7,8 @@ use lib.IntN.{pos, _+ℤ_}
 use Rattle.word.specs.Integers.{aboveZero}
 use Rattle.word.proofs.Integers.{Is, is-pos, is-sum, is-tied, is-above}
 use Rattle.word.proofs.Readings.{reading-biased}
-use Rattle.drawing_pixel.specs.Signed.{biasedOf}
-use Rattle.drawing_pixel.specs.Fields.{fieldOf, BiasedField}
+use Rattle.drawing_pixel.specs.inner.BiasedFields.{biasedOf, BiasedField}
+use Rattle.drawing_pixel.specs.Fields.{fieldOf}
 
 pub is-field : (half h : ℕ) → 0 < half → Is (fieldOf half h) (biasedOf half h) half
 is-field half h p =

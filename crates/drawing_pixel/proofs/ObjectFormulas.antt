@@ -9,41 +9,42 @@ use mathlib.Core.List.{List}
 use lib.ListN.{getD}
 use lib.IntN.{pos, _-ℤ_}
 use Rattle.bus.specs.Registers.{sptOf}
-use Rattle.drawing_pixel.specs.Object.{objectOf, objectLeftOf, objectRowOf, objectColumnOf, objectCoversOf}
-use Rattle.drawing_pixel.specs.Object.{objectPixelOf, objectAfterOf, groupCountOf, objectsPixelOf}
+use Rattle.drawing_pixel.specs.Object.{objectOf, objectAfterOf, groupCountOf}
+use Rattle.drawing_pixel.specs.inner.BiasedObject.{objectLeftBiased, objectRowBiased, objectColumnBiased, objectCoversBiased, objectPixelBiased}
+use Rattle.drawing_pixel.specs.inner.BiasedObject.{objectsPixelBiased, ObjectLeft, ObjectRow, ObjectCovers, ObjectColumn}
 use Rattle.word.specs.Integers.{aboveZero}
 use Rattle.word.proofs.Integers.{Is, is-pos, is-difference, is-moved, is-tied, is-natural, le-is, is-above}
 use Rattle.word.proofs.Floors.{is-mod}
 use Rattle.drawing_pixel.proofs.WindowFormulas.{is-edge, span}
-use Rattle.drawing_pixel.specs.ObjectFormulas.{objectLeft, drawnOf, ObjectLeft, ObjectRow, ObjectCovers}
-use Rattle.drawing_pixel.specs.ObjectFormulas.{ObjectColumn, ObjectDrawn, ObjectsInOrder, GroupZero}
+use Rattle.drawing_pixel.specs.ObjectFormulas.{objectLeft, drawnOf, ObjectDrawn, GroupZero}
+use Rattle.drawing_pixel.specs.Pixel.{objectPixel, objectsPixel, ObjectsInOrder}
 
-is-left : (o : List ℕ) (eye : ℕ) → Is (objectLeft o eye) (objectLeftOf o eye) 1024
-unfolding objectLeftOf
+is-left : (o : List ℕ) (eye : ℕ) → Is (objectLeft o eye) (objectLeftBiased o eye) 1024
+unfolding objectLeftBiased
 is-left o eye = is-edge eye (getD o 0 0) (getD o 1 0)
 
 pub object-left : ObjectLeft
 object-left o eye = is-tied (is-left o eye)
 
 pub object-row : ObjectRow
-unfolding objectRowOf
+unfolding objectRowBiased
 object-row o y = is-mod 256 1 (omega arith) (is-moved (is-difference (is-pos y) (is-pos (getD o 2 0 % 256))) (omega arith))
 
 pub object-covers : ObjectCovers
-unfolding objectCoversOf
+unfolding objectCoversBiased
 object-covers o eye x y = rw (← (object-row o y), ← (span 8 x (is-left o eye)))
 
 pub object-column : ObjectColumn
-unfolding objectColumnOf
+unfolding objectColumnBiased
 object-column o eye x h =
     let l = le-is (is-left o eye) (is-pos x) h in
     is-natural _ (is-difference (is-pos x) (is-left o eye)) (omega arith)
 
 -- the same with no condition: 0 to the left of the object
-pub object-offset : (o : List ℕ) (eye x : ℕ) → objectColumnOf o eye x ≡ aboveZero (pos x -ℤ objectLeft o eye)
-unfolding objectColumnOf
+pub object-offset : (o : List ℕ) (eye x : ℕ) → objectColumnBiased o eye x ≡ aboveZero (pos x -ℤ objectLeft o eye)
+unfolding objectColumnBiased
 object-offset o eye x =
-    let e : x + 1024 - objectLeftOf o eye ≡ x + 1024 - (0 + objectLeftOf o eye) = omega arith in
+    let e : x + 1024 - objectLeftBiased o eye ≡ x + 1024 - (0 + objectLeftBiased o eye) = omega arith in
     e ∙ sym (is-above (is-difference (is-pos x) (is-left o eye)))
 
 drawn-sum : (i k : ℕ) → k < 1024 → drawnOf i k ≡ (k + 1023 * i) % 1024
@@ -60,12 +61,12 @@ drawn-next zero k = refl
 drawn-next (suc i) k = ap objectAfterOf (drawn-next i k)
 
 pub objects-in-order : ObjectsInOrder
-unfolding objectsPixelOf drawnOf
+unfolding objectsPixel drawnOf
 objects-in-order vram regs eye x y zero k before = refl
 objects-in-order vram regs eye x y (suc n) k before =
-    objects-in-order vram regs eye x y n (objectAfterOf k) (objectPixelOf vram regs (objectOf vram k) eye x y before)
-    ∙ ap (λ m. objectPixelOf vram regs (objectOf vram m) eye x y
-    (objectsPixelOf vram regs eye x y n (objectAfterOf k) (objectPixelOf vram regs (objectOf vram k) eye x y before))) (drawn-next n k)
+    objects-in-order vram regs eye x y n (objectAfterOf k) (objectPixel vram regs (objectOf vram k) eye x y before)
+    ∙ ap (λ m. objectPixel vram regs (objectOf vram m) eye x y
+    (objectsPixel vram regs eye x y n (objectAfterOf k) (objectPixel vram regs (objectOf vram k) eye x y before))) (drawn-next n k)
 
 -- c objects below a is b, around 1,024 (t is 1) or not
 reached : (a b c t : ℕ) → b < 1024 → t ≤ c → a + 1024 * t ≡ b + c → (a + 1023 * c) % 1024 ≡ b

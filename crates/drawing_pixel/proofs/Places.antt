@@ -6,9 +6,9 @@ use mathlib.Core.Bool.{Bool, true, false}
 use mathlib.Core.Path.{_≡_, refl, sym, ap, _∙_}
 use lib.Bits.{bitAnd, bitXor}
 use Rattle.word.specs.Choose.{pick}
-use Rattle.drawing_pixel.specs.Signed.{bitSet}
+use Rattle.drawing_pixel.specs.Flags.{bitSet}
 use Rattle.drawing_pixel.specs.Character.{twoBitsOf, flippedOf, pixelValueOf}
-use Rattle.drawing_pixel.specs.RowBits.{PlaceUnit}
+use Rattle.drawing_pixel.specs.inner.Places.{PlaceUnit}
 use Rattle.drawing_pixel.proofs.RowBits.{bits-picked, picked-value}
 use Rattle.drawing_pixel.proofs.Pairs.{below-eight}
 

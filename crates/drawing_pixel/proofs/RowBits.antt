@@ -5,7 +5,7 @@ use native.Mathlib.Omega.{arith}
 use native.Mathlib.Numerals.{add-one}
 use mathlib.Core.Path.{_≡_, sym, ap, _∙_}
 use mathlib.Core.Bool.{Bool}
-use Rattle.drawing_pixel.specs.Signed.{bitSet}
+use Rattle.drawing_pixel.specs.Flags.{bitSet}
 use Rattle.drawing_pixel.specs.Character.{twoBitsOf, flippedOf, pixelValueOf}
 use Rattle.drawing_pixel.specs.RowBits.{Picked, BitsPicked}
 

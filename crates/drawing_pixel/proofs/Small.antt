@@ -6,11 +6,13 @@ use lib.Dec.{eqb}
 use Rattle.word.specs.Choose.{pick}
 use Rattle.bus.specs.Registers.{bkcolOf, sptOf}
 use Rattle.drawing_pixel.specs.Character.{shadeOf, cellPixelOf}
-use Rattle.drawing_pixel.specs.World.{worldOf, endOf, skippedOf, bgmOf, worldCoversOf}
-use Rattle.drawing_pixel.specs.Background.{sourcePixelOf, backgroundPixelOf}
-use Rattle.drawing_pixel.specs.Object.{objectOf, objectPixelOf, objectCoversOf, objectAfterOf, objectsPixelOf, groupPixelOf, groupCountOf}
+use Rattle.drawing_pixel.specs.World.{worldOf, endOf, skippedOf, bgmOf}
+use Rattle.drawing_pixel.specs.inner.BiasedWindow.{worldCoversBiased}
+use Rattle.drawing_pixel.specs.inner.BiasedCell.{sourcePixelBiased, backgroundPixelBiased}
+use Rattle.drawing_pixel.specs.Object.{objectOf, objectAfterOf, groupCountOf}
+use Rattle.drawing_pixel.specs.inner.BiasedObject.{objectPixelBiased, objectCoversBiased, objectsPixelBiased, groupPixelBiased}
 use Rattle.drawing_pixel.specs.Pixel.{counterOf, pixelOf}
-use Rattle.drawing_pixel.specs.inner.Painting.{worldPixelOf, worldsPixelOf, paintedPixelOf}
+use Rattle.drawing_pixel.specs.inner.Painting.{worldPixelBiased, worldsPixelBiased, pixelBiased}
 use Rattle.drawing_pixel.proofs.Painting.{pixel-formula}
 use Rattle.drawing_pixel.proofs.Pairs.{pair-lt}
 
@@ -26,45 +28,45 @@ pub cell-small : (vram : List ℕ) (palettes : ℕ → ℕ) (cell column r v : �
 unfolding cellPixelOf
 cell-small vram palettes cell column r v h = shade-small _ _ v h
 
-pub source-small : (vram regs w : List ℕ) (sx sy v : ℕ) → v < 4 → sourcePixelOf vram regs w sx sy v < 4
-unfolding sourcePixelOf
+pub source-small : (vram regs w : List ℕ) (sx sy v : ℕ) → v < 4 → sourcePixelBiased vram regs w sx sy v < 4
+unfolding sourcePixelBiased
 source-small vram regs w sx sy v h = cell-small vram _ _ _ _ v h
 
-pub background-small : (vram regs w : List ℕ) (eye x y v : ℕ) → v < 4 → backgroundPixelOf vram regs w eye x y v < 4
-unfolding backgroundPixelOf
-background-small vram regs w eye x y v h = pick-small (worldCoversOf w eye x y) (source-small vram regs w _ _ v h) h
+pub background-small : (vram regs w : List ℕ) (eye x y v : ℕ) → v < 4 → backgroundPixelBiased vram regs w eye x y v < 4
+unfolding backgroundPixelBiased
+background-small vram regs w eye x y v h = pick-small (worldCoversBiased w eye x y) (source-small vram regs w _ _ v h) h
 
-pub object-small : (vram regs o : List ℕ) (eye x y v : ℕ) → v < 4 → objectPixelOf vram regs o eye x y v < 4
-unfolding objectPixelOf
-object-small vram regs o eye x y v h = pick-small (objectCoversOf o eye x y) (cell-small vram _ _ _ _ v h) h
+pub object-small : (vram regs o : List ℕ) (eye x y v : ℕ) → v < 4 → objectPixelBiased vram regs o eye x y v < 4
+unfolding objectPixelBiased
+object-small vram regs o eye x y v h = pick-small (objectCoversBiased o eye x y) (cell-small vram _ _ _ _ v h) h
 
-pub objects-small : (vram regs : List ℕ) (eye x y count k v : ℕ) → v < 4 → objectsPixelOf vram regs eye x y count k v < 4
-unfolding objectsPixelOf
+pub objects-small : (vram regs : List ℕ) (eye x y count k v : ℕ) → v < 4 → objectsPixelBiased vram regs eye x y count k v < 4
+unfolding objectsPixelBiased
 objects-small vram regs eye x y zero k v h = h
 objects-small vram regs eye x y (suc n) k v h =
-    objects-small vram regs eye x y n (objectAfterOf k) (objectPixelOf vram regs (objectOf vram k) eye x y v)
+    objects-small vram regs eye x y n (objectAfterOf k) (objectPixelBiased vram regs (objectOf vram k) eye x y v)
     (object-small vram regs (objectOf vram k) eye x y v h)
 
-pub world-small : (vram regs w : List ℕ) (counter eye x y v : ℕ) → v < 4 → worldPixelOf vram regs w counter eye x y v < 4
-unfolding worldPixelOf groupPixelOf
+pub world-small : (vram regs w : List ℕ) (counter eye x y v : ℕ) → v < 4 → worldPixelBiased vram regs w counter eye x y v < 4
+unfolding worldPixelBiased groupPixelBiased
 world-small vram regs w counter eye x y v h =
     pick-small (skippedOf w) h
     (pick-small (eqb (bgmOf w) 3)
     (objects-small vram regs eye x y (groupCountOf regs counter) (sptOf regs counter) v h)
     (background-small vram regs w eye x y v h))
 
-pub worlds-small : (vram regs : List ℕ) (eye x y n counter v : ℕ) → v < 4 → worldsPixelOf vram regs eye x y n counter v < 4
-unfolding worldsPixelOf
+pub worlds-small : (vram regs : List ℕ) (eye x y n counter v : ℕ) → v < 4 → worldsPixelBiased vram regs eye x y n counter v < 4
+unfolding worldsPixelBiased
 worlds-small vram regs eye x y zero counter v h = h
 worlds-small vram regs eye x y (suc n) counter v h =
     pick-small (endOf (worldOf vram n)) h
     (worlds-small vram regs eye x y n (counterOf (worldOf vram n) counter)
-    (worldPixelOf vram regs (worldOf vram n) counter eye x y v)
+    (worldPixelBiased vram regs (worldOf vram n) counter eye x y v)
     (world-small vram regs (worldOf vram n) counter eye x y v h))
 
 -- where BKCOL is within its width, every pixel is two bits
 pub pixel-small : (vram regs : List ℕ) (eye x y : ℕ) → bkcolOf regs < 4 → pixelOf vram regs eye x y < 4
 pixel-small vram regs eye x y h = rw (← pixel-formula vram regs eye x y) (painted-small vram regs eye x y h)
   where
-    painted-small : (vram regs : List ℕ) (eye x y : ℕ) → bkcolOf regs < 4 → paintedPixelOf vram regs eye x y < 4
-    painted-small vram regs eye x y h = unfold paintedPixelOf in worlds-small vram regs eye x y 32 3 (bkcolOf regs) h
+    painted-small : (vram regs : List ℕ) (eye x y : ℕ) → bkcolOf regs < 4 → pixelBiased vram regs eye x y < 4
+    painted-small vram regs eye x y h = unfold pixelBiased in worlds-small vram regs eye x y 32 3 (bkcolOf regs) h

@@ -10,18 +10,17 @@ use lib.ListN.{getD}
 use lib.IntN.{ℤ, pos, negsuc, negℤ, _+ℤ_, _-ℤ_, _*ℤ_}
 use lib.Signed.{ltZ, shrZ}
 use Rattle.word.specs.Choose.{pick}
-use Rattle.drawing_pixel.specs.Signed.{biasedOf}
+use Rattle.drawing_pixel.specs.inner.BiasedFields.{biasedOf}
 use Rattle.drawing_pixel.specs.World.{bgmOf}
-use Rattle.drawing_pixel.specs.Background.{parameterOf, plainLeftOf, normalXOf, normalYOf, biasIndexOf, biasXOf}
-use Rattle.drawing_pixel.specs.Background.{affineShiftOf, affineFloorOf, affineParameterOf, affineXOf, affineYOf}
-use Rattle.drawing_pixel.specs.Background.{sourceXOf, sourceYOf}
+use Rattle.drawing_pixel.specs.Background.{parameterOf, biasIndexOf}
+use Rattle.drawing_pixel.specs.inner.BiasedSource.{plainLeftBiased, normalXBiased, normalYBiased, biasXBiased, affineShiftBiased, affineFloorBiased}
+use Rattle.drawing_pixel.specs.inner.BiasedSource.{affineParameterBiased, affineXBiased, affineYBiased, sourceXBiased, sourceYBiased, NormalX, NormalY}
+use Rattle.drawing_pixel.specs.inner.BiasedSource.{BiasX, AffineX, AffineY, SourceX, SourceY}
 use Rattle.word.proofs.Integers.{Is, is-pos, is-sum, is-difference, is-moved, is-tied, is-times, is-scaled}
 use Rattle.word.proofs.Floors.{is-floor}
 use Rattle.drawing_pixel.specs.Fields.{fieldOf}
 use Rattle.drawing_pixel.proofs.Fields.{is-field}
-use Rattle.drawing_pixel.specs.SourceFormulas.{normalX, normalY, biasX, affineParameter, affineShift, affineX}
-use Rattle.drawing_pixel.specs.SourceFormulas.{affineY, NormalX, NormalY, BiasX, AffineX, AffineY, SourceX}
-use Rattle.drawing_pixel.specs.SourceFormulas.{SourceY}
+use Rattle.drawing_pixel.specs.SourceFormulas.{normalX, normalY, biasX, affineParameter, affineShift, affineX, affineY}
 
 plain : (left : Bool) (p q : ℕ)
     → Is (pick left (fieldOf 4096 p -ℤ fieldOf 16384 q) (fieldOf 4096 p +ℤ fieldOf 16384 q))
@@ -29,12 +28,12 @@ plain : (left : Bool) (p q : ℕ)
 plain true p q = is-moved (is-difference (is-field 4096 p (omega arith)) (is-field 16384 q (omega arith))) (omega arith)
 plain false p q = is-moved (is-sum (is-field 4096 p (omega arith)) (is-field 16384 q (omega arith))) (omega arith)
 
-is-normal-x : (w : List ℕ) (eye i : ℕ) → Is (normalX w eye i) (normalXOf w eye i) 8388608
-unfolding normalXOf plainLeftOf
+is-normal-x : (w : List ℕ) (eye i : ℕ) → Is (normalX w eye i) (normalXBiased w eye i) 8388608
+unfolding normalXBiased plainLeftBiased
 is-normal-x w eye i = is-moved (is-sum (plain (eqb eye 0) (getD w 4 0) (getD w 5 0)) (is-pos i)) (omega arith)
 
-is-normal-y : (w : List ℕ) (j : ℕ) → Is (normalY w j) (normalYOf w j) 8388608
-unfolding normalYOf
+is-normal-y : (w : List ℕ) (j : ℕ) → Is (normalY w j) (normalYBiased w j) 8388608
+unfolding normalYBiased
 is-normal-y w j = is-moved (is-sum (is-field 4096 (getD w 6 0) (omega arith)) (is-pos j)) (omega arith)
 
 plain-large : (left : Bool) (p q : ℕ)
@@ -42,8 +41,8 @@ plain-large : (left : Bool) (p q : ℕ)
 plain-large true p q = omega arith
 plain-large false p q = omega arith
 
-is-bias-x : (vram w : List ℕ) (eye i j : ℕ) → Is (biasX vram w eye i j) (biasXOf vram w eye i j) 8388608
-unfolding biasXOf biasIndexOf normalXOf plainLeftOf
+is-bias-x : (vram w : List ℕ) (eye i j : ℕ) → Is (biasX vram w eye i j) (biasXBiased vram w eye i j) 8388608
+unfolding biasXBiased biasIndexOf normalXBiased plainLeftBiased
 is-bias-x vram w eye i j =
     let h = parameterOf vram w (pick (eqb eye 0) (2 * j) (2 * j + 1)) in
     let large = plain-large (eqb eye 0) (getD w 4 0) (getD w 5 0) in
@@ -68,39 +67,39 @@ shift-small : (left : Bool) (m : ℕ) → m < 65536 → pick left (32768 - m) (m
 shift-small true m h = omega arith
 shift-small false m h = omega arith
 
-is-shift : (eye : ℕ) {z : ℤ} {m : ℕ} → Is z m 32768 → Is (affineShift eye z) (affineShiftOf eye m) 0
-unfolding affineShiftOf
+is-shift : (eye : ℕ) {z : ℤ} {m : ℕ} → Is z m 32768 → Is (affineShift eye z) (affineShiftBiased eye m) 0
+unfolding affineShiftBiased
 is-shift eye {z} {m} i = shift (eqb eye 0) z m i
 
 -- 64 m + d n, and its floor over 512, where the definition's subtraction does not stop at 0
 is-line : {m d n : ℤ} {a b c : ℕ} → c ≤ 131008 → Is m a 32768 → Is d b 32768 → Is n c 0
-    → Is (shrZ (pos 64 *ℤ m +ℤ d *ℤ n) 512) (affineFloorOf a b c) 8388608
-unfolding affineFloorOf
+    → Is (shrZ (pos 64 *ℤ m +ℤ d *ℤ n) 512) (affineFloorBiased a b c) 8388608
+unfolding affineFloorBiased
 is-line {m} {d} {n} {a} {b} {c} small i k l =
     let left : Is (pos 64 *ℤ m) (64 * a) (64 * 32768) = is-scaled 64 i in
     let right : Is (d *ℤ n) (b * c) (32768 * c) = is-times k l in
     is-floor 512 8388608 (omega arith) (is-moved (is-sum left right) (omega arith))
 
 module _ (vram w : List ℕ) (eye i j : ℕ) (wide : i < 65536) where
-  step-small : i + affineShiftOf eye (affineParameterOf vram w j 1) ≤ 131008
-  unfolding affineShiftOf affineParameterOf
+  step-small : i + affineShiftBiased eye (affineParameterBiased vram w j 1) ≤ 131008
+  unfolding affineShiftBiased affineParameterBiased
   step-small =
       let h = shift-small (eqb eye 0) (biasedOf 32768 (parameterOf vram w (8 * j + 1))) (omega arith) in
       omega arith
 
-  is-step : Is (pos i +ℤ affineShift eye (affineParameter vram w j 1)) (i + affineShiftOf eye (affineParameterOf vram w j 1)) 0
-  unfolding affineParameterOf
+  is-step : Is (pos i +ℤ affineShift eye (affineParameter vram w j 1)) (i + affineShiftBiased eye (affineParameterBiased vram w j 1)) 0
+  unfolding affineParameterBiased
   is-step = is-sum (is-pos i) (is-shift eye (is-field 32768 (parameterOf vram w (8 * j + 1)) (omega arith)))
 
-  is-affine-x : Is (affineX vram w eye i j) (affineXOf vram w eye i j) 8388608
-  unfolding affineXOf affineParameterOf
+  is-affine-x : Is (affineX vram w eye i j) (affineXBiased vram w eye i j) 8388608
+  unfolding affineXBiased affineParameterBiased
   is-affine-x =
       is-line step-small
       (is-field 32768 (parameterOf vram w (8 * j + 0)) (omega arith))
       (is-field 32768 (parameterOf vram w (8 * j + 3)) (omega arith)) is-step
 
-  is-affine-y : Is (affineY vram w eye i j) (affineYOf vram w eye i j) 8388608
-  unfolding affineYOf affineParameterOf
+  is-affine-y : Is (affineY vram w eye i j) (affineYBiased vram w eye i j) 8388608
+  unfolding affineYBiased affineParameterBiased
   is-affine-y =
       is-line step-small
       (is-field 32768 (parameterOf vram w (8 * j + 2)) (omega arith))
@@ -128,11 +127,11 @@ chosen false true i k l = k
 chosen false false i k l = l
 
 pub source-x : SourceX
-unfolding sourceXOf
+unfolding sourceXBiased
 source-x vram w eye i j h =
     is-tied (chosen (eqb (bgmOf w) 0) (eqb (bgmOf w) 1) (is-normal-x w eye i) (is-bias-x vram w eye i j) (is-affine-x vram w eye i j h))
 
 pub source-y : SourceY
-unfolding sourceYOf
+unfolding sourceYBiased
 source-y vram w eye i j h =
     is-tied (chosen (eqb (bgmOf w) 0) (eqb (bgmOf w) 1) (is-normal-y w j) (is-normal-y w j) (is-affine-y vram w eye i j h))

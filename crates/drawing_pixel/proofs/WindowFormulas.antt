@@ -11,15 +11,17 @@ use lib.ListN.{getD}
 use lib.IntN.{ℤ, pos, _+ℤ_, _-ℤ_}
 use lib.Signed.{leZ, ltZ}
 use Rattle.word.specs.Choose.{pick}
-use Rattle.drawing_pixel.specs.Signed.{biasedOf, edgeOf}
-use Rattle.drawing_pixel.specs.World.{bgmOf, gyOf, columnsOf, rowsOf, windowLeftOf, columnCoveredOf, rowCoveredOf, columnInOf, rowInOf}
+use Rattle.drawing_pixel.specs.inner.BiasedFields.{biasedOf, edgeBiased, gyBiased}
+use Rattle.drawing_pixel.specs.World.{bgmOf}
+use Rattle.drawing_pixel.specs.inner.BiasedWindow.{columnsBiased, rowsBiased, windowLeftBiased, columnCoveredBiased, rowCoveredBiased, columnInBiased}
+use Rattle.drawing_pixel.specs.inner.BiasedWindow.{rowInBiased, WindowLeft, WindowTop, WorldColumns, ColumnCovered, RowCovered, PlainRow, ColumnIn, RowIn}
 use Rattle.word.specs.Integers.{aboveZero}
 use Rattle.word.proofs.Choices.{bool-same, and-right}
 use Rattle.word.proofs.Integers.{Is, is-pos, is-sum, is-difference, is-moved, is-tied, is-natural, is-le-test, is-lt-test, le-is, is-above}
 use Rattle.drawing_pixel.specs.Fields.{fieldOf, GY, withParallax}
 use Rattle.drawing_pixel.proofs.Fields.{is-field, field-plus-one}
 use Rattle.drawing_pixel.proofs.HeightFormulas.{world-height, world-rows}
-use Rattle.drawing_pixel.specs.WindowFormulas.{windowLeft, WindowLeft, WindowTop, WorldColumns, ColumnCovered, RowCovered, PlainRow, ColumnIn, RowIn}
+use Rattle.drawing_pixel.specs.WindowFormulas.{windowLeft}
 
 edge-left : (p q : ℕ) → Is (fieldOf 512 p -ℤ fieldOf 512 q) (biasedOf 512 p + 1024 - biasedOf 512 q) 1024
 edge-left p q = is-moved (is-difference (is-field 512 p (omega arith)) (is-field 512 q (omega arith))) (omega arith)
@@ -34,12 +36,12 @@ edge true p q = edge-left p q
 edge false p q = edge-right p q
 
 -- the edge of a window or an object, of its two halfwords
-pub is-edge : (eye p q : ℕ) → Is (withParallax eye (fieldOf 512 p) (fieldOf 512 q)) (edgeOf eye (biasedOf 512 p) (biasedOf 512 q)) 1024
-unfolding edgeOf
+pub is-edge : (eye p q : ℕ) → Is (withParallax eye (fieldOf 512 p) (fieldOf 512 q)) (edgeBiased eye (biasedOf 512 p) (biasedOf 512 q)) 1024
+unfolding edgeBiased
 is-edge eye p q = edge (eqb eye 0) p q
 
-is-start : (w : List ℕ) (eye : ℕ) → Is (windowLeft w eye) (windowLeftOf w eye) 1024
-unfolding windowLeftOf
+is-start : (w : List ℕ) (eye : ℕ) → Is (windowLeft w eye) (windowLeftBiased w eye) 1024
+unfolding windowLeftBiased
 is-start w eye = is-edge eye (getD w 1 0) (getD w 2 0)
 
 pub window-left : WindowLeft
@@ -62,7 +64,7 @@ wide true h = refl
 wide false h = sym (field-plus-one 4096 h (omega arith))
 
 pub world-columns : WorldColumns
-unfolding columnsOf
+unfolding columnsBiased
 world-columns w = wide (eqb (bgmOf w) 2) (getD w 7 0)
 
 and-same : (p q r : Bool) → (T p → T q → T r) → (T p → T r → T q) → p && q ≡ p && r
@@ -89,15 +91,15 @@ is-width true h = is-pos (h % 1024)
 is-width false h = is-field 4096 h (omega arith)
 
 pub column-covered : ColumnCovered
-unfolding columnCoveredOf
+unfolding columnCoveredBiased
 column-covered w eye x =
     rw (world-columns w)
     (sized x (is-start w eye) (is-sum (is-width (eqb (bgmOf w) 2) (getD w 7 0)) (is-pos 1)))
 
 pub row-covered : RowCovered
-unfolding rowCoveredOf
+unfolding rowCoveredBiased
 row-covered w y =
-    span (rowsOf w) y (is-field 32768 (getD w 3 0) (omega arith))
+    span (rowsBiased w) y (is-field 32768 (getD w 3 0) (omega arith))
     ∙ ap (λ n. leZ (GY w) (pos y) && ltZ (pos y) (GY w +ℤ pos n)) (world-rows w)
 
 pub plain-row : PlainRow
@@ -106,45 +108,45 @@ plain-row w y =
     (sized y (is-field 32768 (getD w 3 0) (omega arith)) (is-sum (is-field 32768 (getD w 8 0) (omega arith)) (is-pos 1)))
 
 pub column-in : ColumnIn
-unfolding columnInOf
+unfolding columnInBiased
 column-in w eye x h =
     let l = le-is (is-start w eye) (is-pos x) h in
     is-natural _ (is-difference (is-pos x) (is-start w eye)) (omega arith)
 
 pub row-in : RowIn
-unfolding rowInOf
+unfolding rowInBiased
 row-in w y h =
     let i = is-field 32768 (getD w 3 0) (omega arith) in
     let l = le-is i (is-pos y) h in
     is-natural _ (is-difference (is-pos y) i) (omega arith)
 
 -- the same with no condition: 0 to the left of the window and above it
-pub column-offset : (w : List ℕ) (eye x : ℕ) → columnInOf w eye x ≡ aboveZero (pos x -ℤ windowLeft w eye)
-unfolding columnInOf
+pub column-offset : (w : List ℕ) (eye x : ℕ) → columnInBiased w eye x ≡ aboveZero (pos x -ℤ windowLeft w eye)
+unfolding columnInBiased
 column-offset w eye x =
-    let e : x + 1024 - windowLeftOf w eye ≡ x + 1024 - (0 + windowLeftOf w eye) = omega arith in
+    let e : x + 1024 - windowLeftBiased w eye ≡ x + 1024 - (0 + windowLeftBiased w eye) = omega arith in
     e ∙ sym (is-above (is-difference (is-pos x) (is-start w eye)))
 
-pub row-offset : (w : List ℕ) (y : ℕ) → rowInOf w y ≡ aboveZero (pos y -ℤ GY w)
-unfolding rowInOf
+pub row-offset : (w : List ℕ) (y : ℕ) → rowInBiased w y ≡ aboveZero (pos y -ℤ GY w)
+unfolding rowInBiased
 row-offset w y =
-    let e : y + 32768 - gyOf w ≡ y + 32768 - (0 + gyOf w) = omega arith in
+    let e : y + 32768 - gyBiased w ≡ y + 32768 - (0 + gyBiased w) = omega arith in
     e ∙ sym (is-above (is-difference (is-pos y) (is-field 32768 (getD w 3 0) (omega arith))))
 
 some-columns : (affine : Bool) (h : ℕ) → pick affine (h % 1024 + 1) (biasedOf 4096 h + 1 - 4096) ≤ 4096
 some-columns true h = omega arith
 some-columns false h = omega arith
 
-columns-small : (w : List ℕ) → columnsOf w ≤ 4096
-unfolding columnsOf
+columns-small : (w : List ℕ) → columnsBiased w ≤ 4096
+unfolding columnsBiased
 columns-small w = some-columns (eqb (bgmOf w) 2) (getD w 7 0)
 
 -- the offset of every covered column is within the range of these theorems
-pub offset-small : (w : List ℕ) (eye x : ℕ) → columnCoveredOf w eye x ≡ true → columnInOf w eye x < 65536
-unfolding columnCoveredOf columnInOf
+pub offset-small : (w : List ℕ) (eye x : ℕ) → columnCoveredBiased w eye x ≡ true → columnInBiased w eye x < 65536
+unfolding columnCoveredBiased columnInBiased
 offset-small w eye x covered =
-    let l : x + 1024 < windowLeftOf w eye + columnsOf w =
-    ltb-true (x + 1024) (windowLeftOf w eye + columnsOf w)
-    (and-right (leb (windowLeftOf w eye) (x + 1024)) (ltb (x + 1024) (windowLeftOf w eye + columnsOf w)) covered) in
+    let l : x + 1024 < windowLeftBiased w eye + columnsBiased w =
+    ltb-true (x + 1024) (windowLeftBiased w eye + columnsBiased w)
+    (and-right (leb (windowLeftBiased w eye) (x + 1024)) (ltb (x + 1024) (windowLeftBiased w eye + columnsBiased w)) covered) in
     let s = columns-small w in
     omega arith

@@ -7,7 +7,7 @@ use mathlib.Core.List.{List}
 use lib.Dec.{eqb}
 use Rattle.word.specs.Choose.{pick}
 use Rattle.word.specs.LittleEndian.{halfAt}
-use Rattle.drawing_pixel.specs.Signed.{bitSet}
+use Rattle.drawing_pixel.specs.Flags.{bitSet}
 
 -- bits 2k and 2k + 1 of a number
 unfoldable pub twoBitsOf : ℕ → ℕ → ℕ
@@ -34,6 +34,6 @@ unfoldable pub shadeOf : ℕ → ℕ → ℕ → ℕ
 shadeOf palette value before = pick (eqb value 0) before (twoBitsOf palette value)
 
 -- the pixel at a column and row of a cell, over what was there; `palettes` gives the palette of a number
-unfoldable pub cellPixelOf : List ℕ → (ℕ → ℕ) → ℕ → ℕ → ℕ → ℕ → ℕ
+unfoldable pub cellPixelOf : (vram : List ℕ) (palettes : ℕ → ℕ) (cell column r before : ℕ) → ℕ
 cellPixelOf vram palettes cell column r before =
     shadeOf (palettes (cell / 16384)) (pixelValueOf cell (halfAt vram (rowAddressOf cell r)) column) before

@@ -1,16 +1,13 @@
--- Signed fields over the integers, by paper 01's names, and the one law that ties a biased field to them at every
--- width. Here and in the formulas of windows, sources, cells, objects and pixels, a name without `Of` is paper 01's
--- quantity over the integers, and the same name with `Of` is the definition over the natural numbers that drawing is
--- proved against.
-use Prim.Native.Nat.{ℕ, _+_, _-_, _*_, _%_, _<_}
-use mathlib.Core.Path.{_≡_}
+-- Signed fields over the integers, by paper 01's names. Here and in the formulas of windows, sources, objects and
+-- pixels, paper 01's quantities are whole numbers. The painters keep them as natural numbers plus a bias: those forms
+-- stand in specs/inner/, under the same names with `Biased`, each with the statement that it is the same quantity.
+use Prim.Native.Nat.{ℕ, _*_, _%_}
 use mathlib.Core.List.{List}
 use lib.Dec.{eqb}
 use lib.ListN.{getD}
 use lib.IntN.{ℤ, pos, _+ℤ_, _-ℤ_}
 use Rattle.word.specs.Choose.{pick}
 use Rattle.word.specs.Extend.{signedOf}
-use Rattle.drawing_pixel.specs.Signed.{biasedOf}
 use Rattle.drawing_pixel.specs.World.{bgmOf}
 
 -- the low bits of a halfword, read signed; `half` is half the range of the width
@@ -53,8 +50,3 @@ JP o = fieldOf 512 (getD o 1 0)
 -- a position minus the parallax left, plus the parallax right
 abbrev pub withParallax : ℕ → ℤ → ℤ → ℤ
 withParallax eye position parallax = pick (eqb eye 0) (position -ℤ parallax) (position +ℤ parallax)
-
--- a biased field is the field's signed value plus half its range, at every width
-abbrev pub BiasedField : Type 0
-BiasedField =
-    (half h : ℕ) → 0 < half → pos (biasedOf half h) ≡ signedOf half (h % (2 * half)) +ℤ pos half

@@ -1,38 +1,24 @@
 -- The rows of a world over the integers: readings R4 and R5, and W3 ("Short worlds are taller on the chip").
 -- `rows` has two cases, with GY and H signed; `world-rows` says that drawing is proved against them.
-use Prim.Native.Nat.{ℕ, _+_, _-_, max}
-use mathlib.Core.Path.{_≡_}
+use Prim.Native.Nat.{ℕ, max}
 use mathlib.Core.Bool.{Bool, _&&_, not}
 use mathlib.Core.List.{List}
 use lib.Dec.{eqb}
 use lib.IntN.{pos, _+ℤ_, _-ℤ_}
 use lib.Signed.{leZ}
 use Rattle.word.specs.Choose.{pick}
-use Rattle.drawing_pixel.specs.World.{bgmOf, heightOf, topInImageOf, stripRestOf, rowsOf}
 use Rattle.word.specs.Integers.{aboveZero}
 use Rattle.word.specs.Floors.{modZ}
+use Rattle.drawing_pixel.specs.World.{bgmOf}
 use Rattle.drawing_pixel.specs.Fields.{GY, H}
-
--- R4: H + 1, none where that is not above 0
-abbrev pub WorldHeight : Type 0
-WorldHeight =
-    (w : List ℕ) → heightOf w ≡ aboveZero (H w +ℤ pos 1)
 
 -- 0 ≤ GY ≤ 223
 abbrev pub topInImage : List ℕ → Bool
 topInImage w = leZ (pos 0) (GY w) && leZ (GY w) (pos 223)
 
-abbrev pub TopInImage : Type 0
-TopInImage =
-    (w : List ℕ) → topInImageOf w ≡ topInImage w
-
 -- W3: "everything from GY to the end of the strip holding it": 8 - GY mod 8 rows
 abbrev pub stripRest : List ℕ → ℕ
 stripRest w = aboveZero (pos 8 -ℤ modZ (GY w) 8)
-
-abbrev pub StripRest : Type 0
-StripRest =
-    (w : List ℕ) → stripRestOf w ≡ stripRest w
 
 -- the rows of a world: max(0, H + 1, 8 - GY mod 8) where it is normal or H-bias and GY is from 0 to 223 (W3);
 -- max(0, H + 1) where it is affine or no strip of the image holds GY (R5)
@@ -40,7 +26,3 @@ abbrev pub rows : List ℕ → ℕ
 rows w =
     pick (not (eqb (bgmOf w) 2) && topInImage w) (max (aboveZero (H w +ℤ pos 1)) (stripRest w))
     (aboveZero (H w +ℤ pos 1))
-
-abbrev pub WorldRows : Type 0
-WorldRows =
-    (w : List ℕ) → rowsOf w ≡ rows w

@@ -1,4 +1,4 @@
-pub mod Signed
+pub mod Flags
 pub mod Character
 pub mod RowBits
 pub mod World
@@ -8,7 +8,6 @@ pub mod Fields
 pub mod HeightFormulas
 pub mod WindowFormulas
 pub mod SourceFormulas
-pub mod CellFormulas
 pub mod ObjectFormulas
 pub mod Pixel
 pub mod Strip

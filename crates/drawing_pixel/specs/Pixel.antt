@@ -2,6 +2,7 @@
 -- an object make of it, and the loop over worlds: a pixel starts as BKCOL, and worlds 31 to 0 paint over it one after
 -- the other.
 use Prim.Native.Nat.{ℕ, zero, suc, _+_, _*_, _/_, _%_, _^_}
+use mathlib.Core.Path.{_≡_}
 use mathlib.Core.Bool.{Bool, _&&_, not}
 use mathlib.Core.List.{List}
 use lib.ListN.{getD}
@@ -21,7 +22,7 @@ use Rattle.drawing_pixel.specs.Fields.{GY, W}
 use Rattle.drawing_pixel.specs.HeightFormulas.{rows}
 use Rattle.drawing_pixel.specs.WindowFormulas.{windowLeft}
 use Rattle.drawing_pixel.specs.SourceFormulas.{sourceX, sourceY}
-use Rattle.drawing_pixel.specs.ObjectFormulas.{objectLeft, JY}
+use Rattle.drawing_pixel.specs.ObjectFormulas.{objectLeft, JY, drawnOf}
 
 -- shown to the eye, GY ≤ y < GY + rows, GX -/+ GP ≤ x < GX -/+ GP + (W + 1)
 abbrev pub worldCovers : List ℕ → ℕ → ℕ → ℕ → Bool
@@ -47,13 +48,13 @@ cellAddress w x y =
     (mapCellAddress w (aboveZero (modZ x (512 * 2 ^ scxOf w))) (aboveZero (modZ y (512 * 2 ^ scyOf w))))
 
 -- source pixel (x, y) of the background, over what was there
-abbrev pub sourcePixel : List ℕ → List ℕ → List ℕ → ℤ → ℤ → ℕ → ℕ
+abbrev pub sourcePixel : (vram regs w : List ℕ) (x y : ℤ) (before : ℕ) → ℕ
 sourcePixel vram regs w x y before =
     cellPixelOf vram (gpltOf regs) (halfAt vram (cellAddress w x y)) (aboveZero (modZ x 8))
     (aboveZero (modZ y 8)) before
 
 -- what a background world makes of a pixel, at i = x - (GX -/+ GP) and j = y - GY
-abbrev pub backgroundPixel : List ℕ → List ℕ → List ℕ → ℕ → ℕ → ℕ → ℕ → ℕ
+abbrev pub backgroundPixel : (vram regs w : List ℕ) (eye x y before : ℕ) → ℕ
 backgroundPixel vram regs w eye x y before =
     let i = aboveZero (pos x -ℤ windowLeft w eye) in
     let j = aboveZero (pos y -ℤ GY w) in
@@ -71,7 +72,7 @@ objectCovers o eye x y =
     && (ltZ (objectRow o y) (pos 8) && (leZ (objectLeft o eye) (pos x) && ltZ (pos x) (objectLeft o eye +ℤ pos 8)))
 
 -- what an object makes of a pixel, at column x - (JX -/+ JP) and that row
-abbrev pub objectPixel : List ℕ → List ℕ → List ℕ → ℕ → ℕ → ℕ → ℕ → ℕ
+abbrev pub objectPixel : (vram regs o : List ℕ) (eye x y before : ℕ) → ℕ
 objectPixel vram regs o eye x y before =
     pick (objectCovers o eye x y)
     (cellPixelOf vram (jpltOf regs) (getD o 3 0) (aboveZero (pos x -ℤ objectLeft o eye))
@@ -92,13 +93,20 @@ unfoldable pub counterOf : List ℕ → ℕ → ℕ
 counterOf w counter = pick (drawsObjectsOf w) (counterAfterOf counter) counter
 
 -- `count` objects from object k downwards
-unfoldable pub objectsPixel : List ℕ → List ℕ → ℕ → ℕ → ℕ → ℕ → ℕ → ℕ → ℕ
+unfoldable pub objectsPixel : (vram regs : List ℕ) (eye x y count k before : ℕ) → ℕ
 objectsPixel vram regs eye x y zero k before = before
 objectsPixel vram regs eye x y (suc count) k before =
     objectsPixel vram regs eye x y count (objectAfterOf k) (objectPixel vram regs (objectOf vram k) eye x y before)
 
+-- the last of n + 1 objects is drawn over the n before it, and it is the one n objects after the first
+abbrev pub ObjectsInOrder : Type 0
+ObjectsInOrder =
+    (vram regs : List ℕ) (eye x y n k before : ℕ)
+    → objectsPixel vram regs eye x y (suc n) k before
+    ≡ objectPixel vram regs (objectOf vram (drawnOf n k)) eye x y (objectsPixel vram regs eye x y n k before)
+
 -- a world, at an object counter
-unfoldable pub worldPixel : List ℕ → List ℕ → List ℕ → ℕ → ℕ → ℕ → ℕ → ℕ → ℕ
+unfoldable pub worldPixel : (vram regs w : List ℕ) (counter eye x y before : ℕ) → ℕ
 worldPixel vram regs w counter eye x y before =
     pick (skippedOf w) before
     (pick (eqb (bgmOf w) 3)
@@ -106,7 +114,7 @@ worldPixel vram regs w counter eye x y before =
     (backgroundPixel vram regs w eye x y before))
 
 -- worlds n - 1 to 0
-unfoldable pub worldsPixel : List ℕ → List ℕ → ℕ → ℕ → ℕ → ℕ → ℕ → ℕ → ℕ
+unfoldable pub worldsPixel : (vram regs : List ℕ) (eye x y n counter before : ℕ) → ℕ
 worldsPixel vram regs eye x y zero counter before = before
 worldsPixel vram regs eye x y (suc n) counter before =
     pick (endOf (worldOf vram n)) before
@@ -114,5 +122,5 @@ worldsPixel vram regs eye x y (suc n) counter before =
     (worldPixel vram regs (worldOf vram n) counter eye x y before))
 
 -- the pixel at column x and row y of an eye's image
-unfoldable pub pixelOf : List ℕ → List ℕ → ℕ → ℕ → ℕ → ℕ
+unfoldable pub pixelOf : (vram regs : List ℕ) (eye x y : ℕ) → ℕ
 pixelOf vram regs eye x y = worldsPixel vram regs eye x y 32 3 (bkcolOf regs)

@@ -1,7 +1,7 @@
 -- How a pixel's value is picked from its row halfword, bit by bit (paper 01: "row r a halfword, column x bits 2x and
 -- 2x + 1"; a flipped row is read from its other end). `bits-picked` is the one statement, over every row, column and
 -- flip: what Character's arithmetic picks are these two bits. The code that picks, and so every painter, rests on it.
-use Prim.Native.Nat.{ℕ, _+_, _*_, _/_, _%_, _^_, _<_}
+use Prim.Native.Nat.{ℕ, _+_, _*_, _/_, _%_, _^_}
 use mathlib.Core.Path.{_≡_}
 use mathlib.Core.Bool.{Bool}
 use Rattle.drawing_pixel.specs.Character.{twoBitsOf, flippedOf}
@@ -19,9 +19,3 @@ pub record Picked (row column : ℕ) (flip : Bool) (v : ℕ) : Type 0 where
 abbrev pub BitsPicked : Type 0
 BitsPicked =
     (row column : ℕ) (flip : Bool) → Picked row column flip (twoBitsOf row (flippedOf flip column))
-
--- a place of a row, told by its unit: 1 shifted to the lower of its two bits
-pub record PlaceUnit (unit : ℕ) : Type 0 where
-  pub place : ℕ
-  pub inRow : place < 8
-  pub is : unit ≡ 2 ^ (2 * place)

@@ -1,16 +1,12 @@
--- Paper 01, "Normal", "H-bias" and "Affine", over the integers: the source of a window's offsets i and j. The
--- definitions keep source x and y plus 2 ^ 23 = 8,388,608. Affine's hold for every i below 65,536; `offset-small` of
--- proofs/WindowFormulas says that the offset of a covered column is.
-use Prim.Native.Nat.{ℕ, _+_, _-_, _*_, _<_}
-use mathlib.Core.Path.{_≡_}
+-- Paper 01, "Normal", "H-bias" and "Affine", over the integers: the source of a window's offsets i and j.
+use Prim.Native.Nat.{ℕ, _+_, _*_}
 use mathlib.Core.List.{List}
 use lib.Dec.{eqb}
 use lib.IntN.{ℤ, pos, negℤ, _+ℤ_, _*ℤ_}
 use lib.Signed.{ltZ, shrZ}
 use Rattle.word.specs.Choose.{pick}
 use Rattle.drawing_pixel.specs.World.{bgmOf}
-use Rattle.drawing_pixel.specs.Background.{parameterOf, biasIndexOf, normalXOf, normalYOf, biasXOf, affineXOf}
-use Rattle.drawing_pixel.specs.Background.{affineYOf, sourceXOf, sourceYOf}
+use Rattle.drawing_pixel.specs.Background.{parameterOf, biasIndexOf}
 use Rattle.drawing_pixel.specs.Fields.{fieldOf, MX, MP, MY, withParallax}
 
 -- normal: source (MX - MP + i, MY + j); right, + MP
@@ -21,7 +17,7 @@ abbrev pub normalY : List ℕ → ℕ → ℤ
 normalY w j = MY w +ℤ pos j
 
 -- H-bias: the same, plus parameter 2j (left) or 2j + 1 (right), 13 bits signed
-abbrev pub biasX : List ℕ → List ℕ → ℕ → ℕ → ℕ → ℤ
+abbrev pub biasX : (vram w : List ℕ) (eye i j : ℕ) → ℤ
 biasX vram w eye i j = normalX w eye i +ℤ fieldOf 4096 (parameterOf vram w (biasIndexOf eye j))
 
 -- affine: five signed parameters MX, MP, MY, DX, DY from 8j
@@ -33,56 +29,25 @@ abbrev pub affineShift : ℕ → ℤ → ℤ
 affineShift eye mp = pick (eqb eye 0) (pick (ltZ mp (pos 0)) (negℤ mp) (pos 0)) (pick (ltZ mp (pos 0)) (pos 0) mp)
 
 -- source x = floor((64 MX + DX(i + p)) / 512), y = floor((64 MY + DY(i + p)) / 512)
-abbrev pub affineX : List ℕ → List ℕ → ℕ → ℕ → ℕ → ℤ
+abbrev pub affineX : (vram w : List ℕ) (eye i j : ℕ) → ℤ
 affineX vram w eye i j =
     shrZ
     (pos 64 *ℤ affineParameter vram w j 0 +ℤ affineParameter vram w j 3 *ℤ
     (pos i +ℤ affineShift eye (affineParameter vram w j 1)))
     512
 
-abbrev pub affineY : List ℕ → List ℕ → ℕ → ℕ → ℕ → ℤ
+abbrev pub affineY : (vram w : List ℕ) (eye i j : ℕ) → ℤ
 affineY vram w eye i j =
     shrZ
     (pos 64 *ℤ affineParameter vram w j 2 +ℤ affineParameter vram w j 4 *ℤ
     (pos i +ℤ affineShift eye (affineParameter vram w j 1)))
     512
 
--- 01: "Normal (0): source (MX - MP + i, MY + j); right, + MP"
-abbrev pub NormalX : Type 0
-NormalX =
-    (w : List ℕ) (eye i : ℕ) → pos (normalXOf w eye i) ≡ normalX w eye i +ℤ pos 8388608
-
-abbrev pub NormalY : Type 0
-NormalY =
-    (w : List ℕ) (j : ℕ) → pos (normalYOf w j) ≡ normalY w j +ℤ pos 8388608
-
--- 01: "H-bias (1): the same, plus parameter 2j (left) or 2j + 1 (right), 13 bits signed"
-abbrev pub BiasX : Type 0
-BiasX =
-    (vram w : List ℕ) (eye i j : ℕ) → pos (biasXOf vram w eye i j) ≡ biasX vram w eye i j +ℤ pos 8388608
-
--- 01: "Source x = floor((64 MX + DX(i + p)) / 512), y = floor((64 MY + DY(i + p)) / 512)"
-abbrev pub AffineX : Type 0
-AffineX =
-    (vram w : List ℕ) (eye i j : ℕ) → i < 65536 → pos (affineXOf vram w eye i j) ≡ affineX vram w eye i j +ℤ pos 8388608
-
-abbrev pub AffineY : Type 0
-AffineY =
-    (vram w : List ℕ) (eye i j : ℕ) → i < 65536 → pos (affineYOf vram w eye i j) ≡ affineY vram w eye i j +ℤ pos 8388608
-
 -- the source of a window's offsets, by BGM
-abbrev pub sourceX : List ℕ → List ℕ → ℕ → ℕ → ℕ → ℤ
+abbrev pub sourceX : (vram w : List ℕ) (eye i j : ℕ) → ℤ
 sourceX vram w eye i j =
     pick (eqb (bgmOf w) 0) (normalX w eye i) (pick (eqb (bgmOf w) 1) (biasX vram w eye i j) (affineX vram w eye i j))
 
-abbrev pub sourceY : List ℕ → List ℕ → ℕ → ℕ → ℕ → ℤ
+abbrev pub sourceY : (vram w : List ℕ) (eye i j : ℕ) → ℤ
 sourceY vram w eye i j =
     pick (eqb (bgmOf w) 0) (normalY w j) (pick (eqb (bgmOf w) 1) (normalY w j) (affineY vram w eye i j))
-
-abbrev pub SourceX : Type 0
-SourceX =
-    (vram w : List ℕ) (eye i j : ℕ) → i < 65536 → pos (sourceXOf vram w eye i j) ≡ sourceX vram w eye i j +ℤ pos 8388608
-
-abbrev pub SourceY : Type 0
-SourceY =
-    (vram w : List ℕ) (eye i j : ℕ) → i < 65536 → pos (sourceYOf vram w eye i j) ≡ sourceY vram w eye i j +ℤ pos 8388608

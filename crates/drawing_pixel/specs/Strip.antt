@@ -22,7 +22,7 @@ abbrev pub pixelPairOf : ℕ → ℕ
 pixelPairOf y = y % 8
 
 -- pixel (x, y) as it stands in an image
-unfoldable pub storedPixelOf : List ℕ → ℕ → ℕ → ℕ → ℕ → ℕ
+unfoldable pub storedPixelOf : (vram : List ℕ) (frame eye x y : ℕ) → ℕ
 storedPixelOf vram frame eye x y = twoBitsOf (halfAt vram (imageOf frame eye + pixelOffsetOf x y)) (pixelPairOf y)
 
 -- whether an address holds pixels of a strip of a frame: in the image of either eye, at a halfword of those eight rows
@@ -31,7 +31,7 @@ inStripOf frame strip a =
     (ltb a 0x20000 && eqb (a / 0x8000 % 2) frame) && (ltb (a % 0x8000) 0x6000 && eqb (a % 64 / 2) strip)
 
 -- four pixels of a column, from row y down, as a byte
-unfoldable pub fourPixelsOf : List ℕ → List ℕ → ℕ → ℕ → ℕ → ℕ
+unfoldable pub fourPixelsOf : (vram regs : List ℕ) (eye x y : ℕ) → ℕ
 fourPixelsOf vram regs eye x y =
     pixelOf vram regs eye x y
     + 4 * pixelOf vram regs eye x (y + 1)
@@ -39,7 +39,7 @@ fourPixelsOf vram regs eye x y =
     + 64 * pixelOf vram regs eye x (y + 3)
 
 -- the byte at an address after a strip was drawn
-unfoldable pub stripByteOf : List ℕ → List ℕ → ℕ → ℕ → ℕ → ℕ
+unfoldable pub stripByteOf : (vram regs : List ℕ) (frame strip a : ℕ) → ℕ
 stripByteOf vram regs frame strip a =
     pick (inStripOf frame strip a)
     (fourPixelsOf vram regs (a / 0x10000) (a % 0x8000 / 64) (8 * strip + 4 * (a % 2)))

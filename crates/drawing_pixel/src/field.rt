@@ -5,7 +5,8 @@ ghost use lib.ListN.{length};
 ghost use Rattle.bus.specs.Refusal.{vramBytes};
 ghost use Rattle.word.specs.Choose.{pick};
 ghost use Rattle.word.specs.LittleEndian.{halfAt};
-ghost use Rattle.drawing_pixel.specs.Signed.{edgeOf, eyeFlagOf};
+ghost use Rattle.drawing_pixel.specs.inner.BiasedFields.{edgeBiased};
+ghost use Rattle.drawing_pixel.specs.Flags.{eyeFlagOf};
 ghost use Rattle.drawing_pixel.specs.Character.{twoBitsOf};
 
 // The halfword at an address of VRAM.
@@ -74,7 +75,7 @@ pub fn pair(h: usize, k: usize) -> usize
 // A position less its parallax for the left eye, plus it for the right one, plus 1,024.
 pub fn edge(eye: usize, position: usize, parallax: usize) -> usize
     requires { ⌜ (position < 1024) × (parallax < 1024) ⌝ }
-    ensures { λ r. ⌜ (r ≡ edgeOf eye position parallax) × (r < 2048) ⌝ }
+    ensures { λ r. ⌜ (r ≡ edgeBiased eye position parallax) × (r < 2048) ⌝ }
 {
     if eye == 0 {
         return position + 1024 - parallax;

@@ -3,7 +3,8 @@ ghost use mathlib.Core.Path.{_≡_};
 ghost use Prim.Native.Nat.{_<_};
 ghost use lib.ListN.{length};
 ghost use Rattle.bus.specs.Refusal.{vramBytes};
-ghost use Rattle.drawing_pixel.specs.Object.{objectOf, objectLeftOf};
+ghost use Rattle.drawing_pixel.specs.Object.{objectOf};
+ghost use Rattle.drawing_pixel.specs.inner.BiasedObject.{objectLeftBiased};
 use crate::field::edge;
 use crate::field::half;
 use crate::field::wide;
@@ -24,7 +25,7 @@ pub fn object(vram: &[u8], k: usize) -> [u16; 4]
 
 // The left edge of an object for an eye, plus 1,024.
 pub fn object_left(o: &[u16; 4], eye: usize) -> usize
-    ensures { λ r. ⌜ (r ≡ objectLeftOf (now (o .entry)) eye) × (r < 2048) ⌝ }
+    ensures { λ r. ⌜ (r ≡ objectLeftBiased (now (o .entry)) eye) × (r < 2048) ⌝ }
 {
     edge(eye, (wide(o[0]) + 512) % 1024, (wide(o[1]) + 512) % 1024)
 }

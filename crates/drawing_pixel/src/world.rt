@@ -3,7 +3,9 @@ ghost use mathlib.Core.Path.{_≡_};
 ghost use Prim.Native.Nat.{_<_, _≤_};
 ghost use lib.ListN.{length};
 ghost use Rattle.bus.specs.Refusal.{vramBytes};
-ghost use Rattle.drawing_pixel.specs.World.{worldOf, columnsOf, heightOf, rowsOf, windowLeftOf};
+ghost use Rattle.drawing_pixel.specs.World.{worldOf};
+ghost use Rattle.drawing_pixel.specs.inner.BiasedWindow.{columnsBiased, heightBiased, rowsBiased};
+ghost use Rattle.drawing_pixel.specs.inner.BiasedWindow.{windowLeftBiased};
 use crate::field::edge;
 use crate::field::greatest;
 use crate::field::half;
@@ -32,7 +34,7 @@ pub fn world(vram: &[u8], n: usize) -> [u16; 11]
 
 // The columns of a world.
 pub fn columns(w: &[u16; 11]) -> usize
-    ensures { λ r. ⌜ (r ≡ columnsOf (now (w .entry))) × (r ≤ 4096) ⌝ }
+    ensures { λ r. ⌜ (r ≡ columnsBiased (now (w .entry))) × (r ≤ 4096) ⌝ }
 {
     let width = wide(w[7]);
     if w[0] / 4096 % 4 == 2 {
@@ -47,7 +49,7 @@ pub fn columns(w: &[u16; 11]) -> usize
 
 // H + 1, and 0 where that is not above 0.
 pub fn height(w: &[u16; 11]) -> usize
-    ensures { λ r. ⌜ (r ≡ heightOf (now (w .entry))) × (r ≤ 32768) ⌝ }
+    ensures { λ r. ⌜ (r ≡ heightBiased (now (w .entry))) × (r ≤ 32768) ⌝ }
 {
     let biased = (wide(w[8]) + 32768) % 65536;
     if biased < 32768 {
@@ -59,7 +61,7 @@ pub fn height(w: &[u16; 11]) -> usize
 // The rows of a world. GY is signed: as a halfword it is below 224 exactly where it is from 0 to 223, so that a strip
 // of the image holds it.
 pub fn rows(w: &[u16; 11]) -> usize
-    ensures { λ r. ⌜ (r ≡ rowsOf (now (w .entry))) × (r ≤ 32768) ⌝ }
+    ensures { λ r. ⌜ (r ≡ rowsBiased (now (w .entry))) × (r ≤ 32768) ⌝ }
 {
     let stored = height(w);
     let bgm = w[0] / 4096 % 4;
@@ -75,7 +77,7 @@ pub fn rows(w: &[u16; 11]) -> usize
 
 // The left edge of a world's window for an eye, plus 1,024.
 pub fn window_left(w: &[u16; 11], eye: usize) -> usize
-    ensures { λ r. ⌜ (r ≡ windowLeftOf (now (w .entry)) eye) × (r < 2048) ⌝ }
+    ensures { λ r. ⌜ (r ≡ windowLeftBiased (now (w .entry)) eye) × (r < 2048) ⌝ }
 {
     edge(eye, (wide(w[1]) + 512) % 1024, (wide(w[2]) + 512) % 1024)
 }

@@ -9,7 +9,7 @@ use lib.Seq.{ext-getD}
 use Rattle.bus.specs.Registers.{bkcolOf}
 use Rattle.drawing_pixel.specs.Character.{twoBitsOf}
 use Rattle.drawing_pixel.specs.Pixel.{pixelOf}
-use Rattle.drawing_pixel.specs.inner.Painting.{worldsPixelOf, paintedPixelOf}
+use Rattle.drawing_pixel.specs.inner.Painting.{worldsPixelBiased, pixelBiased}
 use Rattle.drawing_pixel.proofs.Painting.{pixel-formula}
 use Rattle.drawing_pixel.specs.Strip.{fourPixelsOf, stripByteOf, stripOf}
 use Rattle.drawing_pixel.specs.inner.Buffer.{Strip}
@@ -29,14 +29,14 @@ filled (suc (suc (suc (suc b)))) h = absurd (omega arith)
 
 -- the loop over worlds, from columns of BKCOL, works the strip out
 pub worked : (vram regs : List ℕ) (eye strip : ℕ) (columns : List ℕ) → bkcolOf regs < 4
-    → Strip (λ x r. worldsPixelOf vram regs eye x (8 * strip + r) 32 3) (replicate 384 (getD regs 12 0 * 21845)) columns
+    → Strip (λ x r. worldsPixelBiased vram regs eye x (8 * strip + r) 32 3) (replicate 384 (getD regs 12 0 * 21845)) columns
     → Worked vram regs eye strip columns
-unfolding paintedPixelOf bkcolOf
+unfolding pixelBiased bkcolOf
 worked vram regs eye strip columns h s =
     record {
       pixels = λ x r u v.
           s .pixels x r u v
-          ∙ ap (worldsPixelOf vram regs eye x (8 * strip + r) 32 3)
+          ∙ ap (worldsPixelBiased vram regs eye x (8 * strip + r) 32 3)
           (ap (λ (n : ℕ). twoBitsOf n r) (getD-replicate 384 x (getD regs 12 0 * 21845) 0 u) ∙ filled (getD regs 12 0) h r v)
           ∙ pixel-formula vram regs eye x (8 * strip + r);
     }

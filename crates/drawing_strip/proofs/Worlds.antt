@@ -11,10 +11,10 @@ use borrow.Author.Tests.{eq-eqb, ne-eqb}
 use Rattle.word.specs.LittleEndian.{halfAt}
 use Rattle.drawing_pixel.specs.Character.{twoBitsOf}
 use Rattle.drawing_pixel.specs.World.{worldOf, skippedOf, bgmOf, endOf}
-use Rattle.drawing_pixel.specs.Background.{backgroundPixelOf}
-use Rattle.drawing_pixel.specs.Object.{groupPixelOf}
+use Rattle.drawing_pixel.specs.inner.BiasedCell.{backgroundPixelBiased}
+use Rattle.drawing_pixel.specs.inner.BiasedObject.{groupPixelBiased}
 use Rattle.drawing_pixel.specs.Pixel.{counterAfterOf, drawsObjectsOf, counterOf}
-use Rattle.drawing_pixel.specs.inner.Painting.{worldPixelOf, worldsPixelOf}
+use Rattle.drawing_pixel.specs.inner.Painting.{worldPixelBiased, worldsPixelBiased}
 use Rattle.drawing_pixel.specs.inner.Buffer.{Strip}
 
 -- the flags of a world are its first halfword
@@ -35,16 +35,16 @@ flags-shown w l h =
     ]
 
 module _ (vram regs w : List ℕ) (counter eye x y v : ℕ) where
-  pub pixel-skipped : skippedOf w ≡ true → worldPixelOf vram regs w counter eye x y v ≡ v
-  unfolding worldPixelOf
+  pub pixel-skipped : skippedOf w ≡ true → worldPixelBiased vram regs w counter eye x y v ≡ v
+  unfolding worldPixelBiased
   pixel-skipped e = rw e
 
-  pub pixel-objects : skippedOf w ≡ false → bgmOf w ≡ 3 → groupPixelOf vram regs counter eye x y v ≡ worldPixelOf vram regs w counter eye x y v
-  unfolding worldPixelOf
+  pub pixel-objects : skippedOf w ≡ false → bgmOf w ≡ 3 → groupPixelBiased vram regs counter eye x y v ≡ worldPixelBiased vram regs w counter eye x y v
+  unfolding worldPixelBiased
   pixel-objects e f = rw e (simp (eq-eqb (bgmOf w) 3 f))
 
-  pub pixel-background : skippedOf w ≡ false → (bgmOf w ≡ 3 → ⊥) → backgroundPixelOf vram regs w eye x y v ≡ worldPixelOf vram regs w counter eye x y v
-  unfolding worldPixelOf
+  pub pixel-background : skippedOf w ≡ false → (bgmOf w ≡ 3 → ⊥) → backgroundPixelBiased vram regs w eye x y v ≡ worldPixelBiased vram regs w counter eye x y v
+  unfolding worldPixelBiased
   pixel-background e f = rw e (simp (ne-eqb (bgmOf w) 3 f))
 
 pub counter-skipped : (w : List ℕ) (counter : ℕ) → skippedOf w ≡ true → counter ≡ counterOf w counter
@@ -71,27 +71,28 @@ module _ (vram regs : List ℕ) (eye strip : ℕ) where
   pub record Painting (n counter : ℕ) (before after : List ℕ) : Type 0 where
     pub size : length after ≡ length before
     pub pixels : (x r : ℕ) → x < 384 → r < 8
-        → worldsPixelOf vram regs eye x (8 * strip + r) n counter (twoBitsOf (getD after x 0) r)
-        ≡ worldsPixelOf vram regs eye x (8 * strip + r) 32 3 (twoBitsOf (getD before x 0) r)
+        → worldsPixelBiased vram regs eye x (8 * strip + r) n counter (twoBitsOf (getD after x 0) r)
+        ≡ worldsPixelBiased vram regs eye x (8 * strip + r) 32 3 (twoBitsOf (getD before x 0) r)
 
   pub worlds-begun : (a : List ℕ) → Painting 32 3 a a
   worlds-begun a = record { size = refl; pixels = λ x r u v. refl }
 
   worlds-step : (x y n counter v : ℕ) → 0 < n → endOf (worldOf vram (n - 1)) ≡ false
-      → worldsPixelOf vram regs eye x y n counter v
-      ≡ worldsPixelOf vram regs eye x y (n - 1) (counterOf (worldOf vram (n - 1)) counter) (worldPixelOf vram regs (worldOf vram (n - 1)) counter eye x y v)
-  unfolding worldsPixelOf
+      → worldsPixelBiased vram regs eye x y n counter v
+      ≡ worldsPixelBiased vram regs eye x y (n - 1) (counterOf (worldOf vram (n - 1)) counter)
+      (worldPixelBiased vram regs (worldOf vram (n - 1)) counter eye x y v)
+  unfolding worldsPixelBiased
   worlds-step x y zero counter v h e = absurd (omega arith)
   worlds-step x y (suc m) counter v h e = let f : suc m - 1 ≡ m = omega arith in rw f (rw (rw f at e))
 
-  worlds-end : (x y n counter v : ℕ) → 0 < n → endOf (worldOf vram (n - 1)) ≡ true → worldsPixelOf vram regs eye x y n counter v ≡ v
-  unfolding worldsPixelOf
+  worlds-end : (x y n counter v : ℕ) → 0 < n → endOf (worldOf vram (n - 1)) ≡ true → worldsPixelBiased vram regs eye x y n counter v ≡ v
+  unfolding worldsPixelBiased
   worlds-end x y zero counter v h e = absurd (omega arith)
   worlds-end x y (suc m) counter v h e = let f : suc m - 1 ≡ m = omega arith in rw (rw f at e)
 
   pub worlds-more : (n counter next : ℕ) (a b c : List ℕ) → 0 < n → endOf (worldOf vram (n - 1)) ≡ false
       → next ≡ counterOf (worldOf vram (n - 1)) counter → Painting n counter a b
-      → Strip (λ x r. worldPixelOf vram regs (worldOf vram (n - 1)) counter eye x (8 * strip + r)) b c
+      → Strip (λ x r. worldPixelBiased vram regs (worldOf vram (n - 1)) counter eye x (8 * strip + r)) b c
       → Painting (n - 1) next a c
   worlds-more n counter next a b c h e f d s =
       record {
@@ -102,13 +103,13 @@ module _ (vram regs : List ℕ) (eye strip : ℕ) where
       }
 
   pub worlds-ended : (n counter : ℕ) (a b : List ℕ) → 0 < n → endOf (worldOf vram (n - 1)) ≡ true → Painting n counter a b
-      → Strip (λ x r. worldsPixelOf vram regs eye x (8 * strip + r) 32 3) a b
+      → Strip (λ x r. worldsPixelBiased vram regs eye x (8 * strip + r) 32 3) a b
   worlds-ended n counter a b h e d =
       record { size = d .size; pixels = λ x r u v. sym (worlds-end x (8 * strip + r) n counter (twoBitsOf (getD b x 0) r) h e) ∙ d .pixels x r u v }
 
-  pub worlds-done : (n counter : ℕ) (a b : List ℕ) → n ≡ 0 → Painting n counter a b → Strip (λ x r. worldsPixelOf vram regs eye x (8 * strip + r) 32 3) a b
-  unfolding worldsPixelOf
+  pub worlds-done : (n counter : ℕ) (a b : List ℕ) → n ≡ 0 → Painting n counter a b → Strip (λ x r. worldsPixelBiased vram regs eye x (8 * strip + r) 32 3) a b
+  unfolding worldsPixelBiased
   worlds-done n counter a b e d = record { size = d .size; pixels = λ x r u v. sym (none x r) ∙ d .pixels x r u v }
     where
-      none : (x r : ℕ) → worldsPixelOf vram regs eye x (8 * strip + r) n counter (twoBitsOf (getD b x 0) r) ≡ twoBitsOf (getD b x 0) r
+      none : (x r : ℕ) → worldsPixelBiased vram regs eye x (8 * strip + r) n counter (twoBitsOf (getD b x 0) r) ≡ twoBitsOf (getD b x 0) r
       none x r = rw e

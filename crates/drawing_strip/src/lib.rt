@@ -8,7 +8,7 @@ ghost use Rattle.bus.specs.Refusal.{vramBytes};
 ghost use Rattle.bus.specs.Registers.{sptOf, bkcolOf};
 ghost use Rattle.drawing_pixel.specs.World.{worldOf};
 ghost use Rattle.drawing_pixel.specs.Pixel.{counterOf};
-ghost use Rattle.drawing_pixel.specs.inner.Painting.{worldPixelOf, worldsPixelOf};
+ghost use Rattle.drawing_pixel.specs.inner.Painting.{worldPixelBiased, worldsPixelBiased};
 ghost use Rattle.drawing_pixel.specs.Strip.{stripOf, frameOf};
 ghost use Rattle.drawing_pixel.specs.inner.Buffer.{Strip};
 ghost use Rattle.drawing_strip.specs.inner.Stored.{Stored};
@@ -32,8 +32,8 @@ pub fn paint_world(
     ensures { λ c. ⌜ (c ≡ counterOf (worldOf (now (vram .entry)) n) counter) × (c < 4) ⌝ }
     ensures { λ _. ⌜
         Strip
-        (λ x r. worldPixelOf (now (vram .entry)) (now (registers .entry)) (worldOf (now (vram .entry)) n) counter eye
-        x (8 * strip + r))
+        (λ x r. worldPixelBiased (now (vram .entry)) (now (registers .entry)) (worldOf (now (vram .entry)) n) counter
+        eye x (8 * strip + r))
         (now (buffer .entry)) (now (buffer .exit))
         ⌝ }
 {
@@ -65,7 +65,7 @@ pub fn paint_worlds(
     requires { ⌜ (length (now vram) ≡ vramBytes) × (strip < 28) ⌝ }
     requires { ⌜ ((k : ℕ) → k < 4 → sptOf (now registers) k < 1024) ⌝ }
     ensures { λ _. ⌜
-        Strip (λ x r. worldsPixelOf (now (vram .entry)) (now (registers .entry)) eye x (8 * strip + r) 32 3)
+        Strip (λ x r. worldsPixelBiased (now (vram .entry)) (now (registers .entry)) eye x (8 * strip + r) 32 3)
         (now (buffer .entry)) (now (buffer .exit))
         ⌝ }
 {

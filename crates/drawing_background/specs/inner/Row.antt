@@ -7,10 +7,13 @@ use lib.Dec.{eqb}
 use Rattle.word.specs.Choose.{pick}
 use Rattle.word.specs.LittleEndian.{halfAt}
 use Rattle.bus.specs.Registers.{gpltOf}
-use Rattle.drawing_pixel.specs.Signed.{biasedOf, bitSet}
+use Rattle.drawing_pixel.specs.inner.BiasedFields.{biasedOf}
+use Rattle.drawing_pixel.specs.Flags.{bitSet}
 use Rattle.drawing_pixel.specs.Character.{twoBitsOf, characterAddressOf}
 use Rattle.drawing_pixel.specs.World.{bgmOf, scxOf, scyOf, overOf, baseOf}
-use Rattle.drawing_pixel.specs.Background.{parameterOf, biasIndexOf, cellAddressOf}
+use Rattle.drawing_pixel.specs.Background.{parameterOf, biasIndexOf}
+use Rattle.drawing_pixel.specs.inner.BiasedSource.{affineBias}
+use Rattle.drawing_pixel.specs.inner.BiasedCell.{cellAddressBiased}
 
 -- how far row j is moved, plus 4,096: an H-bias world's by its parameter, any other not
 unfoldable pub rowBiasOf : List ℕ → List ℕ → ℕ → ℕ → ℕ
@@ -25,9 +28,9 @@ pub record MapsOf (w : List ℕ) (over : Bool) (base beside across down : ℕ) :
   pub width : across ≡ 6 + scxOf w
   pub height : down ≡ 6 + scyOf w
 
--- 512 times a source coordinate n steps along an affine row, M and D biased by 32,768: what affineFloorOf divides
+-- 512 times a source coordinate n steps along an affine row, M and D biased by 32,768: what affineFloorBiased divides
 unfoldable pub affineSumOf : ℕ → ℕ → ℕ → ℕ
-affineSumOf m d n = 64 * m + d * n + 4292870144 - 32768 * n
+affineSumOf m d n = 64 * m + d * n + affineBias - 32768 * n
 
 -- the shades of a palette at their place in row r of a column, 16 bits for each value; nothing for value 0
 unfoldable pub inksOf : ℕ → ℕ → ℕ
@@ -37,7 +40,7 @@ inksOf palette r =
 
 -- a cell is the one at cell column u and row v, with its palette and where its character begins
 pub record CellAt (vram regs w : List ℕ) (u v cell palette character : ℕ) : Type 0 where
-  pub same : cell ≡ halfAt vram (cellAddressOf w u v)
+  pub same : cell ≡ halfAt vram (cellAddressBiased w u v)
   pub shades : palette ≡ gpltOf regs (cell / 16384)
   pub begins : character ≡ characterAddressOf (cell % 2048)
   pub low : character ≤ 131056

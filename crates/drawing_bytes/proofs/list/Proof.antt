@@ -2,11 +2,11 @@
 use borrow.Author.Needs.{needs}
 use Rattle.drawing_bytes.proofs.list.Statement.{statement}
 use Rattle.drawing_bytes.proofs.list.Tie as tie
-use Rattle.drawing_laws.specs.inner.SourceBytes.{sourceBytesOf}
+use Rattle.drawing_laws.specs.inner.SourceBytes.{pixelBytesBiased}
 use Rattle.drawing_bytes.proofs.Listings.{listing-more}
 
 returns : tie.Need-returns
-unfolding sourceBytesOf
+unfolding pixelBytesBiased
 returns c = listing-more _ _ _ _ _ _ _ _ (c .before .before .before .before .before .before .before .list-worlds
     .ensures .0) (c .before .before .list-objects .ensures)
 

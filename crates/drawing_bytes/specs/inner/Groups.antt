@@ -8,7 +8,7 @@ use Rattle.drawing_pixel.specs.World.{worldOf, endOf}
 use Rattle.drawing_pixel.specs.Object.{objectOf}
 use Rattle.drawing_pixel.specs.Pixel.{counterAfterOf, drawsObjectsOf}
 use Rattle.drawing_laws.specs.Covers.{inGroupOf}
-use Rattle.drawing_laws.specs.inner.SourceBytes.{worldsDrawOf, objectBytesOf}
+use Rattle.drawing_laws.specs.inner.SourceBytes.{worldsDrawBiased, objectBytesBiased}
 
 -- how many of worlds n - 1 to 0 draw objects before END
 unfoldable pub reachedObjectWorldsOf : List ℕ → ℕ → ℕ
@@ -22,5 +22,6 @@ inGroupsOf regs zero counter k = false
 inGroupsOf regs (suc worlds) counter k = inGroupOf regs counter k || inGroupsOf regs worlds (counterAfterOf counter) k
 
 -- the part of the list that object k has
-unfoldable pub objectListOf : List ℕ → List ℕ → ℕ → ℕ → ℕ → ℕ → List ℕ
-objectListOf vram regs eye x y k = pick (worldsDrawOf vram regs eye x y 32 3 k) (objectBytesOf (objectOf vram k) y) []
+unfoldable pub objectListOf : (vram regs : List ℕ) (eye x y k : ℕ) → List ℕ
+objectListOf vram regs eye x y k =
+    pick (worldsDrawBiased vram regs eye x y 32 3 k) (objectBytesBiased (objectOf vram k) y) []

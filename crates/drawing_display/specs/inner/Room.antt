@@ -16,7 +16,7 @@ pub record Levels (vram : List ℕ) (d : Durations) (table start n : ℕ) (level
       (k : ℕ) → k < n → getD levels k 0 ≡ lampLevelOf d (k % 4) (repeatsOf (halfAt vram (table + 2 * (start - k / 4))))
 
 -- the level of pixel (x, y) of the image that begins at `base`
-unfoldable pub pixelIn : List ℕ → List ℕ → ℕ → ℕ → ℕ → ℕ
+unfoldable pub pixelIn : (vram levels : List ℕ) (base x y : ℕ) → ℕ
 pixelIn vram levels base x y = getD levels (x - x % 4 + twoBitsOf (halfAt vram (base + 64 * x + 2 * (y / 8))) (y % 8)) 0
 
 -- n pixels stand from byte `at` down, one a row, and nothing else changed

@@ -2,10 +2,10 @@
 use borrow.Author.Needs.{needs}
 use Rattle.drawing_objects.proofs.object_row.Statement.{statement}
 use Rattle.drawing_objects.proofs.object_row.Tie as tie
-use Rattle.drawing_pixel.specs.Object.{objectRowOf}
+use Rattle.drawing_pixel.specs.inner.BiasedObject.{objectRowBiased}
 
 returns : tie.Need-returns
-unfolding objectRowOf
+unfolding objectRowBiased
 returns c = rw (c .wide .ensures .0)
 
 pub object-row-spec : {M : Type 1} → statement M

@@ -6,7 +6,7 @@ use native.Mathlib.Omega.{arith}
 use borrow.Author.Needs.{needs}
 use borrow.Author.Tests.{not-true, not-false}
 use mathlib.Core.Path.{_≡_, sym, _∙_}
-use Rattle.drawing_pixel.specs.Object.{objectPixelOf}
+use Rattle.drawing_pixel.specs.inner.BiasedObject.{objectPixelBiased}
 use Rattle.drawing_pixel.specs.inner.Buffer.{Rows}
 use Rattle.drawing_pixel.proofs.Spans.{rows-none, rows-more, rows-all, strip-kept}
 use Rattle.drawing_pixel.proofs.Small.{object-small}
@@ -15,7 +15,7 @@ use Rattle.drawing_objects.proofs.Squares.{square-outside, square-empty
 
 abbrev Inv-loop : tie.InvT-loop
 Inv-loop vram registers o buffer₀ eye strip left from to r₀ buffer r = (r ≤ 8) × Rows r
-    (λ x q. objectPixelOf vram registers o eye x (8 * strip + q)) buffer₀ buffer
+    (λ x q. objectPixelBiased vram registers o eye x (8 * strip + q)) buffer₀ buffer
 
 abbrev μ-loop : tie.MeasureT-loop
 μ-loop vram registers o buffer₀ eye strip left from to r₀ buffer r = 8 - r

@@ -6,7 +6,8 @@ use native.Mathlib.Omega.{arith}
 use Prim.Native.Nat.{ℕ, _+_, _-_, _/_, _<_, _≤_}
 use mathlib.Core.Path.{_≡_, ap, sym, _∙_}
 use lib.ListN.{getD}
-use Rattle.drawing_pixel.specs.Background.{sourcePixelOf, affineFloorOf}
+use Rattle.drawing_pixel.specs.inner.BiasedCell.{sourcePixelBiased}
+use Rattle.drawing_pixel.specs.inner.BiasedSource.{affineFloorBiased}
 use Rattle.drawing_pixel.specs.inner.Buffer.{repaintedOf, Span}
 use Rattle.drawing_pixel.proofs.Spans.{span-none, span-more}
 use Rattle.drawing_background.specs.inner.Row.{affineSumOf, CellAt, Inked}
@@ -18,8 +19,8 @@ Inv-loop vram registers w buffer₀ run course mask maps last₀ px₀ py₀ x�
     × ((x ≤ run .to)
     × ((CellAt vram registers w (last .u) (last .v) (last .cell) (last .palette) (last .character)
     × Inked (run .row) (last .cell) (last .palette) (last .across) (last .down) (last .inks))
-    × (Span (run .row) (run .from) x (λ y. sourcePixelOf vram registers w (affineFloorOf (course .mx) (course .dx)
-    (course .n + (y - run .from))) (affineFloorOf (course .my) (course .dy) (course .n +
+    × (Span (run .row) (run .from) x (λ y. sourcePixelBiased vram registers w (affineFloorBiased (course .mx) (course .dx)
+    (course .n + (y - run .from))) (affineFloorBiased (course .my) (course .dy) (course .n +
     (y - run .from)))) buffer₀ buffer
     × ((px ≡ affineSumOf (course .mx) (course .dx) (course .n + (x - run .from))) × (py ≡ affineSumOf (course .my)
     (course .dy) (course .n + (x - run .from)))))))
@@ -156,9 +157,9 @@ loop-again c =
     let k = a .course .n + (l .x - a .run .from) in
     let s : k < 65535 = omega (arith, pre .1 .1 .1 .1 .1 .1 .1 .1 .1, pre .1 .1 .1 .0, inv .1 .0) in
     let next : a .course .n + (l .x + 1 - a .run .from) ≡ k + 1 = omega (arith, inv .0) in
-    let fx : l .px / 512 ≡ affineFloorOf (a .course .mx) (a .course .dx) k = floor-sum (a .course .mx) (a .course .dx) k (l .px) (inv .1 .1 .1 .1 .0) in
-    let fy : l .py / 512 ≡ affineFloorOf (a .course .my) (a .course .dy) k = floor-sum (a .course .my) (a .course .dy) k (l .py) (inv .1 .1 .1 .1 .1) in
-    let e : c .before .before .cell-shaded .result ≡ repaintedOf (a .run .row) (sourcePixelOf (a .vram .now)
+    let fx : l .px / 512 ≡ affineFloorBiased (a .course .mx) (a .course .dx) k = floor-sum (a .course .mx) (a .course .dx) k (l .px) (inv .1 .1 .1 .1 .0) in
+    let fy : l .py / 512 ≡ affineFloorBiased (a .course .my) (a .course .dy) k = floor-sum (a .course .my) (a .course .dy) k (l .py) (inv .1 .1 .1 .1 .1) in
+    let e : c .before .before .cell-shaded .result ≡ repaintedOf (a .run .row) (sourcePixelBiased (a .vram .now)
     (a .registers .now) (a .w .now) (l .px / 512) (l .py / 512)) (getD (l .buffer) (l .x) 0) =
     c .before .before .cell-shaded .ensures ∙ source-repainted (a .vram .now) (a .registers .now) (a .w .now)
     (a .run .row) _ _ _ _ _ _ _ _ (h .0) (h .1 .0) (h .1 .1 .0)

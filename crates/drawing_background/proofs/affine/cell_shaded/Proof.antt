@@ -8,7 +8,7 @@ use mathlib.Core.Path.{_≡_, ap, _∙_}
 use Prim.Native.Nat.{_+_, _*_, _%_, _≤_}
 use lib.Bits.{and-le-l}
 use Rattle.word.specs.LittleEndian.{halfAt}
-use Rattle.drawing_pixel.specs.Signed.{bitSet}
+use Rattle.drawing_pixel.specs.Flags.{bitSet}
 use Rattle.drawing_pixel.specs.Character.{twoBitsOf, flippedOf, pixelValueOf}
 use Rattle.drawing_background.proofs.Inks.{bits-small, value-turned, inked-of, inked-fits}
 

@@ -3,10 +3,10 @@ use borrow.Author.Needs.{needs}
 use Rattle.drawing_background.proofs.cell.map_cell_address.Statement.{statement}
 use Rattle.drawing_background.proofs.cell.map_cell_address.Tie as tie
 use native.Mathlib.Omega.{arith}
-use Rattle.drawing_pixel.specs.Background.{mapCellAddressOf}
+use Rattle.drawing_pixel.specs.inner.BiasedCell.{mapCellAddressBiased}
 
 returns : tie.Need-returns
-unfolding mapCellAddressOf
+unfolding mapCellAddressBiased
 returns c = (
   rw (
     c .map-number .ensures .0,

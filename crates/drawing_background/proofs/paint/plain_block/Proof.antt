@@ -5,7 +5,7 @@ use Rattle.drawing_background.proofs.paint.plain_block.Tie as tie
 use Prim.Native.Nat.{_+_, _-_}
 use native.Mathlib.Omega.{arith}
 use mathlib.Core.Path.{_≡_, ap}
-use Rattle.drawing_pixel.specs.Background.{sourcePixelOf}
+use Rattle.drawing_pixel.specs.inner.BiasedCell.{sourcePixelBiased}
 use Rattle.drawing_pixel.proofs.Blocks.{block-under, block-change}
 
 returns : tie.Need-returns
@@ -23,7 +23,7 @@ returns-2 c =
     (block-change _ _ _ _ _ _ _ _
     (λ x r v l h t u.
     let e : a .source .y + (mid - a .area .top) + (r - mid) ≡ a .source .y + (r - a .area .top) = omega (arith, t, pre .1 .1 .1 .1 .0, below) in
-    ap (λ y. sourcePixelOf (a .vram .now) (a .registers .now) (a .w .now) (a .source .x + (x - a .area .from)) y v) e)
+    ap (λ y. sourcePixelBiased (a .vram .now) (a .registers .now) (a .w .now) (a .source .x + (x - a .area .from)) y v) e)
     (c .cells-block2 .ensures))
 
 pub plain-block-spec : {M : Type 1} → statement M

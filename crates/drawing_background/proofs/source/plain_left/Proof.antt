@@ -4,14 +4,14 @@ use Rattle.drawing_background.proofs.source.plain_left.Statement.{state
 use Rattle.drawing_background.proofs.source.plain_left.Tie as tie
 use native.Mathlib.Omega.{arith}
 use borrow.Author.Tests.{eq-eqb, ne-eqb}
-use Rattle.drawing_pixel.specs.Background.{plainLeftOf}
+use Rattle.drawing_pixel.specs.inner.BiasedSource.{plainLeftBiased}
 
 returns : tie.Need-returns
-unfolding plainLeftOf
+unfolding plainLeftBiased
 returns c = (simp (eq-eqb _ _ (c .if1 .taken)) (omega arith), omega arith)
 
 returns-2 : tie.Need-returns-2
-unfolding plainLeftOf
+unfolding plainLeftBiased
 returns-2 c = (simp (ne-eqb _ _ (c .if1 .left)) (omega arith), omega arith)
 
 pub plain-left-spec : {M : Type 1} → statement M

@@ -5,8 +5,8 @@ use Rattle.drawing_background.proofs.world.normal_block.Tie as tie
 use Prim.Native.Nat.{_+_, _-_, _*_, _%_}
 use native.Mathlib.Omega.{arith}
 use mathlib.Core.Path.{_≡_, ap, _∙_}
-use Rattle.drawing_pixel.specs.World.{gyOf}
-use Rattle.drawing_pixel.specs.Background.{normalYOf}
+use Rattle.drawing_pixel.specs.inner.BiasedFields.{gyBiased}
+use Rattle.drawing_pixel.specs.inner.BiasedSource.{normalYBiased}
 use Rattle.drawing_background.proofs.Clipping.{no-row-inside, rows-inside}
 
 returns : tie.Need-returns
@@ -20,10 +20,10 @@ returns-2 c =
     let a = c .before .before .before .before .before .before .before .before .before .before .before .before .before .before .before .args in
     let pre = c .before .before .before .before .before .before .before .before .before .before .before .before .before .before .before .pre in
     let t : (c .before .before .before .before .before .before .before .before .before .before .before .before .wide
-    .result + 32768) % 65536 ≡ gyOf (a .w .now) = omega arith in
+    .result + 32768) % 65536 ≡ gyBiased (a .w .now) = omega arith in
     rows-inside (a .vram .now) (a .registers .now) (a .w .now) (a .view .eye) (a .view .strip) _ _ (omega arith) (omega arith)
     (omega arith) (pre .1 .1 .0) (omega arith) (a .from) (a .to) (omega arith) (omega arith) _ _ (omega arith)
-    (c .before .before .normal-y .ensures .0 ∙ ap (λ n. normalYOf (a .w .now)
+    (c .before .before .normal-y .ensures .0 ∙ ap (λ n. normalYBiased (a .w .now)
     (8 * a .view .strip + 32768 + c .before .before .before .before .before .before .before .before .before .least
     .result - n)) t) _ _ (c .plain-block .ensures)
 

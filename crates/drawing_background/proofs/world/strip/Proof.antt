@@ -8,7 +8,7 @@ use borrow.Author.Needs.{needs}
 use borrow.Author.Tests.{not-true, not-false}
 use mathlib.Core.Path.{sym, _∙_}
 use Rattle.drawing_pixel.specs.World.{worldShownOf}
-use Rattle.drawing_pixel.specs.Background.{backgroundPixelOf}
+use Rattle.drawing_pixel.specs.inner.BiasedCell.{backgroundPixelBiased}
 use Rattle.drawing_pixel.specs.inner.Buffer.{Rows}
 use Rattle.drawing_pixel.proofs.Spans.{rows-none, rows-more, rows-all, strip-kept}
 use Rattle.drawing_pixel.proofs.Blocks.{block-strip}
@@ -19,7 +19,7 @@ use mathlib.Core.Path.{_≡_}
 
 abbrev Inv-loop : tie.InvT-loop
 Inv-loop vram registers w buffer₀ eye strip left from to r₀ buffer r = (r ≤ 8) × Rows r
-    (λ x q. backgroundPixelOf vram registers w eye x (8 * strip + q)) buffer₀ buffer
+    (λ x q. backgroundPixelBiased vram registers w eye x (8 * strip + q)) buffer₀ buffer
 
 abbrev μ-loop : tie.MeasureT-loop
 μ-loop vram registers w buffer₀ eye strip left from to r₀ buffer r = 8 - r

@@ -10,13 +10,13 @@ use lib.ListN.{getD}
 use borrow.Author.Tests.{eq-eqb, ne-eqb}
 use Rattle.drawing_pixel.specs.World.{worldOf}
 use Rattle.drawing_strip.proofs.Worlds.{world-flags}
-use Rattle.drawing_laws.specs.inner.SourceBytes.{worldsBytesOf}
+use Rattle.drawing_laws.specs.inner.SourceBytes.{worldsBytesBiased}
 use Rattle.drawing_bytes.proofs.Listings.{Left, left-begun, left-more, left-done, left-size}
 use Rattle.drawing_bytes.proofs.Worlds.{worlds-step, worlds-ended, worlds-none}
 
 abbrev Inv-loop : tie.InvT-loop
 Inv-loop vram room₀ eye x y n₀ k₀ room n k =
-    (k ≤ 32) × ((n ≤ 14 * (32 - k)) × Left 0 (worldsBytesOf vram eye x y 32) n (worldsBytesOf vram eye x y k) room₀ room)
+    (k ≤ 32) × ((n ≤ 14 * (32 - k)) × Left 0 (worldsBytesBiased vram eye x y 32) n (worldsBytesBiased vram eye x y k) room₀ room)
 
 abbrev μ-loop : tie.MeasureT-loop
 μ-loop vram room₀ eye x y n₀ k₀ room n k = k

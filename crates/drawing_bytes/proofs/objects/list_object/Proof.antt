@@ -11,7 +11,7 @@ use lib.ListN.{getD}
 use borrow.Author.Tests.{not-true, not-false}
 use Rattle.drawing_pixel.specs.Object.{objectOf}
 use Rattle.drawing_bytes.proofs.Listings.{listing-none, listing-as}
-use Rattle.drawing_bytes.proofs.Covering.{object-row-there}
+use Rattle.drawing_pixel.proofs.Windows.{object-covers-row}
 use Rattle.drawing_bytes.proofs.Drawn.{object-not-covering, object-not-drawn, object-drawn, object-row-bytes}
 
 returns : tie.Need-returns
@@ -41,7 +41,7 @@ row-address-requires c κs =
     (c .before .before .before .before .before .before .if1 .left) in
     omega (
       arith,
-      object-row-there (c .before .before .before .before .before .before .before .before .before .object
+      object-covers-row (c .before .before .before .before .before .before .before .before .before .object
           .result) (a .pixel .eye) (a .pixel .x) (a .pixel .y) covered,
       c .object-row .ensures,
     )

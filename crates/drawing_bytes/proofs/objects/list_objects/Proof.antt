@@ -5,14 +5,14 @@ use Rattle.drawing_bytes.proofs.objects.list_objects.Tie as tie
 use borrow.Author.Needs.{needs}
 use native.Mathlib.Omega.{arith}
 use Prim.Native.Nat.{_+_, _-_, _*_, _≤_}
-use Rattle.drawing_laws.specs.inner.SourceBytes.{objectsBytesOf}
+use Rattle.drawing_laws.specs.inner.SourceBytes.{objectsBytesBiased}
 use Rattle.drawing_bytes.proofs.Listings.{Left, left-begun, left-more, left-done, left-size}
 use Rattle.drawing_bytes.proofs.Drawn.{objects-step, objects-none}
 
 abbrev Inv-loop : tie.InvT-loop
 Inv-loop vram registers room₀ start worlds pixel n₀ k₀ room n k =
-    (k ≤ 1024) × ((n ≤ start + 2 * (1024 - k)) × Left start (objectsBytesOf vram registers (pixel .eye) (pixel .x)
-    (pixel .y) 1024) n (objectsBytesOf vram registers (pixel .eye) (pixel .x) (pixel .y) k) room₀ room)
+    (k ≤ 1024) × ((n ≤ start + 2 * (1024 - k)) × Left start (objectsBytesBiased vram registers (pixel .eye) (pixel .x)
+    (pixel .y) 1024) n (objectsBytesBiased vram registers (pixel .eye) (pixel .x) (pixel .y) k) room₀ room)
 
 abbrev μ-loop : tie.MeasureT-loop
 μ-loop vram registers room₀ start worlds pixel n₀ k₀ room n k = k

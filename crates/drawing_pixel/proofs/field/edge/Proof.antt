@@ -3,15 +3,15 @@ use borrow.Author.Needs.{needs}
 use Rattle.drawing_pixel.proofs.field.edge.Statement.{statement}
 use Rattle.drawing_pixel.proofs.field.edge.Tie as tie
 use borrow.Author.Tests.{eq-eqb, ne-eqb}
-use Rattle.drawing_pixel.specs.Signed.{edgeOf}
+use Rattle.drawing_pixel.specs.inner.BiasedFields.{edgeBiased}
 use native.Mathlib.Omega.{arith}
 
 returns : tie.Need-returns
-unfolding edgeOf
+unfolding edgeBiased
 returns c = (simp (eq-eqb _ _ (c .if1 .taken)), omega arith)
 
 returns-2 : tie.Need-returns-2
-unfolding edgeOf
+unfolding edgeBiased
 returns-2 c = (simp (ne-eqb _ _ (c .if1 .left)), omega arith)
 
 pub edge-spec : {M : Type 1} → statement M

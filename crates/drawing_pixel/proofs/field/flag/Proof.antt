@@ -2,7 +2,7 @@
 use Rattle.drawing_pixel.proofs.field.flag.Statement.{statement}
 use Rattle.drawing_pixel.proofs.field.flag.Tie as tie
 use borrow.Author.Tests.{eq-eqb, ne-eqb}
-use Rattle.drawing_pixel.specs.Signed.{eyeFlagOf}
+use Rattle.drawing_pixel.specs.Flags.{eyeFlagOf}
 
 returns : tie.Need-returns
 unfolding eyeFlagOf
