@@ -17,3 +17,4 @@ pub mod Accepted
 pub mod Kept
 pub mod Mapped
 pub mod LoadStore
+pub mod Fetches

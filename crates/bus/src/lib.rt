@@ -1,6 +1,7 @@
 // The bus: where an address leads, loads and stores over the lent memories, the device registers,
 // and paper 01's refusals 1 to 5. The functions here are for the crates above; the calls that test
 // their arguments and refuse are those of the crate bus_calls.
+pub mod code;
 pub mod device;
 pub mod load;
 pub mod map;

@@ -1,5 +1,4 @@
 mod Acceptance
-mod Fetches
 mod Leading
 mod Turning
 mod Written

@@ -2,7 +2,6 @@
 // more. It leaves the mode and the devices as they are, and where no interrupt is accepted before it none is after it.
 // The functions here are for the crate processor, whose calls test their arguments and refuse.
 mod dispatch;
-mod position;
 pub mod stretch;
 mod system;
 

@@ -2,8 +2,10 @@
 use crate::Progress;
 use crate::Rest;
 use crate::dispatch::dispatch;
-use crate::position::fetch;
 use bus::Device;
+use bus::code::Code;
+use bus::code::code_at;
+use bus::code::fetch;
 use processor_fast_compute::Fast;
 use processor_fast_compute::field::after_one;
 use processor_lazy_flags::Flags;
@@ -13,9 +15,9 @@ ghost use mathlib.Core.Path.{_≡_};
 ghost use Prim.Native.Nat.{_%_};
 ghost use Rattle.bus.specs.Memory.{Lengths};
 ghost use Rattle.bus.specs.Lent.{entering, leavingRam};
+ghost use Rattle.bus.specs.inner.Code.{Stands};
 ghost use Rattle.processor_machine.specs.State.{stateOf};
 ghost use Rattle.processor_machine.specs.declared.Mode.{Mode};
-ghost use Rattle.processor_fast.specs.inner.Stands.{Stands};
 ghost use Rattle.processor_fast.specs.inner.Leads.{StretchedBy, Stretched};
 
 // Code from `base` on: as long as it stays below index `last`.
@@ -125,55 +127,53 @@ pub fn stretch(
     if psw % 4 == 3 {
         return Progress { count: 0, pc, psw };
     }
-    let region = pc / 16777216 % 8;
-    if region == 7 {
-        let n = rom.len() as u32;
-        let base = pc - pc % n;
-        let q = inside(
-            rom,
-            wram,
-            vram,
-            pak,
-            device,
-            regs,
-            sys,
-            pc,
-            psw,
-            budget,
-            true,
-            base,
-            n - 3,
-        );
-        let count = budget - q.left;
-        return Progress {
-            count,
-            pc: q.pc,
-            psw: q.psw,
-        };
+    match code_at(rom.len(), pc) {
+        Code::Rom { base, last } => {
+            let q = inside(
+                rom,
+                wram,
+                vram,
+                pak,
+                device,
+                regs,
+                sys,
+                pc,
+                psw,
+                budget,
+                true,
+                base,
+                last,
+            );
+            let count = budget - q.left;
+            Progress {
+                count,
+                pc: q.pc,
+                psw: q.psw,
+            }
+        }
+        Code::Wram { base, last } => {
+            let q = inside(
+                rom,
+                wram,
+                vram,
+                pak,
+                device,
+                regs,
+                sys,
+                pc,
+                psw,
+                budget,
+                false,
+                base,
+                last,
+            );
+            let count = budget - q.left;
+            Progress {
+                count,
+                pc: q.pc,
+                psw: q.psw,
+            }
+        }
+        Code::Elsewhere => Progress { count: 0, pc, psw },
     }
-    if region == 5 {
-        let base = pc - pc % 65536;
-        let q = inside(
-            rom,
-            wram,
-            vram,
-            pak,
-            device,
-            regs,
-            sys,
-            pc,
-            psw,
-            budget,
-            false,
-            base,
-            65533,
-        );
-        let count = budget - q.left;
-        return Progress {
-            count,
-            pc: q.pc,
-            psw: q.psw,
-        };
-    }
-    Progress { count: 0, pc, psw }
 }

@@ -35,7 +35,7 @@ pub struct Performed {
     pub fetched: Fetched,
 }
 
-// The halfword at an address. The memories are lent as a step has them, so that no slice is copied on the fast path.
+// The halfword at an address.
 fn half(
     rom: &[u8],
     wram: &mut [u8],
@@ -48,13 +48,6 @@ fn half(
     ensures value { λ r. ⌜ r ≡ firstOf pc (entering rom wram vram pak device) ⌝ }
     ensures kept { λ r. ⌜ leaving rom wram vram pak device ≡ entering rom wram vram pak device ⌝ }
 {
-    let region = pc / 16777216 % 8;
-    if region == 7 {
-        return bus::load::rom_half(rom, pc) as u16;
-    }
-    if region == 5 {
-        return bus::load::wram_half(wram, pc) as u16;
-    }
     let v = bus::load::half(rom, wram, vram, pak, device, pc);
     v.value as u16
 }

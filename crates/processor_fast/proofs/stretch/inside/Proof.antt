@@ -12,7 +12,7 @@ use Rattle.processor_machine.specs.declared.Mode.the-variants.{Running}
 use Rattle.processor_fast_compute.specs.inner.Fast.{machineOf}
 use Rattle.processor_fast.specs.inner.Leads.{Leads}
 use Rattle.processor_fast.specs.inner.Turns.{Quiet}
-use Rattle.processor_fast.proofs.Fetches.{fetches, stands-even, stands-room}
+use Rattle.bus.proofs.Fetches.{stands-even, stands-room}
 use Rattle.processor_fast_compute.proofs.Results.{one-even}
 use Rattle.processor_fast.proofs.Leading.{stays-here, leads-more, aligned-more, leads-masked, quiet-masked, leads-same, leads-none, start-even, ends}
 use Rattle.processor_fast.proofs.stretch.inside.Statement.{statement}
@@ -82,7 +82,7 @@ fetch-requires c κs =
     let a = b .args in
     let l = c .before .before .before .loop in
     let w : length (l .wram) ≡ 65536 = l .inv .3 ∙ b .pre .0 .wram-ok in
-    rw w (stands-room (length (now (a .rom))) (a .base) (a .last) (l .x) (a .in-rom) (b .pre .1) (c .before .if1 .left))
+    (b .pre .0 .rom-ok, rw w (stands-room (length (now (a .rom))) (a .base) (a .last) (l .x) (a .in-rom) (b .pre .1) (c .before .if1 .left)))
 
 dispatch-requires : tie.Need-dispatch-requires Inv-loop μ-loop
 dispatch-requires c κs =
@@ -119,22 +119,20 @@ loop-again c =
     let d = c .before .before .before .before .before .before .before .dispatch in
     let w = c .before .before .before .before .before .before .before .before .before .before .before .before .fetch in
     let m = memoryOf (now (a .rom)) (l .wram) (l .vram) (now (a .pak)) (now (a .device)) in
-    let at = fetches m (a .base) (l .x) (a .last) (a .in-rom) (b .pre .0 .rom-ok) (b .pre .1) (l .inv .2)
+    let at = w .ensures (l .vram) (now (a .pak)) (now (a .device)) (a .base) (a .last) (b .pre .1) (l .inv .2)
     (c .before .before .before .before .before .before .before .before .before .before .before .before .before
     .before .if1 .left) in
-    let first = at .0 ∙ sym (w .ensures .0) in
-    let second = at .1 ∙ sym (w .ensures .1) in
     let t = c .before .before .before .before .before .before .before .before .before .before .before .before .before .before .before .loop-test .taken in
     let k : a .budget - (l .left - 1) ≡ suc (a .budget - l .left) = omega (arith, t, l .inv .1) in
     let e = c .before .to .given .1 in (
       leads-more _ _ (a .budget - l .left) (l .regs) _ (l .sys) _ (a .base) (l .x) (l .high) _ _ (l .flags) m _
-          (d .result) (l .inv .0) first second even (l .inv .2) (getD (now (a .device)) linesPlace 0) (d .ensures)
+          (d .result) (l .inv .0) (at .first) (at .second) even (l .inv .2) (getD (now (a .device)) linesPlace 0) (d .ensures)
           (stays-here (now (a .regs)) (l .regs) (now (a .sys)) (l .sys) (now (a .rom)) (now (a .wram)) (l .wram) (now
           (a .vram)) (l .vram) (now (a .pak)) (now (a .device)) (a .pc) (a .psw) (l .high) (a .base) (l .x) (l .flags)
           (l .inv .5)) _ _ _ _ e k,
       omega (arith, t, l .inv .1),
       aligned-more _ _ (a .budget - l .left) (l .regs) _ (l .sys) _ (a .base) (l .x) (l .high) _ _ (l .flags) m _
-          (d .result) (l .inv .0) first second even (l .inv .2) (getD (now (a .device)) linesPlace 0)
+          (d .result) (l .inv .0) (at .first) (at .second) even (l .inv .2) (getD (now (a .device)) linesPlace 0)
           (d .ensures) _ _ _ e,
       d .kept .1 .0 ∙ l .inv .3,
       d .kept .1 .1 .0 ∙ l .inv .4,
@@ -171,17 +169,15 @@ loop-again-2 c =
     let d = c .before .before .before .before .before .before .before .before .dispatch in
     let w = c .before .before .before .before .before .before .before .before .before .before .before .before .before .fetch in
     let m = memoryOf (now (a .rom)) (l .wram) (l .vram) (now (a .pak)) (now (a .device)) in
-    let at = fetches m (a .base) (l .x) (a .last) (a .in-rom) (b .pre .0 .rom-ok) (b .pre .1) (l .inv .2)
+    let at = w .ensures (l .vram) (now (a .pak)) (now (a .device)) (a .base) (a .last) (b .pre .1) (l .inv .2)
     (c .before .before .before .before .before .before .before .before .before .before .before .before .before
     .before .before .if1 .left) in
-    let first = at .0 ∙ sym (w .ensures .0) in
-    let second = at .1 ∙ sym (w .ensures .1) in
     let t = c .before .before .before .before .before .before .before .before .before .before .before .before .before
     .before .before .before .loop-test .taken in
     let k : a .budget - (l .left - 1) ≡ suc (a .budget - l .left) = omega (arith, t, l .inv .1) in
     let e = c .before .before .p .given .1 in (
       leads-masked _ _ (a .budget - l .left) (l .regs) _ (l .sys) _ (a .base) (l .x) (l .high) _ _ (l .flags) m _
-          (d .result) (l .inv .0) first second even (l .inv .2) (getD (now (a .device)) linesPlace 0) (d .ensures)
+          (d .result) (l .inv .0) (at .first) (at .second) even (l .inv .2) (getD (now (a .device)) linesPlace 0) (d .ensures)
           (stays-here (now (a .regs)) (l .regs) (now (a .sys)) (l .sys) (now (a .rom)) (now (a .wram)) (l .wram) (now
           (a .vram)) (l .vram) (now (a .pak)) (now (a .device)) (a .pc) (a .psw) (l .high) (a .base) (l .x) (l .flags)
           (l .inv .5)) _ _ _ e (c .after-one .ensures) k,
@@ -190,7 +186,7 @@ loop-again-2 c =
       d .kept .1 .0 ∙ l .inv .3,
       d .kept .1 .1 .0 ∙ l .inv .4,
       λ u. quiet-masked _ _ (a .budget - l .left) (l .regs) _ (l .sys) _ (a .base) (l .x) (l .high) _ _ (l .flags) m _
-          (d .result) (l .inv .0) first second even (l .inv .2) (getD (now (a .device)) linesPlace 0) (d .ensures) _ e
+          (d .result) (l .inv .0) (at .first) (at .second) even (l .inv .2) (getD (now (a .device)) linesPlace 0) (d .ensures) _ e
           (l .inv .5 u),
     )
 
@@ -223,18 +219,16 @@ returns-2 c =
     let d = c .before .before .before .before .before .before .before .before .dispatch in
     let w = c .before .before .before .before .before .before .before .before .before .before .before .before .before .fetch in
     let m = memoryOf (now (a .rom)) (l .wram) (l .vram) (now (a .pak)) (now (a .device)) in
-    let at = fetches m (a .base) (l .x) (a .last) (a .in-rom) (b .pre .0 .rom-ok) (b .pre .1) (l .inv .2)
+    let at = w .ensures (l .vram) (now (a .pak)) (now (a .device)) (a .base) (a .last) (b .pre .1) (l .inv .2)
     (c .before .before .before .before .before .before .before .before .before .before .before .before .before
     .before .before .if1 .left) in
-    let first = at .0 ∙ sym (w .ensures .0) in
-    let second = at .1 ∙ sym (w .ensures .1) in
     record {
       within = l .inv .1;
       stretched = ends (a .budget) (l .left) (now (a .regs)) _ (now (a .sys)) _ (now (a .rom)) (now (a .wram)) _ (now
           (a .vram)) _ (now (a .pak)) (now (a .device)) (a .pc) (a .psw) (l .high) (a .base) (l .x) _ _ (l .flags)
           (l .inv .5) (c .before .wrapping-add-u322 .ensures) (c .packed2 .ensures)
           (leads-same _ _ (a .budget - l .left) (l .regs) _ (l .sys) _ (a .base) (l .x) (l .high) _ _ (l .flags) m _
-          (d .result) (l .inv .0) first second even (l .inv .2) (getD (now (a .device)) linesPlace 0) (d .ensures)
+          (d .result) (l .inv .0) (at .first) (at .second) even (l .inv .2) (getD (now (a .device)) linesPlace 0) (d .ensures)
           (c .before .before .enum-told .given .1));
     }
 

@@ -5,19 +5,18 @@ use mathlib.Core.Bool.{Bool, true, false, true≢false}
 use mathlib.Core.List.{List, [], _∷_}
 use mathlib.Core.Path.{_≡_, refl, sym, ap, subst, _∙_}
 use native.Mathlib.Decide.{ℕ-discrete}
-use native.Mathlib.Nat.{mod-eq-of-lt}
+use native.Mathlib.Nat.{mod-eq-of-lt, mod-le}
 use native.Mathlib.Omega.{arith}
 use borrow.Author.Tests.{ne-eqb}
 use lib.ListN.{length}
 use Rattle.word.specs.Choose.{pick, member}
 use Rattle.word.specs.LittleEndian.{halfAt}
 use Rattle.bus.specs.Place.{romAt, wramAt, regionOf}
 use Rattle.bus.specs.Refusal.{romLengths, romOk}
-use Rattle.bus.specs.Memory.{Memory, loadOf, Lengths}
+use Rattle.bus.specs.Memory.{Memory, loadOf}
 use Rattle.bus.proofs.Places.{region-code}
 use Rattle.bus.proofs.Spans.{span-half, rom-span-half, wram-span-half}
-use Rattle.processor_fast_compute.specs.inner.Fast.{addressOf}
-use Rattle.processor_fast.specs.inner.Stands.{Stands}
+use Rattle.bus.specs.inner.Code.{Stands, Halves}
 
 -- a fact of every number of a list
 abbrev All : (ℕ → Type 0) → List ℕ → Type 0
@@ -289,10 +288,10 @@ module _ (m : Memory) (a i : ℕ) (even : a % 2 ≡ 0) where
 
 -- the addresses of an index and of the halfword after it
 module _ (n base x : ℕ) (room : Room n) (hb : base < 2 ^ 32) (z : base % n ≡ 0) (h : x + 3 < n) where
-  first-address : addressOf base x ≡ base + x
+  first-address : (base + x) % 2 ^ 32 ≡ base + x
   first-address = mod-eq-of-lt (room .fits base x hb z (omega arith))
 
-  second-address : (addressOf base x + 2) % 2 ^ 32 ≡ base + (x + 2)
+  second-address : ((base + x) % 2 ^ 32 + 2) % 2 ^ 32 ≡ base + (x + 2)
   second-address =
       let e : base + x + 2 ≡ base + (x + 2) = omega arith in
       rw (first-address, e) (mod-eq-of-lt (room .fits base (x + 2) hb z (omega arith)))
@@ -302,7 +301,7 @@ module _ (n base x : ℕ) (room : Room n) (hb : base < 2 ^ 32) (z : base % n ≡
 
 module _ (m : Memory) (base x : ℕ) (hb : base < 2 ^ 32) (even : x % 2 ≡ 0) where
   rom-fetches : romOk (length (m .rom)) ≡ true → base % length (m .rom) ≡ 0 → regionOf base ≡ 7 → x + 3 < length (m .rom)
-      → (loadOf m 2 (addressOf base x) ≡ halfAt (m .rom) x) × (loadOf m 2 ((addressOf base x + 2) % 2 ^ 32) ≡ halfAt (m .rom) (x + 2))
+      → (loadOf m 2 ((base + x) % 2 ^ 32) ≡ halfAt (m .rom) x) × (loadOf m 2 (((base + x) % 2 ^ 32 + 2) % 2 ^ 32) ≡ halfAt (m .rom) (x + 2))
   rom-fetches ok z here h =
       let n = length (m .rom) in
       let room = rom-room (length (m .rom)) ok in
@@ -317,7 +316,7 @@ module _ (m : Memory) (base x : ℕ) (hb : base < 2 ^ 32) (even : x % 2 ≡ 0) w
       )
 
   wram-fetches : base % 65536 ≡ 0 → regionOf base ≡ 5 → x + 3 < 65536
-      → (loadOf m 2 (addressOf base x) ≡ halfAt (m .wram) x) × (loadOf m 2 ((addressOf base x + 2) % 2 ^ 32) ≡ halfAt (m .wram) (x + 2))
+      → (loadOf m 2 ((base + x) % 2 ^ 32) ≡ halfAt (m .wram) x) × (loadOf m 2 (((base + x) % 2 ^ 32 + 2) % 2 ^ 32) ≡ halfAt (m .wram) (x + 2))
   wram-fetches z here h =
       let room = wram-room in
       let h2 : (base + (x + 2)) % 2 ≡ 0 = omega (arith, wram-room .even base z) in (
@@ -330,14 +329,15 @@ module _ (m : Memory) (base x : ℕ) (hb : base < 2 ^ 32) (even : x % 2 ≡ 0) w
 
 -- both, by where the code stands
 pub fetches : (m : Memory) (base x last : ℕ) (inRom : Bool) → romOk (length (m .rom)) ≡ true → Stands (length (m .rom)) inRom base last → x % 2 ≡ 0 → x < last
-    → (loadOf m 2 (addressOf base x) ≡ halfAt (pick inRom (m .rom) (m .wram)) x) × (loadOf m 2
-    ((addressOf base x + 2) % 2 ^ 32) ≡ halfAt (pick inRom (m .rom) (m .wram)) (x + 2))
-fetches m base x last true ok stands even h =
+    → (w : ℕ) → w % 65536 ≡ halfAt (pick inRom (m .rom) (m .wram)) x → w / 65536 ≡ halfAt (pick inRom (m .rom) (m .wram)) (x + 2) → Halves m base x w
+fetches m base x last true ok stands even h w first second =
     let s = stands .in-rom refl in
-    rom-fetches m base x (stands .word) even ok (s .1) (s .2) (omega (arith, s .0))
-fetches m base x last false ok stands even h =
+    let at = rom-fetches m base x (stands .word) even ok (s .1) (s .2) (omega (arith, s .0)) in
+    record { first = at .0 ∙ sym first; second = at .1 ∙ sym second }
+fetches m base x last false ok stands even h w first second =
     let s = stands .in-wram refl in
-    wram-fetches m base x (stands .word) even (s .1) (s .2) (omega (arith, s .0))
+    let at = wram-fetches m base x (stands .word) even (s .1) (s .2) (omega (arith, s .0)) in
+    record { first = at .0 ∙ sym first; second = at .1 ∙ sym second }
 
 pub stands-even : (n base last : ℕ) (inRom : Bool) → romOk n ≡ true → Stands n inRom base last → base % 2 ≡ 0
 stands-even n base last true ok stands = rom-room n ok .even base (stands .in-rom refl .1)
@@ -347,3 +347,29 @@ stands-even n base last false ok stands = wram-room .even base (stands .in-wram 
 pub stands-room : (n base last x : ℕ) (inRom : Bool) → Stands n inRom base last → x < last → x + 3 < pick inRom n 65536
 stands-room n base last x true stands h = omega (arith, stands .in-rom refl .0)
 stands-room n base last x false stands h = omega (arith, stands .in-wram refl .0)
+
+-- where the code at PC stands, by its region
+pub rom-stands : (n pc : ℕ) → romOk n ≡ true → pc < 2 ^ 32 → regionOf pc ≡ 7 → Stands n true (pc - pc % n) (n - 3)
+rom-stands n pc ok h here =
+    let room = rom-room n ok in
+    record {
+      word = omega (arith, mod-le pc n);
+      in-rom = λ _. (
+        omega (arith, room .least),
+        room .start pc,
+        sym (region-code _) ∙ ap (λ (k : ℕ). k % 8) (room .same pc) ∙ region-code pc ∙ here,
+      );
+      in-wram = λ e. absurd (true≢false e);
+    }
+
+pub wram-stands : (n pc : ℕ) → pc < 2 ^ 32 → regionOf pc ≡ 5 → Stands n false (pc - pc % 65536) 65533
+wram-stands n pc h here =
+    record {
+      word = omega arith;
+      in-rom = λ e. absurd (true≢false (sym e));
+      in-wram = λ _. (
+        refl,
+        wram-room .start pc,
+        sym (region-code _) ∙ ap (λ (k : ℕ). k % 8) (wram-room .same pc) ∙ region-code pc ∙ here,
+      );
+    }
