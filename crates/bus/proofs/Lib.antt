@@ -18,3 +18,4 @@ pub mod Kept
 pub mod Mapped
 pub mod LoadStore
 pub mod Fetches
+mod Stores

@@ -1,4 +1,4 @@
-// Load and Input, Store and Output. A store that goes neither to WRAM nor to VRAM as it stands is left to the step.
+// Load and Input, Store and Output. A store that the bus does not do directly is left to the step.
 use bus::Device;
 use processor_decode::Width;
 use processor_fast_compute::Fast;
@@ -12,12 +12,11 @@ use processor_machine::register::put;
 ghost use mathlib.Core.Path.{_≡_};
 ghost use mathlib.Core.Bool.{true};
 ghost use mathlib.Core.List.{List};
-ghost use Prim.Native.Nat.{ℕ, _/_, _%_, _<_};
+ghost use Prim.Native.Nat.{ℕ, _%_, _<_};
 ghost use lib.ListN.{length, getD};
 ghost use Rattle.bus.specs.Refusal.{vramBytes};
-ghost use Rattle.word.specs.Choose.{pick};
 ghost use Rattle.word.specs.Extend.{extendOf};
-ghost use Rattle.bus.specs.Memory.{memoryOf, Lengths, storeOf};
+ghost use Rattle.bus.specs.Memory.{memoryOf, Lengths};
 ghost use Rattle.bus.specs.Lent.{entering};
 ghost use Rattle.processor_decode.specs.Format as format;
 ghost use Rattle.processor_execute.specs.Execute.{plusOf};
@@ -171,33 +170,6 @@ pub fn input_half(
     loaded(regs, f / 32 % 32, value, after_two(x), flags)
 }
 
-// Whether a byte was stored; nothing changes where it was not.
-fn put_byte(wram: &mut [u8], vram: &mut [u8], a: u32, v: u32) -> bool
-    requires { ⌜ (length (now wram) ≡ 65536) × (length (now vram) ≡ vramBytes) ⌝ }
-    ensures { λ r. ⌜
-        ((rom pak device : List ℕ)
-        → memoryOf rom (now (wram .exit)) (now (vram .exit)) pak device
-        ≡ pick r (storeOf (memoryOf rom (now (wram .entry)) (now (vram .entry)) pak device) 1 a v)
-        (memoryOf rom (now (wram .entry)) (now (vram .entry)) pak device))
-        ⌝ }
-{
-    let region = a / 16777216 % 8;
-    if region == 5 {
-        let i = (a % 65536) as usize;
-        wram[i] = (v % 256) as u8;
-        return true;
-    }
-    if region == 0 {
-        let k = a % 524288;
-        if k < 262144 {
-            let i = (k) as usize;
-            vram[i] = (v % 256) as u8;
-            return true;
-        }
-    }
-    false
-}
-
 pub fn store_byte(
     wram: &mut [u8],
     vram: &mut [u8],
@@ -223,7 +195,7 @@ pub fn store_byte(
 {
     let a = address(regs, f, s);
     let v = reg2(regs, f);
-    if !put_byte(wram, vram, a, v) {
+    if !bus::direct::store(wram, vram, 1, a, v) {
         return Fast::NotHere;
     }
     Fast::Done {
@@ -231,33 +203,6 @@ pub fn store_byte(
         wide: flags.wide,
         ov: flags.ov,
     }
-}
-
-// Whether a half was stored; nothing changes where it was not.
-fn put_half(wram: &mut [u8], vram: &mut [u8], a: u32, v: u32) -> bool
-    requires { ⌜ (length (now wram) ≡ 65536) × (length (now vram) ≡ vramBytes) ⌝ }
-    ensures { λ r. ⌜
-        ((rom pak device : List ℕ)
-        → memoryOf rom (now (wram .exit)) (now (vram .exit)) pak device
-        ≡ pick r (storeOf (memoryOf rom (now (wram .entry)) (now (vram .entry)) pak device) 2 a v)
-        (memoryOf rom (now (wram .entry)) (now (vram .entry)) pak device))
-        ⌝ }
-{
-    let region = a / 16777216 % 8;
-    if region == 5 {
-        let i = (a % 65536 - a % 2) as usize;
-        word::put_half(wram, i, v);
-        return true;
-    }
-    if region == 0 {
-        let k = a % 524288;
-        if k < 262144 {
-            let i = (k - k % 2) as usize;
-            word::put_half(vram, i, v);
-            return true;
-        }
-    }
-    false
 }
 
 pub fn store_half(
@@ -285,7 +230,7 @@ pub fn store_half(
 {
     let a = address(regs, f, s);
     let v = reg2(regs, f);
-    if !put_half(wram, vram, a, v) {
+    if !bus::direct::store(wram, vram, 2, a, v) {
         return Fast::NotHere;
     }
     Fast::Done {
@@ -293,33 +238,6 @@ pub fn store_half(
         wide: flags.wide,
         ov: flags.ov,
     }
-}
-
-// Whether a word was stored; nothing changes where it was not.
-fn put_word(wram: &mut [u8], vram: &mut [u8], a: u32, v: u32) -> bool
-    requires { ⌜ (length (now wram) ≡ 65536) × (length (now vram) ≡ vramBytes) ⌝ }
-    ensures { λ r. ⌜
-        ((rom pak device : List ℕ)
-        → memoryOf rom (now (wram .exit)) (now (vram .exit)) pak device
-        ≡ pick r (storeOf (memoryOf rom (now (wram .entry)) (now (vram .entry)) pak device) 4 a v)
-        (memoryOf rom (now (wram .entry)) (now (vram .entry)) pak device))
-        ⌝ }
-{
-    let region = a / 16777216 % 8;
-    if region == 5 {
-        let i = (a % 65536 - a % 4) as usize;
-        word::put_word(wram, i, v);
-        return true;
-    }
-    if region == 0 {
-        let k = a % 524288;
-        if k < 262144 {
-            let i = (k - k % 4) as usize;
-            word::put_word(vram, i, v);
-            return true;
-        }
-    }
-    false
 }
 
 pub fn store_word(
@@ -347,7 +265,7 @@ pub fn store_word(
 {
     let a = address(regs, f, s);
     let v = reg2(regs, f);
-    if !put_word(wram, vram, a, v) {
+    if !bus::direct::store(wram, vram, 4, a, v) {
         return Fast::NotHere;
     }
     Fast::Done {

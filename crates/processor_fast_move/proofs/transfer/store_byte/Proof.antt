@@ -14,14 +14,14 @@ returns c = (
   λ rom pak device base psw sys even aligned. (
     refl,
     rw (not-true
-        (c .before .before .before .before .before .put-byte .result) (c .if1 .taken)) at
-        (c .before .before .before .before .before .put-byte .ensures rom pak device),
+        (c .before .before .before .before .before .store .result) (c .if1 .taken)) at
+        (c .before .before .before .before .before .store .ensures rom pak device),
   ),
   λ rom pak device base psw sys even aligned. (
     refl,
     rw (not-true
-        (c .before .before .before .before .before .put-byte .result) (c .if1 .taken)) at
-        (c .before .before .before .before .before .put-byte .ensures rom pak device),
+        (c .before .before .before .before .before .store .result) (c .if1 .taken)) at
+        (c .before .before .before .before .before .store .ensures rom pak device),
   ),
 )
 
@@ -31,26 +31,26 @@ returns-2 c = (
   λ rom pak device base psw sys even aligned.
       let a = c .before .before .before .before .before .before .before .before .before .before .before .before .before .args in
       let e = rw (
-        not-false (c .before .before .before .before .before .before .put-byte .result)
+        not-false (c .before .before .before .before .before .before .store .result)
             (c .before .if1 .left),
         c .before .before .before .before .before .before .before .before .before .before
             .address .ensures,
         c .before .before .before .before .before .before .before .before .before .reg2 .ensures,
       )
-      at (c .before .before .before .before .before .before .put-byte .ensures rom pak device) in
+      at (c .before .before .before .before .before .before .store .ensures rom pak device) in
       rw (c .after-two .ensures)
       (store-does base (a .x) psw _ sys (a .flags) (memoryOf rom (now (a .wram)) (now (a .vram)) pak device) _ _ _
       (after-two base (a .x)) (two-even (a .x) aligned) _ e),
   λ rom pak device base psw sys even aligned.
       let a = c .before .before .before .before .before .before .before .before .before .before .before .before .before .args in
       let e = rw (
-        not-false (c .before .before .before .before .before .before .put-byte .result)
+        not-false (c .before .before .before .before .before .before .store .result)
             (c .before .if1 .left),
         c .before .before .before .before .before .before .before .before .before .before
             .address .ensures,
         c .before .before .before .before .before .before .before .before .before .reg2 .ensures,
       )
-      at (c .before .before .before .before .before .before .put-byte .ensures rom pak device) in
+      at (c .before .before .before .before .before .before .store .ensures rom pak device) in
       rw (c .after-two .ensures)
       (store-does base (a .x) psw _ sys (a .flags) (memoryOf rom (now (a .wram)) (now (a .vram)) pak device) _ _ _
       (after-two base (a .x)) (two-even (a .x) aligned) _ e),

@@ -1,11 +1,11 @@
--- `processor_fast_move::transfer::put_byte`: to WRAM, to VRAM, or nothing.
+-- `bus::direct::put_byte`: to WRAM, to VRAM, or nothing.
 use mathlib.Core.Path.{_≡_, refl, sym, ap, _∙_}
 use denote.Ref.{now}
 use Rattle.bus.specs.Memory.{memoryOf}
-use Rattle.processor_fast_move.proofs.Stores.{byte-wram, byte-vram}
+use Rattle.bus.proofs.Stores.{byte-wram, byte-vram}
 use borrow.Author.Needs.{needs}
-use Rattle.processor_fast_move.proofs.transfer.put_byte.Statement.{statement}
-use Rattle.processor_fast_move.proofs.transfer.put_byte.Tie as tie
+use Rattle.bus.proofs.direct.put_byte.Statement.{statement}
+use Rattle.bus.proofs.direct.put_byte.Tie as tie
 
 returns : tie.Need-returns
 returns c = λ rom pak device.
