@@ -58,7 +58,7 @@ pub record StepAtBoundary : Type 0 where
   pub processor : VbProcessor
   pub memory : Memory
 
-abbrev pub stepGives : ℕ → ℕ → ℕ → VbUndefined → VbProcessor → Memory → StepAtBoundary
+abbrev pub stepGives : (refusal answer code : ℕ) (u : VbUndefined) (p : VbProcessor) (m : Memory) → StepAtBoundary
 stepGives refusal answer code u p m =
     record { refusal = refusal; answer = answer; code = code; undefined = u; processor = p; memory = m }
 

@@ -1,25 +1,15 @@
--- The processor's record at the C boundary (include/vb.h, `vb_processor`): the same words, the mode as a number; and what
--- a call answers where that is above 2.
+-- The processor's record at the C boundary (include/vb.h, `vb_processor`): the same words, the mode as the number that
+-- a saved state has for it (VB_RUNNING, VB_HALTED, VB_FATAL); and what a call answers where that is above 2.
 use Prim.Native.Nat.{ℕ}
-use lib.Dec.{eqb, ltb}
+use lib.Dec.{ltb}
 use Rattle.word.specs.Choose.{pick}
 use Rattle.bus.specs.Memory.{Memory}
-use Rattle.processor_machine.specs.declared.Mode.{Mode}
-use Rattle.processor_machine.specs.declared.Mode.the-variants.{Running, Halted, Fatal}
 use Rattle.processor.specs.Acceptance.{acceptanceIn}
 use Rattle.processor.specs.declared.Processor.{Processor}
+use Rattle.saved_kinds.specs.Words.{modeNumber, modeOf}
 use Rattle.capi_bus.specs.Misuse.{misuseNumber}
 use Rattle.capi_bus.specs.TimerLines.{hardwareGiven, hardwareOut}
 use Rattle.capi_processor.specs.declared.record.VbProcessor.{VbProcessor}
-
--- VB_RUNNING, VB_HALTED and VB_FATAL
-abbrev pub modeNumber : Mode → ℕ
-modeNumber Running = 0
-modeNumber Halted = 1
-modeNumber Fatal = 2
-
-abbrev pub modeIn : ℕ → Mode
-modeIn n = pick (eqb n 0) Running (pick (eqb n 1) Halted Fatal)
 
 -- the record that a boundary record stands for, and back
 unfoldable pub processorIn : VbProcessor → Processor
@@ -36,7 +26,7 @@ processorIn p =
       sr25 = p .sr25;
       sr29 = p .sr29;
       sr31 = p .sr31;
-      mode = modeIn (p .mode);
+      mode = modeOf (p .mode);
       hardware = hardwareGiven (p .hardware);
     }
 
@@ -58,7 +48,8 @@ processorOut p =
       hardware = hardwareOut (p .hardware);
     }
 
--- a mode above 2 is VB_MISUSE, after 1 to 5: `misused` makes the answer of that number, `done` is the call's own answer
+-- a mode above 2 is VB_MISUSE, after 1 to 5: `misused` makes the answer of that number, `done` is what the call answers
+-- for the three modes
 abbrev pub unlessMisused : {A : Type 0} (p : VbProcessor) (m : Memory) (misused : ℕ → A) (done : A) → A
 unlessMisused p m misused done =
     pick (ltb 2 (p .mode)) (misused (misuseNumber (acceptanceIn (processorIn p) m))) done

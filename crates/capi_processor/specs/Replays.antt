@@ -46,7 +46,7 @@ pub record ReplayAtBoundary : Type 0 where
   pub processor : VbProcessor
   pub memory : Memory
 
-abbrev pub replayGives : ℕ → ℕ → ℕ → ℕ → VbProcessor → Memory → ReplayAtBoundary
+abbrev pub replayGives : (refusal answer agreed word : ℕ) (p : VbProcessor) (m : Memory) → ReplayAtBoundary
 replayGives refusal answer agreed word p m =
     record { refusal = refusal; answer = answer; agreed = agreed; word = word; processor = p; memory = m }
 

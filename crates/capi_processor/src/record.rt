@@ -3,9 +3,9 @@ use capi_bus::hardware::VbHardware;
 use capi_bus::hardware::hardware_given;
 use capi_bus::hardware::hardware_out;
 use processor::Processor;
-use processor_machine::Mode;
+use saved_kinds::words;
 ghost use mathlib.Core.Path.{_≡_};
-ghost use Rattle.capi_processor.specs.Record.{modeNumber, modeIn, processorIn, processorOut};
+ghost use Rattle.capi_processor.specs.Record.{processorIn, processorOut};
 
 // The processor's record; mode is 0 running, 1 halted, 2 fatal. The request lines and the timer are its last member.
 #[repr(C)]
@@ -25,34 +25,11 @@ pub struct VbProcessor {
     pub hardware: VbHardware,
 }
 
-// The mode of a number that is at most 2.
-fn mode_in(n: u32) -> Mode
-    ensures { λ r. ⌜ r ≡ modeIn n ⌝ }
-{
-    if n == 0 {
-        return Mode::Running;
-    }
-    if n == 1 {
-        return Mode::Halted;
-    }
-    Mode::Fatal
-}
-
-fn mode_number(mode: Mode) -> u32
-    ensures { λ r. ⌜ r ≡ modeNumber mode ⌝ }
-{
-    match mode {
-        Mode::Running => 0,
-        Mode::Halted => 1,
-        Mode::Fatal => 2,
-    }
-}
-
 pub fn processor_in(p: VbProcessor) -> Processor
     ensures { λ r. ⌜ r ≡ processorIn p ⌝ }
 {
     let regs = p.regs;
-    let mode = mode_in(p.mode);
+    let mode = words::mode_of(p.mode);
     let given = p.hardware;
     let hardware = hardware_given(given);
     Processor {
@@ -77,7 +54,7 @@ pub fn processor_out(p: Processor) -> VbProcessor
 {
     let regs = p.regs;
     let mode = p.mode;
-    let mode = mode_number(mode);
+    let mode = words::mode_number(mode);
     let held = p.hardware;
     let hardware = hardware_out(held);
     VbProcessor {

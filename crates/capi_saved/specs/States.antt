@@ -1,6 +1,6 @@
 -- What the C boundary gives for a saved state (include/vb.h): the papers' refusal number or VB_MISUSE, which comes
--- after 1 to 5 and before 9, 10 and 16, the room or the records and memories afterwards; and for a move and a salvage,
--- which are given a file and a room.
+-- after 1 to 5 and before 9, 10 and 16, the output buffer or the records and memories afterwards; and for a move and a
+-- salvage, which take a file and an output buffer (paper 02: "room").
 use Prim.Native.Nat.{ℕ}
 use mathlib.Core.Bool.{Bool}
 use mathlib.Core.List.{List}
@@ -14,7 +14,7 @@ use Rattle.saved_salvage.specs.declared.Salvaged.{Salvaged}
 use Rattle.capi_saved.specs.declared.states.VbSalvaged.{VbSalvaged}
 use Rattle.capi_processor.specs.declared.record.VbProcessor.{VbProcessor}
 
--- what vb_write_state (form 1) and vb_write_state_2 (form 2) answer, and the room afterwards
+-- what vb_write_state (form 1) and vb_write_state_2 (form 2) answer, and the output buffer afterwards
 unfoldable pub writeNumberAt : Form → VbProcessor → Memory → List ℕ → ℕ
 writeNumberAt form p m room =
     unlessMisused p m (λ (n : ℕ). n) (verdictNumber (writeVerdictOf form (processorIn p) m room))

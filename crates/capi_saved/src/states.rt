@@ -121,7 +121,7 @@ pub fn move_state(file: &[u8], room: &mut [u8]) -> u32
     refusal::verdict_number(saved_move::move_state(file, room))
 }
 
-// What a salvage told, as the boundary has it.
+// What a salvage reported, as the boundary has it.
 fn salvaged(told: Salvaged) -> VbSalvaged
     ensures { λ r. ⌜ r ≡ salvagedAt told ⌝ }
 {

@@ -1,4 +1,4 @@
--- What an accepted machine tells: the lengths of 1 to 4, and that 5 has nothing against its records; and the reverse. Assumes nothing.
+-- What follows from an accepted machine: the lengths of 1 to 4 and the validity of its records by 5; and the reverse. Assumes nothing.
 use Prim.Native.Nat.{ℕ, _≤_}
 use native.Mathlib.Omega.{arith}
 use mathlib.Core.Bool.{Bool, true, false}

@@ -22,21 +22,23 @@ use Rattle.saved_layout.specs.File.{Bodies, bodiesOf, SizedBodies, HeldBy, hard
 use Rattle.saved_layout.specs.declared.Form.{Form}
 use Rattle.saved_layout.specs.declared.Form.the-variants.{One, Two}
 use Rattle.saved_layout.proofs.Files.{bodies-same}
+use Rattle.saved_layout.proofs.Written.{bytes-append}
 use Rattle.saved_kinds.specs.Kinds.{generalFrom, restFrom, drawingFrom, hardwareFrom}
-use Rattle.saved.specs.Body.{modeWordOf, modeOf, restOf, recordWordsOf, linesOf, machineBodiesOf, restoredProcessorOf, processorInBodies, memoryIn}
+use Rattle.saved.specs.Body.{linesOf, machineBodiesOf, restoredProcessorOf, processorInBodies, memoryIn}
+use Rattle.saved_kinds.specs.Words.{modeNumber, modeOf, restOf, recordWordsOf}
 use Rattle.saved.specs.Calls.{formHolds}
 
-mode-back : (m : Mode) → modeOf (modeWordOf m) ≡ m
+mode-back : (m : Mode) → modeOf (modeNumber m) ≡ m
 mode-back Running = refl
 mode-back Halted = refl
 mode-back Fatal = refl
 
-pub mode-small : (m : Mode) → modeWordOf m ≤ 2
+pub mode-small : (m : Mode) → modeNumber m ≤ 2
 mode-small Running = omega arith
 mode-small Halted = omega arith
 mode-small Fatal = omega arith
 
-mode-again : (n : ℕ) → n ≤ 2 → modeWordOf (modeOf n) ≡ n
+mode-again : (n : ℕ) → n ≤ 2 → modeNumber (modeOf n) ≡ n
 mode-again zero h = refl
 mode-again (suc zero) h = refl
 mode-again (suc (suc zero)) h = refl
@@ -45,11 +47,6 @@ mode-again (suc (suc (suc n))) h = absurd (omega arith)
 length-rest : (p : Processor) → length (restOf p) ≡ 11
 unfolding restOf
 length-rest p = refl
-
-bytes-append : (a b : List ℕ) → bytesOf (halvesOf (a ++ b)) ≡ bytesOf (halvesOf a) ++ bytesOf (halvesOf b)
-unfolding bytesOf halvesOf
-bytes-append [] b = refl
-bytes-append (w ∷ ws) b = rw (bytes-append ws b)
 
 under-left : (n : ℕ) (a b : List ℕ) → Under n (a ++ b) → Under n a
 under-left n [] b u = tt

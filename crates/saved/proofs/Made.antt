@@ -29,7 +29,8 @@ use Rattle.saved_kinds.specs.Fits.{formOf}
 use Rattle.saved_kinds.specs.Kinds.{generalFrom, restFrom, drawingFrom, hardwareFrom, systemFrom, wordsOk}
 use Rattle.saved_kinds.specs.Kinds.{processorBodyOk, drawingBodyOk, hardwareBodyOk, bodiesOk, fileOk}
 use Rattle.saved_move.proofs.Returning.{form-back}
-use Rattle.saved.specs.Body.{restOf, recordWordsOf, linesOf, machineBodiesOf, restoredProcessorOf, processorInBodies, memoryIn, modeWordOf}
+use Rattle.saved.specs.Body.{linesOf, machineBodiesOf, restoredProcessorOf, processorInBodies, memoryIn}
+use Rattle.saved_kinds.specs.Words.{restOf, recordWordsOf, modeNumber}
 use Rattle.saved.specs.Calls.{stateFileOf, heldBodiesOf, heldProcessorOf, heldMemoryOf, formHolds, restoredOf, readBackOf}
 use Rattle.saved.specs.Exactly.{Savable, ReadWritten, Exactly, WrittenExactly}
 use Rattle.saved.proofs.Accepting.{Passed, passed, accepts, small, both-true}
@@ -41,7 +42,7 @@ use Rattle.saved.proofs.Verdicts.{read-accepted}
 -- the bodies of an accepted machine can be made
 words-made : (p : Processor) → stateOk (p .regs) (systemIn p) (p .pc) (p .psw) ≡ true → wordsOk (p .regs) (restOf p) ≡ true
 unfolding wordsOk restOf
-words-made p e = simp (le-leb (modeWordOf (p .mode)) 2 (mode-small (p .mode))) e
+words-made p e = simp (le-leb (modeNumber (p .mode)) 2 (mode-small (p .mode))) e
 
 module _ (form : Form) (p : Processor) (m : Memory) (s : Savable form p m) where
   known : Passed p m

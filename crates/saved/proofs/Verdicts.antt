@@ -18,7 +18,8 @@ use Rattle.saved_layout.specs.File.{bodiesOf, fileOf, bodiesIn}
 use Rattle.saved_layout.specs.declared.Form.{Form}
 use Rattle.saved_kinds.specs.Fits.{formOf}
 use Rattle.saved_kinds.specs.Kinds.{drawingFrom, fileOk}
-use Rattle.saved.specs.Body.{restOf, recordWordsOf, linesOf, machineBodiesOf, processorInBodies, memoryIn}
+use Rattle.saved.specs.Body.{linesOf, machineBodiesOf, processorInBodies, memoryIn}
+use Rattle.saved_kinds.specs.Words.{restOf, recordWordsOf}
 use Rattle.saved.specs.Calls.{stateFileOf, heldBodiesOf, heldProcessorOf, heldMemoryOf, formHolds}
 use Rattle.saved.specs.Calls.{writeVerdictOf, writtenRoomOf, readVerdictOf, restoredOf, readBackOf}
 

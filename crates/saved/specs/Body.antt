@@ -1,49 +1,16 @@
--- A machine's records as bodies, and the records that bodies stand for. Kind 1, 43 words (paper 02, W1): "32 registers,
--- PC, EIPC, EIPSW, FEPC, FEPSW, ECR, PSW, system registers 25 and 29, the value read from 31, mode: 0 running, 1
--- halted, 2 fatal"; kind 2, 13 halfwords; kind 6, four halfwords (W12): "request lines (bit n for level n), timer
--- count, reload, control bits".
+-- A machine's records as bodies, and the records that bodies stand for (paper 02, W1): kind 1, 43 words (saved_kinds,
+-- Words); kind 2, 13 halfwords; kind 6, four halfwords (W12): "request lines (bit n for level n), timer count, reload,
+-- control bits".
 use Prim.Native.Nat.{ℕ}
-use mathlib.Core.List.{List, [], _∷_, _++_}
-use lib.Dec.{eqb}
+use mathlib.Core.List.{List, [], _∷_}
 use lib.ListN.{getD}
-use Rattle.word.specs.Choose.{pick}
 use Rattle.bus_timer.specs.declared.TimerLines.{TimerLines}
 use Rattle.bus.specs.Memory.{Memory, memoryOf}
-use Rattle.processor_machine.specs.declared.Mode.{Mode}
-use Rattle.processor_machine.specs.declared.Mode.the-variants.{Running, Halted, Fatal}
 use Rattle.processor.specs.declared.Processor.{Processor}
 use Rattle.saved_bytes.specs.Numbers.{bytesOf, halvesOf}
 use Rattle.saved_layout.specs.File.{Bodies, bodiesOf}
 use Rattle.saved_kinds.specs.Kinds.{generalFrom, restFrom, drawingFrom, hardwareFrom}
-
-abbrev pub modeWordOf : Mode → ℕ
-modeWordOf Running = 0
-modeWordOf Halted = 1
-modeWordOf Fatal = 2
-
--- the mode of a word that is at most 2
-abbrev pub modeOf : ℕ → Mode
-modeOf n = pick (eqb n 0) Running (pick (eqb n 1) Halted Fatal)
-
--- the eleven words after the general registers
-unfoldable pub restOf : Processor → List ℕ
-restOf p =
-    p .pc
-    ∷ p .eipc
-    ∷ p .eipsw
-    ∷ p .fepc
-    ∷ p .fepsw
-    ∷ p .ecr
-    ∷ p .psw
-    ∷ p .sr25
-    ∷ p .sr29
-    ∷ p .sr31
-    ∷ modeWordOf (p .mode)
-    ∷ []
-
--- all 43
-unfoldable pub recordWordsOf : Processor → List ℕ
-recordWordsOf p = p .regs ++ restOf p
+use Rattle.saved_kinds.specs.Words.{modeOf, recordWordsOf}
 
 -- kind 6's halfwords
 unfoldable pub linesOf : TimerLines → List ℕ
@@ -79,6 +46,6 @@ unfoldable pub processorInBodies : Bodies → Processor
 processorInBodies b =
     restoredProcessorOf (generalFrom (b .processor)) (restFrom (b .processor)) (hardwareFrom (b .hardware))
 
--- the memories and drawing registers that they stand for, beside a ROM
+-- the memories and drawing registers that they stand for, with a ROM
 unfoldable pub memoryIn : List ℕ → Bodies → Memory
 memoryIn rom b = memoryOf rom (b .wram) (b .vram) (b .pak) (drawingFrom (b .drawing))

@@ -27,7 +27,7 @@ use Rattle.saved.specs.Body.{linesOf, machineBodiesOf, processorInBodies
 unfoldable pub stateFileOf : Form → Processor → Memory → List ℕ
 stateFileOf form p m = fileOf form (machineBodiesOf p m)
 
--- the machine that a file holds, beside a memory whose pak RAM has the due length
+-- the machine that a file holds, with a memory whose pak RAM has the due length
 unfoldable pub heldBodiesOf : Memory → List ℕ → Bodies
 heldBodiesOf m file = bodiesIn (formOf file) (length (m .pak)) file
 
@@ -37,7 +37,7 @@ heldProcessorOf m file = processorInBodies (heldBodiesOf m file)
 unfoldable pub heldMemoryOf : Memory → List ℕ → Memory
 heldMemoryOf m file = memoryIn (m .rom) (heldBodiesOf m file)
 
--- 9: whether a room or a file has exactly the length that the form and the lent pak RAM's length call for
+-- 9: whether an output buffer or a file has exactly the length due for the form and the pak RAM's length
 abbrev pub lengthOk : Form → Memory → List ℕ → Bool
 lengthOk form m file = eqb (length file) (fileLengthOf form (length (m .pak)))
 
@@ -49,7 +49,7 @@ formHolds Two lines = true
 abbrev pub holdsOk : Form → TimerLines → Bool
 holdsOk form h = formHolds form (linesOf h)
 
--- a writing call's verdict: 1 to 5, 9, 16; and the room afterwards
+-- a writing call's verdict: 1 to 5, 9, 16; and the output buffer ("room") afterwards
 unfoldable pub writeVerdictOf : Form → Processor → Memory → List ℕ → Verdict
 writeVerdictOf form p m room =
     thenOf (acceptanceIn p m)

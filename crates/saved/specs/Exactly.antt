@@ -17,7 +17,8 @@ use Rattle.saved_layout.specs.declared.Form.{Form}
 use Rattle.saved_kinds.specs.Fits.{formOf, pakLengthOf}
 use Rattle.saved_kinds.specs.Kinds.{fileOk}
 use Rattle.saved_move.specs.Move.{holdsBodyOk, moveVerdictOf, movedOf}
-use Rattle.saved.specs.Body.{recordWordsOf, linesOf}
+use Rattle.saved.specs.Body.{linesOf}
+use Rattle.saved_kinds.specs.Words.{recordWordsOf}
 use Rattle.saved.specs.Calls.{stateFileOf, heldProcessorOf, heldMemoryOf, holdsOk, restoredOf, readBackOf}
 
 -- a machine that 1 to 5 accept and a form holds, with the sizes that the Rattle types give any call: 32 general
@@ -31,7 +32,7 @@ pub record Savable (form : Form) (p : Processor) (m : Memory) : Type 0 where
   pub halves : (k : ℕ) → getD (m .regs) k 0 < 65536
   pub lines : (k : ℕ) → getD (linesOf (p .hardware)) k 0 < 65536
 
--- what was written for an accepted machine is read, beside any accepted machine with pak RAM of the same length,
+-- what was written for an accepted machine is read, with any accepted machine that has pak RAM of the same length,
 -- without refusal and gives that machine: both records and every byte of WRAM, VRAM and pak RAM. In form 1 lines and
 -- timer are at reset
 abbrev pub ReadWritten : Form → Type 0
@@ -41,7 +42,7 @@ ReadWritten form =
     → readBackOf q n (stateFileOf form p m)
     ≡ restoredOf Accepted p (memoryOf (n .rom) (m .wram) (m .vram) (m .pak) (m .regs))
 
--- a file of the due length of its own form is refused by 10 exactly when no accepted machine is written as it; and what
+-- a file of the due length of its form is refused by 10 exactly when no accepted machine is written as it; and what
 -- was read, written again in that form, is the file
 pub record Exactly (n : Memory) (file : List ℕ) : Type 0 where
   pub refused : fileOk (formOf file) (length (n .pak)) file ≡ false
@@ -60,7 +61,7 @@ WrittenExactly =
     → Exactly n file
 
 -- "writes what the other form's writer makes for the state held": an accepted move leaves the file, in the other form,
--- of the machine that reading gives beside a memory with pak RAM of the length that the file tells
+-- of the machine that reading gives with a memory whose pak RAM has the length that follows from the file's
 abbrev pub MoveWrites : Type 0
 MoveWrites =
     (file room : List ℕ) (n : Memory) → ((k : ℕ) → getD file k 0 < 256) → moveVerdictOf file room ≡ Accepted

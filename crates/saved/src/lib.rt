@@ -1,4 +1,5 @@
-// Saved states: a machine written into a lent room in either form, and read back from a file of either.
+// Saved states: a machine written into the caller's output buffer (paper 02: "room") in either form, and read back
+// from a file of either.
 mod records;
 
 use bus::Drawing;
@@ -27,7 +28,7 @@ pub struct Restored {
     pub drawing: Drawing,
 }
 
-// The file of a machine into a room of its length.
+// The file of a machine into a buffer of its length.
 fn put(
     form: Form,
     wram: &[u8],
@@ -45,13 +46,13 @@ fn put(
         ⌝ }
 {
     let regs = processor.regs;
-    let rest = records::rest(processor);
+    let rest = saved_kinds::words::rest(processor);
     let halves = drawing.regs;
     let lines = records::lines(processor.hardware);
     saved_layout::bodies::write(form, room, &regs, &rest, &halves, wram, vram, pak, &lines);
 }
 
-// A machine into a room.
+// A machine into the output buffer.
 fn write_form(
     form: Form,
     rom: &[u8],
@@ -85,7 +86,7 @@ fn write_form(
     }
 }
 
-// A machine into a room, in form 1.
+// A machine into the output buffer, in form 1.
 pub fn write(
     rom: &[u8],
     wram: &[u8],
@@ -106,7 +107,7 @@ pub fn write(
     write_form(Form::One, rom, wram, vram, pak, processor, drawing, room)
 }
 
-// A machine into a room, in form 2.
+// A machine into the output buffer, in form 2.
 pub fn write_2(
     rom: &[u8],
     wram: &[u8],

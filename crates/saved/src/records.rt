@@ -3,10 +3,15 @@ use bus::DrawingRegisters;
 use bus_timer::TimerLines;
 use bus_timer::record;
 use processor::Processor;
-use processor_machine::Mode;
 use saved_bytes::numbers;
+use saved_kinds::words;
 use saved_layout::Form;
 use saved_layout::places;
+use saved_layout::places::DRAWING_AT;
+use saved_layout::places::DRAWING_BYTES;
+use saved_layout::places::HARDWARE_BYTES;
+use saved_layout::places::PAK_AT;
+use saved_layout::places::PROCESSOR_BYTES;
 ghost use mathlib.Core.Path.{_≡_};
 ghost use Prim.Native.Nat.{_≤_};
 ghost use lib.ListN.{length, replicate};
@@ -14,51 +19,8 @@ ghost use Rattle.saved_bytes.specs.Numbers.{sameOf};
 ghost use Rattle.saved_layout.specs.Layout.{fileLengthOf};
 ghost use Rattle.saved_layout.specs.File.{bodiesIn};
 ghost use Rattle.saved_kinds.specs.Kinds.{generalFrom, restFrom, drawingFrom, hardwareFrom};
-ghost use Rattle.saved.specs.Body.{modeWordOf, modeOf, restOf, linesOf, restoredProcessorOf, processorInBodies};
+ghost use Rattle.saved.specs.Body.{linesOf, restoredProcessorOf, processorInBodies};
 ghost use Rattle.saved.specs.Calls.{formHolds};
-
-fn mode_word(mode: Mode) -> u32
-    ensures { λ r. ⌜ r ≡ modeWordOf mode ⌝ }
-{
-    match mode {
-        Mode::Running => 0,
-        Mode::Halted => 1,
-        Mode::Fatal => 2,
-    }
-}
-
-fn mode_of(n: u32) -> Mode
-    ensures { λ r. ⌜ r ≡ modeOf n ⌝ }
-{
-    if n == 0 {
-        return Mode::Running;
-    }
-    if n == 1 {
-        return Mode::Halted;
-    }
-    Mode::Fatal
-}
-
-// The eleven words after the general registers.
-pub fn rest(p: Processor) -> [u32; 11]
-    ensures { λ r. ⌜ r ≡ restOf p ⌝ }
-{
-    let mode = p.mode;
-    let last = mode_word(mode);
-    [
-        p.pc,
-        p.eipc,
-        p.eipsw,
-        p.fepc,
-        p.fepsw,
-        p.ecr,
-        p.psw,
-        p.sr25,
-        p.sr29,
-        p.sr31,
-        last,
-    ]
-}
 
 // The four halfwords of lines and timer.
 pub fn lines(h: TimerLines) -> [u16; 4]
@@ -92,7 +54,7 @@ pub fn holds(form: Form, lines: [u16; 4]) -> bool
 fn processor_of(regs: [u32; 32], rest: [u32; 11], hardware: TimerLines) -> Processor
     ensures { λ r. ⌜ r ≡ restoredProcessorOf regs rest hardware ⌝ }
 {
-    let mode = mode_of(rest[10]);
+    let mode = words::mode_of(rest[10]);
     Processor {
         regs,
         pc: rest[0],
@@ -132,8 +94,8 @@ fn hardware(form: Form, file: &[u8], pak: usize) -> TimerLines
     match form {
         Form::One => record::reset(),
         Form::Two => {
-            let last = places::first(Form::Two, pak) + 327878 + pak;
-            let end = last + 8;
+            let last = places::first(Form::Two, pak) + PAK_AT + pak;
+            let end = last + HARDWARE_BYTES;
             saved_kinds::bodies::hardware(&file[last..end])
         }
     }
@@ -145,7 +107,7 @@ pub fn held(form: Form, file: &[u8], pak: usize) -> Processor
     ensures { λ r. ⌜ r ≡ processorInBodies (bodiesIn form pak (now (file .entry))) ⌝ }
 {
     let at = places::first(form, pak);
-    let end = at + 172;
+    let end = at + PROCESSOR_BYTES;
     processor(&file[at..end], hardware(form, file, pak))
 }
 
@@ -154,8 +116,8 @@ pub fn drawing(form: Form, file: &[u8], pak: usize) -> DrawingRegisters
     requires { ⌜ (length (now file) ≡ fileLengthOf form pak) × (pak ≤ 16777216) ⌝ }
     ensures { λ r. ⌜ r ≡ drawingFrom (bodiesIn form pak (now (file .entry)) .drawing) ⌝ }
 {
-    let at = places::first(form, pak) + 172;
-    let end = at + 26;
+    let at = places::first(form, pak) + DRAWING_AT;
+    let end = at + DRAWING_BYTES;
     let mut halves = [0u16; 13];
     numbers::take_halves(&file[at..end], 0, &mut halves);
     halves

@@ -1,4 +1,4 @@
--- The loops over halfwords and words: those put so far are pasted into the room, those taken so far stand in the array, those
+-- The loops over halfwords and words: those put so far are pasted into the buffer, those taken so far stand in the array, those
 -- compared so far are the same. Assumes nothing.
 use Prim.Native.Nat.{ℕ, zero, suc, _+_, _-_, _*_, _/_, _%_, _<_, _≤_}
 use native.Mathlib.Omega.{arith}
@@ -46,7 +46,7 @@ module _ (d : List ℕ) (at : ℕ) (ws : List ℕ) (k v : ℕ) (room : at + 4 * 
       (put-more d at (halvesOf ws) (2 * k + 1) (v / 65536) (omega arith) (omega (arith, length-halves ws))
       (ap (λ (n : ℕ). n % 256) (sym f)) (ap (λ (n : ℕ). n / 256 % 256) (sym f)))
 
--- the first n bytes of s stand in the room from `at` on
+-- the first n bytes of s stand in the buffer from `at` on
 pub record Pasted (d : List ℕ) (at : ℕ) (s : List ℕ) (n : ℕ) (room : List ℕ) : Type 0 where
   pub size : length room ≡ length d
   pub same : room ≡ paste d at s n

@@ -1,5 +1,5 @@
 -- `LittleEndian` has the laws of halfwords and words in bytes, `Filling` those of the loops over them, `Reading` that they are read
--- back, `Putting` the laws of parts put over a room, and `Summing` those of the loops over bytes.
+-- back, `Putting` the laws of parts put over a buffer, and `Summing` those of the loops over bytes.
 pub mod LittleEndian
 pub mod Filling
 pub mod Reading

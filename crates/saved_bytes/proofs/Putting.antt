@@ -1,4 +1,4 @@
--- Bytes put over a part of a room: what a copy into the part leaves, lengths, and parts put one after the other. Assumes nothing.
+-- Bytes put over a part of a buffer: what a copy into the part leaves, lengths, and parts put one after the other. Assumes nothing.
 use Prim.Native.Nat.{ℕ, _+_, _-_, _≤_}
 use native.Mathlib.Omega.{arith}
 use mathlib.Core.Path.{_≡_, refl, sym, ap, _∙_}
@@ -6,7 +6,7 @@ use mathlib.Core.List.{List, [], _++_, append-nil, append-assoc}
 use lib.ListN.{length, take, drop, length-append, length-drop, drop-of-length-le}
 use lib.Seq.{paste, take-all, take-at, drop-at, drop-drop, take-length, length-take-le}
 use borrow.Rule.Slice.PartMut.{putMid, midOf}
-use Rattle.saved_bytes.specs.Parts.{putAt}
+use Rattle.saved_bytes.specs.inner.Put.{putAt}
 
 module _ (at : ℕ) (xs : List ℕ) (within : at ≤ length xs) where
   mid-drop : midOf at (length xs - at) xs ≡ drop at xs
@@ -67,13 +67,13 @@ module _ (d : List ℕ) (at : ℕ) (s : List ℕ) (fits : at + length s ≤ leng
       ∙ (ap (λ (p : List ℕ). p ++ drop (at + length (s ++ t)) d) (append-assoc (take at d) s t)
       ∙ sym (put-opened d at (s ++ t)))))
 
--- a part that ends with the room
+-- a part that ends with the buffer
 pub put-last : (d : List ℕ) (at : ℕ) (s : List ℕ) → at + length s ≡ length d → putAt d at s ≡ take at d ++ s
 unfolding putAt
 put-last d at s e =
     ap (λ (p : List ℕ). take at d ++ s ++ p) (drop-of-length-le d {i = at + length s} (omega arith)) ∙ append-nil (take at d ++ s)
 
--- a part over what begins the room
+-- a part at the start of the buffer
 pub put-first : (d s : List ℕ) (n : ℕ) → length s ≡ n → putAt d 0 s ≡ s ++ drop n d
 unfolding putAt
 put-first d s n e =

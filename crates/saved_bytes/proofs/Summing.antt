@@ -9,7 +9,8 @@ use borrow.Author.Tests.{eq-eqb, ne-eqb}
 use lib.ListN.{length, getD, take, drop, set, length-set, replicate, length-replicate, getD-replicate}
 use lib.Seq.{paste, paste-suc, paste-zero, take-suc, take-length, drop-cons, drop-length}
 use Rattle.saved_bytes.specs.Numbers.{sameOf}
-use Rattle.saved_bytes.specs.Parts.{putAt, totalOf, bodySumOf}
+use Rattle.saved_bytes.specs.Parts.{totalOf, bodySumOf}
+use Rattle.saved_bytes.specs.inner.Put.{putAt}
 use Rattle.saved_bytes.proofs.Filling.{Pasted}
 
 total-append : (xs ys : List ℕ) → totalOf (xs ++ ys) ≡ totalOf xs + totalOf ys

@@ -1,12 +1,6 @@
--- Bytes put over a part of a room, and the sum of a body's bytes (paper 02, W12: "the sum of the body's bytes mod
--- 2^32").
+-- The sum of a body's bytes (paper 02, W12: "the sum of the body's bytes mod 2^32").
 use Prim.Native.Nat.{ℕ, _+_, _%_, _^_}
-use mathlib.Core.List.{List, [], _∷_, _++_}
-use lib.ListN.{length, take, drop}
-
--- a room with bytes put over those from byte `at` on
-unfoldable pub putAt : List ℕ → ℕ → List ℕ → List ℕ
-putAt room at bytes = take at room ++ bytes ++ drop (at + length bytes) room
+use mathlib.Core.List.{List, [], _∷_}
 
 -- the sum of bytes, each as 0 to 255
 abbrev pub totalOf : List ℕ → ℕ

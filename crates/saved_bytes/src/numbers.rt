@@ -3,7 +3,7 @@ ghost use mathlib.Core.Path.{_≡_};
 ghost use Prim.Native.Nat.{_+_, _*_, _≤_};
 ghost use lib.ListN.{length};
 ghost use Rattle.saved_bytes.specs.Numbers.{bytesOf, halvesOf, halvesFrom, wordsFrom, sameOf};
-ghost use Rattle.saved_bytes.specs.Parts.{putAt};
+ghost use Rattle.saved_bytes.specs.inner.Put.{putAt};
 
 // Halfwords from byte `at` on.
 pub fn put_halves(room: &mut [u8], at: usize, halves: &[u16])
@@ -29,7 +29,7 @@ pub fn put_words(room: &mut [u8], at: usize, words: &[u32])
     }
 }
 
-// The halfwords from byte `at` on, as many as there is room for.
+// The halfwords from byte `at` on, as many as fit.
 pub fn take_halves(file: &[u8], at: usize, halves: &mut [u16])
     requires { ⌜ at + 2 * length (now halves) ≤ length (now file) ⌝ }
     ensures { λ _. ⌜ now (halves .exit) ≡ halvesFrom (now (file .entry)) at (length (now (halves .entry))) ⌝ }
@@ -41,7 +41,7 @@ pub fn take_halves(file: &[u8], at: usize, halves: &mut [u16])
     }
 }
 
-// The words from byte `at` on, as many as there is room for.
+// The words from byte `at` on, as many as fit.
 pub fn take_words(file: &[u8], at: usize, words: &mut [u32])
     requires { ⌜ at + 4 * length (now words) ≤ length (now file) ⌝ }
     ensures { λ _. ⌜ now (words .exit) ≡ wordsFrom (now (file .entry)) at (length (now (words .entry))) ⌝ }

@@ -1,9 +1,10 @@
-// Parts of a file: bytes put over a room, two parts compared, and the sum of one.
+// Parts of a file: bytes put over a buffer, two parts compared, and the sum of one.
 ghost use mathlib.Core.Path.{_≡_};
 ghost use Prim.Native.Nat.{_+_, _≤_};
 ghost use lib.ListN.{length, replicate};
 ghost use Rattle.saved_bytes.specs.Numbers.{sameOf};
-ghost use Rattle.saved_bytes.specs.Parts.{putAt, bodySumOf};
+ghost use Rattle.saved_bytes.specs.Parts.{bodySumOf};
+ghost use Rattle.saved_bytes.specs.inner.Put.{putAt};
 
 // Bytes over those from byte `at` on.
 pub fn put_bytes(room: &mut [u8], at: usize, bytes: &[u8])

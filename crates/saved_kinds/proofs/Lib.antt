@@ -1,3 +1,3 @@
--- `Sizes` has the form and the pak RAM's length that a file tells, and `fits-exactly`; `Tests` the tests of bodies and of a file.
+-- `Sizes` has the form of a file, its pak RAM's length, and `fits-exactly`; `Tests` the tests of bodies and of a file.
 pub mod Sizes
 pub mod Tests

@@ -1,4 +1,4 @@
--- The form and the pak RAM's length that a file tells; `fits-exactly`. Assumes nothing.
+-- The form of a file and its pak RAM's length; `fits-exactly`. Assumes nothing.
 use Prim.Native.Nat.{ℕ, zero, suc, _+_, _-_, _*_, _<_, _≤_}
 use native.Mathlib.Omega.{arith}
 use mathlib.Core.Bool.{Bool, true, false}

@@ -16,7 +16,8 @@ use Rattle.saved_layout.specs.declared.Form.the-variants.{One, Two}
 use Rattle.saved_layout.proofs.Positions.{second}
 use Rattle.saved_layout.proofs.Written.{processor-part, drawing-part}
 use Rattle.saved_kinds.specs.Kinds.{generalFrom, restFrom, systemFrom, wordsOk, processorBodyOk, drawingBodyOk}
-use Rattle.saved_kinds.specs.Kinds.{hardwareFrom, hardwareBodyOk, recordsOk, bodiesOk, fileOk}
+use Rattle.saved_kinds.specs.Kinds.{hardwareFrom, hardwareBodyOk, bodiesOk, fileOk}
+use Rattle.saved_kinds.specs.inner.Records.{recordsOk}
 
 module _ (body general rest : List ℕ) (g : general ≡ wordsFrom body 0 32) (r : rest ≡ wordsFrom body 128 11) where
   opened : wordsOk general rest ≡ processorBodyOk body

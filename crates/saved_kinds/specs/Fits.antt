@@ -1,5 +1,5 @@
 -- The form of a file (paper 02, W12: "a file whose first halfword is 0 for form 2, any other for form 1"), and the pak
--- RAM's length that its own length tells: "its file's length fits no pak RAM size in that form". The statement
+-- RAM's length, which follows from the file's: "its file's length fits no pak RAM size in that form". The statement
 -- `FitsExactly` says that the test is that; its proof is `fits-exactly` in proofs/.
 use Prim.Native.Nat.{ℕ, _-_}
 use mathlib.Core.Bool.{Bool, true, false}
@@ -28,7 +28,7 @@ pakLengthOf form n = n - besidesPakOf form
 unfoldable pub fitsOk : Form → ℕ → Bool
 fitsOk form n = pick (pakOk (pakLengthOf form n)) (eqb (fileLengthOf form (pakLengthOf form n)) n) false
 
--- the test holds exactly where a legal length has files of n bytes, and that length is the one told
+-- the test holds exactly where a legal length has files of n bytes, and `pakLengthOf` gives that length
 pub record FitsExactly (form : Form) (n : ℕ) : Type 0 where
   pub fits : fitsOk form n ≡ true → (pakOk (pakLengthOf form n) ≡ true) × (fileLengthOf form (pakLengthOf form n) ≡ n)
   pub only : (p : ℕ) → pakOk p ≡ true → fileLengthOf form p ≡ n → (fitsOk form n ≡ true) × (pakLengthOf form n ≡ p)

@@ -1,11 +1,11 @@
 -- Whether a body is one that a writer makes for some accepted state: paper 02, W1's refusal 10 of kinds 1 and 2 and
 -- W12's of kind 6, by the tests of refusal 5 (processor, Acceptance; bus, Registers; bus_timer, Ports). Kinds 3 to 5
 -- are free. And the same of a whole file, whose contents are right.
-use Prim.Native.Nat.{ℕ, _+_}
+use Prim.Native.Nat.{ℕ}
 use mathlib.Core.Bool.{Bool, true, false}
 use mathlib.Core.List.{List, [], _∷_}
 use lib.Dec.{leb}
-use lib.ListN.{getD, take, drop}
+use lib.ListN.{getD}
 use Rattle.word.specs.LittleEndian.{halfAt}
 use Rattle.bus.specs.Registers.{drawingOk}
 use Rattle.bus_timer.specs.Record.{hardwareOf}
@@ -58,10 +58,6 @@ hardwareFrom body = hardwareOf (halfAt body 0) (halfAt body 2) (halfAt body 4) (
 
 unfoldable pub hardwareBodyOk : List ℕ → Bool
 hardwareBodyOk body = hardwareOk (hardwareFrom body)
-
--- kinds 1 and 2 that start at byte `at` of a file
-abbrev pub recordsOk : ℕ → List ℕ → Bool
-recordsOk at file = both (processorBodyOk (take 172 (drop at file))) (drawingBodyOk (take 26 (drop (at + 172) file)))
 
 -- every body
 unfoldable pub bodiesOk : Bodies → Bool

@@ -1,2 +1,4 @@
 pub mod Fits
 pub mod Kinds
+pub mod Words
+pub mod inner

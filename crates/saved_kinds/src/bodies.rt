@@ -6,13 +6,18 @@ use saved_bytes::numbers;
 use saved_layout::Form;
 use saved_layout::contents;
 use saved_layout::places;
+use saved_layout::places::DRAWING_AT;
+use saved_layout::places::HARDWARE_BYTES;
+use saved_layout::places::PAK_AT;
+use saved_layout::places::WRAM_AT;
 ghost use mathlib.Core.Path.{_≡_};
 ghost use Prim.Native.Nat.{_+_, _≤_};
 ghost use lib.ListN.{length};
 ghost use Rattle.saved_layout.specs.Layout.{fileLengthOf};
 ghost use Rattle.saved_layout.specs.declared.Form.the-variants.{One, Two};
 ghost use Rattle.saved_kinds.specs.Kinds.{processorBodyOk, drawingBodyOk, hardwareFrom, hardwareBodyOk};
-ghost use Rattle.saved_kinds.specs.Kinds.{recordsOk, fileOk};
+ghost use Rattle.saved_kinds.specs.Kinds.{fileOk};
+ghost use Rattle.saved_kinds.specs.inner.Records.{recordsOk};
 
 // Kind 1.
 pub fn processor_ok(body: &[u8]) -> bool
@@ -75,8 +80,8 @@ fn records_ok(file: &[u8], at: usize) -> bool
     requires { ⌜ at + 198 ≤ length (now file) ⌝ }
     ensures { λ r. ⌜ r ≡ recordsOk at (now (file .entry)) ⌝ }
 {
-    let middle = at + 172;
-    let end = at + 198;
+    let middle = at + DRAWING_AT;
+    let end = at + WRAM_AT;
     if !processor_ok(&file[at..middle]) {
         return false;
     }
@@ -98,8 +103,8 @@ pub fn file_ok(form: Form, file: &[u8], pak: usize) -> bool
     match form {
         Form::One => true,
         Form::Two => {
-            let last = at + 327878 + pak;
-            let end = last + 8;
+            let last = at + PAK_AT + pak;
+            let end = last + HARDWARE_BYTES;
             hardware_ok(&file[last..end])
         }
     }

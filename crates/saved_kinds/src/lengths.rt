@@ -1,4 +1,4 @@
-// The form of a file, and the pak RAM's length that its own length tells.
+// The form of a file, and the pak RAM's length, which follows from the file's.
 use saved_layout::Form;
 use saved_layout::places;
 ghost use mathlib.Core.Path.{_≡_};

@@ -7,7 +7,8 @@ use Rattle.bus.specs.Registers.{hardwareIn}
 use Rattle.processor.specs.Calls.{resetOf}
 use Rattle.saved_bytes.specs.Numbers.{bytesOf}
 use Rattle.saved_layout.specs.File.{Bodies, SizedBodies}
-use Rattle.saved.specs.Body.{restOf, recordWordsOf, linesOf, machineBodiesOf}
+use Rattle.saved.specs.Body.{linesOf, machineBodiesOf}
+use Rattle.saved_kinds.specs.Words.{restOf, recordWordsOf}
 use Rattle.saved_salvage.specs.Keep.{processorReset, keptBodiesOf}
 use Rattle.saved_salvage.specs.declared.Kept.{Kept}
 use Rattle.saved_laws.specs.Reset.{zeroMemoryOf, ReplacedAtReset}

@@ -20,14 +20,14 @@ use Rattle.saved.specs.Exactly.{Savable}
 use Rattle.saved_salvage.specs.Right.{Unchanged}
 use Rattle.saved_salvage.specs.Salvage.{pakInFormTwo, salvageVerdictOf, salvagedRoomOf}
 
--- the machine that `held` holds, beside the memory n, is one that 1 to 5 accept, and `file` is what the form's writer
+-- the machine that `held` holds, with the memory n, is one that 1 to 5 accept, and `file` is what the form's writer
 -- makes for it
 pub record FileOfAccepted (form : Form) (n : Memory) (held file : List ℕ) : Type 0 where
   pub savable : Savable form (heldProcessorOf n held) (heldMemoryOf n held)
   pub written : stateFileOf form (heldProcessorOf n held) (heldMemoryOf n held) ≡ file
 
--- the output of an accepted salvage is such a file of what it holds itself, beside any accepted machine whose pak RAM
--- has the length that the file tells
+-- the output of an accepted salvage is such a file of what it holds itself, with any accepted machine whose pak RAM has
+-- the length that follows from the file's
 abbrev pub SalvagedAccepted : Type 0
 SalvagedAccepted =
     (file room : List ℕ) (q : Processor) (n : Memory) → ((k : ℕ) → getD file k 0 < 256)

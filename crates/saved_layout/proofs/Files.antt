@@ -1,18 +1,22 @@
 -- What stands in a file that was written is what it was written from; and a file whose contents are right is what its own bodies
 -- are written as. Both forms at once. Assumes nothing.
-use Prim.Native.Nat.{ℕ, zero, suc, _+_, _*_, _/_, _%_, _^_, _<_, _≤_}
+use Prim.Native.Nat.{ℕ, zero, suc, _+_, _-_, _*_, _/_, _%_, _^_, _<_, _≤_}
 use native.Mathlib.Omega.{arith}
 use mathlib.Core.Bool.{true}
 use mathlib.Core.Path.{_≡_, refl, sym, ap, subst, _∙_}
 use mathlib.Core.List.{List, [], _∷_, _++_, append-nil}
+use lib.Dec.{eqb, eqb·suc-zero}
 use lib.ListN.{length, getD, take, drop, length-append, length-take, length-drop, length-replicate, take-append-drop, drop-of-length-le}
 use lib.Seq.{take-all, take-at, drop-at, drop-drop}
-use Rattle.saved_bytes.specs.Numbers.{bytesOf, halvesFrom, sameOf}
-use Rattle.saved_bytes.specs.Parts.{putAt, bodySumOf}
+use Rattle.word.specs.Choose.{pick}
+use Rattle.saved_bytes.specs.Numbers.{bytesOf, halvesOf, halvesFrom, sameOf}
+use Rattle.saved_bytes.specs.Parts.{bodySumOf}
+use Rattle.saved_bytes.specs.inner.Put.{putAt}
 use Rattle.saved_bytes.proofs.LittleEndian.{length-bytes}
 use Rattle.saved_bytes.proofs.Reading.{Under, halves-back, same-self, same-equal, halves-again}
 use Rattle.saved_bytes.proofs.Putting.{put-first}
-use Rattle.saved_layout.specs.Layout.{contentsOf, bodyPlaceOf, lastPlaceOf, fileLengthOf}
+use Rattle.saved_layout.specs.Layout.{Part, partOf, lastPartsOf, partsOf, leadingOf, contentsEntryOf, sumAt, entriesFrom}
+use Rattle.saved_layout.specs.Layout.{contentsEndOf, contentsOf, bodyPlaceOf, lastPlaceOf, fileLengthOf}
 use Rattle.saved_layout.specs.File.{Bodies, bodiesOf, sumsOf, lastOf, joinedOf, fileOf, hardwareReset}
 use Rattle.saved_layout.specs.File.{hardwareBytesIn, bodiesIn, contentsIn, contentsOk, SizedBodies, HeldBy}
 use Rattle.saved_layout.specs.declared.Form.{Form}
@@ -20,399 +24,71 @@ use Rattle.saved_layout.specs.declared.Form.the-variants.{One, Two}
 use Rattle.saved_layout.proofs.Positions.{first-small, second, third, fourth, fifth, last-place, length-is}
 use Rattle.saved_layout.proofs.Positions.{contents-end, one-empty, one-some, two-empty, two-some}
 
--- the contents are halfwords
-one-under : (p : ℕ) → p ≤ 16777216
-    → Under 65536 (5 ∷ 1 ∷ 52 ∷ 0 ∷ 172 ∷ 0 ∷ 2 ∷ 224 ∷ 0 ∷ 26 ∷ 0 ∷ 3 ∷ 250 ∷ 0 ∷ 0 ∷ 1 ∷ 4 ∷ 250 ∷ 1 ∷ 0 ∷ 4 ∷ 5 ∷ 250 ∷ 5 ∷ p % 65536 ∷ p / 65536 ∷ [])
-one-under p h =
-    let a : p % 65536 < 65536 = omega arith in
-    let b : p / 65536 < 65536 = omega arith in (
-      omega arith,
-      (
-        omega arith,
-        (
-          omega arith,
-          (
-            omega arith,
-            (
-              omega arith,
-              (
-                omega arith,
-                (
-                  omega arith,
-                  (
-                    omega arith,
-                    (
-                      omega arith,
-                      (
-                        omega arith,
-                        (
-                          omega arith,
-                          (
-                            omega arith,
-                            (
-                              omega arith,
-                              (
-                                omega arith,
-                                (
-                                  omega arith,
-                                  (
-                                    omega arith,
-                                    (
-                                      omega arith,
-                                      (
-                                        omega arith,
-                                        (
-                                          omega arith,
-                                          (
-                                            omega arith,
-                                            (
-                                              omega arith,
-                                              (
-                                                omega arith,
-                                                (
-                                                  omega arith,
-                                                  (
-                                                    omega arith,
-                                                    (a, (b, tt)),
-                                                  ),
-                                                ),
-                                              ),
-                                            ),
-                                          ),
-                                        ),
-                                      ),
-                                    ),
-                                  ),
-                                ),
-                              ),
-                            ),
-                          ),
-                        ),
-                      ),
-                    ),
-                  ),
-                ),
-              ),
-            ),
-          ),
-        ),
-      ),
-    )
+-- the contents are halfwords: each entry is, whatever its kind
+append-under : (n : ℕ) (xs ys : List ℕ) → Under n xs → Under n ys → Under n (xs ++ ys)
+append-under n [] ys u v = v
+append-under n (x ∷ xs) ys u v = (u .0, append-under n xs ys (u .1) v)
 
-one-under-empty : Under 65536 (4 ∷ 1 ∷ 42 ∷ 0 ∷ 172 ∷ 0 ∷ 2 ∷ 214 ∷ 0 ∷ 26 ∷ 0 ∷ 3 ∷ 240 ∷ 0 ∷ 0 ∷ 1 ∷ 4 ∷ 240 ∷ 1 ∷ 0 ∷ 4 ∷ [])
-one-under-empty = (
-  omega arith,
-  (
-    omega arith,
-    (
-      omega arith,
-      (
-        omega arith,
-        (
-          omega arith,
-          (
-            omega arith,
-            (
-              omega arith,
-              (
-                omega arith,
-                (
-                  omega arith,
-                  (
-                    omega arith,
-                    (
-                      omega arith,
-                      (
-                        omega arith,
-                        (
-                          omega arith,
-                          (
-                            omega arith,
-                            (
-                              omega arith,
-                              (
-                                omega arith,
-                                (omega arith, (omega arith, (omega arith, (omega arith, (omega arith, tt))))),
-                              ),
-                            ),
-                          ),
-                        ),
-                      ),
-                    ),
-                  ),
-                ),
-              ),
-            ),
-          ),
-        ),
-      ),
-    ),
-  ),
-)
+halves-under : (ws : List ℕ) → Under (2 ^ 32) ws → Under 65536 (halvesOf ws)
+unfolding halvesOf
+halves-under [] u = tt
+halves-under (w ∷ ws) u = let h : w < 2 ^ 32 = u .0 in (omega arith, (omega arith, halves-under ws (u .1)))
 
--- those of form 2, whose sums are words
-module _ (s : List ℕ) (small : (k : ℕ) → getD s k 0 < 2 ^ 32) where
-  two-under-empty : Under 65536 (contentsOf Two 0 s)
-  two-under-empty =
-      let a0 : getD s 0 0 % 65536 < 65536 = omega arith in
-      let b0 : getD s 0 0 / 65536 < 65536 = omega (arith, small 0) in
-      let a1 : getD s 1 0 % 65536 < 65536 = omega arith in
-      let b1 : getD s 1 0 / 65536 < 65536 = omega (arith, small 1) in
-      let a2 : getD s 2 0 % 65536 < 65536 = omega arith in
-      let b2 : getD s 2 0 / 65536 < 65536 = omega (arith, small 2) in
-      let a3 : getD s 3 0 % 65536 < 65536 = omega arith in
-      let b3 : getD s 3 0 / 65536 < 65536 = omega (arith, small 3) in
-      let a5 : getD s 5 0 % 65536 < 65536 = omega arith in
-      let b5 : getD s 5 0 / 65536 < 65536 = omega (arith, small 5) in
-      subst (Under 65536) (two-empty s) (
-        omega arith,
-        (
-          omega arith,
-          (
-            omega arith,
-            (
-              omega arith,
-              (
-                omega arith,
-                (
-                  omega arith,
-                  (
-                    omega arith,
-                    (
-                      omega arith,
-                      (
-                        a0,
-                        (
-                          b0,
-                          (
-                            omega arith,
-                            (
-                              omega arith,
-                              (
-                                omega arith,
-                                (
-                                  omega arith,
-                                  (
-                                    omega arith,
-                                    (
-                                      a1,
-                                      (
-                                        b1,
-                                        (
-                                          omega arith,
-                                          (
-                                            omega arith,
-                                            (
-                                              omega arith,
-                                              (
-                                                omega arith,
-                                                (
-                                                  omega arith,
-                                                  (
-                                                    a2,
-                                                    (
-                                                      b2,
-                                                      (
-                                                        omega arith,
-                                                        (
-                                                          omega arith,
-                                                          (
-                                                            omega arith,
-                                                            (
-                                                              omega arith,
-                                                              (
-                                                                omega arith,
-                                                                (
-                                                                  a3,
-                                                                  (
-                                                                    b3,
-                                                                    (
-                                                                      omega arith,
-                                                                      (
-                                                                        omega arith,
-                                                                        (
-                                                                          omega arith,
-                                                                          (
-                                                                            omega arith,
-                                                                            (
-                                                                              omega arith,
-                                                                              (a5, (b5, tt)),
-                                                                            ),
-                                                                          ),
-                                                                        ),
-                                                                      ),
-                                                                    ),
-                                                                  ),
-                                                                ),
-                                                              ),
-                                                            ),
-                                                          ),
-                                                        ),
-                                                      ),
-                                                    ),
-                                                  ),
-                                                ),
-                                              ),
-                                            ),
-                                          ),
-                                        ),
-                                      ),
-                                    ),
-                                  ),
-                                ),
-                              ),
-                            ),
-                          ),
-                        ),
-                      ),
-                    ),
-                  ),
-                ),
-              ),
-            ),
-          ),
-        ),
-      )
+entry-under : (form : Form) (part : Part) (at sum : ℕ) → part .kind < 65536 → at < 2 ^ 32 → part .size < 2 ^ 32 → sum < 2 ^ 32
+    → Under 65536 (contentsEntryOf form part at sum)
+entry-under One part at sum k a s t = (k, halves-under (at ∷ part .size ∷ []) (a, (s, tt)))
+entry-under Two part at sum k a s t = (k, halves-under (at ∷ part .size ∷ sum ∷ []) (a, (s, (t, tt))))
 
-  two-under : (p : ℕ) → 0 < p → p ≤ 16777216 → Under 65536 (contentsOf Two p s)
-  two-under p some h =
-      let a0 : getD s 0 0 % 65536 < 65536 = omega arith in
-      let b0 : getD s 0 0 / 65536 < 65536 = omega (arith, small 0) in
-      let a1 : getD s 1 0 % 65536 < 65536 = omega arith in
-      let b1 : getD s 1 0 / 65536 < 65536 = omega (arith, small 1) in
-      let a2 : getD s 2 0 % 65536 < 65536 = omega arith in
-      let b2 : getD s 2 0 / 65536 < 65536 = omega (arith, small 2) in
-      let a3 : getD s 3 0 % 65536 < 65536 = omega arith in
-      let b3 : getD s 3 0 / 65536 < 65536 = omega (arith, small 3) in
-      let a4 : getD s 4 0 % 65536 < 65536 = omega arith in
-      let b4 : getD s 4 0 / 65536 < 65536 = omega (arith, small 4) in
-      let a5 : getD s 5 0 % 65536 < 65536 = omega arith in
-      let b5 : getD s 5 0 / 65536 < 65536 = omega (arith, small 5) in
-      let m : p % 65536 < 65536 = omega arith in
-      let n : p / 65536 < 65536 = omega arith in
-      let u : (327968 + p) % 65536 < 65536 = omega arith in
-      let v : (327968 + p) / 65536 < 65536 = omega arith in
-      subst (Under 65536) (two-some p some s) (
-        omega arith,
-        (
-          omega arith,
-          (
-            omega arith,
-            (
-              omega arith,
-              (
-                omega arith,
-                (
-                  omega arith,
-                  (
-                    omega arith,
-                    (
-                      omega arith,
-                      (
-                        a0,
-                        (
-                          b0,
-                          (
-                            omega arith,
-                            (
-                              omega arith,
-                              (
-                                omega arith,
-                                (
-                                  omega arith,
-                                  (
-                                    omega arith,
-                                    (
-                                      a1,
-                                      (
-                                        b1,
-                                        (
-                                          omega arith,
-                                          (
-                                            omega arith,
-                                            (
-                                              omega arith,
-                                              (
-                                                omega arith,
-                                                (
-                                                  omega arith,
-                                                  (
-                                                    a2,
-                                                    (
-                                                      b2,
-                                                      (
-                                                        omega arith,
-                                                        (
-                                                          omega arith,
-                                                          (
-                                                            omega arith,
-                                                            (
-                                                              omega arith,
-                                                              (
-                                                                omega arith,
-                                                                (
-                                                                  a3,
-                                                                  (
-                                                                    b3,
-                                                                    (
-                                                                      omega arith,
-                                                                      (
-                                                                        omega arith,
-                                                                        (
-                                                                          omega arith,
-                                                                          (
-                                                                            m,
-                                                                            (
-                                                                              n,
-                                                                              (
-                                                                                a4,
-                                                                                (
-                                                                                  b4,
-                                                                                  (omega arith, (u, (v, (omega arith, (omega arith, (a5, (b5, tt))))))),
-                                                                                ),
-                                                                              ),
-                                                                            ),
-                                                                          ),
-                                                                        ),
-                                                                      ),
-                                                                    ),
-                                                                  ),
-                                                                ),
-                                                              ),
-                                                            ),
-                                                          ),
-                                                        ),
-                                                      ),
-                                                    ),
-                                                  ),
-                                                ),
-                                              ),
-                                            ),
-                                          ),
-                                        ),
-                                      ),
-                                    ),
-                                  ),
-                                ),
-                              ),
-                            ),
-                          ),
-                        ),
-                      ),
-                    ),
-                  ),
-                ),
-              ),
-            ),
-          ),
-        ),
-      )
+-- kinds and lengths that an entry can hold
+abbrev Small : List Part → Type 0
+Small [] = Unit
+Small (part ∷ parts) = (part .kind < 65536) × ((part .size ≤ 16777216) × Small parts)
+
+entries-under : (form : Form) (at : ℕ) (parts : List Part) (sums : List ℕ) → Small parts → at + 16777216 * length parts < 2 ^ 32
+    → ((k : ℕ) → getD sums k 0 < 2 ^ 32)
+    → Under 65536 (entriesFrom form at parts sums)
+entries-under form at [] sums small room under = tt
+entries-under form at (part ∷ parts) sums small room under =
+    let rest : at + 16777216 * suc (length parts) < 2 ^ 32 = room in
+    let size : part .size ≤ 16777216 = small .1 .0 in
+    append-under 65536 (contentsEntryOf form part at (sumAt sums (part .kind))) (entriesFrom form (at + part .size) parts sums)
+    (entry-under form part at (sumAt sums (part .kind)) (small .0) (omega arith) (omega arith) (under (part .kind - 1)))
+    (entries-under form (at + part .size) parts sums (small .1 .1) (omega arith) under)
+
+last-small : (form : Form) → Small (lastPartsOf form)
+last-small One = tt
+last-small Two = (omega arith, (omega arith, tt))
+
+pak-small : (form : Form) (p : ℕ) → p ≤ 16777216 → Small (pick (eqb p 0) [] (partOf 5 p ∷ []) ++ lastPartsOf form)
+pak-small form zero h = last-small form
+pak-small form (suc p) h = simp (eqb·suc-zero p) (omega arith, (h, last-small form))
+
+parts-small : (form : Form) (p : ℕ) → p ≤ 16777216 → Small (partsOf form p)
+parts-small form p h =
+    (omega arith, (omega arith, (omega arith, (omega arith, (omega arith, (omega arith, (omega arith, (omega arith, pak-small form p h))))))))
+
+few-parts : (form : Form) (p : ℕ) → length (partsOf form p) ≤ 6
+few-parts One zero = omega arith
+few-parts One (suc p) = simp (eqb·suc-zero p) (omega arith)
+few-parts Two zero = omega arith
+few-parts Two (suc p) = simp (eqb·suc-zero p) (omega arith)
+
+start-small : (form : Form) (n : ℕ) → n ≤ 6 → contentsEndOf form n + 16777216 * n < 2 ^ 32
+start-small One n h = omega arith
+start-small Two n h = omega arith
+
+leading-under : (form : Form) → Under 65536 (leadingOf form)
+leading-under One = tt
+leading-under Two = (omega arith, (omega arith, tt))
 
 pub contents-under : (form : Form) (p : ℕ) (s : List ℕ) → p ≤ 16777216 → ((k : ℕ) → getD s k 0 < 2 ^ 32) → Under 65536 (contentsOf form p s)
-contents-under One zero s h small = subst (Under 65536) (one-empty s) one-under-empty
-contents-under One (suc p) s h small = subst (Under 65536) (one-some (suc p) (omega arith) s) (one-under (suc p) h)
-contents-under Two zero s h small = two-under-empty s small
-contents-under Two (suc p) s h small = two-under s small (suc p) (omega arith) h
+unfolding contentsOf
+contents-under form p s h small =
+    let n = length (partsOf form p) in
+    append-under 65536 (leadingOf form) (n ∷ entriesFrom form (contentsEndOf form n) (partsOf form p) s) (leading-under form) (
+      omega (arith, few-parts form p),
+      entries-under form (contentsEndOf form n) (partsOf form p) s (parts-small form p h) (start-small form n (few-parts form p)) small,
+    )
 
 -- form 1 has no sums
 pub plain-contents : (p : ℕ) (s t : List ℕ) → contentsOf One p s ≡ contentsOf One p t
@@ -523,7 +199,7 @@ module _ (b : Bodies) (s : SizedBodies b) (file : List ℕ) where
   contents-held One start = plain-contents (length (b .pak)) (sumsOf (bodiesIn One (length (b .pak)) file)) (sumsOf b)
   contents-held Two start = ap (λ (c : Bodies). contentsOf Two (length (b .pak)) (sumsOf c)) (bodies-held Two start tt)
 
-  -- and with them put before the bodies, the room is the file
+  -- and with them put before the bodies, the buffer is the file
   pub sealed : (form : Form) → drop (bodyPlaceOf form (length (b .pak)) 0) file ≡ joinedOf form b
       → putAt file 0 (bytesOf (contentsIn form (length (b .pak)) file)) ≡ fileOf form b
   unfolding fileOf

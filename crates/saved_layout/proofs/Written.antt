@@ -6,7 +6,8 @@ use mathlib.Core.List.{List, [], _∷_, _++_, append-assoc, append-nil}
 use lib.ListN.{length, take, drop, length-append, length-take, length-drop, drop-of-length-le}
 use lib.Seq.{take-length, take-all, drop-at, length-take-le}
 use Rattle.saved_bytes.specs.Numbers.{bytesOf, halvesOf, halvesFrom, sameOf}
-use Rattle.saved_bytes.specs.Parts.{putAt, bodySumOf}
+use Rattle.saved_bytes.specs.Parts.{bodySumOf}
+use Rattle.saved_bytes.specs.inner.Put.{putAt}
 use Rattle.saved_bytes.proofs.LittleEndian.{length-bytes, length-halves}
 use Rattle.saved_bytes.proofs.Putting.{length-put, put-put, put-last}
 use Rattle.saved_layout.specs.Layout.{contentsOf, bodyPlaceOf, lastPlaceOf, fileLengthOf}
@@ -17,13 +18,23 @@ use Rattle.saved_layout.proofs.Positions.{second, third, fourth, fifth,
 use Rattle.saved_layout.proofs.Files.{sealed}
 
 -- the bytes of two lists of words
-bytes-append : (a b : List ℕ) → bytesOf (halvesOf (a ++ b)) ≡ bytesOf (halvesOf a) ++ bytesOf (halvesOf b)
+pub bytes-append : (a b : List ℕ) → bytesOf (halvesOf (a ++ b)) ≡ bytesOf (halvesOf a) ++ bytesOf (halvesOf b)
 unfolding bytesOf halvesOf
 bytes-append [] b = refl
 bytes-append (w ∷ ws) b = rw (bytes-append ws b)
 
 length-words : (ws : List ℕ) → length (bytesOf (halvesOf ws)) ≡ 4 * length ws
 length-words ws = omega (arith, length-bytes (halvesOf ws), length-halves ws)
+
+-- words put behind others
+pub words-put : (d first second e f : List ℕ) (at n : ℕ) → at + 4 * length first + 4 * length second ≤ length d
+    → n ≡ at + 4 * length first → e ≡ putAt d at (bytesOf (halvesOf first)) → f ≡ putAt e n (bytesOf (halvesOf second))
+    → f ≡ putAt d at (bytesOf (halvesOf (first ++ second)))
+words-put d first second e f at n fits h p q =
+    let l = length-words first in
+    q ∙ (ap (λ (x : List ℕ). putAt x n (bytesOf (halvesOf second))) p
+    ∙ (put-put d at (bytesOf (halvesOf first)) (omega (arith, l)) (bytesOf (halvesOf second)) n (omega (arith, l))
+    ∙ ap (putAt d at) (sym (bytes-append first second))))
 
 -- three parts put one behind the other
 pub put-three : (d a b c e f g : List ℕ) (at m n : ℕ) → at + length a + length b + length c ≤ length d
@@ -47,7 +58,7 @@ records-put d regs rest halves e f g at fits l1 l2 l3 p q r =
     (sym (append-assoc (bytesOf (halvesOf regs)) (bytesOf (halvesOf rest)) (bytesOf halves))
     ∙ ap (λ (x : List ℕ). x ++ bytesOf halves) (sym (bytes-append regs rest)))
 
--- a room whose bodies were put from the first place on
+-- a buffer whose bodies were put from the first place on
 module _ (regs rest halves wram vram pak hardware d : List ℕ) where
   module _ (l1 : length regs ≡ 32) (l2 : length rest ≡ 11) (l3 : length halves ≡ 13) (l4 : length wram ≡ 65536)
       (l5 : length vram ≡ 262144) (l6 : length hardware ≡ 4) where

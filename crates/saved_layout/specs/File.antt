@@ -7,6 +7,7 @@ use mathlib.Core.Path.{_≡_}
 use lib.ListN.{length, take, drop, replicate}
 use Rattle.saved_bytes.specs.Numbers.{bytesOf, halvesFrom, sameOf}
 use Rattle.saved_bytes.specs.Parts.{bodySumOf}
+use Rattle.saved_layout.specs.Layout.{processorBytes, drawingBytes, wramBytes, vramBytes, hardwareBytes}
 use Rattle.saved_layout.specs.Layout.{contentsOf, bodyPlaceOf, lastPlaceOf}
 use Rattle.saved_layout.specs.declared.Form.{Form}
 use Rattle.saved_layout.specs.declared.Form.the-variants.{One, Two}
@@ -20,7 +21,7 @@ pub record Bodies : Type 0 where
   pub pak : List ℕ
   pub hardware : List ℕ
 
-abbrev pub bodiesOf : List ℕ → List ℕ → List ℕ → List ℕ → List ℕ → List ℕ → Bodies
+abbrev pub bodiesOf : (processor drawing wram vram pak hardware : List ℕ) → Bodies
 bodiesOf processor drawing wram vram pak hardware =
     record { processor = processor; drawing = drawing; wram = wram; vram = vram; pak = pak; hardware = hardware }
 
@@ -49,21 +50,24 @@ joinedOf form b =
 unfoldable pub fileOf : Form → Bodies → List ℕ
 fileOf form b = bytesOf (contentsOf form (length (b .pak)) (sumsOf b)) ++ joinedOf form b
 
--- lines and timer at reset: eight zeros
+-- lines and timer at reset
 abbrev pub hardwareReset : List ℕ
-hardwareReset = replicate 8 0
+hardwareReset = replicate hardwareBytes 0
 
 -- kind 6 of a file; a file in form 1 holds lines and timer at reset
 abbrev pub hardwareBytesIn : Form → ℕ → List ℕ → List ℕ
 hardwareBytesIn One pak file = hardwareReset
-hardwareBytesIn Two pak file = take 8 (drop (lastPlaceOf pak) file)
+hardwareBytesIn Two pak file = take hardwareBytes (drop (lastPlaceOf pak) file)
 
 -- what stands in a file, by the form and the pak RAM's length
 unfoldable pub bodiesIn : Form → ℕ → List ℕ → Bodies
 bodiesIn form pak file =
-    bodiesOf (take 172 (drop (bodyPlaceOf form pak 0) file)) (take 26 (drop (bodyPlaceOf form pak 1) file))
-    (take 65536 (drop (bodyPlaceOf form pak 2) file)) (take 262144 (drop (bodyPlaceOf form pak 3) file))
-    (take pak (drop (bodyPlaceOf form pak 4) file)) (hardwareBytesIn form pak file)
+    bodiesOf (take processorBytes (drop (bodyPlaceOf form pak 0) file))
+    (take drawingBytes (drop (bodyPlaceOf form pak 1) file))
+    (take wramBytes (drop (bodyPlaceOf form pak 2) file))
+    (take vramBytes (drop (bodyPlaceOf form pak 3) file))
+    (take pak (drop (bodyPlaceOf form pak 4) file))
+    (hardwareBytesIn form pak file)
 
 -- the contents that the bodies of a file ask for
 unfoldable pub contentsIn : Form → ℕ → List ℕ → List ℕ
@@ -76,11 +80,11 @@ contentsOk form pak file = sameOf (halvesFrom file 0 (length (contentsIn form pa
 
 -- the lengths of the bodies
 pub record SizedBodies (b : Bodies) : Type 0 where
-  pub processor : length (b .processor) ≡ 172
-  pub drawing : length (b .drawing) ≡ 26
-  pub wram : length (b .wram) ≡ 65536
-  pub vram : length (b .vram) ≡ 262144
-  pub hardware : length (b .hardware) ≡ 8
+  pub processor : length (b .processor) ≡ processorBytes
+  pub drawing : length (b .drawing) ≡ drawingBytes
+  pub wram : length (b .wram) ≡ wramBytes
+  pub vram : length (b .vram) ≡ vramBytes
+  pub hardware : length (b .hardware) ≡ hardwareBytes
 
 -- what a form can hold: form 1 has lines and timer at reset
 abbrev pub HeldBy : Form → Bodies → Type 0

@@ -1,5 +1,5 @@
--- "then the bodies in kind order, no gaps", and that a file's length tells its pak RAM's (paper 02, W1 and W12): the
--- statements. Their proofs are `no-gaps` and `lengths-differ` in proofs/.
+-- "then the bodies in kind order, no gaps", and that the pak RAM's length follows from the file's (paper 02, W1 and
+-- W12): the statements. Their proofs are `no-gaps` and `lengths-differ` in proofs/.
 use Prim.Native.Nat.{ℕ, zero, suc, _+_, _*_, _<_}
 use mathlib.Core.List.{List, [], _∷_}
 use mathlib.Core.Path.{_≡_}

@@ -16,7 +16,7 @@ abbrev pub otherOf : Form → Form
 otherOf One = Two
 otherOf Two = One
 
--- what the contents tell of a body
+-- a body's entry in the contents: its kind and its length in bytes
 pub record Part : Type 0 where
   pub kind : ℕ
   pub size : ℕ
@@ -24,18 +24,34 @@ pub record Part : Type 0 where
 abbrev pub partOf : ℕ → ℕ → Part
 partOf kind size = record { kind = kind; size = size }
 
+-- the lengths of the bodies but pak RAM's: kind 1 is 43 words, kind 2 is 13 halfwords, kind 6 is 4
+abbrev pub processorBytes : ℕ
+processorBytes = 172
+
+abbrev pub drawingBytes : ℕ
+drawingBytes = 26
+
+abbrev pub wramBytes : ℕ
+wramBytes = 65536
+
+abbrev pub vramBytes : ℕ
+vramBytes = 262144
+
+abbrev pub hardwareBytes : ℕ
+hardwareBytes = 8
+
 -- kind 6, the request lines and the timer, is form 2's alone
 abbrev pub lastPartsOf : Form → List Part
 lastPartsOf One = []
-lastPartsOf Two = partOf 6 8 ∷ []
+lastPartsOf Two = partOf 6 hardwareBytes ∷ []
 
 -- the bodies of a form: 1 processor, 2 drawing, 3 WRAM, 4 VRAM, 5 pak RAM, "left out when empty", and 6
 abbrev pub partsOf : Form → ℕ → List Part
 partsOf form pak =
-    partOf 1 172
-    ∷ partOf 2 26
-    ∷ partOf 3 65536
-    ∷ partOf 4 262144
+    partOf 1 processorBytes
+    ∷ partOf 2 drawingBytes
+    ∷ partOf 3 wramBytes
+    ∷ partOf 4 vramBytes
     ∷ (pick (eqb pak 0) [] (partOf 5 pak ∷ []) ++ lastPartsOf form)
 
 -- the halfwords before the count
@@ -53,6 +69,10 @@ abbrev pub entryHalvesOf : Form → ℕ
 entryHalvesOf One = 5
 entryHalvesOf Two = 7
 
+-- and bytes
+abbrev pub entryBytesOf : Form → ℕ
+entryBytesOf form = 2 * entryHalvesOf form
+
 -- the sum of the body of a kind, among those of kinds 1 to 6
 abbrev pub sumAt : List ℕ → ℕ → ℕ
 sumAt sums kind = getD sums (kind - 1) 0
@@ -65,6 +85,10 @@ entriesFrom form at (part ∷ parts) sums =
 -- where the contents end, and the first body starts, with n bodies
 abbrev pub contentsEndOf : Form → ℕ → ℕ
 contentsEndOf form n = 2 * (length (leadingOf form) + 1 + entryHalvesOf form * n)
+
+-- where the sum of entry i of form 2 stands, counted from 0: behind its kind, offset and length, all that form 1 has
+abbrev pub sumPlaceOf : ℕ → ℕ
+sumPlaceOf i = contentsEndOf Two i + entryBytesOf One
 
 -- the contents, as halfwords, by the sums of the bodies of kinds 1 to 6
 unfoldable pub contentsOf : Form → ℕ → List ℕ → List ℕ

@@ -1,7 +1,11 @@
-// The bodies of a file: written into a room, and the memories taken out of a file.
+// The bodies of a file: written into a buffer, and the memories taken out of a file.
 use crate::Form;
 use crate::contents;
 use crate::places;
+use crate::places::DRAWING_AT;
+use crate::places::PAK_AT;
+use crate::places::VRAM_AT;
+use crate::places::WRAM_AT;
 use saved_bytes::numbers;
 use saved_bytes::parts;
 ghost use mathlib.Core.Path.{_≡_};
@@ -9,7 +13,7 @@ ghost use Prim.Native.Nat.{_+_, _≤_};
 ghost use mathlib.Core.List.{_++_};
 ghost use lib.ListN.{length};
 ghost use Rattle.saved_bytes.specs.Numbers.{bytesOf, halvesOf};
-ghost use Rattle.saved_bytes.specs.Parts.{putAt};
+ghost use Rattle.saved_bytes.specs.inner.Put.{putAt};
 ghost use Rattle.saved_layout.specs.Layout.{fileLengthOf};
 ghost use Rattle.saved_layout.specs.File.{bodiesOf, bodiesIn, fileOf};
 
@@ -24,7 +28,7 @@ fn put_records(room: &mut [u8], at: usize, regs: &[u32; 32], rest: &[u32; 11], h
 {
     numbers::put_words(room, at, regs);
     numbers::put_words(room, at + 128, rest);
-    numbers::put_halves(room, at + 172, halves);
+    numbers::put_halves(room, at + DRAWING_AT, halves);
 }
 
 // Kinds 3 to 5 from byte `at` on.
@@ -39,7 +43,7 @@ fn put_memories(room: &mut [u8], at: usize, wram: &[u8], vram: &[u8], pak: &[u8]
     parts::put_bytes(room, at + wram.len() + vram.len(), pak);
 }
 
-// A file into a room of its length.
+// A file into a buffer of its length.
 pub fn write(
     form: Form,
     room: &mut [u8],
@@ -62,11 +66,11 @@ pub fn write(
 {
     let at = places::first(form, pak.len());
     put_records(room, at, regs, rest, halves);
-    put_memories(room, at + 198, wram, vram, pak);
+    put_memories(room, at + WRAM_AT, wram, vram, pak);
     match form {
         Form::One => contents::put(Form::One, room, pak.len()),
         Form::Two => {
-            numbers::put_halves(room, at + 327878 + pak.len(), hardware);
+            numbers::put_halves(room, at + PAK_AT + pak.len(), hardware);
             contents::put(Form::Two, room, pak.len())
         }
     }
@@ -81,9 +85,9 @@ pub fn take_memories(form: Form, file: &[u8], wram: &mut [u8], vram: &mut [u8], 
     ensures { λ _. ⌜ now (pak .exit) ≡ bodiesIn form (length (now (pak .entry))) (now (file .entry)) .pak ⌝ }
 {
     let at = places::first(form, pak.len());
-    let ram = at + 198;
-    let video = at + 65734;
-    let save = at + 327878;
+    let ram = at + WRAM_AT;
+    let video = at + VRAM_AT;
+    let save = at + PAK_AT;
     let end = save + pak.len();
     bytes::copy(&file[ram..video], wram);
     bytes::copy(&file[video..save], vram);

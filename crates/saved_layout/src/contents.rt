@@ -2,6 +2,11 @@
 // with its sum in form 2.
 use crate::Form;
 use crate::places;
+use crate::places::DRAWING_AT;
+use crate::places::HARDWARE_BYTES;
+use crate::places::PAK_AT;
+use crate::places::VRAM_AT;
+use crate::places::WRAM_AT;
 use saved_bytes::numbers;
 use saved_bytes::parts;
 ghost use mathlib.Core.List.{List};
@@ -9,7 +14,7 @@ ghost use mathlib.Core.Path.{_≡_};
 ghost use Prim.Native.Nat.{ℕ, _/_, _%_, _<_, _≤_};
 ghost use lib.ListN.{length};
 ghost use Rattle.saved_bytes.specs.Numbers.{bytesOf};
-ghost use Rattle.saved_bytes.specs.Parts.{putAt};
+ghost use Rattle.saved_bytes.specs.inner.Put.{putAt};
 ghost use Rattle.saved_layout.specs.declared.Form.the-variants.{One, Two};
 ghost use Rattle.saved_layout.specs.Layout.{contentsOf, fileLengthOf};
 ghost use Rattle.saved_layout.specs.File.{sumsOf, bodiesIn, contentsIn, contentsOk};
@@ -194,18 +199,18 @@ fn summed_with_pak(pak: usize, sums: [u32; 6]) -> [u16; 45]
     ]
 }
 
-// The sums of the bodies that stand in a file or a room of form 2.
+// The sums of the bodies of a file, or of a buffer that holds them, in form 2.
 pub fn sums(file: &[u8], pak: usize) -> [u32; 6]
     requires { ⌜ (length (now file) ≡ fileLengthOf Two pak) × (pak ≤ 16777216) ⌝ }
     ensures { λ r. ⌜ r ≡ sumsOf (bodiesIn Two pak (now (file .entry))) ⌝ }
 {
     let processor = places::first(Form::Two, pak);
-    let drawing = processor + 172;
-    let wram = processor + 198;
-    let vram = processor + 65734;
-    let ram = processor + 327878;
+    let drawing = processor + DRAWING_AT;
+    let wram = processor + WRAM_AT;
+    let vram = processor + VRAM_AT;
+    let ram = processor + PAK_AT;
     let hardware = ram + pak;
-    let end = hardware + 8;
+    let end = hardware + HARDWARE_BYTES;
     [
         parts::sum(&file[processor..drawing]),
         parts::sum(&file[drawing..wram]),
@@ -216,7 +221,7 @@ pub fn sums(file: &[u8], pak: usize) -> [u32; 6]
     ]
 }
 
-// The contents of form 1 into a room.
+// The contents of form 1 into a buffer.
 fn put_plain(room: &mut [u8], pak: usize)
     requires { ⌜ (length (now room) ≡ fileLengthOf One pak) × (pak ≤ 16777216) ⌝ }
     ensures { λ _. ⌜
@@ -232,7 +237,7 @@ fn put_plain(room: &mut [u8], pak: usize)
     numbers::put_halves(room, 0, &contents);
 }
 
-// The contents of form 2 into a room whose bodies stand at their places.
+// The contents of form 2 into a buffer whose bodies stand at their places.
 fn put_summed(room: &mut [u8], pak: usize)
     requires { ⌜ (length (now room) ≡ fileLengthOf Two pak) × (pak ≤ 16777216) ⌝ }
     ensures { λ _. ⌜
@@ -249,7 +254,7 @@ fn put_summed(room: &mut [u8], pak: usize)
     numbers::put_halves(room, 0, &contents);
 }
 
-// The contents into a room whose bodies stand at their places.
+// The contents into a buffer whose bodies stand at their places.
 pub fn put(form: Form, room: &mut [u8], pak: usize)
     requires { ⌜ (length (now room) ≡ fileLengthOf form pak) × (pak ≤ 16777216) ⌝ }
     ensures { λ _. ⌜

@@ -1,4 +1,4 @@
--- The five bodies that both forms have, taken from a file and put into a room; what each direction leaves. Assumes nothing.
+-- The five bodies that both forms have, taken from a file and put into a buffer; what each direction leaves. Assumes nothing.
 use Prim.Native.Nat.{ℕ, _+_, _-_, _≤_}
 use native.Mathlib.Omega.{arith}
 use mathlib.Core.Path.{_≡_, refl, sym, ap, _∙_}
@@ -6,7 +6,7 @@ use mathlib.Core.List.{List, [], _++_, append-assoc, append-nil}
 use lib.ListN.{length, take, drop, length-append, length-replicate, replicate}
 use lib.Seq.{take-at, drop-at, length-take-le}
 use Rattle.saved_bytes.specs.Numbers.{bytesOf}
-use Rattle.saved_bytes.specs.Parts.{putAt}
+use Rattle.saved_bytes.specs.inner.Put.{putAt}
 use Rattle.saved_bytes.proofs.Putting.{put-put, put-last}
 use Rattle.saved_layout.specs.Layout.{bodyPlaceOf, fileLengthOf}
 use Rattle.saved_layout.specs.File.{Bodies, bodiesOf, lastOf, joinedOf, fileOf, hardwareReset, bodiesIn, contentsIn, SizedBodies}
@@ -37,7 +37,7 @@ module _ (form : Form) (p : ℕ) (file : List ℕ) (whole : length file ≡ file
       ∙ (ap (take n) (sym (joined-again p file form whole) ∙ five-joined form (bodiesIn form p file))
       ∙ take-at (fiveOf (bodiesIn form p file)) (lastOf form (bodiesIn form p file .hardware)) n (five-in ∙ sym f))
 
--- a room whose bodies end with it
+-- a buffer whose bodies end with it
 ending : (d : List ℕ) (at : ℕ) (xs room : List ℕ) → at + length xs ≡ length d → room ≡ putAt d at xs → drop at room ≡ xs
 ending d at xs room e p =
     ap (drop at) (p ∙ put-last d at xs e) ∙ drop-at (take at d) xs at (length-take-le at d (omega arith))

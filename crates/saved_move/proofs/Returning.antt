@@ -30,7 +30,7 @@ use Rattle.saved_move.specs.Move.{pakIn, heldIn, lengthsOk, holdsBodyOk,
 use Rattle.saved_move.specs.Back.{ThereAndBack, SixteenExactly}
 use Rattle.saved_move.proofs.Verdicts.{lengths-yes, fit, accepted, no-reset}
 
--- the first halfword tells the form of a file that was written
+-- the first halfword gives the form of a file that was written
 one-first : (p : ℕ) (s rest : List ℕ) → halfAt (bytesOf (contentsOf One p s) ++ rest) 0 ≡ 0 → ⊥
 unfolding bytesOf
 one-first zero s rest = rw (← one-empty s) (λ e. absurd (omega arith))

@@ -26,7 +26,7 @@ abbrev pub Leaves : List ℕ → List ℕ → Verdict → List ℕ → Type 0
 Leaves file room verdict after = (verdict ≡ moveVerdictOf file room) × (after ≡ movedOf file room)
 
 module _ (file room : List ℕ) where
-  -- the room by the verdict
+  -- the buffer by the verdict
   by-verdict : (v : Verdict) → v ≡ moveVerdictOf file room → Leaves file room v (whenAccepted v room (fileOf (otherOf (formOf file)) (heldIn file)))
   unfolding movedOf
   by-verdict v e = (e, ap (λ (w : Verdict). whenAccepted w room (fileOf (otherOf (formOf file)) (heldIn file))) e)

@@ -20,14 +20,14 @@ use Rattle.saved_layout.specs.declared.Form.the-variants.{One, Two}
 use Rattle.saved_kinds.specs.Fits.{formOf, pakLengthOf, fitsOk}
 use Rattle.saved_kinds.specs.Kinds.{fileOk}
 
--- the pak RAM's length and the bodies of a file, whose form and length tell them
+-- the pak RAM's length and the bodies of a file, by its form and length
 unfoldable pub pakIn : List ℕ → ℕ
 pakIn file = pakLengthOf (formOf file) (length file)
 
 unfoldable pub heldIn : List ℕ → Bodies
 heldIn file = bodiesIn (formOf file) (pakIn file) file
 
--- 9: the file's length fits, and the room has the length of the other form
+-- 9: the file's length fits, and the output buffer ("room") has the length of the other form
 unfoldable pub lengthsOk : List ℕ → List ℕ → Bool
 lengthsOk file room =
     both (fitsOk (formOf file) (length file)) (eqb (length room) (fileLengthOf (otherOf (formOf file)) (pakIn file)))
@@ -44,6 +44,6 @@ moveVerdictOf file room =
     (unless (fileOk (formOf file) (pakIn file) file) FileBytes
     (unless (holdsBodyOk (otherOf (formOf file)) (heldIn file .hardware)) NotAtReset Accepted))
 
--- the room afterwards
+-- the output buffer afterwards
 unfoldable pub movedOf : List ℕ → List ℕ → List ℕ
 movedOf file room = whenAccepted (moveVerdictOf file room) room (fileOf (otherOf (formOf file)) (heldIn file))

@@ -7,6 +7,8 @@ use saved_kinds::lengths;
 use saved_layout::Form;
 use saved_layout::contents;
 use saved_layout::places;
+use saved_layout::places::HARDWARE_BYTES;
+use saved_layout::places::PAK_AT;
 ghost use mathlib.Core.Path.{_≡_};
 ghost use Prim.Native.Nat.{_≤_};
 ghost use lib.ListN.{length};
@@ -21,40 +23,41 @@ fn at_reset(file: &[u8], pak: usize) -> bool
     requires { ⌜ (length (now file) ≡ fileLengthOf Two pak) × (pak ≤ 16777216) ⌝ }
     ensures { λ r. ⌜ r ≡ sameOf (bodiesIn Two pak (now (file .entry)) .hardware) hardwareReset ⌝ }
 {
-    let last = places::first(Form::Two, pak) + 327878 + pak;
-    let end = last + 8;
-    let zeros = [0u8; 8];
+    let last = places::first(Form::Two, pak) + PAK_AT + pak;
+    let end = last + HARDWARE_BYTES;
+    let zeros = [0u8; HARDWARE_BYTES];
     parts::same(&file[last..end], &zeros)
 }
 
-// A file in form 1 into a room of form 2: lines and timer are at reset.
+// A file in form 1 into a buffer of form 2: lines and timer are at reset.
 fn to_two(file: &[u8], room: &mut [u8], pak: usize)
     requires { ⌜ (length (now file) ≡ fileLengthOf One pak) × (pak ≤ 16777216) ⌝ }
     requires { ⌜ length (now room) ≡ fileLengthOf Two pak ⌝ }
     ensures { λ _. ⌜ now (room .exit) ≡ fileOf Two (bodiesIn One pak (now (file .entry))) ⌝ }
 {
     let from = places::first(Form::One, pak);
-    let end = from + 327878 + pak;
+    let end = from + PAK_AT + pak;
     let at = places::first(Form::Two, pak);
     parts::put_bytes(room, at, &file[from..end]);
-    parts::put_zeros(room, at + 327878 + pak, 8);
+    parts::put_zeros(room, at + PAK_AT + pak, HARDWARE_BYTES);
     contents::put(Form::Two, room, pak);
 }
 
-// A file in form 2 into a room of form 1.
+// A file in form 2 into a buffer of form 1.
 fn to_one(file: &[u8], room: &mut [u8], pak: usize)
     requires { ⌜ (length (now file) ≡ fileLengthOf Two pak) × (pak ≤ 16777216) ⌝ }
     requires { ⌜ length (now room) ≡ fileLengthOf One pak ⌝ }
     ensures { λ _. ⌜ now (room .exit) ≡ fileOf One (bodiesIn Two pak (now (file .entry))) ⌝ }
 {
     let from = places::first(Form::Two, pak);
-    let end = from + 327878 + pak;
+    let end = from + PAK_AT + pak;
     let at = places::first(Form::One, pak);
     parts::put_bytes(room, at, &file[from..end]);
     contents::put(Form::One, room, pak);
 }
 
-// The state that a file holds, into a room in the other form. The whole file is tested before a byte is stored.
+// The state that a file holds, into the output buffer (paper 02: "room") in the other form. The whole file is tested
+// before a byte is stored.
 pub fn move_state(file: &[u8], room: &mut [u8]) -> Verdict
     ensures verdict { λ v. ⌜ v ≡ moveVerdictOf (now (file .entry)) (now (room .entry)) ⌝ }
     ensures room { λ _. ⌜ now (room .exit) ≡ movedOf (now (file .entry)) (now (room .entry)) ⌝ }

@@ -1,4 +1,4 @@
--- `Keeping` has which bodies are kept, `Replacing` what is put into the room, `Listing` the list of kinds, `Differing` the comparison of the
+-- `Keeping` has which bodies are kept, `Replacing` what is put into the buffer, `Listing` the list of kinds, `Differing` the comparison of the
 -- contents, `Salvaging` the cases of the call.
 pub mod Keeping
 pub mod Replacing

@@ -1,4 +1,4 @@
--- The list of kinds that were replaced, as it is told. Assumes nothing.
+-- The list of kinds that were replaced, as it is reported. Assumes nothing.
 use Prim.Native.Nat.{ℕ, zero, suc, _+_, _-_, _<_, _≤_}
 use native.Mathlib.Omega.{arith}
 use mathlib.Core.Bool.{Bool, true, false}
@@ -9,7 +9,8 @@ use lib.Seq.{set-append-seam, append-snoc}
 use Rattle.word.specs.Choose.{pick}
 use Rattle.saved_salvage.specs.declared.Kept.{Kept}
 use Rattle.saved_salvage.specs.declared.ListedKinds.{ListedKinds}
-use Rattle.saved_salvage.specs.Told.{withKind, replacedOf, listedKindsOf, addedOf}
+use Rattle.saved_salvage.specs.Told.{withKind, replacedOf, listedKindsOf}
+use Rattle.saved_salvage.specs.inner.Added.{addedOf}
 
 pub none-count : (l : ListedKinds) → l ≡ listedKindsOf [] → l .count ≡ 0
 unfolding listedKindsOf

@@ -1,4 +1,4 @@
--- What is put into the room: six bodies one behind the other. Assumes nothing.
+-- What is put into the buffer: six bodies one behind the other. Assumes nothing.
 use Prim.Native.Nat.{ℕ, _+_, _≤_}
 use native.Mathlib.Omega.{arith}
 use mathlib.Core.Bool.{Bool, true, false}
@@ -8,22 +8,56 @@ use lib.ListN.{length, take, drop, replicate, length-append, length-replicate}
 use lib.Seq.{drop-at, length-take-le}
 use Rattle.word.specs.Choose.{pick}
 use Rattle.saved_bytes.specs.Numbers.{bytesOf, halvesOf}
-use Rattle.saved_bytes.specs.Parts.{putAt}
+use Rattle.saved_bytes.specs.inner.Put.{putAt}
 use Rattle.saved_bytes.proofs.LittleEndian.{length-bytes, length-halves}
 use Rattle.saved_bytes.proofs.Putting.{length-put, put-put, put-last}
+use Rattle.processor.specs.Calls.{resetOf}
+use Rattle.processor.specs.declared.Machine.{Machine}
+use Rattle.saved_kinds.specs.Words.{restOf, recordWordsOf}
 use Rattle.saved_layout.specs.Layout.{bodyPlaceOf, fileLengthOf}
 use Rattle.saved_layout.specs.File.{Bodies, bodiesOf, joinedOf, fileOf, bodiesIn, contentsIn, SizedBodies}
 use Rattle.saved_layout.specs.declared.Form.the-variants.{Two}
 use Rattle.saved_layout.proofs.Positions.{length-is}
 use Rattle.saved_layout.proofs.Files.{sealed, joined-length}
-use Rattle.saved_layout.proofs.Written.{put-three}
+use Rattle.saved_layout.proofs.Written.{put-three, words-put}
 use Rattle.saved_salvage.specs.declared.Kept.{Kept}
-use Rattle.saved_salvage.specs.Keep.{resetWords, processorReset, orZeros, keptBodiesOf}
+use Rattle.saved_salvage.specs.Keep.{processorReset, orZeros, keptBodiesOf}
 
 -- lengths
+reset-words : length (recordWordsOf (resetOf .processor)) ≡ 43
+unfolding recordWordsOf restOf resetOf
+reset-words = refl
+
 pub length-reset : length processorReset ≡ 172
 unfolding processorReset
-length-reset = omega (arith, length-bytes (halvesOf resetWords), length-halves resetWords)
+length-reset =
+    let words = recordWordsOf (resetOf .processor) in
+    omega (arith, length-bytes (halvesOf words), length-halves words, reset-words)
+
+reset-general : length (resetOf .processor .regs) ≡ 32
+unfolding resetOf
+reset-general = refl
+
+pub machine-general : (m : Machine) → m ≡ resetOf → length (m .processor .regs) ≡ 32
+machine-general m e = rw e reset-general
+
+reset-rest : length (restOf (resetOf .processor)) ≡ 11
+unfolding restOf
+reset-rest = refl
+
+-- the words of a processor at reset, the general registers and then the rest
+pub reset-put : (d e f : List ℕ) (at : ℕ) (m : Machine) (rest : List ℕ) → at + 172 ≤ length d → m ≡ resetOf
+    → rest ≡ restOf (m .processor)
+    → e ≡ putAt d at (bytesOf (halvesOf (m .processor .regs))) → f ≡ putAt e (at + 128) (bytesOf (halvesOf rest))
+    → f ≡ putAt d at processorReset
+unfolding processorReset recordWordsOf
+reset-put d e f at m rest fits reset same first second =
+    let regs = resetOf .processor .regs in
+    let put : e ≡ putAt d at (bytesOf (halvesOf regs)) = rw reset at first in
+    let known : rest ≡ restOf (resetOf .processor) = rw reset at same in
+    let behind : f ≡ putAt e (at + 128) (bytesOf (halvesOf (restOf (resetOf .processor)))) = rw known at second in
+    words-put d regs (restOf (resetOf .processor)) e f at (at + 128) (omega (arith, reset-general, reset-rest))
+    (omega (arith, reset-general)) put behind
 
 pub length-zeros : (k : Bool) (xs : List ℕ) → length (orZeros k xs) ≡ length xs
 length-zeros true xs = refl
@@ -102,7 +136,7 @@ module _ (k : Kept) (b : Bodies) (s : SizedBodies b) (p : ℕ) (e : length (b .p
       (e6 ∙ ap (λ (y : List ℕ). putAt r5 (at + 327878 + p) (orZeros (k .hardware) y)) q6)
       ∙ ap (putAt d at) output-joined
 
--- with the contents before them the room is the output
+-- with the contents before them the buffer is the output
 module _ (p : ℕ) (b : Bodies) (s : SizedBodies b) (e : length (b .pak) ≡ p) (d : List ℕ) (whole : length d ≡ fileLengthOf Two p) where
   pub output-sealed : (f g : List ℕ) → f ≡ putAt d (bodyPlaceOf Two p 0) (joinedOf Two b) → g ≡ putAt f 0 (bytesOf (contentsIn Two p f)) → g ≡ fileOf Two b
   output-sealed f g q r =

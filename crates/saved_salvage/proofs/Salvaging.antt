@@ -11,7 +11,7 @@ use Rattle.refusal.specs.declared.Refusal as refusal
 use Rattle.refusal.specs.declared.Refusal.the-variants.{FileLength, NoLayout}
 use Rattle.bus.specs.Refusal.{pakOk}
 use Rattle.saved_bytes.specs.Numbers.{bytesOf}
-use Rattle.saved_bytes.specs.Parts.{putAt}
+use Rattle.saved_bytes.specs.inner.Put.{putAt}
 use Rattle.saved_layout.specs.Layout.{bodyPlaceOf, fileLengthOf}
 use Rattle.saved_layout.specs.File.{Bodies, joinedOf, fileOf, bodiesIn, contentsIn}
 use Rattle.saved_layout.specs.declared.Form.the-variants.{Two}

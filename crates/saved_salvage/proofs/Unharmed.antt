@@ -18,6 +18,8 @@ use Rattle.bus.specs.Refusal.{pakOk}
 use Rattle.bus.specs.Registers.{drawingOk}
 use Rattle.processor_machine.specs.System.{pswBitsOf}
 use Rattle.processor.specs.Acceptance.{both, evenOk, formatsOk, stateOk}
+use Rattle.processor.specs.Calls.{resetOf}
+use Rattle.saved_kinds.specs.Words.{restOf, recordWordsOf}
 use Rattle.saved_bytes.specs.Numbers.{bytesOf, halvesOf, halvesFrom, wordsFrom, sameOf}
 use Rattle.saved_bytes.specs.Parts.{bodySumOf}
 use Rattle.saved_bytes.proofs.Reading.{same-self}
@@ -31,7 +33,7 @@ use Rattle.saved_kinds.specs.Kinds.{generalFrom, restFrom, wordsOk, processorBo
 use Rattle.saved_kinds.proofs.Sizes.{pak-small, fits-exactly}
 use Rattle.saved_kinds.proofs.Tests.{reset-ok}
 use Rattle.saved_salvage.specs.declared.Kept.{Kept}
-use Rattle.saved_salvage.specs.Keep.{keepsOf, lastSumPlace, keptFrom, keptIn, resetWords, processorReset, orZeros, keptBodiesOf}
+use Rattle.saved_salvage.specs.Keep.{keepsOf, lastSumPlace, keptFrom, keptIn, processorReset, orZeros, keptBodiesOf}
 use Rattle.saved_salvage.specs.Told.{withKind, replacedOf, listedKindsOf}
 use Rattle.saved_salvage.specs.Differ.{partDiffers, entryDiffers, entriesDiffer, entriesKept, contentsDiffer}
 use Rattle.saved_salvage.specs.Salvage.{outputOf, pakInFormTwo, toldOf, toldWhen, salvageVerdictOf, salvageOf, salvagedRoomOf}
@@ -47,7 +49,7 @@ both-true false b e =
 
 -- reset values can be made
 processor-reset : processorBodyOk processorReset ≡ true
-unfolding processorBodyOk processorReset wordsOk generalFrom restFrom wordsFrom bytesOf halvesOf stateOk evenOk formatsOk pswBitsOf
+unfolding processorBodyOk processorReset recordWordsOf restOf resetOf wordsOk generalFrom restFrom wordsFrom bytesOf halvesOf stateOk evenOk formatsOk pswBitsOf
 processor-reset = refl
 
 drawing-reset : drawingBodyOk (replicate 26 0) ≡ true

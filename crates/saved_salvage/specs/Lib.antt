@@ -4,3 +4,4 @@ pub mod Differ
 pub mod Salvage
 pub mod Right
 pub mod Means
+pub mod inner

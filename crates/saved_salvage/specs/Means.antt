@@ -9,25 +9,26 @@ use lib.ListN.{length, getD}
 use Rattle.word.specs.Choose.{pick}
 use Rattle.refusal.specs.declared.Verdict.the-variants.{Accepted}
 use Rattle.processor.specs.Acceptance.{both}
-use Rattle.saved_bytes.specs.Numbers.{halvesOf, halvesFrom, sameOf}
-use Rattle.saved_layout.specs.Layout.{Part, partsOf, contentsEndOf}
-use Rattle.saved_layout.specs.declared.Form.the-variants.{Two}
+use Rattle.saved_bytes.specs.Numbers.{halvesFrom, sameOf}
+use Rattle.saved_layout.specs.Layout.{Part, partsOf, contentsEntryOf, entryHalvesOf, entryBytesOf, contentsEndOf}
+use Rattle.saved_layout.specs.declared.Form.the-variants.{One, Two}
 use Rattle.saved_salvage.specs.Salvage.{pakInFormTwo, salvageVerdictOf, salvageOf}
 
--- the kind, offset and length of an entry at byte `at`, for a body that starts at byte `place`
+-- the kind, offset and length of an entry at byte `at`, all that form 1 has, for a body that starts at byte `place`
 abbrev pub entryRight : ℕ → ℕ → Part → List ℕ → Bool
-entryRight at place part file = sameOf (halvesFrom file at 5) (part .kind ∷ halvesOf (place ∷ part .size ∷ []))
+entryRight at place part file =
+    sameOf (halvesFrom file at (entryHalvesOf One)) (contentsEntryOf One part place 0)
 
 abbrev pub entriesRight : ℕ → ℕ → List Part → List ℕ → Bool
 entriesRight at place [] file = true
 entriesRight at place (part ∷ parts) file =
-    both (entryRight at place part file) (entriesRight (at + 14) (place + part .size) parts file)
+    both (entryRight at place part file) (entriesRight (at + entryBytesOf Two) (place + part .size) parts file)
 
 -- the halfwords 0 and 2 and the count, then the entries
 unfoldable pub contentsRight : ℕ → List ℕ → Bool
 contentsRight pak file =
     both (sameOf (halvesFrom file 0 3) (0 ∷ 2 ∷ length (partsOf Two pak) ∷ []))
-    (entriesRight 6 (contentsEndOf Two (length (partsOf Two pak))) (partsOf Two pak) file)
+    (entriesRight (contentsEndOf Two 0) (contentsEndOf Two (length (partsOf Two pak))) (partsOf Two pak) file)
 
 abbrev pub ContentsDifferMeans : Type 0
 ContentsDifferMeans =

@@ -36,7 +36,7 @@ UndamagedEqual =
     → fileOk Two (pakInFormTwo file) file ≡ true
     → Unchanged file room
 
--- of its own output, in any room of the same length
+-- of its own output, in any buffer of the same length
 abbrev pub SalvageAgain : Type 0
 SalvageAgain =
     (file room again : List ℕ) → salvageVerdictOf file room ≡ Accepted → length again ≡ length file

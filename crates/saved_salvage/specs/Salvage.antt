@@ -1,4 +1,4 @@
--- What a salvage tells and leaves (paper 02, W13). "Refusal 9 first: the output room isn't as long as the file; then
+-- What a salvage reports and leaves (paper 02, W13). "Refusal 9 first: the output room isn't as long as the file; then
 -- 17: no form 2 layout has this length." Nothing else is tested; a refusal changes nothing.
 use Prim.Native.Nat.{ℕ}
 use mathlib.Core.Bool.{Bool, false}
@@ -43,6 +43,6 @@ toldWhen (Refused n) file = toldOf (Refused n) (listedKindsOf []) false
 unfoldable pub salvageOf : List ℕ → List ℕ → Salvaged
 salvageOf file room = toldWhen (salvageVerdictOf file room) file
 
--- the room afterwards
+-- the output buffer afterwards
 unfoldable pub salvagedRoomOf : List ℕ → List ℕ → List ℕ
 salvagedRoomOf file room = whenAccepted (salvageVerdictOf file room) room (outputOf (pakInFormTwo file) file)

@@ -1,8 +1,9 @@
--- "the list of kinds replaced, in order" (paper 02, W13), and as it is told: a number and six places, 0 after the last.
-use Prim.Native.Nat.{ℕ, _+_, _-_}
+-- "the list of kinds replaced, in order" (paper 02, W13), and as it is reported: a number and six places, 0
+-- after the last.
+use Prim.Native.Nat.{ℕ, _-_}
 use mathlib.Core.Bool.{Bool}
 use mathlib.Core.List.{List, [], _∷_, _++_}
-use lib.ListN.{length, replicate, set}
+use lib.ListN.{length, replicate}
 use Rattle.word.specs.Choose.{pick}
 use Rattle.saved_salvage.specs.declared.Kept.{Kept}
 use Rattle.saved_salvage.specs.declared.ListedKinds.{ListedKinds}
@@ -19,10 +20,6 @@ replacedOf k =
     5 (k .pak))
     6 (k .hardware)
 
--- a list of at most six kinds, as it is told
+-- a list of at most six kinds, as it is reported
 unfoldable pub listedKindsOf : List ℕ → ListedKinds
 listedKindsOf kinds = record { count = length kinds; kinds = kinds ++ replicate (6 - length kinds) 0 }
-
--- what is told, with one kind more
-unfoldable pub addedOf : ListedKinds → ℕ → Bool → ListedKinds
-addedOf l kind kept = pick kept l (record { count = l .count + 1; kinds = set (l .kinds) (l .count) kind })

@@ -1,5 +1,13 @@
 // Whether a byte before the first body differs in the output, sums of replaced bodies aside.
 use crate::Kept;
+use crate::entries::BYTES_BEFORE_SUM;
+use crate::entries::ENTRY_1;
+use crate::entries::ENTRY_2;
+use crate::entries::ENTRY_3;
+use crate::entries::ENTRY_4;
+use crate::entries::ENTRY_5;
+use crate::entries::ENTRY_6;
+use crate::entries::ENTRY_BYTES;
 use saved_bytes::parts;
 ghost use mathlib.Core.Path.{_≡_};
 ghost use Prim.Native.Nat.{_+_, _≤_};
@@ -23,35 +31,35 @@ fn entry_differs(file: &[u8], room: &[u8], at: usize, kept: bool) -> bool
     ensures { λ r. ⌜ r ≡ entryDiffers at kept (now (file .entry)) (now (room .entry)) ⌝ }
 {
     if kept {
-        return part_differs(file, room, at, 14);
+        return part_differs(file, room, at, ENTRY_BYTES);
     }
-    part_differs(file, room, at, 10)
+    part_differs(file, room, at, BYTES_BEFORE_SUM)
 }
 
 pub fn contents_differ(file: &[u8], room: &[u8], pak: usize, kept: Kept) -> bool
     requires { ⌜ (length (now file) ≡ fileLengthOf Two pak) × (length (now room) ≡ fileLengthOf Two pak) ⌝ }
     ensures { λ r. ⌜ r ≡ contentsDiffer pak kept (now (file .entry)) (now (room .entry)) ⌝ }
 {
-    if part_differs(file, room, 0, 6) {
+    if part_differs(file, room, 0, ENTRY_1) {
         return true;
     }
-    if entry_differs(file, room, 6, kept.processor) {
+    if entry_differs(file, room, ENTRY_1, kept.processor) {
         return true;
     }
-    if entry_differs(file, room, 20, kept.drawing) {
+    if entry_differs(file, room, ENTRY_2, kept.drawing) {
         return true;
     }
-    if entry_differs(file, room, 34, kept.wram) {
+    if entry_differs(file, room, ENTRY_3, kept.wram) {
         return true;
     }
-    if entry_differs(file, room, 48, kept.vram) {
+    if entry_differs(file, room, ENTRY_4, kept.vram) {
         return true;
     }
     if pak == 0 {
-        return entry_differs(file, room, 62, kept.hardware);
+        return entry_differs(file, room, ENTRY_5, kept.hardware);
     }
-    if entry_differs(file, room, 62, kept.pak) {
+    if entry_differs(file, room, ENTRY_5, kept.pak) {
         return true;
     }
-    entry_differs(file, room, 76, kept.hardware)
+    entry_differs(file, room, ENTRY_6, kept.hardware)
 }

@@ -1,9 +1,19 @@
 // Which bodies of a file are kept: those whose stored sum is the sum of their bytes and that a writer can have made.
 use crate::Kept;
+use crate::entries::SUM_1;
+use crate::entries::SUM_2;
+use crate::entries::SUM_3;
+use crate::entries::SUM_4;
+use crate::entries::SUM_5;
+use crate::entries::SUM_6;
 use saved_kinds::bodies;
 use saved_layout::Form;
 use saved_layout::contents;
 use saved_layout::places;
+use saved_layout::places::DRAWING_AT;
+use saved_layout::places::HARDWARE_BYTES;
+use saved_layout::places::PAK_AT;
+use saved_layout::places::WRAM_AT;
 ghost use mathlib.Core.Path.{_≡_};
 ghost use Prim.Native.Nat.{_≤_};
 ghost use lib.Dec.{eqb};
@@ -29,22 +39,22 @@ pub fn kept(file: &[u8], pak: usize) -> Kept
 {
     let sums = contents::sums(file, pak);
     let start = places::first(Form::Two, pak);
-    let middle = start + 172;
-    let end = start + 198;
-    let last = start + 327878 + pak;
-    let whole = last + 8;
+    let middle = start + DRAWING_AT;
+    let end = start + WRAM_AT;
+    let last = start + PAK_AT + pak;
+    let whole = last + HARDWARE_BYTES;
     let processor = keeps(
-        word::word_at(file, 16),
+        word::word_at(file, SUM_1),
         sums[0],
         bodies::processor_ok(&file[start..middle]),
     );
     let drawing = keeps(
-        word::word_at(file, 30),
+        word::word_at(file, SUM_2),
         sums[1],
         bodies::drawing_ok(&file[middle..end]),
     );
-    let wram = keeps(word::word_at(file, 44), sums[2], true);
-    let vram = keeps(word::word_at(file, 58), sums[3], true);
+    let wram = keeps(word::word_at(file, SUM_3), sums[2], true);
+    let vram = keeps(word::word_at(file, SUM_4), sums[3], true);
     let made = bodies::hardware_ok(&file[last..whole]);
     if pak == 0 {
         return Kept {
@@ -53,7 +63,7 @@ pub fn kept(file: &[u8], pak: usize) -> Kept
             wram,
             vram,
             pak: true,
-            hardware: keeps(word::word_at(file, 72), sums[5], made),
+            hardware: keeps(word::word_at(file, SUM_5), sums[5], made),
         };
     }
     Kept {
@@ -61,7 +71,7 @@ pub fn kept(file: &[u8], pak: usize) -> Kept
         drawing,
         wram,
         vram,
-        pak: keeps(word::word_at(file, 72), sums[4], true),
-        hardware: keeps(word::word_at(file, 86), sums[5], made),
+        pak: keeps(word::word_at(file, SUM_5), sums[4], true),
+        hardware: keeps(word::word_at(file, SUM_6), sums[5], made),
     }
 }

@@ -1,5 +1,6 @@
 // A damaged saved state in form 2: what can be kept of it, with the rest at reset, written as a valid file.
 mod compare;
+mod entries;
 mod keep;
 mod replace;
 mod told;
@@ -12,7 +13,7 @@ use saved_layout::contents;
 ghost use mathlib.Core.Path.{_≡_};
 ghost use Rattle.saved_salvage.specs.Salvage.{salvageOf, salvagedRoomOf};
 
-// Which bodies are kept: a body that is not there is.
+// Which bodies are kept. An absent body counts as kept.
 pub struct Kept {
     pub processor: bool,
     pub drawing: bool,
@@ -36,7 +37,8 @@ pub struct Salvaged {
     pub differ: bool,
 }
 
-// A right file in form 2 of what a file still holds, into a room as long as the file.
+// A valid file in form 2 with every recoverable body of a file, into an output buffer (paper 02: "room") as long as
+// the file.
 pub fn salvage_state(file: &[u8], room: &mut [u8]) -> Salvaged
     ensures told { λ r. ⌜ r ≡ salvageOf (now (file .entry)) (now (room .entry)) ⌝ }
     ensures room { λ _. ⌜ now (room .exit) ≡ salvagedRoomOf (now (file .entry)) (now (room .entry)) ⌝ }

@@ -2,13 +2,23 @@
 use crate::Kept;
 use saved_bytes::numbers;
 use saved_bytes::parts;
+use saved_kinds::words;
 use saved_layout::Form;
 use saved_layout::places;
+use saved_layout::places::DRAWING_AT;
+use saved_layout::places::DRAWING_BYTES;
+use saved_layout::places::HARDWARE_BYTES;
+use saved_layout::places::PAK_AT;
+use saved_layout::places::PROCESSOR_BYTES;
+use saved_layout::places::VRAM_AT;
+use saved_layout::places::VRAM_BYTES;
+use saved_layout::places::WRAM_AT;
+use saved_layout::places::WRAM_BYTES;
 ghost use mathlib.Core.Path.{_≡_};
 ghost use Prim.Native.Nat.{_+_, _≤_};
 ghost use lib.ListN.{length, take, drop};
 ghost use Rattle.word.specs.Choose.{pick};
-ghost use Rattle.saved_bytes.specs.Parts.{putAt};
+ghost use Rattle.saved_bytes.specs.inner.Put.{putAt};
 ghost use Rattle.saved_layout.specs.Layout.{fileLengthOf, bodyPlaceOf};
 ghost use Rattle.saved_layout.specs.File.{bodiesIn, joinedOf};
 ghost use Rattle.saved_layout.specs.declared.Form.the-variants.{Two};
@@ -23,56 +33,16 @@ fn put_processor(file: &[u8], room: &mut [u8], at: usize, kept: bool)
         ⌝ }
 {
     if kept {
-        let end = at + 172;
+        let end = at + PROCESSOR_BYTES;
         parts::put_bytes(room, at, &file[at..end]);
         return;
     }
-    let words = [
-        0u32,
-        0,
-        0,
-        0,
-        0,
-        0,
-        0,
-        0,
-        0,
-        0,
-        0,
-        0,
-        0,
-        0,
-        0,
-        0,
-        0,
-        0,
-        0,
-        0,
-        0,
-        0,
-        0,
-        0,
-        0,
-        0,
-        0,
-        0,
-        0,
-        0,
-        0,
-        0,
-        0xFFFFFFF0,
-        0,
-        0,
-        0,
-        0,
-        0xFFF0,
-        0x8000,
-        0,
-        0,
-        0,
-        0,
-    ];
-    numbers::put_words(room, at, &words);
+    let reset = processor::calls::reset();
+    let p = reset.processor;
+    let regs = p.regs;
+    let rest = words::rest(p);
+    numbers::put_words(room, at, &regs);
+    numbers::put_words(room, at + 128, &rest);
 }
 
 // Another kind of `size` bytes, whose reset values are zeros.
@@ -101,9 +71,9 @@ pub fn put_bodies(file: &[u8], room: &mut [u8], pak: usize, kept: Kept)
 {
     let at = places::first(Form::Two, pak);
     put_processor(file, room, at, kept.processor);
-    put_body(file, room, at + 172, 26, kept.drawing);
-    put_body(file, room, at + 198, 65536, kept.wram);
-    put_body(file, room, at + 65734, 262144, kept.vram);
-    put_body(file, room, at + 327878, pak, kept.pak);
-    put_body(file, room, at + 327878 + pak, 8, kept.hardware);
+    put_body(file, room, at + DRAWING_AT, DRAWING_BYTES, kept.drawing);
+    put_body(file, room, at + WRAM_AT, WRAM_BYTES, kept.wram);
+    put_body(file, room, at + VRAM_AT, VRAM_BYTES, kept.vram);
+    put_body(file, room, at + PAK_AT, pak, kept.pak);
+    put_body(file, room, at + PAK_AT + pak, HARDWARE_BYTES, kept.hardware);
 }

@@ -4,7 +4,8 @@ use crate::ListedKinds;
 ghost use mathlib.Core.Path.{_≡_};
 ghost use Prim.Native.Nat.{_+_, _<_, _≤_};
 ghost use mathlib.Core.List.{[]};
-ghost use Rattle.saved_salvage.specs.Told.{listedKindsOf, addedOf, replacedOf};
+ghost use Rattle.saved_salvage.specs.Told.{listedKindsOf, replacedOf};
+ghost use Rattle.saved_salvage.specs.inner.Added.{addedOf};
 
 // No kind.
 pub fn none() -> ListedKinds

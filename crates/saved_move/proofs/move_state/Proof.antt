@@ -23,22 +23,18 @@ file-length-requires c κs = (fit ((c .before .before .before .before .form-of .
     ((c .before .before .if1 .left)))) .1
 
 returns-2 : tie.Need-returns-2
-returns-2 c = no-room ((c .before .before .before .before .before .before .before .before .before .args .file .now))
-    ((c .before .before .before .before .before .before .before .before .before .args .room .now)) (fits-is
-    ((c .before .before .before .before .before .before .before .before .before .args .file .now))
-    ((c .before .before .before .before .before .before .form-of .result))
-    ((c .before .before .before .before .before .before .form-of .ensures)) _
-    ((c .before .before .before .before .before .fits2 .ensures)) true (not-false _
-    ((c .before .before .before .before .if1 .left)))) (λ e. (c .if2 .taken) (due-back
-    ((c .before .before .before .before .before .before .before .before .before .args .file .now))
-    ((c .before .before .before .before .before .before .before .before .before .args .room .now))
-    ((c .before .before .before .before .before .before .form-of .result))
-    ((c .before .before .before .pak-length .result))
-    ((c .before .before .before .before .before .before .form-of .ensures))
-    ((c .before .before .before .pak-length .ensures)) (length
-    ((c .before .before .before .before .before .before .before .before .before .args .room .now))) e ∙ sym
-    ((c .before .file-length .ensures) ∙ ap (λ (g : Form). fileLengthOf g
-    ((c .before .before .before .pak-length .result))) ((c .before .before .other .ensures)))))
+returns-2 c =
+    let c3 = c .before .before .before in
+    let c6 = c3 .before .before .before in
+    let c9 = c6 .before .before .before in
+    let file = c9 .args .file .now in
+    let room-given = c9 .args .room .now in
+    no-room file room-given (fits-is file (c6 .form-of .result) (c6 .form-of .ensures) _
+    (c3 .before .before .fits2 .ensures) true (not-false _ (c3 .before .if1 .left)))
+    (λ e. (c .if2 .taken) (due-back file room-given (c6 .form-of .result) (c3 .pak-length .result)
+    (c6 .form-of .ensures) (c3 .pak-length .ensures) (length room-given) e ∙ sym
+    ((c .before .file-length .ensures) ∙ ap (λ (g : Form). fileLengthOf g (c3 .pak-length .result))
+    (c .before .before .other .ensures))))
 
 file-ok-requires : tie.Need-file-ok-requires
 file-ok-requires c κs = (fit ((c .before .before .before .before .before .before .form-of .result)) (length
@@ -48,271 +44,149 @@ file-ok-requires c κs = (fit ((c .before .before .before .before .before .befor
     ((c .before .before .before .before .if1 .left))))
 
 returns-3 : tie.Need-returns-3
-returns-3 c = no-bytes ((c .before .before .before .before .before .before .before .before .before .before .before .args
-    .file .now)) ((c .before .before .before .before .before .before .before .before .before .before .before .args .room
-    .now)) (fits-is ((c .before .before .before .before .before .before .before .before .before .before .before .args
-    .file .now)) ((c .before .before .before .before .before .before .before .before .form-of .result))
-    ((c .before .before .before .before .before .before .before .before .form-of .ensures)) _
-    ((c .before .before .before .before .before .before .before .fits2 .ensures)) true (not-false _
-    ((c .before .before .before .before .before .before .if1 .left)))) (due-is
-    ((c .before .before .before .before .before .before .before .before .before .before .before .args .file .now))
-    ((c .before .before .before .before .before .before .before .before .before .before .before .args .room .now))
-    ((c .before .before .before .before .before .before .before .before .form-of .result))
-    ((c .before .before .before .before .before .pak-length .result))
-    ((c .before .before .before .before .before .before .before .before .form-of .ensures))
-    ((c .before .before .before .before .before .pak-length .ensures)) (length
-    ((c .before .before .before .before .before .before .before .before .before .before .before .args .room .now)))
-    ((c .before .before .if2 .left) ∙ ((c .before .before .before .file-length .ensures) ∙ ap (λ
-    (g : Form). fileLengthOf g ((c .before .before .before .before .before .pak-length .result)))
-    ((c .before .before .before .before .other .ensures))))) (ok-is
-    ((c .before .before .before .before .before .before .before .before .before .before .before .args .file .now))
-    ((c .before .before .before .before .before .before .before .before .before .before .before .args .room .now))
-    ((c .before .before .before .before .before .before .before .before .form-of .result))
-    ((c .before .before .before .before .before .pak-length .result))
-    ((c .before .before .before .before .before .before .before .before .form-of .ensures))
-    ((c .before .before .before .before .before .pak-length .ensures)) _ ((c .before .file-ok .ensures)) false
-    (not-true _ ((c .if3 .taken))))
+returns-3 c =
+    let c5 = c .before .before .before .before .before in
+    let c8 = c5 .before .before .before in
+    let c11 = c8 .before .before .before in
+    let file = c11 .args .file .now in
+    let room = c11 .args .room .now in
+    no-bytes file room (fits-is file (c8 .form-of .result) (c8 .form-of .ensures) _ (c5 .before .before .fits2 .ensures)
+    true (not-false _ (c5 .before .if1 .left))) (due-is file room (c8 .form-of .result) (c5 .pak-length .result)
+    (c8 .form-of .ensures) (c5 .pak-length .ensures) (length room)
+    ((c .before .before .if2 .left) ∙ ((c .before .before .before .file-length .ensures) ∙ ap
+    (λ (g : Form). fileLengthOf g (c5 .pak-length .result)) (c .before .before .before .before .other .ensures))))
+    (ok-is file room (c8 .form-of .result) (c5 .pak-length .result) (c8 .form-of .ensures) (c5 .pak-length .ensures) _
+    (c .before .file-ok .ensures) false (not-true _ (c .if3 .taken)))
 
 to-two-requires : tie.Need-to-two-requires
-to-two-requires c κs = (
-  (
-    rw ((c .before .enum-told .given .1)) at ((fit
-        ((c .before .before .before .before .before .before .before .before .before .before .before .form-of .result))
-        (length ((c .before .before .before .before .before .before .before .before .before .before .before .before .before
-        .before .args .file .now))) ((c .before .before .before .before .before .before .before .before .pak-length
-        .result)) ((c .before .before .before .before .before .before .before .before .pak-length .ensures)) (sym
-        ((c .before .before .before .before .before .before .before .before .before .before .fits2 .ensures)) ∙ not-false _
-        ((c .before .before .before .before .before .before .before .before .before .if1 .left)))) .0),
-    (fit
-        ((c .before .before .before .before .before .before .before .before .before .before .before .form-of .result))
-        (length ((c .before .before .before .before .before .before .before .before .before .before .before .before .before
-        .before .args .file .now))) ((c .before .before .before .before .before .before .before .before .pak-length
-        .result)) ((c .before .before .before .before .before .before .before .before .pak-length .ensures)) (sym
-        ((c .before .before .before .before .before .before .before .before .before .before .fits2 .ensures)) ∙ not-false _
-        ((c .before .before .before .before .before .before .before .before .before .if1 .left)))) .1,
-  ),
-  rw
-      ((c .before .enum-told .given .1)) at ((c .before .before .before .before .before .if2 .left) ∙
-      ((c .before .before .before .before .before .before .file-length .ensures) ∙ ap (λ (g : Form). fileLengthOf g
-      ((c .before .before .before .before .before .before .before .before .pak-length .result)))
-      ((c .before .before .before .before .before .before .before .other .ensures)))),
-)
+to-two-requires c κs =
+    let c8 = c .before .before .before .before .before .before .before .before in
+    let c9 = c8 .before in
+    let c10 = c9 .before in
+    let c11 = c10 .before in
+    let c14 = c11 .before .before .before in (
+      (
+        rw (c .before .enum-told .given .1) at ((fit (c11 .form-of .result) (length (c14 .args .file .now))
+            (c8 .pak-length .result) (c8 .pak-length .ensures) (sym (c10 .fits2 .ensures) ∙ not-false _ (c9 .if1 .left))) .0),
+        (fit (c11 .form-of .result) (length (c14 .args .file .now)) (c8 .pak-length .result) (c8 .pak-length .ensures)
+            (sym (c10 .fits2 .ensures) ∙ not-false _ (c9 .if1 .left))) .1,
+      ),
+      rw (c .before .enum-told .given .1) at
+          ((c .before .before .before .before .before .if2 .left) ∙
+          ((c .before .before .before .before .before .before .file-length .ensures) ∙ ap
+          (λ (g : Form). fileLengthOf g (c8 .pak-length .result))
+          (c .before .before .before .before .before .before .before .other .ensures))),
+    )
 
 at-reset-requires : tie.Need-at-reset-requires
-at-reset-requires c κs = (
-  rw ((c .enum-told2 .given .1)) at ((fit
-      ((c .before .before .before .before .before .before .before .before .before .before .form-of .result)) (length
-      ((c .before .before .before .before .before .before .before .before .before .before .before .before .before .args
-      .file .now))) ((c .before .before .before .before .before .before .before .pak-length .result))
-      ((c .before .before .before .before .before .before .before .pak-length .ensures)) (sym
-      ((c .before .before .before .before .before .before .before .before .before .fits2 .ensures)) ∙ not-false _
-      ((c .before .before .before .before .before .before .before .before .if1 .left)))) .0),
-  (fit
-      ((c .before .before .before .before .before .before .before .before .before .before .form-of .result)) (length
-      ((c .before .before .before .before .before .before .before .before .before .before .before .before .before .args
-      .file .now))) ((c .before .before .before .before .before .before .before .pak-length .result))
-      ((c .before .before .before .before .before .before .before .pak-length .ensures)) (sym
-      ((c .before .before .before .before .before .before .before .before .before .fits2 .ensures)) ∙ not-false _
-      ((c .before .before .before .before .before .before .before .before .if1 .left)))) .1,
-)
+at-reset-requires c κs =
+    let c7 = c .before .before .before .before .before .before .before in
+    let c8 = c7 .before in
+    let c9 = c8 .before in
+    let c10 = c9 .before in
+    let c13 = c10 .before .before .before in (
+      rw (c .enum-told2 .given .1) at ((fit (c10 .form-of .result) (length (c13 .args .file .now))
+          (c7 .pak-length .result) (c7 .pak-length .ensures) (sym (c9 .fits2 .ensures) ∙ not-false _ (c8 .if1 .left))) .0),
+      (fit (c10 .form-of .result) (length (c13 .args .file .now)) (c7 .pak-length .result) (c7 .pak-length .ensures)
+          (sym (c9 .fits2 .ensures) ∙ not-false _ (c8 .if1 .left))) .1,
+    )
 
 returns-4 : tie.Need-returns-4
-returns-4 c = no-reset ((c .before .before .before .before .before .before .before .before .before .before .before
-    .before .before .before .before .args .file .now))
-    ((c .before .before .before .before .before .before .before .before .before .before .before .before .before .before
-    .before .args .room .now)) (fits-is ((c .before .before .before .before .before .before .before .before .before
-    .before .before .before .before .before .before .args .file .now))
-    ((c .before .before .before .before .before .before .before .before .before .before .before .before .form-of
-    .result)) ((c .before .before .before .before .before .before .before .before .before .before .before .before
-    .form-of .ensures)) _ ((c .before .before .before .before .before .before .before .before .before .before .before
-    .fits2 .ensures)) true (not-false _ ((c .before .before .before .before .before .before .before .before .before
-    .before .if1 .left)))) (due-is ((c .before .before .before .before .before .before .before .before .before .before
-    .before .before .before .before .before .args .file .now))
-    ((c .before .before .before .before .before .before .before .before .before .before .before .before .before .before
-    .before .args .room .now)) ((c .before .before .before .before .before .before .before .before .before .before
-    .before .before .form-of .result)) ((c .before .before .before .before .before .before .before .before .before
-    .pak-length .result)) ((c .before .before .before .before .before .before .before .before .before .before .before
-    .before .form-of .ensures)) ((c .before .before .before .before .before .before .before .before .before .pak-length
-    .ensures)) (length ((c .before .before .before .before .before .before .before .before .before .before .before
-    .before .before .before .before .args .room .now))) ((c .before .before .before .before .before .before .if2 .left)
-    ∙ ((c .before .before .before .before .before .before .before .file-length .ensures) ∙ ap (λ
-    (g : Form). fileLengthOf g ((c .before .before .before .before .before .before .before .before .before .pak-length
-    .result))) ((c .before .before .before .before .before .before .before .before .other .ensures))))) (ok-is
-    ((c .before .before .before .before .before .before .before .before .before .before .before .before .before .before
-    .before .args .file .now)) ((c .before .before .before .before .before .before .before .before .before .before
-    .before .before .before .before .before .args .room .now))
-    ((c .before .before .before .before .before .before .before .before .before .before .before .before .form-of
-    .result)) ((c .before .before .before .before .before .before .before .before .before .pak-length .result))
-    ((c .before .before .before .before .before .before .before .before .before .before .before .before .form-of
-    .ensures)) ((c .before .before .before .before .before .before .before .before .before .pak-length .ensures)) _
-    ((c .before .before .before .before .before .file-ok .ensures)) true (not-false _
-    ((c .before .before .before .before .if3 .left)))) (holds-is
-    ((c .before .before .before .before .before .before .before .before .before .before .before .before .before .before
-    .before .args .file .now)) ((c .before .before .before .before .before .before .before .before .before .before
-    .before .before .before .before .before .args .room .now))
-    ((c .before .before .before .before .before .before .before .before .before .before .before .before .form-of
-    .result)) ((c .before .before .before .before .before .before .before .before .before .pak-length .result))
-    ((c .before .before .before .before .before .before .before .before .before .before .before .before .form-of
-    .ensures)) ((c .before .before .before .before .before .before .before .before .before .pak-length .ensures)) false
-    (rw ((c .before .before .enum-told2 .given .1)) (sym ((c .before .at-reset .ensures)) ∙ not-true _
-    ((c .if4 .taken)))))
+returns-4 c =
+    let c8 = c .before .before .before .before .before .before .before .before in
+    let c9 = c8 .before in
+    let c10 = c9 .before in
+    let c11 = c10 .before in
+    let c12 = c11 .before in
+    let c15 = c12 .before .before .before in
+    let file = c15 .args .file .now in
+    let room = c15 .args .room .now in
+    no-reset file room (fits-is file (c12 .form-of .result) (c12 .form-of .ensures) _ (c11 .fits2 .ensures) true
+    (not-false _ (c10 .if1 .left))) (due-is file room (c12 .form-of .result) (c9 .pak-length .result)
+    (c12 .form-of .ensures) (c9 .pak-length .ensures) (length room)
+    ((c .before .before .before .before .before .before .if2 .left) ∙
+    ((c .before .before .before .before .before .before .before .file-length .ensures) ∙ ap
+    (λ (g : Form). fileLengthOf g (c9 .pak-length .result)) (c8 .other .ensures))))
+    (ok-is file room (c12 .form-of .result) (c9 .pak-length .result) (c12 .form-of .ensures) (c9 .pak-length .ensures) _
+    (c .before .before .before .before .before .file-ok .ensures) true
+    (not-false _ (c .before .before .before .before .if3 .left)))
+    (holds-is file room (c12 .form-of .result) (c9 .pak-length .result) (c12 .form-of .ensures)
+    (c9 .pak-length .ensures) false (rw (c .before .before .enum-told2 .given .1)
+    (sym (c .before .at-reset .ensures) ∙ not-true _ (c .if4 .taken))))
 
 to-one-requires : tie.Need-to-one-requires
-to-one-requires c κs = (
-  (
-    rw ((c .before .before .before .enum-told2 .given .1)) at ((fit
-        ((c .before .before .before .before .before .before .before .before .before .before .before .before .before .form-of
-        .result)) (length ((c .before .before .before .before .before .before .before .before .before .before .before
-        .before .before .before .before .before .args .file .now)))
-        ((c .before .before .before .before .before .before .before .before .before .before .pak-length .result))
-        ((c .before .before .before .before .before .before .before .before .before .before .pak-length .ensures)) (sym
-        ((c .before .before .before .before .before .before .before .before .before .before .before .before .fits2
-        .ensures)) ∙ not-false _ ((c .before .before .before .before .before .before .before .before .before .before .before
-        .if1 .left)))) .0),
-    (fit ((c .before .before .before .before .before .before .before .before .before .before .before
-        .before .before .form-of .result)) (length
-        ((c .before .before .before .before .before .before .before .before .before .before .before .before .before .before
-        .before .before .args .file .now))) ((c .before .before .before .before .before .before .before .before .before
-        .before .pak-length .result)) ((c .before .before .before .before .before .before .before .before .before .before
-        .pak-length .ensures)) (sym ((c .before .before .before .before .before .before .before .before .before .before
-        .before .before .fits2 .ensures)) ∙ not-false _
-        ((c .before .before .before .before .before .before .before .before .before .before .before .if1 .left)))) .1,
-  ),
-  rw
-      ((c .before .before .before .enum-told2 .given .1)) at
-      ((c .before .before .before .before .before .before .before .if2 .left) ∙
-      ((c .before .before .before .before .before .before .before .before .file-length .ensures) ∙ ap (λ
-      (g : Form). fileLengthOf g ((c .before .before .before .before .before .before .before .before .before .before
-      .pak-length .result))) ((c .before .before .before .before .before .before .before .before .before .other
-      .ensures)))),
-)
+to-one-requires c κs =
+    let c3 = c .before .before .before in
+    let c8 = c3 .before .before .before .before .before in
+    let c9 = c8 .before in
+    let c10 = c9 .before in
+    let c11 = c10 .before in
+    let c12 = c11 .before in
+    let c13 = c12 .before in
+    let c16 = c13 .before .before .before in (
+      (
+        rw (c3 .enum-told2 .given .1) at ((fit (c13 .form-of .result) (length (c16 .args .file .now))
+            (c10 .pak-length .result) (c10 .pak-length .ensures) (sym (c12 .fits2 .ensures) ∙ not-false _
+            (c11 .if1 .left))) .0),
+        (fit (c13 .form-of .result) (length (c16 .args .file .now)) (c10 .pak-length .result)
+            (c10 .pak-length .ensures) (sym (c12 .fits2 .ensures) ∙ not-false _ (c11 .if1 .left))) .1,
+      ),
+      rw
+          (c3 .enum-told2 .given .1) at ((c3 .before .before .before .before .if2 .left) ∙
+          ((c8 .file-length .ensures) ∙ ap (λ (g : Form). fileLengthOf g (c10 .pak-length .result)) (c9 .other .ensures))),
+    )
 
 returns-5 : tie.Need-returns-5
-returns-5 c = accepted ((c .before .before .before .before .before .before .before .before .before .before .before
-    .before .before .before .before .before .before .args .file .now))
-    ((c .before .before .before .before .before .before .before .before .before .before .before .before .before .before
-    .before .before .before .args .room .now)) (fits-is
-    ((c .before .before .before .before .before .before .before .before .before .before .before .before .before .before
-    .before .before .before .args .file .now))
-    ((c .before .before .before .before .before .before .before .before .before .before .before .before .before .before
-    .form-of .result)) ((c .before .before .before .before .before .before .before .before .before .before .before
-    .before .before .before .form-of .ensures)) _
-    ((c .before .before .before .before .before .before .before .before .before .before .before .before .before .fits2
-    .ensures)) true (not-false _ ((c .before .before .before .before .before .before .before .before .before .before
-    .before .before .if1 .left)))) (due-is
-    ((c .before .before .before .before .before .before .before .before .before .before .before .before .before .before
-    .before .before .before .args .file .now))
-    ((c .before .before .before .before .before .before .before .before .before .before .before .before .before .before
-    .before .before .before .args .room .now))
-    ((c .before .before .before .before .before .before .before .before .before .before .before .before .before .before
-    .form-of .result)) ((c .before .before .before .before .before .before .before .before .before .before .before
-    .pak-length .result)) ((c .before .before .before .before .before .before .before .before .before .before .before
-    .before .before .before .form-of .ensures))
-    ((c .before .before .before .before .before .before .before .before .before .before .before .pak-length .ensures))
-    (length ((c .before .before .before .before .before .before .before .before .before .before .before .before .before
-    .before .before .before .before .args .room .now)))
-    ((c .before .before .before .before .before .before .before .before .if2 .left) ∙
-    ((c .before .before .before .before .before .before .before .before .before .file-length .ensures) ∙ ap (λ
-    (g : Form). fileLengthOf g ((c .before .before .before .before .before .before .before .before .before .before
-    .before .pak-length .result))) ((c .before .before .before .before .before .before .before .before .before .before
-    .other .ensures))))) (ok-is ((c .before .before .before .before .before .before .before .before .before .before
-    .before .before .before .before .before .before .before .args .file .now))
-    ((c .before .before .before .before .before .before .before .before .before .before .before .before .before .before
-    .before .before .before .args .room .now))
-    ((c .before .before .before .before .before .before .before .before .before .before .before .before .before .before
-    .form-of .result)) ((c .before .before .before .before .before .before .before .before .before .before .before
-    .pak-length .result)) ((c .before .before .before .before .before .before .before .before .before .before .before
-    .before .before .before .form-of .ensures))
-    ((c .before .before .before .before .before .before .before .before .before .before .before .pak-length .ensures)) _
-    ((c .before .before .before .before .before .before .before .file-ok .ensures)) true (not-false _
-    ((c .before .before .before .before .before .before .if3 .left)))) (holds-is
-    ((c .before .before .before .before .before .before .before .before .before .before .before .before .before .before
-    .before .before .before .args .file .now))
-    ((c .before .before .before .before .before .before .before .before .before .before .before .before .before .before
-    .before .before .before .args .room .now))
-    ((c .before .before .before .before .before .before .before .before .before .before .before .before .before .before
-    .form-of .result)) ((c .before .before .before .before .before .before .before .before .before .before .before
-    .pak-length .result)) ((c .before .before .before .before .before .before .before .before .before .before .before
-    .before .before .before .form-of .ensures))
-    ((c .before .before .before .before .before .before .before .before .before .before .before .pak-length .ensures))
-    true (rw ((c .before .before .before .before .enum-told .given .1)) refl)) _ (wrote-is
-    ((c .before .before .before .before .before .before .before .before .before .before .before .before .before .before
-    .before .before .before .args .file .now))
-    ((c .before .before .before .before .before .before .before .before .before .before .before .before .before .before
-    .before .before .before .args .room .now))
-    ((c .before .before .before .before .before .before .before .before .before .before .before .before .before .before
-    .form-of .result)) ((c .before .before .before .before .before .before .before .before .before .before .before
-    .pak-length .result)) ((c .before .before .before .before .before .before .before .before .before .before .before
-    .before .before .before .form-of .ensures))
-    ((c .before .before .before .before .before .before .before .before .before .before .before .pak-length .ensures)) _
-    (rw ((c .before .before .before .before .enum-told .given .1)) ((c .before .before .to-two .ensures))))
+returns-5 c =
+    let c4 = c .before .before .before .before in
+    let c8 = c4 .before .before .before .before in
+    let c9 = c8 .before in
+    let c10 = c9 .before in
+    let c11 = c10 .before in
+    let c12 = c11 .before in
+    let c13 = c12 .before in
+    let c14 = c13 .before in
+    let c17 = c14 .before .before .before in
+    let file = c17 .args .file .now in
+    let room = c17 .args .room .now in
+    accepted file room (fits-is file (c14 .form-of .result) (c14 .form-of .ensures) _ (c13 .fits2 .ensures) true
+    (not-false _ (c12 .if1 .left))) (due-is file room (c14 .form-of .result) (c11 .pak-length .result)
+    (c14 .form-of .ensures) (c11 .pak-length .ensures) (length room)
+    ((c8 .if2 .left) ∙ ((c9 .file-length .ensures) ∙ ap (λ (g : Form). fileLengthOf g (c11 .pak-length .result))
+    (c10 .other .ensures)))) (ok-is file room (c14 .form-of .result) (c11 .pak-length .result) (c14 .form-of .ensures)
+    (c11 .pak-length .ensures) _ (c4 .before .before .before .file-ok .ensures) true
+    (not-false _ (c4 .before .before .if3 .left))) (holds-is file room (c14 .form-of .result) (c11 .pak-length .result)
+    (c14 .form-of .ensures) (c11 .pak-length .ensures) true (rw (c4 .enum-told .given .1) refl)) _
+    (wrote-is file room (c14 .form-of .result) (c11 .pak-length .result) (c14 .form-of .ensures)
+    (c11 .pak-length .ensures) _ (rw (c4 .enum-told .given .1) (c .before .before .to-two .ensures)))
 
 returns-6 : tie.Need-returns-6
-returns-6 c = accepted ((c .before .before .before .before .before .before .before .before .before .before .before
-    .before .before .before .before .before .before .before .before .args .file .now))
-    ((c .before .before .before .before .before .before .before .before .before .before .before .before .before .before
-    .before .before .before .before .before .args .room .now)) (fits-is
-    ((c .before .before .before .before .before .before .before .before .before .before .before .before .before .before
-    .before .before .before .before .before .args .file .now))
-    ((c .before .before .before .before .before .before .before .before .before .before .before .before .before .before
-    .before .before .form-of .result)) ((c .before .before .before .before .before .before .before .before .before
-    .before .before .before .before .before .before .before .form-of .ensures)) _
-    ((c .before .before .before .before .before .before .before .before .before .before .before .before .before .before
-    .before .fits2 .ensures)) true (not-false _
-    ((c .before .before .before .before .before .before .before .before .before .before .before .before .before .before
-    .if1 .left)))) (due-is ((c .before .before .before .before .before .before .before .before .before .before .before
-    .before .before .before .before .before .before .before .before .args .file .now))
-    ((c .before .before .before .before .before .before .before .before .before .before .before .before .before .before
-    .before .before .before .before .before .args .room .now))
-    ((c .before .before .before .before .before .before .before .before .before .before .before .before .before .before
-    .before .before .form-of .result)) ((c .before .before .before .before .before .before .before .before .before
-    .before .before .before .before .pak-length .result))
-    ((c .before .before .before .before .before .before .before .before .before .before .before .before .before .before
-    .before .before .form-of .ensures)) ((c .before .before .before .before .before .before .before .before .before
-    .before .before .before .before .pak-length .ensures)) (length
-    ((c .before .before .before .before .before .before .before .before .before .before .before .before .before .before
-    .before .before .before .before .before .args .room .now)))
-    ((c .before .before .before .before .before .before .before .before .before .before .if2 .left) ∙
-    ((c .before .before .before .before .before .before .before .before .before .before .before .file-length .ensures)
-    ∙ ap (λ (g : Form). fileLengthOf g ((c .before .before .before .before .before .before .before .before .before
-    .before .before .before .before .pak-length .result)))
-    ((c .before .before .before .before .before .before .before .before .before .before .before .before .other
-    .ensures))))) (ok-is ((c .before .before .before .before .before .before .before .before .before .before .before
-    .before .before .before .before .before .before .before .before .args .file .now))
-    ((c .before .before .before .before .before .before .before .before .before .before .before .before .before .before
-    .before .before .before .before .before .args .room .now))
-    ((c .before .before .before .before .before .before .before .before .before .before .before .before .before .before
-    .before .before .form-of .result)) ((c .before .before .before .before .before .before .before .before .before
-    .before .before .before .before .pak-length .result))
-    ((c .before .before .before .before .before .before .before .before .before .before .before .before .before .before
-    .before .before .form-of .ensures)) ((c .before .before .before .before .before .before .before .before .before
-    .before .before .before .before .pak-length .ensures)) _
-    ((c .before .before .before .before .before .before .before .before .before .file-ok .ensures)) true (not-false _
-    ((c .before .before .before .before .before .before .before .before .if3 .left)))) (holds-is
-    ((c .before .before .before .before .before .before .before .before .before .before .before .before .before .before
-    .before .before .before .before .before .args .file .now))
-    ((c .before .before .before .before .before .before .before .before .before .before .before .before .before .before
-    .before .before .before .before .before .args .room .now))
-    ((c .before .before .before .before .before .before .before .before .before .before .before .before .before .before
-    .before .before .form-of .result)) ((c .before .before .before .before .before .before .before .before .before
-    .before .before .before .before .pak-length .result))
-    ((c .before .before .before .before .before .before .before .before .before .before .before .before .before .before
-    .before .before .form-of .ensures)) ((c .before .before .before .before .before .before .before .before .before
-    .before .before .before .before .pak-length .ensures)) true (rw
-    ((c .before .before .before .before .before .before .enum-told2 .given .1)) (sym
-    ((c .before .before .before .before .before .at-reset .ensures)) ∙ not-false _
-    ((c .before .before .before .before .if4 .left))))) _ (wrote-is
-    ((c .before .before .before .before .before .before .before .before .before .before .before .before .before .before
-    .before .before .before .before .before .args .file .now))
-    ((c .before .before .before .before .before .before .before .before .before .before .before .before .before .before
-    .before .before .before .before .before .args .room .now))
-    ((c .before .before .before .before .before .before .before .before .before .before .before .before .before .before
-    .before .before .form-of .result)) ((c .before .before .before .before .before .before .before .before .before
-    .before .before .before .before .pak-length .result))
-    ((c .before .before .before .before .before .before .before .before .before .before .before .before .before .before
-    .before .before .form-of .ensures)) ((c .before .before .before .before .before .before .before .before .before
-    .before .before .before .before .pak-length .ensures)) _ (rw
-    ((c .before .before .before .before .before .before .enum-told2 .given .1)) ((c .before .before .to-one .ensures))))
+returns-6 c =
+    let c6 = c .before .before .before .before .before .before in
+    let c8 = c6 .before .before in
+    let c9 = c8 .before in
+    let c10 = c9 .before in
+    let c11 = c10 .before in
+    let c12 = c11 .before in
+    let c13 = c12 .before in
+    let c14 = c13 .before in
+    let c15 = c14 .before in
+    let c16 = c15 .before in
+    let c19 = c16 .before .before .before in
+    let file = c19 .args .file .now in
+    let room = c19 .args .room .now in
+    accepted file room (fits-is file (c16 .form-of .result) (c16 .form-of .ensures) _ (c15 .fits2 .ensures) true
+    (not-false _ (c14 .if1 .left))) (due-is file room (c16 .form-of .result) (c13 .pak-length .result)
+    (c16 .form-of .ensures) (c13 .pak-length .ensures) (length room)
+    ((c10 .if2 .left) ∙ ((c11 .file-length .ensures) ∙ ap (λ (g : Form). fileLengthOf g (c13 .pak-length .result))
+    (c12 .other .ensures)))) (ok-is file room (c16 .form-of .result) (c13 .pak-length .result) (c16 .form-of .ensures)
+    (c13 .pak-length .ensures) _ (c9 .file-ok .ensures) true (not-false _ (c8 .if3 .left)))
+    (holds-is file room (c16 .form-of .result) (c13 .pak-length .result) (c16 .form-of .ensures)
+    (c13 .pak-length .ensures) true (rw (c6 .enum-told2 .given .1)
+    (sym (c .before .before .before .before .before .at-reset .ensures) ∙ not-false _
+    (c .before .before .before .before .if4 .left)))) _ (wrote-is file room (c16 .form-of .result)
+    (c13 .pak-length .result) (c16 .form-of .ensures) (c13 .pak-length .ensures) _
+    (rw (c6 .enum-told2 .given .1) (c .before .before .to-one .ensures)))
 
 pub move-state-spec : {M : Type 1} → statement M
 move-state-spec =

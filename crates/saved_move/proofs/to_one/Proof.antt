@@ -13,29 +13,20 @@ part-put-bytes-end : tie.Need-part-put-bytes-end
 part-put-bytes-end c = omega (arith, length-is Two ((c .before .before .before .before .before .args .pak)))
 
 put-bytes-requires : tie.Need-put-bytes-requires
-put-bytes-requires c κs = simp (length-take, length-drop) (omega (
-  arith,
-  length-is Two
-      ((c .before .before .before .before .before .before .args .pak)),
-  length-is One
-      ((c .before .before .before .before .before .before .args .pak)),
-))
+put-bytes-requires c κs =
+    let c6 = c .before .before .before .before .before .before in
+    simp (length-take, length-drop) (omega (arith, length-is Two (c6 .args .pak), length-is One (c6 .args .pak)))
 
 returns : tie.Need-returns
-returns c = let from = (c .before .before .before .before .before .before .before .before .before .before .first .result) in
-    let at = (c .before .before .before .before .before .before .before .before .before .first2 .result) in
-    moved-one ((c .before .before .before .before .before .before .before .before .before .before .before .before
-    .before .args .pak)) ((c .before .before .before .before .before .before .before .before .before .before .before
-    .before .before .args .file .now)) ((c .before .before .before .before .before .before .before .before .before
-    .before .before .before .before .args .room .now))
-    ((c .before .before .before .before .before .before .before .before .before .before .before .before .before .pre
-    .0 .0)) ((c .before .before .before .before .before .before .before .before .before .before .before .before
-    .before .pre .1)) from at (from + 327878 +
-    ((c .before .before .before .before .before .before .before .before .before .before .before .before .before
-    .args .pak)) - from) _ _ ((c .before .before .before .before .before .before .before .before .before .before
-    .first .ensures .0)) ((c .before .before .before .before .before .before .before .before .before .first2
-    .ensures .0)) (omega arith) ((c .before .before .before .before .before .before .put-bytes .ensures))
-    ((c .before .before .put .ensures))
+returns c =
+    let c9 = c .before .before .before .before .before .before .before .before .before in
+    let c10 = c9 .before in
+    let c13 = c10 .before .before .before in
+    let from = (c10 .first .result) in
+    let at = (c9 .first2 .result) in
+    moved-one (c13 .args .pak) (c13 .args .file .now) (c13 .args .room .now) (c13 .pre .0 .0) (c13 .pre .1) from at
+    (from + 327878 + (c13 .args .pak) - from) _ _ (c10 .first .ensures .0) (c9 .first2 .ensures .0) (omega arith)
+    (c .before .before .before .before .before .before .put-bytes .ensures) (c .before .before .put .ensures)
 
 pub to-one-spec : {M : Type 1} → statement M
 to-one-spec =

@@ -13,37 +13,25 @@ part-put-bytes-end : tie.Need-part-put-bytes-end
 part-put-bytes-end c = omega (arith, length-is One ((c .before .before .before .before .before .args .pak)))
 
 put-bytes-requires : tie.Need-put-bytes-requires
-put-bytes-requires c κs = simp (length-take, length-drop) (omega (
-  arith,
-  length-is One
-      ((c .before .before .before .before .before .before .args .pak)),
-  length-is Two
-      ((c .before .before .before .before .before .before .args .pak)),
-))
+put-bytes-requires c κs =
+    let c6 = c .before .before .before .before .before .before in
+    simp (length-take, length-drop) (omega (arith, length-is One (c6 .args .pak), length-is Two (c6 .args .pak)))
 
 put-zeros-requires : tie.Need-put-zeros-requires
 put-zeros-requires c κs = omega (arith, length-is Two ((c .before .before .before .before .before .before .before .before .before .before .args .pak)))
 
 returns : tie.Need-returns
-returns c = let from = (c .before .before .before .before .before .before .before .before .before .before .before .before .before .before .first .result) in
-    let at = (c .before .before .before .before .before .before .before .before .before .before .before .before .before .first2 .result) in
-    moved-two ((c .before .before .before .before .before .before .before .before .before .before .before .before
-    .before .before .before .before .before .args .pak))
-    ((c .before .before .before .before .before .before .before .before .before .before .before .before .before
-    .before .before .before .before .args .file .now))
-    ((c .before .before .before .before .before .before .before .before .before .before .before .before .before
-    .before .before .before .before .args .room .now))
-    ((c .before .before .before .before .before .before .before .before .before .before .before .before .before
-    .before .before .before .before .pre .0 .0))
-    ((c .before .before .before .before .before .before .before .before .before .before .before .before .before
-    .before .before .before .before .pre .1)) from at (from + 327878 +
-    ((c .before .before .before .before .before .before .before .before .before .before .before .before .before
-    .before .before .before .before .args .pak)) - from) _ _ _
-    ((c .before .before .before .before .before .before .before .before .before .before .before .before .before
-    .before .first .ensures .0)) ((c .before .before .before .before .before .before .before .before .before .before
-    .before .before .before .first2 .ensures .0)) (omega arith)
-    ((c .before .before .before .before .before .before .before .before .before .before .put-bytes .ensures))
-    ((c .before .before .before .before .before .before .put-zeros .ensures)) ((c .before .before .put .ensures))
+returns c =
+    let c10 = c .before .before .before .before .before .before .before .before .before .before in
+    let c13 = c10 .before .before .before in
+    let c14 = c13 .before in
+    let c17 = c14 .before .before .before in
+    let from = (c14 .first .result) in
+    let at = (c13 .first2 .result) in
+    moved-two (c17 .args .pak) (c17 .args .file .now) (c17 .args .room .now) (c17 .pre .0 .0) (c17 .pre .1) from at
+    (from + 327878 + (c17 .args .pak) - from) _ _ _ (c14 .first .ensures .0) (c13 .first2 .ensures .0) (omega arith)
+    (c10 .put-bytes .ensures) (c .before .before .before .before .before .before .put-zeros .ensures)
+    (c .before .before .put .ensures)
 
 pub to-two-spec : {M : Type 1} → statement M
 to-two-spec =

@@ -34,58 +34,48 @@ put-bodies-requires c κs = (
 )
 
 put-requires : tie.Need-put-requires
-put-requires c κs = (
-  (c .before .before .room .given) ∙
-      ((c .before .before .before .before .before .before .before .before .before .if1 .left) ∙ (fit (length
-      ((c .before .before .before .before .before .before .before .before .before .before .before .before .args .file
-      .now))) ((c .before .before .before .before .before .before .pak-length .result))
-      ((c .before .before .before .before .before .before .pak-length .ensures)) (sym
-      ((c .before .before .before .before .before .before .before .before .fits2 .ensures)) ∙ not-false _
-      ((c .before .before .before .before .before .before .before .if2 .left)))) .0),
-  (fit (length
-      ((c .before .before .before .before .before .before .before .before .before .before .before .before .args .file
-      .now))) ((c .before .before .before .before .before .before .pak-length .result))
-      ((c .before .before .before .before .before .before .pak-length .ensures)) (sym
-      ((c .before .before .before .before .before .before .before .before .fits2 .ensures)) ∙ not-false _
-      ((c .before .before .before .before .before .before .before .if2 .left)))) .1,
-)
+put-requires c κs =
+    let c6 = c .before .before .before .before .before .before in
+    let c7 = c6 .before in
+    let c8 = c7 .before in
+    let c9 = c8 .before in
+    let c12 = c9 .before .before .before in (
+      (c .before .before .room .given) ∙ ((c9 .if1 .left) ∙
+          (fit (length (c12 .args .file .now)) (c6 .pak-length .result) (c6 .pak-length .ensures)
+          (sym (c8 .fits2 .ensures) ∙ not-false _ (c7 .if2 .left))) .0),
+      (fit (length (c12 .args .file .now)) (c6 .pak-length .result) (c6 .pak-length .ensures)
+          (sym (c8 .fits2 .ensures) ∙ not-false _ (c7 .if2 .left))) .1,
+    )
 
 contents-differ-requires : tie.Need-contents-differ-requires
-contents-differ-requires c κs = (
-  (fit (length
-      ((c .before .before .before .before .before .before .before .before .before .before .before .before .before .before
-      .before .before .args .file .now))) ((c .before .before .before .before .before .before .before .before .before
-      .before .pak-length .result)) ((c .before .before .before .before .before .before .before .before .before .before
-      .pak-length .ensures)) (sym ((c .before .before .before .before .before .before .before .before .before .before
-      .before .before .fits2 .ensures)) ∙ not-false _
-      ((c .before .before .before .before .before .before .before .before .before .before .before .if2 .left)))) .0,
-  (c .before .before .room2 .given) ∙ ((c .before .before .before .before .before .before .room .given) ∙
-      ((c .before .before .before .before .before .before .before .before .before .before .before .before .before .if1
-      .left) ∙ (fit (length ((c .before .before .before .before .before .before .before .before .before .before .before
-      .before .before .before .before .before .args .file .now)))
-      ((c .before .before .before .before .before .before .before .before .before .before .pak-length .result))
-      ((c .before .before .before .before .before .before .before .before .before .before .pak-length .ensures)) (sym
-      ((c .before .before .before .before .before .before .before .before .before .before .before .before .fits2
-      .ensures)) ∙ not-false _ ((c .before .before .before .before .before .before .before .before .before .before .before
-      .if2 .left)))) .0)),
-)
+contents-differ-requires c κs =
+    let c10 = c .before .before .before .before .before .before .before .before .before .before in
+    let c11 = c10 .before in
+    let c12 = c11 .before in
+    let c13 = c12 .before in
+    let c16 = c13 .before .before .before in (
+      (fit (length (c16 .args .file .now)) (c10 .pak-length .result) (c10 .pak-length .ensures)
+          (sym (c12 .fits2 .ensures) ∙ not-false _ (c11 .if2 .left))) .0,
+      (c .before .before .room2 .given) ∙
+          ((c .before .before .before .before .before .before .room .given) ∙
+          ((c13 .if1 .left) ∙ (fit (length (c16 .args .file .now)) (c10 .pak-length .result) (c10 .pak-length .ensures)
+          (sym (c12 .fits2 .ensures) ∙ not-false _ (c11 .if2 .left))) .0)),
+    )
 
 returns-3 : tie.Need-returns-3
-returns-3 c = accepted ((c .before .before .before .before .before .before .before .before .before .before .before
-    .before .before .before .before .before .before .before .args .file .now))
-    ((c .before .before .before .before .before .before .before .before .before .before .before .before .before .before
-    .before .before .before .before .args .room .now))
-    ((c .before .before .before .before .before .before .before .before .before .before .before .before .before .before
-    .before .if1 .left)) (sym ((c .before .before .before .before .before .before .before .before .before .before
-    .before .before .before .before .fits2 .ensures)) ∙ not-false _
-    ((c .before .before .before .before .before .before .before .before .before .before .before .before .before .if2
-    .left))) ((c .before .before .before .before .before .before .before .before .before .before .before .before
-    .pak-length .result)) ((c .before .before .before .before .before .before .before .before .before .before .before
-    .before .pak-length .ensures)) ((c .before .before .before .before .before .before .before .before .before .before
-    .before .kept .result)) ((c .before .before .before .before .before .before .before .before .before .before .before
-    .kept .ensures)) _ _ _ _ ((c .before .before .before .before .before .before .before .before .before .put-bodies
-    .ensures)) ((c .before .before .before .before .before .put .ensures)) ((c .replaced .ensures))
-    ((c .before .contents-differ .ensures))
+returns-3 c =
+    let c9 = c .before .before .before .before .before .before .before .before .before in
+    let c11 = c9 .before .before in
+    let c12 = c11 .before in
+    let c13 = c12 .before in
+    let c14 = c13 .before in
+    let c15 = c14 .before in
+    let c18 = c15 .before .before .before in
+    accepted (c18 .args .file .now) (c18 .args .room .now) (c15 .if1 .left)
+    (sym (c14 .fits2 .ensures) ∙ not-false _ (c13 .if2 .left)) (c12 .pak-length .result) (c12 .pak-length .ensures)
+    (c11 .kept .result) (c11 .kept .ensures) _ _ _ _ (c9 .put-bodies .ensures)
+    (c .before .before .before .before .before .put .ensures) (c .replaced .ensures)
+    (c .before .contents-differ .ensures)
 
 pub salvage-state-spec : {M : Type 1} → statement M
 salvage-state-spec =

@@ -6,7 +6,7 @@ use Rattle.capi_processor.proofs.record.processor_in.Tie as tie
 
 returns : tie.Need-returns
 unfolding processorIn
-returns c = rw (c .before .before .mode-in .ensures, c .hardware-given .ensures)
+returns c = rw (c .before .before .mode-of .ensures, c .hardware-given .ensures)
 
 pub processor-in-spec : {M : Type 1} → statement M
 processor-in-spec = tie.close (tie.spec (λ c κs. search needs) (λ c κs. search needs) returns)

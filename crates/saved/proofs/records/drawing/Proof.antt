@@ -17,15 +17,12 @@ part-take-halves-end c = omega (arith, length-is ((c .before .before .args .form
 
 returns : tie.Need-returns
 unfolding drawingFrom
-returns c = (c .before .take-halves .ensures) ∙ ap (λ (xs : List ℕ). halvesFrom xs 0 13) (drawing-part
-    ((c .before .before .before .before .before .before .args .form))
-    ((c .before .before .before .before .before .before .args .pak))
-    ((c .before .before .before .before .first .result))
-    ((c .before .before .before .before .before .before .args .file .now))
-    ((c .before .before .before .before .first .ensures .0))
-    (((c .before .before .before .before .first .result)) + 172)
-    (((c .before .before .before .before .first .result)) + 172 + 26 -
-    (((c .before .before .before .before .first .result)) + 172)) refl (omega arith))
+returns c =
+    let c4 = c .before .before .before .before in
+    let c6 = c4 .before .before in
+    (c .before .take-halves .ensures) ∙ ap (λ (xs : List ℕ). halvesFrom xs 0 13)
+    (drawing-part (c6 .args .form) (c6 .args .pak) (c4 .first .result) (c6 .args .file .now) (c4 .first .ensures .0)
+    ((c4 .first .result) + 172) ((c4 .first .result) + 172 + 26 - ((c4 .first .result) + 172)) refl (omega arith))
 
 pub drawing-spec : {M : Type 1} → statement M
 drawing-spec =

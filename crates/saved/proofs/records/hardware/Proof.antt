@@ -24,16 +24,14 @@ unfolding bodiesIn hardwareFrom
 returns c = rw ((c .before .enum-told .given .1)) (c .reset .ensures)
 
 returns-2 : tie.Need-returns-2
-returns-2 c = rw ((c .before .before .before .enum-told2 .given .1))
-    ((c .hardware .ensures) ∙ ap hardwareFrom (hardware-part
-    ((c .before .before .before .before .before .before .args .pak)) ((c .before .before .first .result))
-    ((c .before .before .before .before .before .before .args .file .now)) ((c .before .before .first .ensures .0))
-    (((c .before .before .first .result)) + 327878 +
-    ((c .before .before .before .before .before .before .args .pak)))
-    (((c .before .before .first .result)) + 327878 +
-    ((c .before .before .before .before .before .before .args .pak)) + 8 -
-    (((c .before .before .first .result)) + 327878 +
-    ((c .before .before .before .before .before .before .args .pak)))) refl (omega arith)))
+returns-2 c =
+    let c2 = c .before .before in
+    let c6 = c2 .before .before .before .before in
+    let pak = c6 .args .pak in
+    rw (c2 .before .enum-told2 .given .1) ((c .hardware .ensures) ∙ ap hardwareFrom
+    (hardware-part pak (c2 .first .result) (c6 .args .file .now) (c2 .first .ensures .0)
+    ((c2 .first .result) + 327878 + pak) ((c2 .first .result) + 327878 + pak + 8 - ((c2 .first .result) + 327878 + pak))
+    refl (omega arith)))
 
 pub hardware-spec : {M : Type 1} → statement M
 hardware-spec =

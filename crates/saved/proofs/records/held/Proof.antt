@@ -19,20 +19,17 @@ part-processor-end c = omega (arith, length-is ((c .before .before .args .form))
 
 returns : tie.Need-returns
 unfolding processorInBodies
-returns c = (c .processor .ensures)
-    ∙ (ap (λ (xs : List ℕ). restoredProcessorOf (generalFrom xs) (restFrom xs) ((c .before .hardware .result)))
-    (processor-part ((c .before .before .before .before .before .args .form))
-    ((c .before .before .before .before .before .args .pak)) ((c .before .before .before .first .result))
-    ((c .before .before .before .before .before .args .file .now)) ((c .before .before .before .first .ensures .0))
-    ((c .before .before .before .first .result)) (((c .before .before .before .first .result)) + 172 -
-    ((c .before .before .before .first .result))) refl (omega arith))
-    ∙ ap (λ (h : TimerLines). restoredProcessorOf (generalFrom (bodiesIn
-    ((c .before .before .before .before .before .args .form))
-    ((c .before .before .before .before .before .args .pak))
-    ((c .before .before .before .before .before .args .file .now)) .processor)) (restFrom (bodiesIn
-    ((c .before .before .before .before .before .args .form))
-    ((c .before .before .before .before .before .args .pak))
-    ((c .before .before .before .before .before .args .file .now)) .processor)) h) ((c .before .hardware .ensures)))
+returns c =
+    let c3 = c .before .before .before in
+    let c5 = c3 .before .before in
+    let file = c5 .args .file .now in
+    let form = c5 .args .form in
+    let pak = c5 .args .pak in
+    (c .processor .ensures) ∙ (ap (λ (xs : List ℕ). restoredProcessorOf (generalFrom xs) (restFrom xs)
+    (c .before .hardware .result)) (processor-part form pak (c3 .first .result) file (c3 .first .ensures .0)
+    (c3 .first .result) ((c3 .first .result) + 172 - (c3 .first .result)) refl (omega arith)) ∙ ap
+    (λ (h : TimerLines). restoredProcessorOf (generalFrom (bodiesIn form pak file .processor))
+    (restFrom (bodiesIn form pak file .processor)) h) (c .before .hardware .ensures))
 
 pub held-spec : {M : Type 1} → statement M
 held-spec =

@@ -1,4 +1,4 @@
--- `saved_bytes::parts::put_bytes` meets its contract: what was copied into the part stands in the room. Assumes nothing.
+-- `saved_bytes::parts::put_bytes` meets its contract: what was copied into the part stands in the buffer. Assumes nothing.
 use native.Mathlib.Omega.{arith}
 use Rattle.saved_bytes.proofs.Putting.{part-put}
 use borrow.Author.Needs.{needs}

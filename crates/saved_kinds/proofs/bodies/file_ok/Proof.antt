@@ -41,40 +41,29 @@ part-hardware-ok-end c = let w : length ((c .before .before .before .before .bef
     omega (arith, w, f, length-is Two ((c .before .before .before .before .before .before .before .before .args .pak)))
 
 returns-3 : tie.Need-returns-3
-returns-3 c = rw ((c .enum-told .given .1))
-    (one-hardware ((c .before .before .before .before .before .before .before .before .args .pak))
-    ((c .before .before .before .before .before .before .before .before .args .file .now)) ∙ file-last One
-    ((c .before .before .before .before .before .before .before .before .args .pak))
-    ((c .before .before .before .before .first .result))
-    ((c .before .before .before .before .before .before .before .before .args .file .now)) (rw
-    ((c .enum-told .given .1)) at ((c .before .before .before .before .first .ensures .0))) (rw
-    ((c .enum-told .given .1)) at (sym ((c .before .before .before .before .before .before .ok .ensures))
-    ∙ not-false _ ((c .before .before .before .before .before .if1 .left)))) (sym
-    ((c .before .before .before .records-ok .ensures)) ∙ not-false _ ((c .before .before .if2 .left))))
+returns-3 c =
+    let c4 = c .before .before .before .before in
+    let c8 = c4 .before .before .before .before in
+    rw (c .enum-told .given .1) (one-hardware (c8 .args .pak) (c8 .args .file .now) ∙ file-last One (c8 .args .pak)
+    (c4 .first .result) (c8 .args .file .now) (rw (c .enum-told .given .1) at (c4 .first .ensures .0))
+    (rw (c .enum-told .given .1) at (sym (c4 .before .before .ok .ensures) ∙ not-false _ (c4 .before .if1 .left)))
+    (sym (c .before .before .before .records-ok .ensures) ∙ not-false _ (c .before .before .if2 .left)))
 
 returns-4 : tie.Need-returns-4
-returns-4 c = let at = (c .before .before .before .before .before .before .first .result) in
-    let f : (c .before .before .before .before .before .before .first .result) ≡ bodyPlaceOf Two
-    ((c .before .before .before .before .before .before .before .before .before .before .args .pak)) 0 = rw
-    ((c .before .before .enum-told2 .given .1)) at
-    ((c .before .before .before .before .before .before .first .ensures .0)) in
-    rw ((c .before .before .enum-told2 .given .1))
-    ((c .hardware-ok .ensures)
-    ∙ (ap hardwareBodyOk (hardware-part ((c .before .before .before .before .before .before .before .before .before
-    .before .args .pak)) at ((c .before .before .before .before .before .before .before .before .before .before
-    .args .file .now)) f (at + 327878 + ((c .before .before .before .before .before .before .before .before .before
-    .before .args .pak))) (at + 327878 + ((c .before .before .before .before .before .before .before .before .before
-    .before .args .pak)) + 8 - (at + 327878 +
-    ((c .before .before .before .before .before .before .before .before .before .before .args .pak)))) refl
-    (omega arith))
-    ∙ file-last Two ((c .before .before .before .before .before .before .before .before .before .before .args .pak))
-    ((c .before .before .before .before .before .before .first .result))
-    ((c .before .before .before .before .before .before .before .before .before .before .args .file .now)) f (rw
-    ((c .before .before .enum-told2 .given .1)) at (sym
-    ((c .before .before .before .before .before .before .before .before .ok .ensures)) ∙ not-false _
-    ((c .before .before .before .before .before .before .before .if1 .left)))) (sym
-    ((c .before .before .before .before .before .records-ok .ensures)) ∙ not-false _
-    ((c .before .before .before .before .if2 .left)))))
+returns-4 c =
+    let c2 = c .before .before in
+    let c6 = c2 .before .before .before .before in
+    let c8 = c6 .before .before in
+    let c10 = c8 .before .before in
+    let pak = c10 .args .pak in
+    let at = (c6 .first .result) in
+    let f : (c6 .first .result) ≡ bodyPlaceOf Two pak 0 = rw (c2 .enum-told2 .given .1) at (c6 .first .ensures .0) in rw
+    (c2 .enum-told2 .given .1) ((c .hardware-ok .ensures) ∙
+    (ap hardwareBodyOk (hardware-part pak at (c10 .args .file .now) f (at + 327878 + pak)
+    (at + 327878 + pak + 8 - (at + 327878 + pak)) refl (omega arith)) ∙ file-last Two pak (c6 .first .result)
+    (c10 .args .file .now) f (rw (c2 .enum-told2 .given .1) at
+    (sym (c8 .ok .ensures) ∙ not-false _ (c6 .before .if1 .left)))
+    (sym (c2 .before .before .before .records-ok .ensures) ∙ not-false _ (c2 .before .before .if2 .left))))
 
 pub file-ok-spec : {M : Type 1} → statement M
 file-ok-spec =

@@ -18,14 +18,13 @@ returns c = let a = (c .before .before .before .before .args) in
     ((c .if1 .taken))))
 
 returns-2 : tie.Need-returns-2
-returns-2 c = let a = (c .before .before .before .before .before .before .args) in
-    let n : a .at + 172 - a .at ≡ 172 = omega arith in
-    let m : a .at + 198 - (a .at + 172) ≡ 26 = omega arith in
-    (c .drawing-ok .ensures)
-    ∙ (ap (λ (k : ℕ). drawingBodyOk (take k (drop (a .at + 172) (a .file .now)))) m
-    ∙ both-first (processorBodyOk (take 172 (drop (a .at) (a .file .now)))) _ (ap (λ (k : ℕ). processorBodyOk (take k
-    (drop (a .at) (a .file .now)))) (sym n) ∙ (sym ((c .before .before .before .processor-ok .ensures))
-    ∙ not-false _ ((c .before .before .if1 .left)))))
+returns-2 c =
+    let a = (c .before .before .before .before .before .before .args) in
+    let n : a .at + 172 - a .at ≡ 172 = omega arith in let m : a .at + 198 - (a .at + 172) ≡ 26 = omega arith in
+    (c .drawing-ok .ensures) ∙ (ap (λ (k : ℕ). drawingBodyOk (take k (drop (a .at + 172) (a .file .now)))) m ∙
+    both-first (processorBodyOk (take 172 (drop (a .at) (a .file .now)))) _
+    (ap (λ (k : ℕ). processorBodyOk (take k (drop (a .at) (a .file .now)))) (sym n) ∙
+    (sym (c .before .before .before .processor-ok .ensures) ∙ not-false _ (c .before .before .if1 .left))))
 
 pub records-ok-spec : {M : Type 1} → statement M
 records-ok-spec =

@@ -13,41 +13,39 @@ use Rattle.saved_layout.proofs.contents.plain_ok.Statement.{statement}
 use Rattle.saved_layout.proofs.contents.plain_ok.Tie as tie
 
 same-halves-requires : tie.Need-same-halves-requires
-same-halves-requires c κs = omega (
-  arith,
-  length-is One
-      ((c .before .before .before .before .args .pak)),
-  contents-fit One ((c .before .before .before .before .args .pak))
-      ((c .before .before .before .before .args .file .now)) _ (sumsOf (bodiesIn One
-      ((c .before .before .before .before .args .pak)) ((c .before .before .before .before .args .file .now))))
-      (((c .before .without-pak .ensures) (sumsOf (bodiesIn One ((c .before .before .before .before .args .pak))
-      ((c .before .before .before .before .args .file .now))))) ∙ ap (λ (p : ℕ). contentsOf One p (sumsOf (bodiesIn One
-      ((c .before .before .before .before .args .pak)) ((c .before .before .before .before .args .file .now))))) (sym
-      ((c .before .before .if1 .taken)))),
-)
+same-halves-requires c κs =
+    let c4 = c .before .before .before .before in
+    let file = c4 .args .file .now in
+    let pak-given = c4 .args .pak in
+    omega (
+      arith,
+      length-is One pak-given,
+      contents-fit One pak-given file _ (sumsOf (bodiesIn One pak-given file))
+          (((c .before .without-pak .ensures) (sumsOf (bodiesIn One pak-given file))) ∙ ap
+          (λ (p : ℕ). contentsOf One p (sumsOf (bodiesIn One pak-given file))) (sym (c .before .before .if1 .taken))),
+    )
 
 returns : tie.Need-returns
-returns c = (c .same-halves .ensures) ∙ contents-same One ((c .before .before .before .before .before .args .pak))
-    ((c .before .before .before .before .before .args .file .now)) _ (sumsOf (bodiesIn One
-    ((c .before .before .before .before .before .args .pak))
-    ((c .before .before .before .before .before .args .file .now)))) (((c .before .before .without-pak .ensures) (sumsOf
-    (bodiesIn One ((c .before .before .before .before .before .args .pak))
-    ((c .before .before .before .before .before .args .file .now))))) ∙ ap (λ (p : ℕ). contentsOf One p (sumsOf
-    (bodiesIn One ((c .before .before .before .before .before .args .pak))
-    ((c .before .before .before .before .before .args .file .now))))) (sym ((c .before .before .before .if1 .taken))))
+returns c =
+    let c5 = c .before .before .before .before .before in
+    let file = c5 .args .file .now in
+    let pak-given = c5 .args .pak in
+    (c .same-halves .ensures) ∙ contents-same One pak-given file _ (sumsOf (bodiesIn One pak-given file))
+    (((c .before .before .without-pak .ensures) (sumsOf (bodiesIn One pak-given file))) ∙ ap
+    (λ (p : ℕ). contentsOf One p (sumsOf (bodiesIn One pak-given file))) (sym (c .before .before .before .if1 .taken)))
     (contents-of One _ _ _ refl)
 
 same-halves-requires-2 : tie.Need-same-halves-requires-2
-same-halves-requires-2 c κs = omega (
-  arith,
-  length-is One
-      ((c .before .before .before .before .args .pak)),
-  contents-fit One ((c .before .before .before .before .args .pak))
-      ((c .before .before .before .before .args .file .now)) _ (sumsOf (bodiesIn One
-      ((c .before .before .before .before .args .pak)) ((c .before .before .before .before .args .file .now))))
-      ((c .before .with-pak .ensures) (sumsOf (bodiesIn One ((c .before .before .before .before .args .pak))
-      ((c .before .before .before .before .args .file .now))))),
-)
+same-halves-requires-2 c κs =
+    let c4 = c .before .before .before .before in
+    let file = c4 .args .file .now in
+    let pak-given = c4 .args .pak in
+    omega (
+      arith,
+      length-is One pak-given,
+      contents-fit One pak-given file _ (sumsOf (bodiesIn One pak-given file))
+          ((c .before .with-pak .ensures) (sumsOf (bodiesIn One pak-given file))),
+    )
 
 returns-2 : tie.Need-returns-2
 returns-2 c = (c .same-halves2 .ensures) ∙ contents-same One ((c .before .before .before .before .before .args .pak))

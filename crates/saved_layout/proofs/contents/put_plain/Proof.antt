@@ -13,58 +13,47 @@ use Rattle.saved_layout.proofs.contents.put_plain.Statement.{statement}
 use Rattle.saved_layout.proofs.contents.put_plain.Tie as tie
 
 put-halves-requires : tie.Need-put-halves-requires
-put-halves-requires c κs = omega (
-  arith,
-  length-is One
-      ((c .before .before .before .before .before .args .pak)),
-  contents-fit One
-      ((c .before .before .before .before .before .args .pak))
-      ((c .before .before .before .before .before .args .room .now)) _ (sumsOf (bodiesIn One
-      ((c .before .before .before .before .before .args .pak))
-      ((c .before .before .before .before .before .args .room .now)))) (((c .before .before .without-pak .ensures) (sumsOf
-      (bodiesIn One ((c .before .before .before .before .before .args .pak))
-      ((c .before .before .before .before .before .args .room .now))))) ∙ ap (λ (p : ℕ). contentsOf One p (sumsOf
-      (bodiesIn One ((c .before .before .before .before .before .args .pak))
-      ((c .before .before .before .before .before .args .room .now))))) (sym ((c .before .before .before .if1 .taken)))),
-)
+put-halves-requires c κs =
+    let c5 = c .before .before .before .before .before in
+    let room = c5 .args .room .now in
+    let pak-given = c5 .args .pak in
+    omega (
+      arith,
+      length-is One pak-given,
+      contents-fit One pak-given room _ (sumsOf (bodiesIn One pak-given room))
+          (((c .before .before .without-pak .ensures) (sumsOf (bodiesIn One pak-given room))) ∙ ap
+          (λ (p : ℕ). contentsOf One p (sumsOf (bodiesIn One pak-given room))) (sym (c .before .before .before .if1 .taken))),
+    )
 
 returns : tie.Need-returns
-returns c = (c .before .before .put-halves .ensures) ∙ contents-put One
-    ((c .before .before .before .before .before .before .before .before .args .pak))
-    ((c .before .before .before .before .before .before .before .before .args .room .now)) _ (sumsOf (bodiesIn One
-    ((c .before .before .before .before .before .before .before .before .args .pak))
-    ((c .before .before .before .before .before .before .before .before .args .room .now))))
-    (((c .before .before .before .before .before .without-pak .ensures) (sumsOf (bodiesIn One
-    ((c .before .before .before .before .before .before .before .before .args .pak))
-    ((c .before .before .before .before .before .before .before .before .args .room .now))))) ∙ ap (λ
-    (p : ℕ). contentsOf One p (sumsOf (bodiesIn One
-    ((c .before .before .before .before .before .before .before .before .args .pak))
-    ((c .before .before .before .before .before .before .before .before .args .room .now))))) (sym
-    ((c .before .before .before .before .before .before .if1 .taken)))) (contents-of One _ _ _ refl) _
+returns c =
+    let c8 = c .before .before .before .before .before .before .before .before in
+    let room = c8 .args .room .now in
+    let pak-given = c8 .args .pak in
+    (c .before .before .put-halves .ensures) ∙ contents-put One pak-given room _ (sumsOf (bodiesIn One pak-given room))
+    (((c .before .before .before .before .before .without-pak .ensures) (sumsOf (bodiesIn One pak-given room))) ∙ ap
+    (λ (p : ℕ). contentsOf One p (sumsOf (bodiesIn One pak-given room)))
+    (sym (c .before .before .before .before .before .before .if1 .taken))) (contents-of One _ _ _ refl) _
 
 put-halves-requires-2 : tie.Need-put-halves-requires-2
-put-halves-requires-2 c κs = omega (
-  arith,
-  length-is One
-      ((c .before .before .before .before .before .args .pak)),
-  contents-fit One
-      ((c .before .before .before .before .before .args .pak))
-      ((c .before .before .before .before .before .args .room .now)) _ (sumsOf (bodiesIn One
-      ((c .before .before .before .before .before .args .pak))
-      ((c .before .before .before .before .before .args .room .now)))) ((c .before .before .with-pak .ensures) (sumsOf
-      (bodiesIn One ((c .before .before .before .before .before .args .pak))
-      ((c .before .before .before .before .before .args .room .now))))),
-)
+put-halves-requires-2 c κs =
+    let c5 = c .before .before .before .before .before in
+    let room = c5 .args .room .now in
+    let pak-given = c5 .args .pak in
+    omega (
+      arith,
+      length-is One pak-given,
+      contents-fit One pak-given room _ (sumsOf (bodiesIn One pak-given room))
+          ((c .before .before .with-pak .ensures) (sumsOf (bodiesIn One pak-given room))),
+    )
 
 returns-2 : tie.Need-returns-2
-returns-2 c = (c .before .before .put-halves2 .ensures) ∙ contents-put One
-    ((c .before .before .before .before .before .before .before .before .args .pak))
-    ((c .before .before .before .before .before .before .before .before .args .room .now)) _ (sumsOf (bodiesIn One
-    ((c .before .before .before .before .before .before .before .before .args .pak))
-    ((c .before .before .before .before .before .before .before .before .args .room .now))))
-    ((c .before .before .before .before .before .with-pak .ensures) (sumsOf (bodiesIn One
-    ((c .before .before .before .before .before .before .before .before .args .pak))
-    ((c .before .before .before .before .before .before .before .before .args .room .now)))))
+returns-2 c =
+    let c8 = c .before .before .before .before .before .before .before .before in
+    let room = c8 .args .room .now in
+    let pak-given = c8 .args .pak in
+    (c .before .before .put-halves2 .ensures) ∙ contents-put One pak-given room _ (sumsOf (bodiesIn One pak-given room))
+    ((c .before .before .before .before .before .with-pak .ensures) (sumsOf (bodiesIn One pak-given room)))
     (contents-of One _ _ _ refl) _
 
 pub put-plain-spec : {M : Type 1} → statement M

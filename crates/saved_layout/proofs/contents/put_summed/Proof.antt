@@ -13,38 +13,35 @@ use Rattle.saved_layout.proofs.contents.put_summed.Statement.{statement
 use Rattle.saved_layout.proofs.contents.put_summed.Tie as tie
 
 put-halves-requires : tie.Need-put-halves-requires
-put-halves-requires c κs = omega (
-  arith,
-  length-is Two
-      ((c .before .before .before .before .before .before .before .args .pak)),
-  contents-fit Two
-      ((c .before .before .before .before .before .before .before .args .pak))
-      ((c .before .before .before .before .before .before .before .args .room .now)) _
-      ((c .before .before .before .before .sums .result)) (((c .before .before .summed-without-pak .ensures)) ∙ ap (λ
-      (p : ℕ). contentsOf Two p ((c .before .before .before .before .sums .result))) (sym
-      ((c .before .before .before .if1 .taken)))),
-)
+put-halves-requires c κs =
+    let c4 = c .before .before .before .before in
+    let c7 = c4 .before .before .before in
+    omega (
+      arith,
+      length-is Two (c7 .args .pak),
+      contents-fit Two (c7 .args .pak) (c7 .args .room .now) _
+          (c4 .sums .result) ((c .before .before .summed-without-pak .ensures) ∙ ap
+          (λ (p : ℕ). contentsOf Two p (c4 .sums .result)) (sym (c .before .before .before .if1 .taken))),
+    )
 
 returns : tie.Need-returns
-returns c = (c .before .before .put-halves .ensures) ∙ contents-put Two
-    ((c .before .before .before .before .before .before .before .before .before .before .args .pak))
-    ((c .before .before .before .before .before .before .before .before .before .before .args .room .now)) _
-    ((c .before .before .before .before .before .before .before .sums .result))
-    (((c .before .before .before .before .before .summed-without-pak .ensures)) ∙ ap (λ (p : ℕ). contentsOf Two p
-    ((c .before .before .before .before .before .before .before .sums .result))) (sym
-    ((c .before .before .before .before .before .before .if1 .taken)))) (contents-of Two _ _ _
-    ((c .before .before .before .before .before .before .before .sums .ensures))) _
+returns c =
+    let c7 = c .before .before .before .before .before .before .before in
+    let c10 = c7 .before .before .before in
+    (c .before .before .put-halves .ensures) ∙ contents-put Two (c10 .args .pak) (c10 .args .room .now) _
+    (c7 .sums .result) ((c .before .before .before .before .before .summed-without-pak .ensures) ∙ ap
+    (λ (p : ℕ). contentsOf Two p (c7 .sums .result)) (sym
+    (c .before .before .before .before .before .before .if1 .taken))) (contents-of Two _ _ _ (c7 .sums .ensures)) _
 
 put-halves-requires-2 : tie.Need-put-halves-requires-2
-put-halves-requires-2 c κs = omega (
-  arith,
-  length-is Two
-      ((c .before .before .before .before .before .before .before .args .pak)),
-  contents-fit Two
-      ((c .before .before .before .before .before .before .before .args .pak))
-      ((c .before .before .before .before .before .before .before .args .room .now)) _
-      ((c .before .before .before .before .sums .result)) ((c .before .before .summed-with-pak .ensures)),
-)
+put-halves-requires-2 c κs =
+    let c7 = c .before .before .before .before .before .before .before in
+    omega (
+      arith,
+      length-is Two (c7 .args .pak),
+      contents-fit Two (c7 .args .pak) (c7 .args .room .now) _
+          (c .before .before .before .before .sums .result) (c .before .before .summed-with-pak .ensures),
+    )
 
 returns-2 : tie.Need-returns-2
 returns-2 c = (c .before .before .put-halves2 .ensures) ∙ contents-put Two

@@ -13,36 +13,34 @@ use Rattle.saved_layout.proofs.contents.summed_ok.Statement.{statement}
 use Rattle.saved_layout.proofs.contents.summed_ok.Tie as tie
 
 same-halves-requires : tie.Need-same-halves-requires
-same-halves-requires c κs = omega (
-  arith,
-  length-is Two
-      ((c .before .before .before .before .before .args .pak)),
-  contents-fit Two
-      ((c .before .before .before .before .before .args .pak))
-      ((c .before .before .before .before .before .args .file .now)) _ ((c .before .before .before .sums .result))
-      (((c .before .summed-without-pak .ensures)) ∙ ap (λ (p : ℕ). contentsOf Two p
-      ((c .before .before .before .sums .result))) (sym ((c .before .before .if1 .taken)))),
-)
+same-halves-requires c κs =
+    let c3 = c .before .before .before in
+    let c5 = c3 .before .before in
+    omega (
+      arith,
+      length-is Two (c5 .args .pak),
+      contents-fit Two (c5 .args .pak) (c5 .args .file .now) _
+          (c3 .sums .result) ((c .before .summed-without-pak .ensures) ∙ ap (λ (p : ℕ). contentsOf Two p (c3 .sums .result))
+          (sym (c .before .before .if1 .taken))),
+    )
 
 returns : tie.Need-returns
-returns c = (c .same-halves .ensures) ∙ contents-same Two
-    ((c .before .before .before .before .before .before .args .pak))
-    ((c .before .before .before .before .before .before .args .file .now)) _
-    ((c .before .before .before .before .sums .result)) (((c .before .before .summed-without-pak .ensures)) ∙ ap (λ
-    (p : ℕ). contentsOf Two p ((c .before .before .before .before .sums .result))) (sym
-    ((c .before .before .before .if1 .taken)))) (contents-of Two _ _ _
-    ((c .before .before .before .before .sums .ensures)))
+returns c =
+    let c4 = c .before .before .before .before in
+    let c6 = c4 .before .before in
+    (c .same-halves .ensures) ∙ contents-same Two (c6 .args .pak) (c6 .args .file .now) _ (c4 .sums .result)
+    ((c .before .before .summed-without-pak .ensures) ∙ ap (λ (p : ℕ). contentsOf Two p (c4 .sums .result))
+    (sym (c .before .before .before .if1 .taken))) (contents-of Two _ _ _ (c4 .sums .ensures))
 
 same-halves-requires-2 : tie.Need-same-halves-requires-2
-same-halves-requires-2 c κs = omega (
-  arith,
-  length-is Two
-      ((c .before .before .before .before .before .args .pak)),
-  contents-fit Two
-      ((c .before .before .before .before .before .args .pak))
-      ((c .before .before .before .before .before .args .file .now)) _ ((c .before .before .before .sums .result))
-      ((c .before .summed-with-pak .ensures)),
-)
+same-halves-requires-2 c κs =
+    let c5 = c .before .before .before .before .before in
+    omega (
+      arith,
+      length-is Two (c5 .args .pak),
+      contents-fit Two (c5 .args .pak) (c5 .args .file .now) _
+          (c .before .before .before .sums .result) (c .before .summed-with-pak .ensures),
+    )
 
 returns-2 : tie.Need-returns-2
 returns-2 c = (c .same-halves2 .ensures) ∙ contents-same Two

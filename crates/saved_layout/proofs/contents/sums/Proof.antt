@@ -30,32 +30,24 @@ part-sum-end-6 : tie.Need-part-sum-end-6
 part-sum-end-6 c = omega (arith, length-is Two ((c .before .before .before .before .before .before .before .before .before .before .before .before .args .pak)))
 
 returns : tie.Need-returns
-returns c = let at = (c .before .before .before .before .before .before .before .before .before .before .before .before .first .result) in
-    let file = ((c .before .before .before .before .before .before .before .before .before .before .before .before .before .before .args .file .now)) in
-    let first = ((c .before .before .before .before .before .before .before .before .before .before .before .before .first .ensures .0)) in
-    list-same ((c .before .before .before .before .before .before .before .before .before .before .sum .ensures))
-    ((c .before .before .before .before .before .before .before .before .sum2 .ensures))
-    ((c .before .before .before .before .before .before .sum3 .ensures))
-    ((c .before .before .before .before .sum4 .ensures)) ((c .before .before .sum5 .ensures)) ((c .sum6 .ensures))
-    ∙ sums-are (processor-part Two ((c .before .before .before .before .before .before .before .before .before .before
-    .before .before .before .before .args .pak)) at file first at (at + 172 - at) refl (omega arith))
-    (drawing-part Two ((c .before .before .before .before .before .before .before .before .before .before .before
-    .before .before .before .args .pak)) at file first (at + 172) (at + 198 - (at + 172)) refl (omega arith))
-    (wram-part Two ((c .before .before .before .before .before .before .before .before .before .before .before .before
-    .before .before .args .pak)) at file first (at + 198) (at + 65734 - (at + 198)) refl (omega arith))
-    (vram-part Two ((c .before .before .before .before .before .before .before .before .before .before .before .before
-    .before .before .args .pak)) at file first (at + 65734) (at + 327878 - (at + 65734)) refl (omega arith))
-    (pak-part Two ((c .before .before .before .before .before .before .before .before .before .before .before .before
-    .before .before .args .pak)) at file first (at + 327878) (at + 327878 +
-    ((c .before .before .before .before .before .before .before .before .before .before .before .before .before
-    .before .args .pak)) - (at + 327878)) refl (omega arith))
-    (hardware-part ((c .before .before .before .before .before .before .before .before .before .before .before .before
-    .before .before .args .pak)) at file first (at + 327878 +
-    ((c .before .before .before .before .before .before .before .before .before .before .before .before .before
-    .before .args .pak))) (at + 327878 + ((c .before .before .before .before .before .before .before .before .before
-    .before .before .before .before .before .args .pak)) + 8 - (at + 327878 +
-    ((c .before .before .before .before .before .before .before .before .before .before .before .before .before
-    .before .args .pak)))) refl (omega arith))
+returns c =
+    let c8 = c .before .before .before .before .before .before .before .before in
+    let c10 = c8 .before .before in
+    let c12 = c10 .before .before in
+    let c14 = c12 .before .before in
+    let pak = c14 .args .pak in
+    let at = (c12 .first .result) in
+    let file = (c14 .args .file .now) in
+    let first = (c12 .first .ensures .0) in
+    list-same (c10 .sum .ensures) (c8 .sum2 .ensures) (c .before .before .before .before .before .before .sum3 .ensures)
+    (c .before .before .before .before .sum4 .ensures) (c .before .before .sum5 .ensures) (c .sum6 .ensures) ∙ sums-are
+    (processor-part Two pak at file first at (at + 172 - at) refl (omega arith))
+    (drawing-part Two pak at file first (at + 172) (at + 198 - (at + 172)) refl (omega arith))
+    (wram-part Two pak at file first (at + 198) (at + 65734 - (at + 198)) refl (omega arith))
+    (vram-part Two pak at file first (at + 65734) (at + 327878 - (at + 65734)) refl (omega arith))
+    (pak-part Two pak at file first (at + 327878) (at + 327878 + pak - (at + 327878)) refl (omega arith))
+    (hardware-part pak at file first (at + 327878 + pak) (at + 327878 + pak + 8 - (at + 327878 + pak)) refl
+    (omega arith))
 
 pub sums-spec : {M : Type 1} → statement M
 sums-spec =

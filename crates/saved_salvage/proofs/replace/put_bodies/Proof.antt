@@ -2,7 +2,7 @@
 use native.Mathlib.Omega.{arith}
 use Prim.Native.Nat.{ℕ, _+_}
 use mathlib.Core.Path.{_≡_, refl, ap, _∙_}
-use Rattle.saved_bytes.specs.Parts.{putAt}
+use Rattle.saved_bytes.specs.inner.Put.{putAt}
 use Rattle.saved_layout.specs.File.{bodiesIn, joinedOf}
 use Rattle.saved_layout.specs.declared.Form.the-variants.{Two}
 use Rattle.saved_layout.proofs.Positions.{length-is, first-small}
@@ -15,263 +15,180 @@ use Rattle.saved_salvage.proofs.replace.put_bodies.Statement.{statement
 use Rattle.saved_salvage.proofs.replace.put_bodies.Tie as tie
 
 put-processor-requires : tie.Need-put-processor-requires
-put-processor-requires c κs = (
-  omega (arith, length-is Two ((c .before .before .before .before .args .pak))),
-  omega
-      (arith, length-is Two ((c .before .before .before .before .args .pak))),
-)
+put-processor-requires c κs =
+    let c4 = c .before .before .before .before in
+    (omega (arith, length-is Two (c4 .args .pak)), omega (arith, length-is Two (c4 .args .pak)))
 
 put-body-requires : tie.Need-put-body-requires
-put-body-requires c κs = (
-  omega (
-    arith,
-    length-is Two
-        ((c .before .before .before .before .before .before .before .before .args .pak)),
-    (c .before .before .before .before .before .before .before .before .pre .0 .0),
-    (c .before .before .before .before .before .before .before .before .pre .1),
-    (c .before .before .before .before .before .first .ensures .0),
-    (c .before .before .room .given),
-  ),
-  omega (
-    arith,
-    length-is Two ((c .before .before .before .before .before .before .before .before .args .pak)),
-    (c .before .before .before .before .before .before .before .before .pre .0 .0),
-    (c .before .before .before .before .before .before .before .before .pre .1),
-    (c .before .before .before .before .before .first .ensures .0),
-    (c .before .before .room .given),
-  ),
-)
+put-body-requires c κs =
+    let c2 = c .before .before in
+    let c5 = c2 .before .before .before in
+    let c8 = c5 .before .before .before in (
+      omega (
+        arith,
+        length-is Two (c8 .args .pak),
+        (c8 .pre .0 .0),
+        (c8 .pre .1),
+        (c5 .first .ensures .0),
+        (c2 .room .given),
+      ),
+      omega (
+        arith,
+        length-is Two (c8 .args .pak),
+        (c8 .pre .0 .0),
+        (c8 .pre .1),
+        (c5 .first .ensures .0),
+        (c2 .room .given),
+      ),
+    )
 
 put-body-requires-2 : tie.Need-put-body-requires-2
-put-body-requires-2 c κs = (
-  omega (
-    arith,
-    length-is Two
-        ((c .before .before .before .before .before .before .before .before .before .before .before .before .args .pak)),
-    (c .before .before .before .before .before .before .before .before .before .before .before .before .pre .0 .0),
-    (c .before .before .before .before .before .before .before .before .before .before .before .before .pre .1),
-    (c .before .before .before .before .before .before .before .before .before .first .ensures .0),
-    (c .before .before .before .before .before .before .room .given),
-    (c .before .before .room2 .given),
-  ),
-  omega (
-    arith,
-    length-is Two ((c .before .before .before .before .before .before .before .before .before .before .before
-        .before .args .pak)),
-    (c .before .before .before .before .before .before .before .before .before .before .before
-        .before .pre .0 .0),
-    (c .before .before .before .before .before .before .before .before .before .before .before
-        .before .pre .1),
-    (c .before .before .before .before .before .before .before .before .before .first .ensures .0),
-    (c .before .before .before .before .before .before .room .given),
-    (c .before .before .room2 .given),
-  ),
-)
+put-body-requires-2 c κs =
+    let c2 = c .before .before in
+    let c6 = c2 .before .before .before .before in
+    let c9 = c6 .before .before .before in
+    let c12 = c9 .before .before .before in (
+      omega (
+        arith,
+        length-is Two (c12 .args .pak),
+        (c12 .pre .0 .0),
+        (c12 .pre .1),
+        (c9 .first .ensures .0),
+        (c6 .room .given),
+        (c2 .room2 .given),
+      ),
+      omega (
+        arith,
+        length-is Two (c12 .args .pak),
+        (c12 .pre .0 .0),
+        (c12 .pre .1),
+        (c9 .first .ensures .0),
+        (c6 .room .given),
+        (c2 .room2 .given),
+      ),
+    )
 
 put-body-requires-3 : tie.Need-put-body-requires-3
-put-body-requires-3 c κs = (
-  omega (
-    arith,
-    length-is Two
-        ((c .before .before .before .before .before .before .before .before .before .before .before .before .before .before
-        .before .before .args .pak)),
-    (c .before .before .before .before .before .before .before .before .before .before
-        .before .before .before .before .before .before .pre .0 .0),
-    (c .before .before .before .before .before .before .before .before .before .before .before .before .before .before
-        .before .before .pre .1),
-    (c .before .before .before .before .before .before .before .before .before .before .before
-        .before .before .first .ensures .0),
-    (c .before .before .before .before .before .before .before .before .before
-        .before .room .given),
-    (c .before .before .before .before .before .before .room2 .given),
-    (c .before .before .room3 .given),
-  ),
-  omega (
-    arith,
-    length-is Two
-        ((c .before .before .before .before .before .before .before .before .before .before .before .before .before .before
-        .before .before .args .pak)),
-    (c .before .before .before .before .before .before .before .before .before .before
-        .before .before .before .before .before .before .pre .0 .0),
-    (c .before .before .before .before .before .before .before .before .before .before .before .before .before .before
-        .before .before .pre .1),
-    (c .before .before .before .before .before .before .before .before .before .before .before
-        .before .before .first .ensures .0),
-    (c .before .before .before .before .before .before .before .before .before
-        .before .room .given),
-    (c .before .before .before .before .before .before .room2 .given),
-    (c .before .before .room3 .given),
-  ),
-)
+put-body-requires-3 c κs =
+    let c2 = c .before .before in
+    let c6 = c2 .before .before .before .before in
+    let c10 = c6 .before .before .before .before in
+    let c13 = c10 .before .before .before in
+    let c16 = c13 .before .before .before in (
+      omega (
+        arith,
+        length-is Two (c16 .args .pak),
+        (c16 .pre .0 .0),
+        (c16 .pre .1),
+        (c13 .first .ensures .0),
+        (c10 .room .given),
+        (c6 .room2 .given),
+        (c2 .room3 .given),
+      ),
+      omega (
+        arith,
+        length-is Two (c16 .args .pak),
+        (c16 .pre .0 .0),
+        (c16 .pre .1),
+        (c13 .first .ensures .0),
+        (c10 .room .given),
+        (c6 .room2 .given),
+        (c2 .room3 .given),
+      ),
+    )
 
 put-body-requires-4 : tie.Need-put-body-requires-4
-put-body-requires-4 c κs = (
-  omega (
-    arith,
-    length-is Two
-        ((c .before .before .before .before .before .before .before .before .before .before .before .before .before .before
-        .before .before .before .before .before .before .args .pak)),
-    (c .before .before .before .before .before .before .before .before .before .before .before .before .before .before
-        .before .before .before .before .before .before .pre .0 .0),
-    (c .before .before .before .before .before .before .before .before .before .before .before .before .before .before
-        .before .before .before .before .before .before .pre .1),
-    (c .before .before .before .before .before .before .before .before .before .before .before .before .before .before
-        .before .before .before .first .ensures .0),
-    (c .before .before .before .before .before .before .before .before .before .before .before .before .before .before
-        .room .given),
-    (c .before .before .before .before .before .before .before .before .before .before .room2 .given),
-    (c .before .before .before .before .before .before .room3 .given),
-    (c .before .before .room4 .given),
-  ),
-  omega (
-    arith,
-    length-is Two ((c .before .before .before .before .before .before .before .before .before .before .before
-        .before .before .before .before .before .before .before .before .before .args .pak)),
-    (c .before .before .before .before .before .before .before .before .before .before .before .before .before .before
-        .before .before .before .before .before .before .pre .0 .0),
-    (c .before .before .before .before .before .before .before .before .before .before .before .before .before .before
-        .before .before .before .before .before .before .pre .1),
-    (c .before .before .before .before .before .before .before .before .before .before .before .before .before .before
-        .before .before .before .first .ensures .0),
-    (c .before .before .before .before .before .before .before .before .before .before .before .before .before .before
-        .room .given),
-    (c .before .before .before .before .before .before .before .before .before .before .room2 .given),
-    (c .before .before .before .before .before .before .room3 .given),
-    (c .before .before .room4 .given),
-  ),
-)
+put-body-requires-4 c κs =
+    let c2 = c .before .before in
+    let c6 = c2 .before .before .before .before in
+    let c10 = c6 .before .before .before .before in
+    let c14 = c10 .before .before .before .before in
+    let c17 = c14 .before .before .before in
+    let c20 = c17 .before .before .before in (
+      omega (
+        arith,
+        length-is Two (c20 .args .pak),
+        (c20 .pre .0 .0),
+        (c20 .pre .1),
+        (c17 .first .ensures .0),
+        (c14 .room .given),
+        (c10 .room2 .given),
+        (c6 .room3 .given),
+        (c2 .room4 .given),
+      ),
+      omega (
+        arith,
+        length-is Two (c20 .args .pak),
+        (c20 .pre .0 .0),
+        (c20 .pre .1),
+        (c17 .first .ensures .0),
+        (c14 .room .given),
+        (c10 .room2 .given),
+        (c6 .room3 .given),
+        (c2 .room4 .given),
+      ),
+    )
 
 put-body-requires-5 : tie.Need-put-body-requires-5
-put-body-requires-5 c κs = (
-  omega (
-    arith,
-    length-is Two
-        ((c .before .before .before .before .before .before .before .before .before .before .before .before .before .before
-        .before .before .before .before .before .before .before .before .before .before .args .pak)),
-    (c .before .before .before .before .before .before .before .before .before .before .before .before .before .before
-        .before .before .before .before .before .before .before .before .before .before .pre .0 .0),
-    (c .before .before .before .before .before .before .before .before .before .before .before .before .before .before
-        .before .before .before .before .before .before .before .before .before .before .pre .1),
-    (c .before .before .before .before .before .before .before .before .before .before .before .before .before .before
-        .before .before .before .before .before .before .before .first .ensures .0),
-    (c .before .before .before .before .before .before .before .before .before .before .before .before .before .before
-        .before .before .before .before .room .given),
-    (c .before .before .before .before .before .before .before .before .before .before .before .before .before .before
-        .room2 .given),
-    (c .before .before .before .before .before .before .before .before .before .before .room3 .given),
-    (c .before .before .before .before .before .before .room4 .given),
-    (c .before .before .room5 .given),
-  ),
-  omega (
-    arith,
-    length-is Two ((c .before .before .before .before .before .before .before .before .before .before .before
-        .before .before .before .before .before .before .before .before .before .before .before .before .before .args
-        .pak)),
-    (c .before .before .before .before .before .before .before .before .before .before .before .before .before
-        .before .before .before .before .before .before .before .before .before .before .before .pre .0 .0),
-    (c .before .before .before .before .before .before .before .before .before .before .before .before .before .before
-        .before .before .before .before .before .before .before .before .before .before .pre .1),
-    (c .before .before .before .before .before .before .before .before .before .before .before .before .before .before
-        .before .before .before .before .before .before .before .first .ensures .0),
-    (c .before .before .before .before .before .before .before .before .before .before .before .before .before .before
-        .before .before .before .before .room .given),
-    (c .before .before .before .before .before .before .before .before .before .before .before .before .before .before
-        .room2 .given),
-    (c .before .before .before .before .before .before .before .before .before .before .room3 .given),
-    (c .before .before .before .before .before .before .room4 .given),
-    (c .before .before .room5 .given),
-  ),
-)
+put-body-requires-5 c κs =
+    let c2 = c .before .before in
+    let c6 = c2 .before .before .before .before in
+    let c10 = c6 .before .before .before .before in
+    let c14 = c10 .before .before .before .before in
+    let c18 = c14 .before .before .before .before in
+    let c21 = c18 .before .before .before in
+    let c24 = c21 .before .before .before in (
+      omega (
+        arith,
+        length-is Two (c24 .args .pak),
+        (c24 .pre .0 .0),
+        (c24 .pre .1),
+        (c21 .first .ensures .0),
+        (c18 .room .given),
+        (c14 .room2 .given),
+        (c10 .room3 .given),
+        (c6 .room4 .given),
+        (c2 .room5 .given),
+      ),
+      omega (
+        arith,
+        length-is Two (c24 .args .pak),
+        (c24 .pre .0 .0),
+        (c24 .pre .1),
+        (c21 .first .ensures .0),
+        (c18 .room .given),
+        (c14 .room2 .given),
+        (c10 .room3 .given),
+        (c6 .room4 .given),
+        (c2 .room5 .given),
+      ),
+    )
 
 returns : tie.Need-returns
-returns c = let at = (c .before .before .before .before .before .before .before .before .before .before .before .before
-    .before .before .before .before .before .before .before .before .before .before .before .before .first .result) in
-    let file = ((c .before .before .before .before .before .before .before .before .before .before .before .before
-    .before .before .before .before .before .before .before .before .before .before .before .before .before .before
-    .before .args .file .now)) in
-    let first = (c .before .before .before .before .before .before .before .before .before .before .before .before
-    .before .before .before .before .before .before .before .before .before .before .before .before .first .ensures
-    .0) in
-    bodies-put ((c .before .before .before .before .before .before .before .before .before .before .before .before
-    .before .before .before .before .before .before .before .before .before .before .before .before .before .before
-    .before .args .kept)) (bodiesIn Two ((c .before .before .before .before .before .before .before .before .before
-    .before .before .before .before .before .before .before .before .before .before .before .before .before .before
-    .before .before .before .before .args .pak))
-    ((c .before .before .before .before .before .before .before .before .before .before .before .before .before
-    .before .before .before .before .before .before .before .before .before .before .before .before .before .before
-    .args .file .now))) (sized-in ((c .before .before .before .before .before .before .before .before .before
-    .before .before .before .before .before .before .before .before .before .before .before .before .before .before
-    .before .before .before .before .args .pak))
-    ((c .before .before .before .before .before .before .before .before .before .before .before .before .before
-    .before .before .before .before .before .before .before .before .before .before .before .before .before .before
-    .args .file .now)) Two ((c .before .before .before .before .before .before .before .before .before .before
-    .before .before .before .before .before .before .before .before .before .before .before .before .before .before
-    .before .before .before .pre .0 .0)))
-    ((c .before .before .before .before .before .before .before .before .before .before .before .before .before
-    .before .before .before .before .before .before .before .before .before .before .before .before .before .before
-    .args .pak)) (length-pak-in ((c .before .before .before .before .before .before .before .before .before .before
-    .before .before .before .before .before .before .before .before .before .before .before .before .before .before
-    .before .before .before .args .pak)) ((c .before .before .before .before .before .before .before .before .before
-    .before .before .before .before .before .before .before .before .before .before .before .before .before .before
-    .before .before .before .before .args .file .now)) Two
-    ((c .before .before .before .before .before .before .before .before .before .before .before .before .before
-    .before .before .before .before .before .before .before .before .before .before .before .before .before .before
-    .pre .0 .0))) ((c .before .before .before .before .before .before .before .before .before .before .before
-    .before .before .before .before .before .before .before .before .before .before .before .before .before .before
-    .before .before .args .room .now)) at (omega (
-      arith,
-      length-is Two
-          ((c .before .before .before .before .before .before .before .before .before .before .before .before .before
-          .before .before .before .before .before .before .before .before .before .before .before .before .before .before
-          .args .pak)),
-      (c .before .before .before .before .before .before .before .before .before .before .before .before
-          .before .before .before .before .before .before .before .before .before .before .before .before .before .before
-          .before .pre .1),
-      first,
-    ))
-    _ _ _ _ _ _ _ _ _ _ _ _ (processor-part Two
-    ((c .before .before .before .before .before .before .before .before .before .before .before .before .before
-    .before .before .before .before .before .before .before .before .before .before .before .before .before .before
-    .args .pak)) at file first at 172 refl refl) (drawing-part Two
-    ((c .before .before .before .before .before .before .before .before .before .before .before .before .before
-    .before .before .before .before .before .before .before .before .before .before .before .before .before .before
-    .args .pak)) at file first (at + 172) 26 refl refl) (wram-part Two
-    ((c .before .before .before .before .before .before .before .before .before .before .before .before .before
-    .before .before .before .before .before .before .before .before .before .before .before .before .before .before
-    .args .pak)) at file first (at + 198) 65536 refl refl) (vram-part Two
-    ((c .before .before .before .before .before .before .before .before .before .before .before .before .before
-    .before .before .before .before .before .before .before .before .before .before .before .before .before .before
-    .args .pak)) at file first (at + 65734) 262144 refl refl) (pak-part Two
-    ((c .before .before .before .before .before .before .before .before .before .before .before .before .before
-    .before .before .before .before .before .before .before .before .before .before .before .before .before .before
-    .args .pak)) at file first (at + 327878)
-    ((c .before .before .before .before .before .before .before .before .before .before .before .before .before
-    .before .before .before .before .before .before .before .before .before .before .before .before .before .before
-    .args .pak)) refl refl) (hardware-part
-    ((c .before .before .before .before .before .before .before .before .before .before .before .before .before
-    .before .before .before .before .before .before .before .before .before .before .before .before .before .before
-    .args .pak)) at file first (at + 327878 +
-    ((c .before .before .before .before .before .before .before .before .before .before .before .before .before
-    .before .before .before .before .before .before .before .before .before .before .before .before .before .before
-    .args .pak))) 8 refl refl)
-    ((c .before .before .before .before .before .before .before .before .before .before .before .before .before .before
-    .before .before .before .before .before .before .before .before .put-processor .ensures))
-    ((c .before .before .before .before .before .before .before .before .before .before .before .before .before
-    .before .before .before .before .before .put-body .ensures))
-    ((c .before .before .before .before .before .before .before .before .before .before .before .before .before
-    .before .put-body2 .ensures)) ((c .before .before .before .before .before .before .before .before .before
-    .before .put-body3 .ensures)) ((c .before .before .before .before .before .before .put-body4 .ensures))
-    ((c .before .before .put-body5 .ensures))
-    ∙ ap (λ (n : ℕ). putAt ((c .before .before .before .before .before .before .before .before .before .before .before
-    .before .before .before .before .before .before .before .before .before .before .before .before .before .before
-    .before .before .args .room .now)) n (joinedOf Two (keptBodiesOf
-    ((c .before .before .before .before .before .before .before .before .before .before .before .before .before
-    .before .before .before .before .before .before .before .before .before .before .before .before .before .before
-    .args .kept)) (bodiesIn Two ((c .before .before .before .before .before .before .before .before .before .before
-    .before .before .before .before .before .before .before .before .before .before .before .before .before .before
-    .before .before .before .args .pak)) ((c .before .before .before .before .before .before .before .before .before
-    .before .before .before .before .before .before .before .before .before .before .before .before .before .before
-    .before .before .before .before .args .file .now)))))) first
+returns c =
+    let c10 = c .before .before .before .before .before .before .before .before .before .before in
+    let c14 = c10 .before .before .before .before in
+    let c18 = c14 .before .before .before .before in
+    let c22 = c18 .before .before .before .before in
+    let c24 = c22 .before .before in
+    let c27 = c24 .before .before .before in
+    let file-given = c27 .args .file .now in
+    let pak = c27 .args .pak in
+    let at = (c24 .first .result) in
+    let file = file-given in
+    let first = (c24 .first .ensures .0) in
+    bodies-put (c27 .args .kept) (bodiesIn Two pak file-given) (sized-in pak file-given Two (c27 .pre .0 .0)) pak
+    (length-pak-in pak file-given Two (c27 .pre .0 .0)) (c27 .args .room .now) at
+    (omega (arith, length-is Two pak, (c27 .pre .1), first)) _ _ _ _ _ _ _ _ _ _ _ _
+    (processor-part Two pak at file first at 172 refl refl) (drawing-part Two pak at file first (at + 172) 26 refl refl)
+    (wram-part Two pak at file first (at + 198) 65536 refl refl)
+    (vram-part Two pak at file first (at + 65734) 262144 refl refl)
+    (pak-part Two pak at file first (at + 327878) pak refl refl)
+    (hardware-part pak at file first (at + 327878 + pak) 8 refl refl) (c22 .put-processor .ensures)
+    (c18 .put-body .ensures) (c14 .put-body2 .ensures) (c10 .put-body3 .ensures)
+    (c .before .before .before .before .before .before .put-body4 .ensures) (c .before .before .put-body5 .ensures) ∙ ap
+    (λ (n : ℕ). putAt (c27 .args .room .now) n (joinedOf Two
+    (keptBodiesOf (c27 .args .kept) (bodiesIn Two pak file-given)))) first
 
 pub put-bodies-spec : {M : Type 1} → statement M
 put-bodies-spec =

@@ -3,7 +3,7 @@ use native.Mathlib.Omega.{arith}
 use Prim.Native.Nat.{ℕ, _+_, _-_}
 use mathlib.Core.Path.{_≡_, sym, ap, _∙_}
 use lib.ListN.{length, take, drop, length-take, length-drop, replicate}
-use Rattle.saved_bytes.specs.Parts.{putAt}
+use Rattle.saved_bytes.specs.inner.Put.{putAt}
 use borrow.Author.Needs.{needs}
 use Rattle.saved_salvage.proofs.replace.put_body.Statement.{statement}
 use Rattle.saved_salvage.proofs.replace.put_body.Tie as tie

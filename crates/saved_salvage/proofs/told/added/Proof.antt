@@ -1,6 +1,6 @@
 -- `saved_salvage::told::added` meets its contract. Assumes nothing.
 use native.Mathlib.Omega.{arith}
-use Rattle.saved_salvage.specs.Told.{addedOf}
+use Rattle.saved_salvage.specs.inner.Added.{addedOf}
 use borrow.Author.Needs.{needs}
 use Rattle.saved_salvage.proofs.told.added.Statement.{statement}
 use Rattle.saved_salvage.proofs.told.added.Tie as tie

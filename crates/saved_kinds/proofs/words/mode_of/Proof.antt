@@ -1,7 +1,7 @@
--- `saved::records::mode_of` meets its contract: two tests. Assumes nothing.
+-- `saved_kinds::words::mode_of` meets its contract: two tests. Assumes nothing.
 use borrow.Author.Tests.{eq-eqb, ne-eqb}
-use Rattle.saved.proofs.records.mode_of.Statement.{statement}
-use Rattle.saved.proofs.records.mode_of.Tie as tie
+use Rattle.saved_kinds.proofs.words.mode_of.Statement.{statement}
+use Rattle.saved_kinds.proofs.words.mode_of.Tie as tie
 
 returns : tie.Need-returns
 returns c = simp (eq-eqb _ _ ((c .if1 .taken)))
