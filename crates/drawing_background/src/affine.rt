@@ -27,6 +27,7 @@ use drawing_pixel::field::half;
 use drawing_pixel::field::pair;
 use drawing_pixel::field::wide;
 use drawing_pixel::paint::Run;
+use drawing_pixel::world::World;
 
 // The way through the background of an affine row: n steps from (mx, my) along (dx, dy), each biased by 32,768.
 pub struct Course {
@@ -55,7 +56,7 @@ pub struct CellRead {
 pub fn read(
     vram: &[u8],
     registers: &DrawingRegisters,
-    w: &[u16; 11],
+    w: &World,
     maps: Maps,
     r: usize,
     u: usize,
@@ -92,11 +93,11 @@ pub fn read(
     }
 }
 
-// The cell at a cell column and row, read anew where the last one was another.
+// The cell at a cell column and row; it is read only where it is not the last one.
 pub fn held(
     vram: &[u8],
     registers: &DrawingRegisters,
-    w: &[u16; 11],
+    w: &World,
     maps: Maps,
     r: usize,
     last: CellRead,
@@ -161,7 +162,7 @@ pub fn cell_shaded(
 pub fn affine_span(
     vram: &[u8],
     registers: &DrawingRegisters,
-    w: &[u16; 11],
+    w: &World,
     buffer: &mut [u16; 384],
     run: Run,
     course: Course,
@@ -206,7 +207,7 @@ pub fn affine_span(
 pub fn level_span(
     vram: &[u8],
     registers: &DrawingRegisters,
-    w: &[u16; 11],
+    w: &World,
     buffer: &mut [u16; 384],
     run: Run,
     course: Course,
@@ -238,7 +239,7 @@ pub fn level_span(
 pub fn along_span(
     vram: &[u8],
     registers: &DrawingRegisters,
-    w: &[u16; 11],
+    w: &World,
     buffer: &mut [u16; 384],
     run: Run,
     course: Course,

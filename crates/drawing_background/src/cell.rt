@@ -5,6 +5,9 @@ ghost use Rattle.drawing_pixel.specs.inner.BiasedCell.{cellAddressBiased, insid
 ghost use Rattle.drawing_pixel.specs.Background.{mapNumberOf};
 ghost use Rattle.drawing_background.specs.inner.Row.{MapsOf};
 use drawing_pixel::field::wide;
+use drawing_pixel::world::FLAGS;
+use drawing_pixel::world::OVERPLANE;
+use drawing_pixel::world::World;
 
 // The low k bits of a number.
 pub fn low_bits(u: usize, k: usize) -> usize
@@ -50,11 +53,11 @@ pub fn map_at(first: usize, k: usize, column: usize, r: usize) -> usize
 }
 
 // The map at a map column and row of a world's background.
-pub fn map_number(w: &[u16; 11], column: usize, r: usize) -> usize
+pub fn map_number(w: &World, column: usize, r: usize) -> usize
     requires { ⌜ r < 8 ⌝ }
     ensures { λ m. ⌜ (m ≡ mapNumberOf (now (w .entry)) column r) × (m < 16) ⌝ }
 {
-    let flags = wide(w[0]);
+    let flags = wide(w[FLAGS]);
     let k = across(flags / 1024 % 4, flags / 256 % 4);
     map_at(flags % 16, k, column, r)
 }
@@ -63,10 +66,10 @@ pub fn map_number(w: &[u16; 11], column: usize, r: usize) -> usize
 const CELL_BIAS: usize = 1048576;
 
 // Whether a cell column and row lie in a world's background.
-pub fn inside(w: &[u16; 11], u: usize, v: usize) -> bool
+pub fn inside(w: &World, u: usize, v: usize) -> bool
     ensures { λ r. ⌜ r ≡ insideBiased (now (w .entry)) u v ⌝ }
 {
-    let flags = wide(w[0]);
+    let flags = wide(w[FLAGS]);
     let across = cells(flags / 1024 % 4);
     let down = cells(flags / 256 % 4);
     if u < CELL_BIAS {
@@ -82,10 +85,10 @@ pub fn inside(w: &[u16; 11], u: usize, v: usize) -> bool
 }
 
 // Where the cell of a map lies, column and row wrapped to the background's size.
-pub fn map_cell_address(w: &[u16; 11], u: usize, v: usize) -> usize
+pub fn map_cell_address(w: &World, u: usize, v: usize) -> usize
     ensures { λ r. ⌜ (r ≡ mapCellAddressBiased (now (w .entry)) u v) × (r < 262143) ⌝ }
 {
-    let flags = wide(w[0]);
+    let flags = wide(w[FLAGS]);
     let column = low_bits(u, 6 + flags / 1024 % 4) / 64;
     let row = low_bits(v, 6 + flags / 256 % 4) / 64;
     let map = map_number(w, column, row);
@@ -93,16 +96,16 @@ pub fn map_cell_address(w: &[u16; 11], u: usize, v: usize) -> usize
 }
 
 // Where the cell used at a cell column and row lies.
-pub fn cell_address(w: &[u16; 11], u: usize, v: usize) -> usize
+pub fn cell_address(w: &World, u: usize, v: usize) -> usize
     ensures { λ r. ⌜ (r ≡ cellAddressBiased (now (w .entry)) u v) × (r < 262143) ⌝ }
 {
-    if w[0] / 128 % 2 == 0 {
+    if w[FLAGS] / 128 % 2 == 0 {
         return map_cell_address(w, u, v);
     }
     if inside(w, u, v) {
         return map_cell_address(w, u, v);
     }
-    131072 + 2 * wide(w[10])
+    131072 + 2 * wide(w[OVERPLANE])
 }
 
 // How a world's background is made of maps, worked out once for many cells: OVER, the first map, the exponent of how
@@ -116,12 +119,12 @@ pub struct Maps {
 }
 
 // The maps of a world's background.
-pub fn maps_of(w: &[u16; 11]) -> Maps
+pub fn maps_of(w: &World) -> Maps
     ensures { λ m. ⌜
         MapsOf (now (w .entry)) (m .over) (m .first) (m .beside) (m .across) (m .down)
         ⌝ }
 {
-    let flags = wide(w[0]);
+    let flags = wide(w[FLAGS]);
     let scx = flags / 1024 % 4;
     let scy = flags / 256 % 4;
     let over = flags / 128 % 2 == 1;
@@ -139,7 +142,7 @@ pub fn maps_of(w: &[u16; 11]) -> Maps
 }
 
 // Where the cell used at a cell column and row lies, by the maps of its world.
-pub fn address_in(w: &[u16; 11], maps: Maps, u: usize, v: usize) -> usize
+pub fn address_in(w: &World, maps: Maps, u: usize, v: usize) -> usize
     requires { ⌜ MapsOf (now w) (maps .over) (maps .first) (maps .beside) (maps .across) (maps .down) ⌝ }
     ensures { λ r. ⌜ (r ≡ cellAddressBiased (now (w .entry)) u v) × (r < 262143) ⌝ }
 {

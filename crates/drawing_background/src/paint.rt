@@ -16,6 +16,7 @@ use drawing_pixel::field::wide;
 use drawing_pixel::paint::Run;
 use drawing_pixel::paint::span;
 use drawing_pixel::paint::whole;
+use drawing_pixel::world::World;
 
 // Columns `from` to `to` - 1 of the strip's rows `top` to `bottom` - 1.
 pub struct Area {
@@ -40,13 +41,7 @@ pub struct Fetched {
 }
 
 // What source pixel (sx, sy) is picked from.
-pub fn fetch(
-    vram: &[u8],
-    registers: &DrawingRegisters,
-    w: &[u16; 11],
-    sx: usize,
-    sy: usize,
-) -> Fetched
+pub fn fetch(vram: &[u8], registers: &DrawingRegisters, w: &World, sx: usize, sy: usize) -> Fetched
     requires { ⌜ length (now vram) ≡ vramBytes ⌝ }
     ensures { λ r. ⌜
         (r .cell ≡ halfAt (now (vram .entry)) (cellAddressBiased (now (w .entry)) (sx / 8) (sy / 8)))
@@ -64,7 +59,7 @@ pub fn fetch(
 pub fn cell_span(
     vram: &[u8],
     registers: &DrawingRegisters,
-    w: &[u16; 11],
+    w: &World,
     buffer: &mut [u16; 384],
     run: Run,
     source: Source,
@@ -90,7 +85,7 @@ pub fn cell_span(
 pub fn plain_span(
     vram: &[u8],
     registers: &DrawingRegisters,
-    w: &[u16; 11],
+    w: &World,
     buffer: &mut [u16; 384],
     run: Run,
     source: Source,
@@ -203,7 +198,7 @@ pub fn part_rows(
 pub fn cell_block(
     vram: &[u8],
     registers: &DrawingRegisters,
-    w: &[u16; 11],
+    w: &World,
     buffer: &mut [u16; 384],
     area: Area,
     source: Source,
@@ -245,7 +240,7 @@ pub fn cell_block(
 pub fn cells_block(
     vram: &[u8],
     registers: &DrawingRegisters,
-    w: &[u16; 11],
+    w: &World,
     buffer: &mut [u16; 384],
     area: Area,
     source: Source,
@@ -293,7 +288,7 @@ pub fn cells_block(
 pub fn plain_block(
     vram: &[u8],
     registers: &DrawingRegisters,
-    w: &[u16; 11],
+    w: &World,
     buffer: &mut [u16; 384],
     area: Area,
     source: Source,

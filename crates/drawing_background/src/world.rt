@@ -29,6 +29,9 @@ use drawing_pixel::field::least;
 use drawing_pixel::field::wide;
 use drawing_pixel::paint::Run;
 use drawing_pixel::paint::View;
+use drawing_pixel::world::FLAGS;
+use drawing_pixel::world::GY;
+use drawing_pixel::world::World;
 use drawing_pixel::world::columns;
 use drawing_pixel::world::rows;
 use drawing_pixel::world::window_left;
@@ -43,7 +46,7 @@ pub struct Offsets {
 pub fn affine_row(
     vram: &[u8],
     registers: &DrawingRegisters,
-    w: &[u16; 11],
+    w: &World,
     buffer: &mut [u16; 384],
     run: Run,
     eye: usize,
@@ -81,11 +84,11 @@ pub fn affine_row(
 }
 
 // How far an H-bias world's row j is moved, plus 4,096; other worlds' rows are not.
-pub fn row_bias(vram: &[u8], w: &[u16; 11], eye: usize, j: usize) -> usize
+pub fn row_bias(vram: &[u8], w: &World, eye: usize, j: usize) -> usize
     requires { ⌜ (length (now vram) ≡ vramBytes) × (j < 65536) ⌝ }
     ensures { λ b. ⌜ (b ≡ rowBiasOf (now (vram .entry)) (now (w .entry)) eye j) × (b < 8192) ⌝ }
 {
-    if w[0] / 4096 % 4 == 1 {
+    if w[FLAGS] / 4096 % 4 == 1 {
         return (parameter(vram, w, bias_index(eye, j)) + 4096) % 8192;
     }
     4096
@@ -95,7 +98,7 @@ pub fn row_bias(vram: &[u8], w: &[u16; 11], eye: usize, j: usize) -> usize
 pub fn row(
     vram: &[u8],
     registers: &DrawingRegisters,
-    w: &[u16; 11],
+    w: &World,
     buffer: &mut [u16; 384],
     run: Run,
     eye: usize,
@@ -115,7 +118,7 @@ pub fn row(
         (now (buffer .entry)) (now (buffer .exit))
         ⌝ }
 {
-    if 2 <= w[0] / 4096 % 4 {
+    if 2 <= w[FLAGS] / 4096 % 4 {
         affine_row(vram, registers, w, buffer, run, eye, offsets);
         return;
     }
@@ -128,7 +131,7 @@ pub fn row(
 pub fn strip_row(
     vram: &[u8],
     registers: &DrawingRegisters,
-    w: &[u16; 11],
+    w: &World,
     buffer: &mut [u16; 384],
     run: Run,
     view: View,
@@ -150,7 +153,7 @@ pub fn strip_row(
         (now (buffer .entry)) (now (buffer .exit))
         ⌝ }
 {
-    let top = (wide(w[3]) + 32768) % 65536;
+    let top = (wide(w[GY]) + 32768) % 65536;
     let y = 8 * view.strip + run.row + 32768;
     if y < top {
         return;
@@ -177,7 +180,7 @@ pub fn past(a: usize, b: usize) -> usize
 pub fn normal_block(
     vram: &[u8],
     registers: &DrawingRegisters,
-    w: &[u16; 11],
+    w: &World,
     buffer: &mut [u16; 384],
     from: usize,
     to: usize,
@@ -199,7 +202,7 @@ pub fn normal_block(
         (now (buffer .entry)) (now (buffer .exit))
         ⌝ }
 {
-    let top = (wide(w[3]) + 32768) % 65536;
+    let top = (wide(w[GY]) + 32768) % 65536;
     let y = 8 * view.strip + 32768;
     let first = least(8, past(top, y));
     let last = least(8, past(top + rows(w), y));
@@ -221,7 +224,7 @@ pub fn normal_block(
 pub fn strip(
     vram: &[u8],
     registers: &DrawingRegisters,
-    w: &[u16; 11],
+    w: &World,
     buffer: &mut [u16; 384],
     eye: usize,
     strip: usize,
@@ -235,7 +238,7 @@ pub fn strip(
         (now (buffer .entry)) (now (buffer .exit))
         ⌝ }
 {
-    if !flag(eye, w[0]) {
+    if !flag(eye, w[FLAGS]) {
         return;
     }
     let left = window_left(w, eye);
@@ -244,7 +247,7 @@ pub fn strip(
     if to <= from {
         return;
     }
-    if w[0] / 4096 % 4 == 0 {
+    if w[FLAGS] / 4096 % 4 == 0 {
         normal_block(vram, registers, w, buffer, from, to, View { eye, strip });
         return;
     }

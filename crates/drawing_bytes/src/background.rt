@@ -24,20 +24,23 @@ use drawing_pixel::character::row_address;
 use drawing_pixel::field::flag;
 use drawing_pixel::field::half;
 use drawing_pixel::field::wide;
+use drawing_pixel::world::FLAGS;
+use drawing_pixel::world::GY;
+use drawing_pixel::world::World;
 use drawing_pixel::world::columns;
 use drawing_pixel::world::rows;
 use drawing_pixel::world::window_left;
 use drawing_pixel::world::world;
 
 // Whether a background world covers a pixel.
-pub fn covers(w: &[u16; 11], eye: usize, x: usize, y: usize) -> bool
+pub fn covers(w: &World, eye: usize, x: usize, y: usize) -> bool
     requires { ⌜ (x < 384) × (y < 224) ⌝ }
     ensures { λ r. ⌜ r ≡ worldCoversBiased (now (w .entry)) eye x y ⌝ }
 {
-    if !flag(eye, w[0]) {
+    if !flag(eye, w[FLAGS]) {
         return false;
     }
-    let top = (wide(w[3]) + 32768) % 65536;
+    let top = (wide(w[GY]) + 32768) % 65536;
     if y + 32768 < top {
         return false;
     }
@@ -52,11 +55,11 @@ pub fn covers(w: &[u16; 11], eye: usize, x: usize, y: usize) -> bool
 }
 
 // The source x of a window's offsets.
-pub fn source_x(vram: &[u8], w: &[u16; 11], eye: usize, i: usize, j: usize) -> usize
+pub fn source_x(vram: &[u8], w: &World, eye: usize, i: usize, j: usize) -> usize
     requires { ⌜ (length (now vram) ≡ vramBytes) × ((i < 2048) × (j < 65536)) ⌝ }
     ensures { λ r. ⌜ r ≡ sourceXBiased (now (vram .entry)) (now (w .entry)) eye i j ⌝ }
 {
-    let bgm = w[0] / 4096 % 4;
+    let bgm = w[FLAGS] / 4096 % 4;
     if bgm == 0 {
         return plain_left(w, eye) + i;
     }
@@ -73,11 +76,11 @@ pub fn source_x(vram: &[u8], w: &[u16; 11], eye: usize, i: usize, j: usize) -> u
 }
 
 // The source y of a window's offsets.
-pub fn source_y(vram: &[u8], w: &[u16; 11], eye: usize, i: usize, j: usize) -> usize
+pub fn source_y(vram: &[u8], w: &World, eye: usize, i: usize, j: usize) -> usize
     requires { ⌜ (length (now vram) ≡ vramBytes) × ((i < 2048) × (j < 65536)) ⌝ }
     ensures { λ r. ⌜ r ≡ sourceYBiased (now (vram .entry)) (now (w .entry)) eye i j ⌝ }
 {
-    let bgm = w[0] / 4096 % 4;
+    let bgm = w[FLAGS] / 4096 % 4;
     if bgm < 2 {
         return normal_y(w, j);
     }
@@ -90,7 +93,7 @@ pub fn source_y(vram: &[u8], w: &[u16; 11], eye: usize, i: usize, j: usize) -> u
 }
 
 // The five parameters of row j of an affine world.
-pub fn list_affine(room: &mut [u32], n: usize, w: &[u16; 11], j: usize) -> usize
+pub fn list_affine(room: &mut [u32], n: usize, w: &World, j: usize) -> usize
     requires { ⌜ (n < 4096) × (j < 65536) ⌝ }
     ensures { λ r. ⌜ Lists room n (affineBytesOf (now (w .entry)) j) r ⌝ }
 {
@@ -102,12 +105,12 @@ pub fn list_affine(room: &mut [u32], n: usize, w: &[u16; 11], j: usize) -> usize
 }
 
 // The parameters of row j of a background world, by BGM.
-pub fn list_parameters(room: &mut [u32], n: usize, w: &[u16; 11], eye: usize, j: usize) -> usize
+pub fn list_parameters(room: &mut [u32], n: usize, w: &World, eye: usize, j: usize) -> usize
     requires { ⌜ (n < 4096) × (j < 65536) ⌝ }
     ensures { λ r. ⌜ Lists room n (parameterBytesOf (now (w .entry)) eye j) r ⌝ }
     ensures { λ r. ⌜ r ≤ n + 10 ⌝ }
 {
-    let bgm = w[0] / 4096 % 4;
+    let bgm = w[FLAGS] / 4096 % 4;
     if bgm == 0 {
         return n;
     }
@@ -118,14 +121,7 @@ pub fn list_parameters(room: &mut [u32], n: usize, w: &[u16; 11], eye: usize, j:
 }
 
 // The cell of a source pixel and the character row that it leads to.
-pub fn list_cell(
-    vram: &[u8],
-    room: &mut [u32],
-    n: usize,
-    w: &[u16; 11],
-    sx: usize,
-    sy: usize,
-) -> usize
+pub fn list_cell(vram: &[u8], room: &mut [u32], n: usize, w: &World, sx: usize, sy: usize) -> usize
     requires { ⌜ (length (now vram) ≡ vramBytes) × (n < 8192) ⌝ }
     ensures { λ r. ⌜ Lists room n (cellBytesBiased (now (vram .entry)) (now (w .entry)) sx sy) r ⌝ }
 {
@@ -140,7 +136,7 @@ pub fn list_background(
     vram: &[u8],
     room: &mut [u32],
     n: usize,
-    w: &[u16; 11],
+    w: &World,
     eye: usize,
     x: usize,
     y: usize,
@@ -153,7 +149,7 @@ pub fn list_background(
         return n;
     }
     let i = x + 1024 - window_left(w, eye);
-    let j = y + 32768 - (wide(w[3]) + 32768) % 65536;
+    let j = y + 32768 - (wide(w[GY]) + 32768) % 65536;
     let next = list_parameters(room, n, w, eye, j);
     list_cell(
         vram,
@@ -180,7 +176,7 @@ pub fn list_world(
     ensures { λ r. ⌜ r ≤ n + 14 ⌝ }
 {
     let w = world(vram, k);
-    let flags = wide(w[0]);
+    let flags = wide(w[FLAGS]);
     if flags < 16384 {
         return n;
     }

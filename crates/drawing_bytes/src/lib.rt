@@ -1,4 +1,4 @@
-// The bytes a pixel answers to: how many there are, and their addresses in a lent room.
+// The bytes a pixel answers to: how many there are, and their addresses in the caller's output buffer.
 mod background;
 mod objects;
 mod room;
@@ -17,8 +17,8 @@ ghost use Rattle.drawing_laws.specs.inner.SourceBytes.{pixelBytesBiased};
 ghost use Rattle.drawing_bytes.specs.inner.Room.{Lists};
 ghost use Rattle.drawing_bytes.specs.Calls.{listedOf, roomOf};
 
-// How many addresses the list has, why there is none, or that no image has the pixel, which the papers have no
-// number for.
+// How many addresses the list has, why it was refused, or that no image has the pixel, for which the specification has
+// no number.
 pub enum Listed {
     Count(usize),
     Refused(Refusal),
@@ -44,8 +44,8 @@ fn list(
     objects::list_objects(vram, registers, room, n, worlds, pixel)
 }
 
-// The bytes that pixel (x, y) of an eye's image answers to: how many there are, and their addresses in VRAM in the
-// room's first words, as far as it reaches.
+// The bytes that pixel (x, y) of an eye's image answers to: how many there are, and their addresses in VRAM in the first
+// words of the output buffer (`room`), as far as it reaches.
 pub fn pixel_bytes(
     vram: &[u8],
     drawing: Drawing,

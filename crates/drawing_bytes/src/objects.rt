@@ -21,6 +21,9 @@ use drawing_pixel::character::row_address;
 use drawing_pixel::field::flag;
 use drawing_pixel::field::half;
 use drawing_pixel::field::wide;
+use drawing_pixel::object::CELL;
+use drawing_pixel::object::JP;
+use drawing_pixel::object::Object;
 use drawing_pixel::object::object;
 use drawing_pixel::object::object_left;
 
@@ -82,11 +85,11 @@ pub fn in_groups(registers: &DrawingRegisters, worlds: usize, k: usize) -> bool
 }
 
 // Whether an object's square holds a pixel, and the object is shown to the eye.
-pub fn covers(o: &[u16; 4], eye: usize, x: usize, y: usize) -> bool
+pub fn covers(o: &Object, eye: usize, x: usize, y: usize) -> bool
     requires { ⌜ (x < 384) × (y < 224) ⌝ }
     ensures { λ r. ⌜ r ≡ objectCoversBiased (now (o .entry)) eye x y ⌝ }
 {
-    if !flag(eye, o[1]) {
+    if !flag(eye, o[JP]) {
         return false;
     }
     if 8 <= object_row(o, y) {
@@ -134,7 +137,7 @@ pub fn list_object(
     if !in_groups(registers, worlds, k) {
         return n;
     }
-    put_half(room, n, row_address(wide(o[3]), object_row(&o, pixel.y)))
+    put_half(room, n, row_address(wide(o[CELL]), object_row(&o, pixel.y)))
 }
 
 // The bytes of objects 1,023 to 0.

@@ -1,4 +1,4 @@
-// Addresses written into the room, one word each, as far as the room reaches.
+// Addresses written into the output buffer, one word each, as far as it reaches.
 ghost use Prim.Native.Nat.{_<_};
 ghost use mathlib.Core.List.{[], _∷_};
 ghost use Rattle.drawing_laws.specs.PixelBytes.{halfBytesOf};

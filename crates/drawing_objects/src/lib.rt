@@ -16,6 +16,10 @@ use drawing_pixel::field::clipped;
 use drawing_pixel::field::flag;
 use drawing_pixel::field::half;
 use drawing_pixel::field::wide;
+use drawing_pixel::object::CELL;
+use drawing_pixel::object::JP;
+use drawing_pixel::object::JY;
+use drawing_pixel::object::Object;
 use drawing_pixel::object::object;
 use drawing_pixel::object::object_left;
 use drawing_pixel::paint::Run;
@@ -23,25 +27,25 @@ use drawing_pixel::paint::View;
 use drawing_pixel::paint::span;
 
 // Whether an object is shown to an eye; its world's own flags hide nothing.
-pub fn shown(o: &[u16; 4], eye: usize) -> bool
+pub fn shown(o: &Object, eye: usize) -> bool
     ensures { λ r. ⌜ r ≡ objectShownOf (now (o .entry)) eye ⌝ }
 {
-    flag(eye, o[1])
+    flag(eye, o[JP])
 }
 
 // The object's row at image row y.
-pub fn object_row(o: &[u16; 4], y: usize) -> usize
+pub fn object_row(o: &Object, y: usize) -> usize
     requires { ⌜ y < 256 ⌝ }
     ensures { λ r. ⌜ r ≡ objectRowBiased (now (o .entry)) y ⌝ }
 {
-    (y + 256 - wide(o[2]) % 256) % 256
+    (y + 256 - wide(o[JY]) % 256) % 256
 }
 
 // A run of a strip whose columns are in the object's square; the row may be outside of it.
 pub fn object_span(
     vram: &[u8],
     registers: &DrawingRegisters,
-    o: &[u16; 4],
+    o: &Object,
     buffer: &mut [u16; 384],
     run: Run,
     view: View,
@@ -67,7 +71,7 @@ pub fn object_span(
     if 8 <= row {
         return;
     }
-    let cell = wide(o[3]);
+    let cell = wide(o[CELL]);
     let pixels = wide(half(vram, row_address(cell, row)));
     let palette = wide(registers[8 + cell / 16384]);
     let column = run.from + 1024 - object_left(o, view.eye);
@@ -78,7 +82,7 @@ pub fn object_span(
 pub fn object_strip(
     vram: &[u8],
     registers: &DrawingRegisters,
-    o: &[u16; 4],
+    o: &Object,
     buffer: &mut [u16; 384],
     eye: usize,
     strip: usize,
@@ -109,7 +113,7 @@ pub fn object_strip(
     }
 }
 
-// Object k of an object world on a strip. Most objects have no row there, which their JY alone tells.
+// Object k of an object world on a strip. Most objects have no row there; JY alone decides that, so it is tested first.
 pub fn paint_object(
     vram: &[u8],
     registers: &DrawingRegisters,

@@ -9,8 +9,20 @@ use crate::field::edge;
 use crate::field::half;
 use crate::field::wide;
 
-// The four halfwords of object k.
-pub fn object(vram: &[u8], k: usize) -> [u16; 4]
+// The four halfwords of an object.
+pub type Object = [u16; 4];
+
+// Where each stands (paper 01, "Objects"). JP's halfword has JLON and JRON too; CELL is the format of a map's cell.
+pub const JX: usize = 0;
+
+pub const JP: usize = 1;
+
+pub const JY: usize = 2;
+
+pub const CELL: usize = 3;
+
+// Object k.
+pub fn object(vram: &[u8], k: usize) -> Object
     requires { ⌜ (length (now vram) ≡ vramBytes) × (k < 1024) ⌝ }
     ensures { λ r. ⌜ r ≡ objectOf (now (vram .entry)) k ⌝ }
 {
@@ -24,8 +36,8 @@ pub fn object(vram: &[u8], k: usize) -> [u16; 4]
 }
 
 // The left edge of an object for an eye, plus 1,024.
-pub fn object_left(o: &[u16; 4], eye: usize) -> usize
+pub fn object_left(o: &Object, eye: usize) -> usize
     ensures { λ r. ⌜ (r ≡ objectLeftBiased (now (o .entry)) eye) × (r < 2048) ⌝ }
 {
-    edge(eye, (wide(o[0]) + 512) % 1024, (wide(o[1]) + 512) % 1024)
+    edge(eye, (wide(o[JX]) + 512) % 1024, (wide(o[JP]) + 512) % 1024)
 }

@@ -52,7 +52,7 @@ pub fn shaded(h: u16, r: usize, palette: usize, v: usize) -> u16
 }
 
 // The eight columns of a row are painted at once: without a branch, and by comparing each column's two bits where they
-// stand in the row, so that all columns go through the same operations. A place is told by its unit, 1 shifted to the
+// stand in the row, so that all columns go through the same operations. A place is given by its unit, 1 shifted to the
 // lower of its bits; a mask of all bits or none chooses between a column's own place and the mirrored one.
 
 // The mask of a cell: all bits where it is flipped horizontally.
@@ -131,8 +131,8 @@ pub fn whole(
     }
 }
 
-// The same for a span; `whole` is for the rows of a block. Each has one caller, so that the compiler makes it part of
-// its caller's loop and works out palette and places once a cell (docs/changes/W5.md).
+// The same for a span; `whole` is for the rows of a block. Each has one caller, so that the compiler inlines it into
+// the caller's loop and works out palette and places once per cell (docs/changes/W5.md).
 pub fn eight(
     buffer: &mut [u16; 384],
     from: usize,
