@@ -51,7 +51,7 @@ pub fn draw_frame(vram: &mut [u8], drawing: Drawing, frame: u32) -> Verdict
     Verdict::Accepted
 }
 
-// A character's 16 bytes, a part of the lent VRAM that begins at the character's address; empty where
+// A character's 16 bytes, a part of the caller's VRAM that begins at the character's address; empty where
 // `character_refusal` refuses.
 pub fn character(vram: &[u8], c: u32) -> &[u8]
     ensures bytes { λ r. ⌜ now r ≡ characterOf (now (vram .entry)) c ⌝ }

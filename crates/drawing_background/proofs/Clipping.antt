@@ -1,4 +1,4 @@
--- A world's window clipped to the image, as the painter works it out, against what the world makes of each pixel. Assumes nothing.
+-- A world's window clipped to the image, as the painter computes it, gives what the world makes of each pixel. Assumes nothing.
 use Prim.Native.Nat.{ℕ, _+_, _-_, _*_, _<_, _≤_, min}
 use native.Mathlib.Omega.{arith}
 use native.Mathlib.Decide.{decLt}

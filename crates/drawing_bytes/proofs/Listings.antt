@@ -1,4 +1,4 @@
--- Addresses written into the room one list after the other, and what is left of a whole list while it is written.
+-- Addresses written into the output buffer one list after the other, and what is left of a whole list while it is written.
 -- Assumes nothing.
 use Prim.Native.Nat.{ℕ, zero, suc, _+_}
 use native.Mathlib.Nat.{add-zero, add-suc, suc-add}
@@ -29,7 +29,7 @@ listing-more n r s xs ys a b c p q =
 pub listing-as : (n r : ℕ) (xs ys a b : List ℕ) → xs ≡ ys → Listing n xs r a b → Listing n ys r a b
 listing-as n r xs ys a b e p = rw (← e) p
 
--- a list from the room's first word on
+-- a list from the buffer's first word on
 sets-cons : (x : ℕ) (l : List ℕ) (i : ℕ) (vs : List ℕ) → sets (x ∷ l) (suc i) vs ≡ x ∷ sets l i vs
 sets-cons x l i [] = refl
 sets-cons x l i (v ∷ vs) = sets-cons x (set l i v) (suc i) vs
@@ -43,7 +43,7 @@ sets-filled [] vs = sets-nil 0 vs ∙ sym (drop-nil (length vs))
 sets-filled (x ∷ l) [] = refl
 sets-filled (x ∷ l) (v ∷ vs) = sets-cons v l 0 vs ∙ ap (λ (k : List ℕ). v ∷ k) (sets-filled l vs)
 
--- what is left of a list, written into the room now, is the whole list written into the room at first
+-- what is left of a list, written into the buffer now, is the whole list written into the buffer at first
 pub record Left (start : ℕ) (whole : List ℕ) (n : ℕ) (rest before after : List ℕ) : Type 0 where
   pub count : n + length rest ≡ start + length whole
   pub words : sets after n rest ≡ sets before start whole
@@ -66,7 +66,7 @@ left-done start n whole rest a b e p =
     let q = rw e at (p .count) in
     record { count = omega (arith, q); words = rw e at (p .words) }
 
--- the room keeps its length
+-- the buffer keeps its length
 pub listing-size : (n r : ℕ) (xs a b : List ℕ) → Listing n xs r a b → length b ≡ length a
 listing-size n r xs a b p = ap length (p .words) ∙ length-sets a n xs
 

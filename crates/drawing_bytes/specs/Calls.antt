@@ -1,6 +1,6 @@
 -- What the call that lists a pixel's bytes answers and leaves, for every input (paper 01, "The bytes a pixel answers
--- to" and "Refusal numbers"). The list is demand 3's own, `pixelBytesOf`. The call itself is beyond the papers, so a
--- pixel that no image has gets no refusal number of theirs; refusals 3 and 5 come before it. Refused, nothing changes.
+-- to" and "Refusal numbers"). The list is demand 3's own, `pixelBytesOf`. The specification has no such
+-- call, so a pixel that no image has gets no refusal number; refusals 3 and 5 come before it. Refused, nothing changes.
 use Prim.Native.Nat.{ℕ}
 use mathlib.Core.Bool.{Bool, true, false, _&&_}
 use mathlib.Core.List.{List, _++_}
@@ -35,17 +35,17 @@ unfoldable pub listedOf : (vram regs : List ℕ) (eye x y : ℕ) → Listed
 listedOf vram regs eye x y =
     answerOf (bytesVerdictOf vram regs) (inImageOf eye x y) (length (pixelBytesOf vram regs eye x y))
 
--- a room whose first words are a list, as far as the room reaches; the words after the list are kept
+-- an output buffer whose first words are a list, as far as it reaches; the words after the list are kept
 abbrev pub filledOf : List ℕ → List ℕ → List ℕ
 filledOf list room = take (length room) list ++ drop (length list) room
 
--- a room by the answer: filled where there is a count, else as it was
+-- the output buffer by the answer: filled where there is a count, else as it was
 abbrev pub whenListed : Listed → List ℕ → List ℕ → List ℕ
 whenListed (Count n) room filled = filled
 whenListed (Refused n) room filled = room
 whenListed Outside room filled = room
 
--- the room after the call
+-- the output buffer after the call
 unfoldable pub roomOf : (vram regs : List ℕ) (eye x y : ℕ) (room : List ℕ) → List ℕ
 roomOf vram regs eye x y room =
     whenListed (listedOf vram regs eye x y) room (filledOf (pixelBytesOf vram regs eye x y) room)

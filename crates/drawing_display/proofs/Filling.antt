@@ -1,4 +1,4 @@
--- The room while it is filled: pixels of a column, columns of a strip, strips, and then all of it. Assumes nothing.
+-- The output buffer while it is filled: pixels of a column, columns of a strip, strips, and then all of it. Assumes nothing.
 use Prim.Native.Nat.{ℕ, _+_, _-_, _*_, _/_, _%_, _<_, _≤_}
 use native.Mathlib.Omega.{arith}
 use native.Mathlib.Decide.{decLt, ℕ-discrete}

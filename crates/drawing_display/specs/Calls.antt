@@ -1,5 +1,5 @@
 -- What the display unit's calls answer and leave, for every input (paper 02, W11): the refusals whose subject a call is
--- given, in their order, and the lent room or VRAM afterwards. A refusal changes nothing.
+-- given, in their order, and the caller's buffer afterwards. A refusal changes nothing.
 use Prim.Native.Nat.{ℕ, _/_, _%_}
 use mathlib.Core.Bool.{Bool, _&&_}
 use mathlib.Core.List.{List}
@@ -16,7 +16,7 @@ use Rattle.drawing_display.specs.ColumnTable.{tableLoadedOf}
 use Rattle.drawing_display.specs.declared.View.{View}
 use Rattle.drawing_display.specs.declared.Durations.{Durations}
 
--- 15: the eye is 0 or 1, start is from 95 to 255, and the room has 86,016 bytes
+-- 15: the eye is 0 or 1, start is from 95 to 255, and the output buffer has 86,016 bytes
 unfoldable pub displayOk : View → ℕ → Bool
 displayOk view room = ltb (view .eye) 2 && (leb 95 (view .start) && (ltb (view .start) 256 && eqb room 86016))
 
@@ -30,7 +30,7 @@ displayVerdictOf vram view room =
 unfoldable pub shownOf : List ℕ → View → Durations → List ℕ
 shownOf vram view d = listOf 86016 0 (λ i. brightnessOf vram view d (i % 384) (i / 384))
 
--- the room after the display call
+-- the output buffer after the display call
 unfoldable pub displayOf : List ℕ → View → Durations → List ℕ → List ℕ
 displayOf vram view d room = whenAccepted (displayVerdictOf vram view room) room (shownOf vram view d)
 

@@ -57,7 +57,7 @@ fn levels(vram: &[u8], durations: Durations, table: usize, start: usize) -> [u8;
     levels
 }
 
-// Eight pixels of a column, whose levels are the four from `group` on, into the room from byte `at` down.
+// Eight pixels of a column, whose levels are the four from `group` on, into the output buffer from byte `at` on.
 fn show_column(room: &mut [u8], levels: &[u8; 384], at: usize, group: usize, column: usize)
     requires { ⌜ (at + 2688 < length (now room)) × (group ≤ 380) ⌝ }
     ensures { λ _. ⌜

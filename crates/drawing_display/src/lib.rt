@@ -21,7 +21,7 @@ pub struct Durations {
     pub brtc: u8,
 }
 
-// The apparent brightness of pixel (x, y), 0 to 128, to byte 384y + x of the room.
+// The apparent brightness of pixel (x, y), 0 to 128, to byte 384y + x of the output buffer (`room`).
 pub fn display(vram: &[u8], view: View, durations: Durations, room: &mut [u8]) -> Verdict
     ensures verdict { λ v. ⌜ v ≡ displayVerdictOf (now (vram .entry)) view (now (room .entry)) ⌝ }
     ensures room { λ _. ⌜ now (room .exit) ≡ displayOf (now (vram .entry)) view durations (now (room .entry)) ⌝ }

@@ -72,7 +72,7 @@ ColumnBytes =
     → getD (stripOf vram regs frame strip) (imageOf frame eye + pixelOffsetOf column (8 * strip) + b) 0
     ≡ fourPixelsOf vram regs eye column (8 * strip + 4 * b)
 
--- a byte that is none of these is kept: "stored into that part of VRAM alone"
+-- every other byte is kept: "stored into that part of VRAM alone"
 abbrev pub OtherBytes : Type 0
 OtherBytes =
     (vram regs : List ℕ) (frame strip a : ℕ)

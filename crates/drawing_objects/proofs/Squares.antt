@@ -1,4 +1,4 @@
--- An object's square clipped to the image and to a strip, as the painter works it out, against what the object makes of each
+-- An object's square clipped to the image and to a strip, as the painter computes it, gives what the object makes of each
 -- pixel. Assumes nothing.
 use Prim.Native.Nat.{ℕ, _+_, _-_, _*_, _/_, _%_, _<_, _≤_, min}
 use native.Mathlib.Omega.{arith}

@@ -1,5 +1,5 @@
 -- Strips in any order, and drawings of the two frames swapped (paper 02, W14): the statements. Their proofs are
--- `any-order`, `frames-swap` and `lists-swap` in proofs/. They hold of every list lent as VRAM, of all registers, frame
+-- `any-order`, `frames-swap` and `lists-swap` in proofs/. They hold for every list given as VRAM, for all registers, frame
 -- and strip numbers: a refused call leaves VRAM as it is, so that it counts as absent.
 use Prim.Native.Nat.{ℕ, _<_}
 use mathlib.Core.Bool.{true}
@@ -24,7 +24,7 @@ AnyOrder =
     (vram regs : List ℕ) (frame : ℕ) (strips : List ℕ) → NamesEach strips
     → afterStripsOf vram regs frame strips ≡ drawFrameOf vram regs frame
 
--- a drawing: the frame call or a strip call, with registers of its own
+-- a drawing: the frame call or a strip call, with its own registers
 pub record Drawing : Type 0 where
   pub call : Call
   pub regs : List ℕ

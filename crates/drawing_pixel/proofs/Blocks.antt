@@ -1,4 +1,4 @@
--- The laws of a block of columns and rows of a strip while it is painted: it grows by a row, by a block beside it and by a
+-- The laws of a block of columns and rows of a strip while it is painted: it grows by a row, by a block next to it and by a
 -- block below it, and is a strip where what is outside of it is to be kept. Assumes nothing.
 use Prim.Native.Nat.{ℕ, _+_, _<_, _≤_}
 use native.Mathlib.Omega.{arith}

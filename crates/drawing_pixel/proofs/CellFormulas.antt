@@ -1,4 +1,4 @@
--- The laws of specs/CellFormulas, proved.
+-- The statements of specs/inner/BiasedCell about a source pixel, and `MapsAcross` of specs/Background, proved.
 use Prim.Native.Nat.{ℕ, zero, suc, _+_, _-_, _*_, _/_, _%_, _^_, _<_, min}
 use native.Mathlib.Omega.{arith}
 use mathlib.Core.Path.{_≡_, refl, sym, ap, _∙_}

@@ -1,4 +1,4 @@
--- The laws of specs/Fields, proved.
+-- The statement of specs/inner/BiasedFields, proved.
 use Prim.Native.Nat.{ℕ, _+_, _-_, _*_, _%_, _<_}
 use native.Mathlib.Nat as NatL
 use native.Mathlib.Omega.{arith}

@@ -1,4 +1,4 @@
--- The laws of specs/HeightFormulas, proved.
+-- The statements of specs/inner/BiasedWindow about a world's rows, proved.
 use Prim.Native.Nat.{ℕ, _+_, _-_, _%_}
 use native.Mathlib.Nat as NatL
 use native.Mathlib.Omega.{arith}

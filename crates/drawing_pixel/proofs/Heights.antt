@@ -1,4 +1,4 @@
--- The rows of a world in the cases that the code tells apart: by BGM, by GY as the halfword it is stored in.
+-- The rows of a world in the cases of the code: by BGM, by GY as the halfword it is stored in.
 -- Assumes nothing.
 use Prim.Native.Nat.{ℕ, _-_, _/_, _%_, _<_, _≤_, max}
 use native.Mathlib.Decide.{decLt}

@@ -1,4 +1,4 @@
--- The laws of specs/ObjectFormulas, proved.
+-- The statements of specs/inner/BiasedObject and specs/ObjectFormulas, and `ObjectsInOrder` of specs/Pixel, proved.
 use Prim.Native.Nat.{ℕ, zero, suc, _+_, _-_, _*_, _%_, _<_, _≤_}
 use native.Mathlib.Nat as NatL
 use native.Mathlib.Decide.{decLt}

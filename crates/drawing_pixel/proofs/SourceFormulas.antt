@@ -1,4 +1,4 @@
--- The laws of specs/SourceFormulas, proved.
+-- The statements of specs/inner/BiasedSource, proved.
 use Prim.Native.Nat.{ℕ, suc, _+_, _-_, _*_, _<_, _≤_}
 use native.Mathlib.Omega.{arith}
 use mathlib.Core.Path.{_≡_}

@@ -1,5 +1,5 @@
 -- The rows of a world over the integers: readings R4 and R5, and W3 ("Short worlds are taller on the chip").
--- `rows` has two cases, with GY and H signed; `world-rows` says that drawing is proved against them.
+-- `rows` has two cases, with GY and H signed.
 use Prim.Native.Nat.{ℕ, max}
 use mathlib.Core.Bool.{Bool, _&&_, not}
 use mathlib.Core.List.{List}

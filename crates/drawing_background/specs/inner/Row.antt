@@ -1,4 +1,4 @@
--- A row of a background world while it is painted. No public promise cites these.
+-- Inner: a row of a background world while it is painted.
 use Prim.Native.Nat.{ℕ, _+_, _-_, _*_, _/_, _%_, _^_, _≤_, min}
 use mathlib.Core.Path.{_≡_}
 use mathlib.Core.Bool.{Bool}
@@ -28,7 +28,7 @@ pub record MapsOf (w : List ℕ) (over : Bool) (base beside across down : ℕ) :
   pub width : across ≡ 6 + scxOf w
   pub height : down ≡ 6 + scyOf w
 
--- 512 times a source coordinate n steps along an affine row, M and D biased by 32,768: what affineFloorBiased divides
+-- 512 times a source coordinate n steps along an affine row, M and D biased by 32,768: what `affineFloorBiased` divides
 unfoldable pub affineSumOf : ℕ → ℕ → ℕ → ℕ
 affineSumOf m d n = 64 * m + d * n + affineBias - 32768 * n
 

@@ -1,4 +1,4 @@
--- The room while addresses are written into it, one word each and none past its end. No public promise cites these.
+-- Inner: the output buffer while addresses are written into it, one word each and none past its end.
 use Prim.Native.Nat.{ℕ, _+_}
 use mathlib.Core.List.{List}
 use mathlib.Core.Path.{_≡_}
@@ -12,6 +12,6 @@ pub record Listing (n : ℕ) (list : List ℕ) (r : ℕ) (before after : List �
   pub count : r ≡ n + length list
   pub words : after ≡ sets before n list
 
--- the same of a room as a call is lent it, for the call's contract
+-- the same of the caller's buffer before and after, for a contract
 abbrev pub Lists : Both (RefT (List ℕ)) (RefT (List ℕ)) → ℕ → List ℕ → ℕ → Type 0
 Lists room n list r = Listing n list r (now (room .entry)) (now (room .exit))

@@ -1,4 +1,4 @@
--- The room while it is filled, strip by strip and in a strip column by column. No public promise cites these.
+-- Inner: the output buffer while it is filled, strip by strip and in a strip column by column.
 use Prim.Native.Nat.{ℕ, _+_, _-_, _*_, _/_, _%_, _<_, _≤_}
 use mathlib.Core.Path.{_≡_}
 use mathlib.Core.List.{List}
@@ -25,13 +25,13 @@ pub record Column (at n : ℕ) (f : ℕ → ℕ) (before after : List ℕ) : Typ
   pub inside : (r : ℕ) → r < n → getD after (at + 384 * r) 0 ≡ f r
   pub others : (i : ℕ) → ((r : ℕ) → r < n → i ≡ at + 384 * r → ⊥) → getD after i 0 ≡ getD before i 0
 
--- columns 0 to n - 1 of a strip stand in the room, and the strips before it are kept
+-- columns 0 to n - 1 of a strip stand in the buffer, and the strips before it are kept
 pub record Columns (strip n : ℕ) (f : ℕ → ℕ → ℕ) (before after : List ℕ) : Type 0 where
   pub size : length after ≡ length before
   pub inside : (x r : ℕ) → x < n → r < 8 → getD after (384 * (8 * strip + r) + x) 0 ≡ f x (8 * strip + r)
   pub before-kept : (i : ℕ) → i < 3072 * strip → getD after i 0 ≡ getD before i 0
 
--- strips 0 to n - 1 stand in the room
+-- strips 0 to n - 1 stand in the buffer
 pub record Strips (n : ℕ) (f : ℕ → ℕ → ℕ) (room : List ℕ) : Type 0 where
   pub size : length room ≡ 86016
   pub inside : (x y : ℕ) → x < 384 → y < 8 * n → getD room (384 * y + x) 0 ≡ f x y

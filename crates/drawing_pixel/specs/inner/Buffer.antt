@@ -1,6 +1,5 @@
 -- A strip of one eye while it is worked out: 384 halfwords, one for each image column, whose eight pairs of bits are
--- the column's eight rows, as they are stored in the end. What painting one row of it means. No public promise cites
--- these.
+-- the column's eight rows, as they are stored in the end. What painting one row of it means.
 use Prim.Native.Nat.{ℕ, _+_, _-_, _*_, _^_, _<_, _≤_}
 use mathlib.Core.Path.{_≡_}
 use mathlib.Core.List.{List}

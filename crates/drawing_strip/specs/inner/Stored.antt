@@ -1,4 +1,4 @@
--- A strip held in an array while it is stored into VRAM. No public promise cites these.
+-- Inner: a strip held in an array while it is stored into VRAM.
 use Prim.Native.Nat.{ℕ, _+_, _*_, _/_, _%_, _^_, _<_, _≤_}
 use mathlib.Core.Path.{_≡_}
 use mathlib.Core.List.{List}

@@ -1,4 +1,4 @@
--- `drawing_background::source::affine_on` meets its contract: the difference is none below 0. Assumes nothing.
+-- `drawing_background::source::affine_on` meets its contract: the difference is not below 0. Assumes nothing.
 use native.Mathlib.Omega.{arith}
 use Rattle.drawing_background.proofs.source.affine_on.Statement.{statement}
 use Rattle.drawing_background.proofs.source.affine_on.Tie as tie

@@ -1,4 +1,4 @@
--- `drawing_bytes::room::put` meets its contract: past the room nothing is stored. Assumes nothing.
+-- `drawing_bytes::room::put` meets its contract: nothing is stored past the output buffer. Assumes nothing.
 use borrow.Author.Needs.{needs}
 use Rattle.drawing_bytes.proofs.room.put.Statement.{statement}
 use Rattle.drawing_bytes.proofs.room.put.Tie as tie

@@ -1,4 +1,4 @@
--- `drawing_display::brightness::show` meets its contract: the strips so far stand in the room, and 28 are all of it. Assumes nothing.
+-- `drawing_display::brightness::show` meets its contract: the strips so far stand in the buffer, and 28 are all of it. Assumes nothing.
 use Prim.Native.Nat.{_-_, _≤_}
 use native.Mathlib.Omega.{arith}
 use mathlib.Core.Path.{_≡_, refl, sym, _∙_}

@@ -1,4 +1,4 @@
--- `drawing_display::brightness::show_column` meets its contract: the pixels so far stand in the room, and no other byte changed. Assumes
+-- `drawing_display::brightness::show_column` meets its contract: the pixels so far stand in the buffer, and no other byte changed. Assumes
 -- nothing.
 use borrow.Author.Needs.{needs}
 use Prim.Native.Nat.{ℕ, _+_, _-_, _≤_}

@@ -1,4 +1,4 @@
--- `drawing_display::brightness::show_strip` meets its contract: the columns so far stand in the room. Assumes nothing.
+-- `drawing_display::brightness::show_strip` meets its contract: the columns so far stand in the buffer. Assumes nothing.
 use borrow.Author.Needs.{needs}
 use Prim.Native.Nat.{_-_, _≤_}
 use native.Mathlib.Omega.{arith}

@@ -1,4 +1,4 @@
--- `drawing_pixel::world::columns` meets its contract: a width that is not above 0 is none. Assumes nothing.
+-- `drawing_pixel::world::columns` meets its contract: a width that is not above 0 has no columns. Assumes nothing.
 use borrow.Author.Needs.{needs}
 use Rattle.drawing_pixel.proofs.world.columns.Statement.{statement}
 use Rattle.drawing_pixel.proofs.world.columns.Tie as tie
