@@ -1,35 +1,80 @@
--- Code in ROM or WRAM: the halfwords that a step fetches at an index are those of that memory. A ROM's length is one of
--- fifteen, and what is needed of it is true of each.
+-- Code in ROM or WRAM: the halfwords that a step fetches at an index are those of that memory. What is needed of a
+-- length follows from a test that each of them passes.
 use Prim.Native.Nat.{ℕ, zero, suc, _+_, _-_, _*_, _/_, _%_, _^_, _<_, _≤_}
-use mathlib.Core.Bool.{Bool, true, false, true≢false}
+use mathlib.Core.Bool.{Bool, true, false, true≢false, false≢true}
 use mathlib.Core.List.{List, [], _∷_}
 use mathlib.Core.Path.{_≡_, refl, sym, ap, subst, _∙_}
 use native.Mathlib.Decide.{ℕ-discrete}
-use native.Mathlib.Nat.{mod-eq-of-lt, mod-le}
+use native.Mathlib.Nat.{mod-eq-of-lt, mod-le, mod-lt, add-zero, mul-assoc, mul-comm, div-add-mod', div-div-eq-div-mul}
 use native.Mathlib.Omega.{arith}
-use borrow.Author.Tests.{ne-eqb}
+use borrow.Author.Tests.{ne-eqb, eqb-true, leb-true}
+use lib.Arith.{digits-div, digits-mod}
+use lib.Dec.{eqb, leb}
 use lib.ListN.{length}
 use Rattle.word.specs.Choose.{pick, member}
 use Rattle.word.specs.LittleEndian.{halfAt}
 use Rattle.bus.specs.Place.{romAt, wramAt, regionOf}
 use Rattle.bus.specs.Refusal.{romLengths, romOk}
 use Rattle.bus.specs.Memory.{Memory, loadOf}
+use Rattle.bus.proofs.OneOf.{every}
 use Rattle.bus.proofs.Places.{region-code}
 use Rattle.bus.proofs.Spans.{span-half, rom-span-half, wram-span-half}
 use Rattle.bus.specs.inner.Code.{Stands, Halves}
 
--- a fact of every number of a list
-abbrev All : (ℕ → Type 0) → List ℕ → Type 0
-All p [] = Unit {0}
-All p (x ∷ xs) = p x × All p xs
+-- what a length is tested for: it is even and parts 2 ^ 24, and its bounds
+abbrev parts : ℕ → Bool
+parts n = pick (eqb (16777216 % n) 0) (pick (eqb (n % 2) 0) (pick (leb 1024 n) (leb n 16777216) false) false) false
 
-one-of : (p : ℕ → Type 0) (xs : List ℕ) (n : ℕ) → All p xs → member n xs ≡ true → p n
-one-of p [] n a e = absurd (true≢false (sym e))
-one-of p (x ∷ xs) n a e =
+both : (b t : Bool) → pick b t false ≡ true → (b ≡ true) × (t ≡ true)
+both true t h = (refl, h)
+both false t h = absurd (false≢true h)
+
+every-parts : (xs : List ℕ) (n : ℕ) → every parts xs ≡ true → member n xs ≡ true → parts n ≡ true
+every-parts [] n a h = absurd (false≢true h)
+every-parts (x ∷ xs) n a h =
     elim (ℕ-discrete n x) [
-      | yes q ↦ subst p (sym q) (a .0)
-      | no q ↦ one-of p xs n (a .1) (rw (ne-eqb n x q) at e)
+      | yes e ↦ ap parts e ∙ both (parts x) (every parts xs) a .0
+      | no ne ↦ every-parts xs n (both (parts x) (every parts xs) a .1) (simp (ne-eqb n x ne) at h)
     ]
+
+sub-part : (a b c : ℕ) → b + c ≡ a → a - c ≡ b
+sub-part a b c e = omega arith
+
+no-more : (a b c : ℕ) → b + c ≡ a → c ≡ 0 → b ≡ a
+no-more a b c e z = omega arith
+
+module _ (n : ℕ) (pos : 0 < n) where
+  -- a multiple of n, from its quotient
+  multiple : (base : ℕ) → base % n ≡ 0 → base / n * n ≡ base
+  multiple base z = no-more base (base / n * n) (base % n) (div-add-mod' base n) z
+
+  pub start-of : (pc : ℕ) → (pc - pc % n) % n ≡ 0
+  start-of pc =
+      let e : pc - pc % n ≡ pc / n * n = sub-part pc (pc / n * n) (pc % n) (div-add-mod' pc n) in
+      let f : pc / n * n + 0 ≡ pc / n * n = add-zero (pc / n * n) in
+      ap (λ (k : ℕ). k % n) (e ∙ sym f) ∙ digits-mod (pc / n) pos
+
+  module _ (base x : ℕ) (z : base % n ≡ 0) (h : x < n) where
+    pub index-of : (base + x) % n ≡ x
+    index-of = subst (λ (b : ℕ). (b + x) % n ≡ x) (multiple base z) (digits-mod (base / n) h)
+
+    quotient-of : (base + x) / n ≡ base / n
+    quotient-of = subst (λ (b : ℕ). (b + x) / n ≡ base / n) (multiple base z) (digits-div (base / n) h)
+
+    pub region-of : 16777216 % n ≡ 0 → (base + x) / 16777216 ≡ base / 16777216
+    region-of part =
+        let q = 16777216 / n in
+        let e : n * (16777216 / n) ≡ 16777216 = mul-comm n (16777216 / n) ∙ multiple 16777216 part in
+        subst (λ (w : ℕ). (base + x) / w ≡ base / w) e
+        (sym (div-div-eq-div-mul (base + x) n q) ∙ ap (λ (k : ℕ). k / q) quotient-of ∙ div-div-eq-div-mul base n q)
+
+  pub even-of : n % 2 ≡ 0 → (base : ℕ) → base % n ≡ 0 → base % 2 ≡ 0
+  even-of two base z =
+      let e : n / 2 * 2 ≡ n = no-more n (n / 2 * 2) (n % 2) (div-add-mod' n 2) two in
+      let k = base / n in
+      let f : k * (n / 2) * 2 + 0 ≡ base =
+          add-zero (k * (n / 2) * 2) ∙ mul-assoc k (n / 2) 2 ∙ ap (λ (m : ℕ). k * m) e ∙ multiple base z in
+      subst (λ (b : ℕ). b % 2 ≡ 0) f (digits-mod (k * (n / 2)) (omega arith))
 
 -- a length: its bounds; the start of the memory below an address; and the addresses from such a start on
 pub record Room (n : ℕ) : Type 0 where
@@ -42,230 +87,39 @@ pub record Room (n : ℕ) : Type 0 where
   pub index : (base x : ℕ) → base % n ≡ 0 → x < n → (base + x) % n ≡ x
   pub region : (base x : ℕ) → base % n ≡ 0 → x < n → (base + x) / 16777216 ≡ base / 16777216
 
-pub wram-room : Room 65536
-wram-room =
+rejoin : (pc r : ℕ) → r ≤ pc → pc - r + r ≡ pc
+rejoin pc r h = omega arith
+
+below : (a b : ℕ) → a / 16777216 ≡ b / 16777216 → b < 2 ^ 32 → a < 2 ^ 32
+below a b e h = omega arith
+
+room-of : (n : ℕ) → parts n ≡ true → Room n
+room-of n t =
+    let a = both (eqb (16777216 % n) 0) _ t in
+    let b = both (eqb (n % 2) 0) _ (a .1) in
+    let d = both (leb 1024 n) (leb n 16777216) (b .1) in
+    let least : 1024 ≤ n = leb-true 1024 n (d .0) in
+    let pos : 0 < n = omega (arith, least) in
+    let part : 16777216 % n ≡ 0 = eqb-true (16777216 % n) 0 (a .0) in
     record {
-      least = omega arith;
-      most = omega arith;
-      start = λ pc. omega arith;
-      same = λ pc. omega arith;
-      even = λ base z. omega arith;
-      fits = λ base x h z k. omega arith;
-      index = λ base x z k. omega arith;
-      region = λ base x z k. omega arith;
+      least = least;
+      most = leb-true n 16777216 (d .1);
+      start = start-of n pos;
+      same = λ pc.
+          subst (λ (k : ℕ). (pc - pc % n) / 16777216 ≡ k / 16777216) (rejoin pc (pc % n) (mod-le pc n))
+          (sym (region-of n pos (pc - pc % n) (pc % n) (start-of n pos pc) (mod-lt pc pos) part));
+      even = even-of n pos (eqb-true (n % 2) 0 (b .0));
+      fits = λ base x h z k. below (base + x) base (region-of n pos base x z k part) h;
+      index = λ base x z k. index-of n pos base x z k;
+      region = λ base x z k. region-of n pos base x z k part;
     }
 
-rooms : All Room romLengths
-rooms = (
-  record {
-    least = omega arith;
-    most = omega arith;
-    start = λ pc. omega arith;
-    same = λ pc. omega arith;
-    even = λ base
-        z. omega arith;
-    fits = λ base x h z k. omega arith;
-    index = λ base x z k. omega arith;
-    region = λ base x z k.
-        omega arith;
-  },
-  (
-    record {
-      least = omega arith;
-      most = omega arith;
-      start = λ pc. omega arith;
-      same = λ pc. omega arith;
-      even = λ base
-          z. omega arith;
-      fits = λ base x h z k. omega arith;
-      index = λ base x z k. omega arith;
-      region = λ base x z k.
-          omega arith;
-    },
-    (
-      record {
-        least = omega arith;
-        most = omega arith;
-        start = λ pc. omega arith;
-        same = λ pc. omega arith;
-        even = λ
-            base z. omega arith;
-        fits = λ base x h z k. omega arith;
-        index = λ base x z k. omega arith;
-        region = λ base x
-            z k. omega arith;
-      },
-      (
-        record {
-          least = omega arith;
-          most = omega arith;
-          start = λ pc. omega arith;
-          same = λ pc. omega arith;
-          even = λ
-              base z. omega arith;
-          fits = λ base x h z k. omega arith;
-          index = λ base x z k. omega arith;
-          region = λ base
-              x z k. omega arith;
-        },
-        (
-          record {
-            least = omega arith;
-            most = omega arith;
-            start = λ pc. omega arith;
-            same = λ pc. omega arith;
-            even =
-                λ base z. omega arith;
-            fits = λ base x h z k. omega arith;
-            index = λ base x z k. omega arith;
-            region = λ
-                base x z k. omega arith;
-          },
-          (
-            record {
-              least = omega arith;
-              most = omega arith;
-              start = λ pc. omega arith;
-              same = λ pc. omega arith;
-              even
-                  = λ base z. omega arith;
-              fits = λ base x h z k. omega arith;
-              index = λ base x z k. omega arith;
-              region =
-                  λ base x z k. omega arith;
-            },
-            (
-              record {
-                least = omega arith;
-                most = omega arith;
-                start = λ pc. omega arith;
-                same = λ pc. omega arith;
-                even = λ base z. omega arith;
-                fits = λ base x h z k. omega arith;
-                index = λ base x z k. omega arith;
-                region = λ base x z k. omega arith;
-              },
-              (
-                record {
-                  least = omega arith;
-                  most = omega arith;
-                  start = λ pc. omega arith;
-                  same = λ pc. omega arith;
-                  even = λ base z. omega arith;
-                  fits = λ base x h z k. omega arith;
-                  index = λ base x z k. omega arith;
-                  region = λ base x z k. omega arith;
-                },
-                (
-                  record {
-                    least = omega arith;
-                    most = omega arith;
-                    start = λ pc. omega arith;
-                    same = λ pc. omega arith;
-                    even = λ base z. omega arith;
-                    fits = λ base x h z k. omega arith;
-                    index = λ base x z k. omega
-                        arith;
-                    region = λ base x z k. omega arith;
-                  },
-                  (
-                    record {
-                      least = omega arith;
-                      most = omega arith;
-                      start = λ pc. omega arith;
-                      same = λ pc. omega
-                          arith;
-                      even = λ base z. omega arith;
-                      fits = λ base x h z k. omega arith;
-                      index = λ base x z k.
-                          omega arith;
-                      region = λ base x z k. omega arith;
-                    },
-                    (
-                      record {
-                        least = omega arith;
-                        most = omega arith;
-                        start = λ pc. omega arith;
-                        same = λ pc. omega
-                            arith;
-                        even = λ base z. omega arith;
-                        fits = λ base x h z k. omega arith;
-                        index = λ base x z k.
-                            omega arith;
-                        region = λ base x z k. omega arith;
-                      },
-                      (
-                        record {
-                          least = omega arith;
-                          most = omega arith;
-                          start = λ pc. omega arith;
-                          same = λ pc. omega
-                              arith;
-                          even = λ base z. omega arith;
-                          fits = λ base x h z k. omega arith;
-                          index = λ base x z
-                              k. omega arith;
-                          region = λ base x z k. omega arith;
-                        },
-                        (
-                          record {
-                            least = omega arith;
-                            most = omega arith;
-                            start = λ pc. omega arith;
-                            same = λ pc.
-                                omega arith;
-                            even = λ base z. omega arith;
-                            fits = λ base x h z k. omega arith;
-                            index = λ
-                                base x z k. omega arith;
-                            region = λ base x z k. omega arith;
-                          },
-                          (
-                            record {
-                              least = omega arith;
-                              most = omega arith;
-                              start = λ pc. omega arith;
-                              same = λ pc.
-                                  omega arith;
-                              even = λ base z. omega arith;
-                              fits = λ base x h z k. omega arith;
-                              index = λ
-                                  base x z k. omega arith;
-                              region = λ base x z k. omega arith;
-                            },
-                            (
-                              record {
-                                least = omega arith;
-                                most = omega arith;
-                                start = λ pc. omega arith;
-                                same = λ pc.
-                                    omega arith;
-                                even = λ base z. omega arith;
-                                fits = λ base x h z k. omega arith;
-                                index =
-                                    λ base x z k. omega arith;
-                                region = λ base x z k. omega arith;
-                              },
-                              tt,
-                            ),
-                          ),
-                        ),
-                      ),
-                    ),
-                  ),
-                ),
-              ),
-            ),
-          ),
-        ),
-      ),
-    ),
-  ),
-)
+pub wram-room : Room 65536
+wram-room = room-of 65536 refl
 
 pub rom-room : (n : ℕ) → romOk n ≡ true → Room n
 unfolding romOk
-rom-room n e = one-of Room romLengths n rooms e
+rom-room n e = room-of n (every-parts romLengths n refl e)
 
 -- the region of an index is that of the start
 same-region : (n base x r : ℕ) → Room n → base % n ≡ 0 → x < n → regionOf base ≡ r → regionOf (base + x) ≡ r
