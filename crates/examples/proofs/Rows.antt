@@ -15,11 +15,11 @@ use Rattle.processor_arithmetic.specs.Quotient.{divideOf}
 use Rattle.processor_machine.specs.State.{Stepped}
 use Rattle.processor_interrupt.specs.Interrupt.{acceptsOf}
 use Rattle.processor_step.specs.Step.{acceptsIn}
-use Rattle.drawing_pixel.specs.Signed.{eyeFlagOf}
+use Rattle.drawing_pixel.specs.Flags.{eyeFlagOf}
 use Rattle.drawing_pixel.specs.Character.{twoBitsOf, characterAddressOf, shadeOf}
 use Rattle.drawing_pixel.specs.World.{worldShownOf}
 use Rattle.word.specs.Floors.{modZ}
-use Rattle.examples.specs.Rows.{Answer, addresses, answer, branch, exampleRows, exampleRow, worldWith, shownFrom}
+use Rattle.examples.specs.Rows.{exampleRows, worldWith, shownFrom}
 use Rattle.examples.specs.Rows.{flagsIn, pcBefore, memoryWith, stateWith, pcAfter, pcsFrom, RowsHold}
 use Rattle.examples.proofs.Branches.{branches-to-itself, never-branches}
 
@@ -58,25 +58,10 @@ same-pcs f a e psw (suc n) = both (e psw) (same-pcs f a e (suc psw) n)
     both : {x y : ℕ} {xs ys : List ℕ} → x ≡ y → xs ≡ ys → x ∷ xs ≡ y ∷ ys
     both p q = cc
 
-next : {x y : Answer} {xs ys : List Answer} → x ≡ y → xs ≡ ys → x ∷ xs ≡ y ∷ ys
-next p q = cc
-
-itself-row : answer (branch 0x8A00) ≡ addresses (replicate 16 pcBefore)
-unfolding answer
-itself-row = ap addresses (same-pcs 0x8A00 pcBefore itself-pc 0 16)
-
-never-row : answer (branch 0x9A00) ≡ addresses (replicate 16 (pcBefore + 2))
-unfolding answer
-never-row = ap addresses (same-pcs 0x9A00 (pcBefore + 2) never-pc 0 16)
-
 pub rows-hold : RowsHold
-unfolding exampleRows exampleRow answer flagsIn extendOf sumOf signedOf flagsOf keepCarryOf divideOf placeOf regionOf vipPlace registerPlace mirrorOf
-    characterAddressOf shadeOf twoBitsOf worldWith shownFrom worldShownOf eyeFlagOf modZ
+unfolding exampleRows flagsIn extendOf sumOf signedOf flagsOf keepCarryOf divideOf placeOf regionOf vipPlace registerPlace mirrorOf characterAddressOf shadeOf
+    twoBitsOf worldWith shownFrom worldShownOf eyeFlagOf modZ
 rows-hold =
-    next refl
-    (next refl
-    (next refl
-    (next refl
-    (next refl
-    (next refl
-    (next refl (next refl (next refl (next itself-row (next never-row (next refl refl)))))))))))
+    let itself = same-pcs 0x8A00 pcBefore itself-pc 0 16 in
+    let never = same-pcs 0x9A00 (pcBefore + 2) never-pc 0 16 in
+    (refl, (refl, (refl, (refl, (refl, (refl, (refl, (refl, (refl, (itself, (never, (refl, (refl, tt)))))))))))))

@@ -1,8 +1,7 @@
--- Paper 01, "Checks worth a day each": its table of worked examples. A row is a question and the answer that
--- the paper prints; `answer` answers a question by the definitions that the contracts name; `RowsHold` is the one
--- statement about the list.
+-- Paper 01, "Checks worth a day each": its table of worked examples. A row is what the definitions that the contracts
+-- name give, and what the paper prints; `RowsHold` is the one statement about the list.
 use Prim.Native.Nat.{ℕ, zero, suc, _+_, _-_, _*_, _/_, _%_, _^_}
-use mathlib.Core.List.{List, [], _∷_, map}
+use mathlib.Core.List.{List, [], _∷_}
 use mathlib.Core.Path.{_≡_}
 use lib.ListN.{replicate}
 use Rattle.word.specs.Bit.{bitAt}
@@ -20,48 +19,10 @@ use Rattle.drawing_pixel.specs.Character.{characterAddressOf, shadeOf}
 use Rattle.drawing_pixel.specs.Pixel.{worldCovers}
 use Rattle.drawing_pixel.specs.Strip.{pixelOffsetOf, pixelPairOf}
 
--- what a row asks
-pub data Question : Type 0 where
-  -- where an address leads, with a ROM of the given length
-  address : ℕ → ℕ → Question
-  -- the bytes of a halfword access
-  halfword : ℕ → Question
-  -- where a character's bytes begin
-  character : ℕ → Question
-  -- where a pixel stands in an image; `pixel-drawn` (drawing_laws) ties the place to the lists that contracts name
-  pixel : ℕ → ℕ → Question
-  -- what values 1, 2 and 3 become in a palette
-  palette : ℕ → Question
-  -- the flags of a sum
-  sum : ℕ → ℕ → Question
-  -- a signed quotient and its remainder
-  quotient : ℕ → ℕ → Question
-  -- where a step of an instruction of one halfword goes on, in each of the sixteen settings of the four flags
-  branch : ℕ → Question
-  -- which image columns the window of a normal world has, by W, GX and GP
-  window : ℕ → ℕ → ℕ → Question
-
--- what a row answers
-pub data Answer : Type 0 where
-  place : Place → Answer
-  places : Place → Place → Answer
-  -- an offset, and there the first and the last bit
-  bits : ℕ → ℕ → ℕ → Answer
-  shades : ℕ → ℕ → ℕ → Answer
-  -- OV, S, CY and Z
-  flags : ℕ → ℕ → ℕ → ℕ → Answer
-  -- reg2 and r30
-  results : ℕ → ℕ → Answer
-  addresses : List ℕ → Answer
-  -- the left eye's columns and the right eye's
-  columns : List ℕ → List ℕ → Answer
-
-pub record ExampleRow : Type 0 where
-  pub question : Question
-  pub printed : Answer
-
-unfoldable pub exampleRow : Question → Answer → ExampleRow
-exampleRow q a = record { question = q; printed = a }
+-- a row: what the definitions give, and what the paper prints
+pub data Row : Type 0 where
+  places : List Place → List Place → Row
+  numbers : List ℕ → List ℕ → Row
 
 -- a normal world of a width, position and parallax, shown to both eyes, all else 0
 unfoldable pub worldWith : ℕ → ℕ → ℕ → List ℕ
@@ -95,40 +56,45 @@ unfoldable pub pcsFrom : ℕ → ℕ → ℕ → List ℕ
 pcsFrom f psw zero = []
 pcsFrom f psw (suc n) = pcAfter f psw ∷ pcsFrom f (suc psw) n
 
--- the flags of a PSW
-unfoldable pub flagsIn : ℕ → Answer
-flagsIn psw = flags (bitAt ovFlag psw) (bitAt sFlag psw) (bitAt cyFlag psw) (bitAt zFlag psw)
+-- OV, S, CY and Z of a PSW
+unfoldable pub flagsIn : ℕ → List ℕ
+flagsIn psw = bitAt ovFlag psw ∷ bitAt sFlag psw ∷ bitAt cyFlag psw ∷ bitAt zFlag psw ∷ []
 
--- a question, answered by the definitions
-unfoldable pub answer : Question → Answer
-answer (address romLength a) = place (placeOf romLength 0 a)
-answer (halfword a) = places (placeOf 1024 0 (alignedOf 2 a)) (placeOf 1024 0 (alignedOf 2 a + 1))
-answer (character c) = place (vramAt (characterAddressOf c))
-answer (pixel x y) = bits (pixelOffsetOf x y) (2 * pixelPairOf y) (2 * pixelPairOf y + 1)
-answer (palette p) = shades (shadeOf p 1 0) (shadeOf p 2 0) (shadeOf p 3 0)
-answer (sum a b) = flagsIn (sumOf a b 0 .psw)
-answer (quotient a b) = results (divideOf a b 0 .reg2) (divideOf a b 0 .r30)
-answer (branch f) = addresses (pcsFrom f 0 16)
-answer (window w gx gp) = columns (shownFrom (worldWith w gx gp) 0 0 384) (shownFrom (worldWith w gx gp) 1 0 384)
-
--- the paper's rows
-unfoldable pub exampleRows : List ExampleRow
+-- the table, in its order. An instruction of one halfword is stepped in each of the sixteen settings of the four flags.
+-- The last two are one row of the table: the image columns of a window, by W, GX and GP, to the left eye and to the
+-- right
+unfoldable pub exampleRows : List Row
 exampleRows =
-    exampleRow (address 1024 0xFFFFFFF0) (place (romAt 0x3F0))
-    ∷ exampleRow (address 1024 0x05012345) (place (wramAt 0x2345))
-    ∷ exampleRow (address 1024 0x000FA010) (place (vramAt 0xE010))
-    ∷ exampleRow (character 513) (place (vramAt 0xE010))
-    ∷ exampleRow (halfword 0x05000001) (places (wramAt 0) (wramAt 1))
-    ∷ exampleRow (pixel 1 9) (bits 66 2 3)
-    ∷ exampleRow (palette 0xE4) (shades 1 2 3)
-    ∷ exampleRow (sum 0x7FFFFFFF 1) (flags 1 1 0 0)
-    ∷ exampleRow (quotient (2 ^ 32 - 7) 2) (results (2 ^ 32 - 3) (2 ^ 32 - 1))
-    ∷ exampleRow (branch 0x8A00) (addresses (replicate 16 pcBefore))
-    ∷ exampleRow (branch 0x9A00) (addresses (replicate 16 (pcBefore + 2)))
-    ∷ exampleRow (window 0 383 1) (columns (382 ∷ []) [])
+    places (placeOf 1024 0 0xFFFFFFF0 ∷ []) (romAt 0x3F0 ∷ [])
+    ∷ places (placeOf 1024 0 0x05012345 ∷ []) (wramAt 0x2345 ∷ [])
+    ∷ places (placeOf 1024 0 0x000FA010 ∷ []) (vramAt 0xE010 ∷ [])
+    -- where a character's bytes begin
+    ∷ places (vramAt (characterAddressOf 513) ∷ []) (vramAt 0xE010 ∷ [])
+    -- the bytes of a halfword access
+    ∷ places (placeOf 1024 0 (alignedOf 2 0x05000001) ∷ placeOf 1024 0 (alignedOf 2 0x05000001 + 1) ∷ [])
+    (wramAt 0 ∷ wramAt 1 ∷ [])
+    -- a pixel's offset in its image, and there its first and its last bit; `pixel-drawn` (drawing_laws) ties the place to
+    -- the lists that contracts name
+    ∷ numbers (pixelOffsetOf 1 9 ∷ (2 * pixelPairOf 9) ∷ (2 * pixelPairOf 9 + 1) ∷ []) (66 ∷ 2 ∷ 3 ∷ [])
+    -- what values 1, 2 and 3 become in a palette
+    ∷ numbers (shadeOf 0xE4 1 0 ∷ shadeOf 0xE4 2 0 ∷ shadeOf 0xE4 3 0 ∷ []) (1 ∷ 2 ∷ 3 ∷ [])
+    ∷ numbers (flagsIn (sumOf 0x7FFFFFFF 1 0 .psw)) (1 ∷ 1 ∷ 0 ∷ 0 ∷ [])
+    -- the quotient in reg2, the remainder in r30
+    ∷ numbers (divideOf (2 ^ 32 - 7) 2 0 .reg2 ∷ divideOf (2 ^ 32 - 7) 2 0 .r30 ∷ []) ((2 ^ 32 - 3) ∷ (2 ^ 32 - 1) ∷ [])
+    ∷ numbers (pcsFrom 0x8A00 0 16) (replicate 16 pcBefore)
+    ∷ numbers (pcsFrom 0x9A00 0 16) (replicate 16 (pcBefore + 2))
+    ∷ numbers (shownFrom (worldWith 0 383 1) 0 0 384) (382 ∷ [])
+    ∷ numbers (shownFrom (worldWith 0 383 1) 1 0 384) []
     ∷ []
 
--- every row's printed answer is the definitions' answer
+-- what the definitions give is what the paper prints: in a row, and in every row of a list
+abbrev pub RowHolds : Row → Type 0
+RowHolds (places given printed) = given ≡ printed
+RowHolds (numbers given printed) = given ≡ printed
+
+abbrev pub EachHolds : List Row → Type 0
+EachHolds [] = Unit {0}
+EachHolds (row ∷ rows) = RowHolds row × EachHolds rows
+
 abbrev pub RowsHold : Type 0
-RowsHold =
-    map (λ (r : ExampleRow). answer (r .question)) exampleRows ≡ map (λ (r : ExampleRow). r .printed) exampleRows
+RowsHold = EachHolds exampleRows
