@@ -73,7 +73,7 @@ module _ (n : ℕ) (pos : 0 < n) where
       let e : n / 2 * 2 ≡ n = no-more n (n / 2 * 2) (n % 2) (div-add-mod' n 2) two in
       let k = base / n in
       let f : k * (n / 2) * 2 + 0 ≡ base =
-          add-zero (k * (n / 2) * 2) ∙ mul-assoc k (n / 2) 2 ∙ ap (λ (m : ℕ). k * m) e ∙ multiple base z in
+      add-zero (k * (n / 2) * 2) ∙ mul-assoc k (n / 2) 2 ∙ ap (λ (m : ℕ). k * m) e ∙ multiple base z in
       subst (λ (b : ℕ). b % 2 ≡ 0) f (digits-mod (k * (n / 2)) (omega arith))
 
 -- a length: its bounds; the start of the memory below an address; and the addresses from such a start on
