@@ -13,16 +13,17 @@ use Rattle.word.specs.Integers.{aboveZero}
 use Rattle.drawing_pixel.specs.World.{bgmOf, worldShownOf}
 use Rattle.drawing_pixel.specs.Fields.{GY, W, H}
 use Rattle.drawing_pixel.specs.HeightFormulas.{topInImage, stripRest, rows}
-use Rattle.drawing_pixel.specs.WindowFormulas.{windowLeft, columns, plainRow}
+use Rattle.drawing_pixel.specs.WindowFormulas.{windowLeft, plainRow}
 use Rattle.drawing_pixel.specs.inner.BiasedFields.{biasedOf, gxBiased, gpBiased, gyBiased, edgeBiased}
 
 -- the columns of a world: W + 1, none where that is not above 0. W is 13 bits signed; affine, 10 bits unsigned
 unfoldable pub columnsBiased : List ℕ → ℕ
 columnsBiased w = pick (eqb (bgmOf w) 2) (getD w 7 0 % 1024 + 1) (biasedOf 4096 (getD w 7 0) + 1 - 4096)
 
+-- R3: W + 1 columns, none where that is not above 0
 abbrev pub WorldColumns : Type 0
 WorldColumns =
-    (w : List ℕ) → columnsBiased w ≡ columns w
+    (w : List ℕ) → columnsBiased w ≡ aboveZero (W w +ℤ pos 1)
 
 -- H + 1, none where that is not above 0. H is 16 bits signed
 abbrev pub heightBiased : List ℕ → ℕ
