@@ -5,7 +5,7 @@ use refusal::Verdict;
 ghost use mathlib.Core.Path.{_≡_};
 ghost use Rattle.bus_tick.specs.Tick.{checkedTickOf};
 
-// The answer of a tick: the record afterwards beside the verdict.
+// The answer of a tick: the verdict and the record afterwards.
 pub struct Ticked {
     pub verdict: Verdict,
     pub hardware: TimerLines,

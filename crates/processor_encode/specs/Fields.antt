@@ -14,7 +14,7 @@ use Rattle.processor_decode.specs.declared.Instruction.the-variants.{Bcond, Jr,
 use Rattle.processor_decode.specs.declared.Instruction.the-variants.{Illegal, Cmpf, Floating, Nintendo}
 use Rattle.processor_encode.specs.declared.Fields as fields
 
-abbrev pub numbers : ℕ → ℕ → ℕ → ℕ → ℕ → fields.Fields
+abbrev pub numbers : (operation reg1 reg2 condition immediate : ℕ) → fields.Fields
 numbers operation reg1 reg2 condition immediate =
     record { operation = operation; reg1 = reg1; reg2 = reg2; condition = condition; immediate = immediate }
 

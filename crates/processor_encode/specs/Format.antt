@@ -86,7 +86,7 @@ unfoldable pub longFormats : List format.Format
 longFormats =
     -- 32 Bcond, for all eight opcodes 100000 to 100111
     Branch ∷
-    -- 33 to 39 are no operation numbers
+    -- 33 to 39 are not operation numbers
     Unlisted ∷
     Unlisted ∷
     Unlisted ∷

@@ -28,7 +28,7 @@ unfoldable pub systemFits : ℕ → Bool
 systemFits x = pick (eqb x 24) false (ltb x 32)
 
 -- each field is below its limit, 1 where the format does not have it, and the immediate in its range
-unfoldable pub within : fields.Fields → ℕ → ℕ → ℕ → Bool → Bool
+unfoldable pub within : (x : fields.Fields) (reg1 reg2 condition : ℕ) (immediate : Bool) → Bool
 within x reg1 reg2 condition immediate =
     pick (ltb (x .reg1) reg1)
     (pick (ltb (x .reg2) reg2) (pick (ltb (x .condition) condition) immediate false) false) false

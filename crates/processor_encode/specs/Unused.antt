@@ -5,8 +5,9 @@ use Prim.Native.Nat.{ℕ, _+_, _-_, _*_, _/_, _%_, _^_}
 use mathlib.Core.Bool.{Bool}
 use lib.Dec.{ltb, eqb}
 use Rattle.word.specs.Choose.{pick}
-use Rattle.processor_decode.specs.Format.{twoOf}
+use Rattle.processor_decode.specs.Format.{opcodeOf, firstLong, twoOf}
 use Rattle.processor_encode.specs.Format.{formatOf}
+use Rattle.processor_encode.specs.Place.{extendedOpcode}
 use Rattle.processor_encode.specs.declared.Encoded as encoded
 use Rattle.processor_encode.specs.declared.Encoded.the-variants.{One, Two}
 use Rattle.processor_encode.specs.declared.format.Format as format
@@ -19,11 +20,16 @@ use Rattle.processor_encode.specs.declared.format.Format.the-variants.{U
 abbrev pub without : ℕ → ℕ → ℕ → ℕ
 without low count x = x - x / 2 ^ low % 2 ^ count * 2 ^ low
 
+-- 100000, the first of Bcond's eight opcodes
+abbrev pub firstBranch : ℕ
+firstBranch = 0x20
+
 -- the operation of a first and a second halfword: the opcode, 32 for Bcond's eight, 64 and the sub-opcode for 111110
 unfoldable pub operationAt : ℕ → ℕ → ℕ
 operationAt f s =
-    pick (ltb (f / 1024) 32) (f / 1024)
-    (pick (ltb (f / 1024) 40) 32 (pick (eqb (f / 1024) 62) (64 + s / 1024) (f / 1024)))
+    pick (ltb (opcodeOf f) firstBranch) (opcodeOf f)
+    (pick (ltb (opcodeOf f) firstLong) firstBranch
+    (pick (eqb (opcodeOf f) extendedOpcode) (64 + s / 2 ^ 10) (opcodeOf f)))
 
 -- the first halfword without its unused bits
 abbrev pub firstWithout : format.Format → ℕ → ℕ

@@ -1,4 +1,4 @@
--- What each format reads from its halfwords, and the tables of formats, instructions and decoded rows beside each other: the decoder's row is the instruction
+-- What each format reads from its halfwords, and the tables of formats, instructions and decoded rows compared: the decoder's row is the instruction
 -- of the fields that its format reads, `decode-row`, and an instruction's fields are those that its format has, `instruction-fields`. Assumes nothing.
 use Prim.Native.Nat.{ℕ, _+_, _-_, _*_, _/_, _%_, _≤_, _<_}
 use mathlib.Core.Bool.{Bool, true, false}

@@ -27,7 +27,7 @@ use Rattle.processor_encode.specs.declared.format.Format.the-variants.{Unsigned
 use Rattle.processor_encode_laws.specs.RoundTrip.{DecodesTo, Legal, RefusedExactly, Decodable, RangeExactly}
 use Rattle.processor_encode_laws.proofs.RoundTrip.{decode-encode, encode-decode}
 
--- halfwords are no refusal
+-- halfwords are not a refusal
 one-refused : (f : ℕ) (n : Refusal) → One f ≡ Refused n → ⊥
 one-refused f n e = let z : _≡_ {A = ℕ} 0 1 = cc in omega arith
 
@@ -80,7 +80,7 @@ illegal-refused : inRangeOf Illegal ≡ false
 unfolding formatOf extendedFormats
 illegal-refused = refl
 
--- what clearing gives is no refusal
+-- what clearing gives is not a refusal
 cleared-apart : (f s : ℕ) (n : Refusal) → clearedOf f s ≡ Refused n → ⊥
 unfolding clearedOf
 cleared-apart f s n e = two-apart (twoOf f) (clearedFirst f s) (clearedSecond f s) n e
