@@ -50,19 +50,9 @@ module _ (m : Memory) (a : ℕ) where
       let r = place-vip (length (m .rom)) (length (m .pak)) a here ∙ q in
       byte-store m a v ∙ rw (r, r)
 
--- each byte of an access stands in the region of its address
-abbrev pub Within : ℕ → ℕ → Type 0
-Within size a = (j : ℕ) → j < size → regionOf (alignedOf size a + j) ≡ regionOf a
-
 -- neither the VIP, pak RAM nor the timer, by the code's tests
 abbrev pub Passed : ℕ → Type 0
 Passed r = (r ≡ 0 → ⊥) × ((r ≡ 6 → ⊥) × (r ≡ 2 → ⊥))
-
-pub passed-each : (a : ℕ) → (a / 16777216 % 8 ≡ 0 → ⊥) → (a / 16777216 % 8 ≡ 6 → ⊥) → (a / 16777216 % 8 ≡ 2 → ⊥) → Passed (regionOf a)
-passed-each a vip pak timer = (missed a 0 vip, (missed a 6 pak, missed a 2 timer))
-
-pub passed-above : (a : ℕ) → 2 < a / 16777216 % 8 → (a / 16777216 % 8 ≡ 6 → ⊥) → Passed (regionOf a)
-passed-above a high pak = (above a 0 (omega arith) high, (missed a 6 pak, above a 2 (omega arith) high))
 
 -- a region with nothing to read
 abbrev pub Quiet : ℕ → Type 0
@@ -80,9 +70,9 @@ from-quiet m s (suc n) q =
     rw f at (q (1 + j) (omega arith)) in
     rw (first, from-quiet m (s + 1) n next)
 
-pub nothing-read : (m : Memory) (size a : ℕ) → Within size a → Quiet (regionOf a) → loadOf m size a ≡ 0
+pub nothing-read : (m : Memory) (size a : ℕ) → ((j : ℕ) → j < size → Quiet (regionOf (alignedOf size a + j))) → loadOf m size a ≡ 0
 unfolding loadOf
-nothing-read m size a w q = from-quiet m (a - a % size) size (λ j less. rw (w j less) q)
+nothing-read m size a q = from-quiet m (alignedOf size a) size q
 
 -- a region that takes nothing
 abbrev pub Inert : ℕ → Type 0
@@ -111,9 +101,9 @@ from-inert m s (suc (suc n)) v q =
     rw f at (q (2 + j) (omega arith)) in
     rw (inert-halfword m s v p (q 1 (omega arith))) (from-inert m (s + 2) n (v / 65536) next)
 
-pub nothing-stored : (m : Memory) (size a v : ℕ) → Within size a → Inert (regionOf a) → storeOf m size a v ≡ m
+pub nothing-stored : (m : Memory) (size a v : ℕ) → ((j : ℕ) → j < size → Inert (regionOf (alignedOf size a + j))) → storeOf m size a v ≡ m
 unfolding storeOf
-nothing-stored m size a v w q = from-inert m (a - a % size) size v (λ j less. rw (w j less) q)
+nothing-stored m size a v q = from-inert m (alignedOf size a) size v q
 
 -- between VRAM and the mirror only registers take anything
 pub between-byte : (m : Memory) (a v : ℕ) → regionOf a ≡ 0 → 262144 ≤ a % 524288 → a % 524288 < 491520 → storeOf m 1 a v ≡ putRegister m a v

@@ -1,6 +1,6 @@
 -- A load or store of any size in terms of its bytes and halfwords.
 -- Assumes nothing.
-use Prim.Native.Nat.{ℕ, _+_, _-_, _*_, _/_, _%_}
+use Prim.Native.Nat.{ℕ, _+_, _-_, _*_, _/_, _%_, _<_}
 use mathlib.Core.Path.{_≡_, sym, _∙_}
 use native.Mathlib.Omega.{arith}
 use Rattle.bus.specs.Memory.{Memory, Reads, byteOf, loadOf, putByte, putRegister, storeOf}
@@ -67,3 +67,24 @@ reads-word m a x y p q =
       means = sym (word-load m a ∙ rw (← p .means, ← q .means));
       fits = omega (arith, p .fits, q .fits);
     }
+
+-- a word at an aligned address, of a size that is known to be 4
+module _ (m : Memory) (size a : ℕ) (e : size ≡ 4) (z : a % size ≡ 0) where
+  fourth : a % 4 ≡ 0
+  fourth = rw e at z
+
+  pub room-above : a % 4 + 2 < 4
+  room-above = omega (arith, fourth)
+
+  pub aligned-word-reads : (x y : ℕ) → Reads m 2 a x → Reads m 2 (a + 2) y → Reads m size a (x + 65536 * y)
+  aligned-word-reads x y p q =
+      let f = fourth in
+      let g : a ≡ a - a % 4 = omega (arith, f) in
+      let k : a + 2 ≡ a - a % 4 + 2 = omega (arith, f) in
+      rw e (reads-word m a x y (rw g at p) (rw k at q))
+
+  pub aligned-word-store : (v : ℕ) → storeOf (storeOf m 2 a v) 2 (a + 2) (v / 65536) ≡ storeOf m size a v
+  aligned-word-store v =
+      let f = fourth in
+      let g : a - a % 4 ≡ a = omega (arith, f) in
+      rw e (sym (word-store m a v ∙ rw g))

@@ -3,15 +3,18 @@ pub mod Devices
 mod Indices
 mod Power
 pub mod Sizes
+mod Numbers
 pub mod Led
 pub mod Places
 pub mod Halfwords
 pub mod Spans
 mod VipPlaces
-mod VipAccess
 mod PakRam
 pub mod PortAccess
 mod Accesses
+mod VipAccess
+mod Aligned
+mod ByPlace
 pub mod DrawingPlaces
 pub mod Accepted
 pub mod Kept

@@ -27,6 +27,11 @@ region-half a j h =
     let f : a % 4 - a % 2 + j < 4 = omega arith in
     rw e (region-word a (a % 4 - a % 2 + j) f)
 
+pub region-step : (s j : ℕ) → s % 4 + j < 4 → regionOf (s + j) ≡ regionOf s
+region-step s j h =
+    let e : s - s % 4 + (s % 4 + j) ≡ s + j = omega arith in
+    rw e at (region-word s (s % 4 + j) h)
+
 pub region-byte : (a j : ℕ) → j < 1 → regionOf (a - a % 1 + j) ≡ regionOf a
 region-byte a j h =
     let e : a - a % 1 + j ≡ a = omega arith in

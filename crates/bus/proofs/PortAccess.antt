@@ -1,6 +1,8 @@
 -- Region 2: what a byte, a halfword and a word read there, and what a store does. The timer's registers stand at
 -- multiples of four, so an access of any size is that of its first byte. Assumes nothing.
 use Prim.Native.Nat.{ℕ, _+_, _-_, _/_, _%_, _<_}
+use mathlib.Core.Bool.{true}
+use mathlib.Core.Logic.{_⊎_, inl, inr}
 use mathlib.Core.Path.{_≡_, sym, _∙_}
 use native.Mathlib.Omega.{arith}
 use borrow.Author.Tests.{ne-eqb}
@@ -9,8 +11,9 @@ use Rattle.bus_timer.specs.Ports.{hardwareOffsetOf, portByteOf, portWrittenOf}
 use Rattle.bus_timer.specs.declared.TimerLines.{TimerLines}
 use Rattle.bus.specs.Registers.{hardwareIn, withHardware}
 use Rattle.bus.specs.Place.{regionOf}
-use Rattle.bus.specs.Memory.{Memory, byteOf, loadOf, withRegs, putByte, putHalfword, storeOf, Reads}
+use Rattle.bus.specs.Memory.{Memory, byteOf, loadOf, withRegs, putByte, putHalfword, storeOf, Reads, sizeOk}
 use Rattle.bus.proofs.Devices.{with-same}
+use Rattle.bus.proofs.Sizes.{size-cases}
 use Rattle.bus.proofs.Places.{place-hardware, region-half, region-half-start, region-word, region-word-start, register-elsewhere}
 use Rattle.bus.proofs.Halfwords.{byte-load, half-load, word-load, byte-store, word-store}
 
@@ -122,3 +125,34 @@ port-reads-word m a r here p =
       means = p .means ∙ (byte-load m (a - a % 4) ∙ sym (port-word m a here));
       fits = omega (arith, p .fits);
     }
+
+-- over the size, at an aligned address
+port-case : (m : Memory) (size s r : ℕ) → s % size ≡ 0 → regionOf s ≡ 2 → Reads m 1 s r → (size ≡ 1) ⊎ ((size ≡ 2) ⊎ (size ≡ 4)) → Reads m size s r
+port-case m size s r z here p (inl e) = rw e p
+port-case m size s r z here p (inr (inl e)) =
+    let f : s % 2 ≡ 0 = rw e at z in
+    let g : s - s % 2 ≡ s = omega arith in
+    rw e (port-reads-half m s r here (rw g p))
+port-case m size s r z here p (inr (inr e)) =
+    let f : s % 4 ≡ 0 = rw e at z in
+    let g : s - s % 4 ≡ s = omega arith in
+    rw e (port-reads-word m s r here (rw g p))
+
+pub port-number : (m : Memory) (size s r : ℕ) → sizeOk size ≡ true → s % size ≡ 0 → regionOf s ≡ 2
+    → r ≡ portByteOf (hardwareIn (m .regs)) (hardwareOffsetOf s) → r < 256 → Reads m size s r
+port-number m size s r ok z here e small = port-case m size s r z here (port-reads m s r here e small) (size-cases size ok)
+
+store-case : (m : Memory) (size s v : ℕ) → s % size ≡ 0 → regionOf s ≡ 2 → (size ≡ 1) ⊎ ((size ≡ 2) ⊎ (size ≡ 4)) → storeOf m size s v ≡ storeOf m 1 s v
+store-case m size s v z here (inl e) = rw e
+store-case m size s v z here (inr (inl e)) =
+    let f : s % 2 ≡ 0 = rw e at z in
+    let g : s - s % 2 ≡ s = omega arith in
+    rw e (port-half-store m s v here ∙ rw g)
+store-case m size s v z here (inr (inr e)) =
+    let f : s % 4 ≡ 0 = rw e at z in
+    let g : s - s % 4 ≡ s = omega arith in
+    rw e (port-word-store m s v here ∙ rw g)
+
+pub port-stored : (m : Memory) (size s v : ℕ) → sizeOk size ≡ true → s % size ≡ 0 → regionOf s ≡ 2
+    → storeOf m size s v ≡ withRegs m (withHardware (m .regs) (portWrittenOf (hardwareIn (m .regs)) (hardwareOffsetOf s) (v % 256)))
+port-stored m size s v ok z here = store-case m size s v z here (size-cases size ok) ∙ port-store m s here v

@@ -1,5 +1,5 @@
 -- The sizes of accesses, 1, 2 and 4, and how an access lies in the word of its address. Assumes nothing.
-use Prim.Native.Nat.{ℕ, _+_, _-_, _%_, _<_, _≤_}
+use Prim.Native.Nat.{ℕ, _+_, _-_, _%_, _^_, _<_, _≤_}
 use mathlib.Core.Bool.{Bool, true, false, false≢true}
 use mathlib.Core.Logic.{_⊎_, inl, inr}
 use mathlib.Core.Path.{_≡_, refl, sym, _∙_}
@@ -68,3 +68,23 @@ drop-case size a (inr (inr e)) = rw e (omega arith)
 
 pub mask-below : (size a : ℕ) → sizeOk size ≡ true → bitAnd a (size - 1) ≤ a
 mask-below size a h = rw (size-mask size a h) (drop-case size a (size-cases size h))
+
+power-case : (size : ℕ) → (size ≡ 1) ⊎ ((size ≡ 2) ⊎ (size ≡ 4)) → 0 < 256 ^ size
+power-case size (inl e) = rw e (omega arith)
+power-case size (inr (inl e)) = rw e (omega arith)
+power-case size (inr (inr e)) = rw e (omega arith)
+
+pub size-power : (size : ℕ) → sizeOk size ≡ true → 0 < 256 ^ size
+size-power size ok = power-case size (size-cases size ok)
+
+-- what a test against 4 tells
+below-case : (size : ℕ) → (size ≡ 1) ⊎ ((size ≡ 2) ⊎ (size ≡ 4)) → size < 4 → (size ≡ 1) ⊎ (size ≡ 2)
+below-case size (inl e) h = inl e
+below-case size (inr (inl e)) h = inr e
+below-case size (inr (inr e)) h = absurd (omega arith)
+
+pub short-left : (size : ℕ) → sizeOk size ≡ true → size < 4 → (size ≡ 1) ⊎ (size ≡ 2)
+short-left size ok h = below-case size (size-cases size ok) h
+
+pub long-left : (size : ℕ) → sizeOk size ≡ true → 4 ≤ size → size ≡ 4
+long-left size ok h = four-left size ok (λ e. omega arith) (λ e. omega arith)

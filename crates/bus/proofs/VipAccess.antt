@@ -1,14 +1,17 @@
 -- What the VIP's own functions need: from a halfword register to its bytes, and where the register range is.
 -- Assumes nothing.
 use Prim.Native.Nat.{ℕ, zero, suc, _+_, _-_, _*_, _/_, _%_, _^_, _<_, _≤_}
+use mathlib.Core.Logic.{_⊎_, inl, inr}
 use mathlib.Core.Path.{_≡_, refl, sym, ap, subst, _∙_}
 use native.Mathlib.Omega.{arith}
 use lib.ListN.{length, getD, set}
-use Rattle.bus.specs.Place.{vramAt, vipPlace, regionOf, placeOf}
-use Rattle.bus.specs.Memory.{Memory, Reads, byteOf, loadOf, readPlace}
+use Rattle.bus.specs.Place.{vramAt, vipPlace, registerPlace, regionOf, placeOf}
+use Rattle.bus.specs.Memory.{Memory, Reads, byteOf, loadOf, readPlace, putDrawing, putRegister, storeOf}
+use Rattle.bus.specs.inner.LeadsTo.{Between}
 use Rattle.bus.proofs.Places.{place-vip, region-half-start, region-word-start, region-word}
-use Rattle.bus.proofs.VipPlaces.{between-fits}
-use Rattle.bus.proofs.Halfwords.{byte-load, half-load, half-load-start}
+use Rattle.bus.proofs.VipPlaces.{between-fits, register-load, register-store}
+use Rattle.bus.proofs.Accesses.{between-byte, between-half, between-word}
+use Rattle.bus.proofs.Halfwords.{byte-load, half-load, half-load-start, reads-word}
 
 -- a byte of VRAM
 pub vram-byte : (m : Memory) (a i : ℕ) → regionOf a ≡ 0 → ((j : ℕ) → a % 524288 % 4 + j < 4 → vipPlace
@@ -50,3 +53,70 @@ module _ (m : Memory) (a r : ℕ) (here : regionOf a ≡ 0) (low : 262144 ≤ a 
         means = sym (byte-load m a ∙ rw (sym (ap (byteOf m) e)) (omega (arith, both, first-fits)));
         fits = omega (arith, p .fits);
       }
+
+-- the registers by their address among the VIP's
+module _ (v : ℕ) (b : Between v) where
+  pub low-region : regionOf v ≡ 0
+  unfolding regionOf
+  low-region = omega (arith, b .high)
+
+  pub low-bits : v % 524288 ≡ v
+  low-bits = omega (arith, b .high)
+
+  from : 262144 ≤ v % 524288
+  from = rw low-bits (b .low)
+
+  below : v % 524288 < 491520
+  below = rw low-bits (b .high)
+
+  pub vip-load : (m : Memory) → v % 2 ≡ 0 → loadOf m 2 v ≡ readPlace m (registerPlace v) + 256 * readPlace m (registerPlace (v + 1))
+  vip-load m even = register-load m v low-region from below even ∙ rw low-bits
+
+  pub vip-store : (m : Memory) (x : ℕ) → putRegister m v x ≡ putDrawing m (registerPlace v) (x % 65536)
+  vip-store m x = register-store m v x low-region from below ∙ rw low-bits
+
+  -- reads, by the size and the halfword that holds the address
+  module _ (m : Memory) (size r : ℕ) (p : Reads m 2 (v - v % 2) r) where
+    pub read-low : size ≡ 1 → v % 2 ≡ 0 → Reads m size v (r % 256)
+    read-low e even = rw e (register-byte-low m v r low-region from below p even)
+
+    pub read-high : size ≡ 1 → (v % 2 ≡ 0 → ⊥) → Reads m size v (r / 256)
+    read-high e odd = rw e (register-byte-high m v r low-region from below p odd)
+
+    pub read-half : size ≡ 2 → Reads m size v r
+    read-half e = rw e (reads-start m v r p)
+
+    pub read-word : size ≡ 4 → v % size ≡ 0 → (y : ℕ) → Reads m 2 (v + 2) y → Reads m size v (r + 65536 * y)
+    read-word e z y q =
+        let f : v % 4 ≡ 0 = rw e at z in
+        let g : v - v % 2 ≡ v - v % 4 = omega arith in
+        let k : v + 2 ≡ v - v % 4 + 2 = omega arith in
+        rw e (reads-word m v r y (rw g at p) (rw k at q))
+
+  -- writes
+  module _ (m : Memory) (size x : ℕ) (z : v % size ≡ 0) where
+    pub write-short : (size ≡ 1) ⊎ (size ≡ 2) → putRegister m v x ≡ storeOf m size v x
+    write-short (inl e) = rw e (sym (between-byte m v x low-region from below))
+    write-short (inr e) =
+        let f : v % 2 ≡ 0 = rw e at z in
+        let g : v - v % 2 ≡ v = omega arith in
+        let l : 262144 ≤ (v - v % 2) % 524288 = rw g from in
+        let h : (v - v % 2) % 524288 < 491520 = rw g below in
+        rw e (sym (between-half m v x low-region l h ∙ rw g))
+
+    pub write-word : size ≡ 4 → putRegister (putRegister m v x) (v + 2) (x / 65536) ≡ storeOf m size v x
+    write-word e =
+        let f : v % 4 ≡ 0 = rw e at z in
+        let g : v - v % 4 ≡ v = omega arith in
+        let l : 262144 ≤ (v - v % 4) % 524288 = rw g from in
+        let h : (v - v % 4) % 524288 < 491520 = rw g below in
+        rw e (sym (between-word m v x low-region l h ∙ rw g))
+
+-- the halfword that holds an address there, and the one after an aligned word's first
+pub between-start : (v : ℕ) → Between v → Between (v - v % 2)
+between-start v b = record { low = omega (arith, b .low); high = omega (arith, b .high) }
+
+pub between-next : (v : ℕ) → Between v → (size : ℕ) → size ≡ 4 → v % size ≡ 0 → Between (v + 2) × ((v + 2) % 2 ≡ 0)
+between-next v b size e z =
+    let f : v % 4 ≡ 0 = rw e at z in
+    (record { low = omega (arith, b .low); high = omega (arith, b .high, f) }, omega arith)

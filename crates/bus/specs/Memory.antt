@@ -163,3 +163,8 @@ putFrom m a (suc (suc n)) v = putFrom (putHalfword m a v) (a + 2) n (v / 65536)
 -- what a store of `size` bytes leaves; v is the whole source register
 unfoldable pub storeOf : Memory → ℕ → ℕ → ℕ → Memory
 storeOf m size a v = putFrom m (alignedOf size a) size v
+
+-- the low 8n bits of v put into the n bytes of a list from byte i on, lowest byte first
+unfoldable pub putBytes : ℕ → List ℕ → ℕ → ℕ → List ℕ
+putBytes zero xs i v = xs
+putBytes (suc n) xs i v = putBytes n (set xs i (v % 256)) (i + 1) (v / 256)

@@ -6,14 +6,11 @@ pub mod device;
 pub mod direct;
 pub mod load;
 pub mod map;
-pub mod outside;
+pub mod number;
 mod pak;
-mod ports;
 pub mod refusals;
 mod registers;
 pub mod store;
-mod vip;
-mod wrap;
 
 // The drawing registers: SPT0 to SPT3, GPLT0 to GPLT3, JPLT0 to JPLT3, BKCOL.
 pub type DrawingRegisters = [u16; 13];
@@ -51,4 +48,10 @@ pub enum Place {
     Register(u32),
     Port(u32),
     Nothing,
+}
+
+// The answer of a load's fast path: the value, or that it stands neither in ROM, WRAM nor VRAM.
+pub enum Found {
+    Value(u32),
+    Elsewhere,
 }

@@ -1,110 +1,108 @@
-// Loads from memories whose lengths are accepted: what the processor uses after one test.
+// Loads of 1, 2 or 4 bytes from memories whose lengths are accepted: what the processor uses after one test.
 use crate::Device;
+use crate::Found;
 use crate::Loaded;
+use crate::Place;
+use crate::map;
+use crate::number;
 use crate::pak;
-use crate::ports;
-use crate::vip;
-use crate::wrap;
+use crate::registers;
 ghost use mathlib.Core.Path.{_≡_};
 ghost use mathlib.Core.List.{List};
-ghost use Prim.Native.Nat.{ℕ, _+_, _-_, _/_, _%_, _<_, _≤_};
+ghost use Prim.Native.Nat.{ℕ, _/_, _%_, _<_};
 ghost use mathlib.Core.Bool.{true};
 ghost use lib.ListN.{length};
-ghost use Rattle.bus.specs.Place.{regionOf};
 ghost use Rattle.bus.specs.Refusal.{romOk, pakOk, vramBytes};
-ghost use Rattle.bus.specs.Memory.{memoryOf, Lengths, Reads};
+ghost use Rattle.bus.specs.Memory.{memoryOf, Lengths, Reads, alignedOf, sizeOk};
 ghost use Rattle.bus.specs.Lent.{entering};
+ghost use Rattle.bus.specs.inner.Finds.{Finds};
+ghost use Rattle.bus.specs.inner.LeadsTo.{Outside};
 
-// A byte, a halfword and a word that stand neither in WRAM nor in ROM: of the VIP, of pak RAM, of the timer, or 0.
-fn byte_elsewhere(vram: &[u8], pak: &[u8], regs: &Device, address: u32) -> u32
+// The fast path: it needs neither pak RAM nor the device registers.
+pub fn direct(rom: &[u8], wram: &[u8], vram: &[u8], size: u32, address: u32) -> Found
     requires { ⌜
-        (length (now vram) ≡ vramBytes) × (pakOk (length (now pak)) ≡ true) × (regionOf address ≡ 5 → ⊥)
-        × (regionOf address ≡ 7 → ⊥)
+        (romOk (length (now rom)) ≡ true) × (length (now wram) ≡ 65536) × (length (now vram) ≡ vramBytes)
+        × (sizeOk size ≡ true)
         ⌝ }
     ensures { λ r. ⌜
-        ((rom wram : List ℕ)
-        → Reads (memoryOf rom wram (now (vram .entry)) (now (pak .entry)) (now (regs .entry))) 1 address r)
+        ((pak regs : List ℕ)
+        → Finds (memoryOf (now (rom .entry)) (now (wram .entry)) (now (vram .entry)) pak regs) size address r)
         ⌝ }
 {
-    let region = address / 16777216 % 8;
-    if region == 0 {
-        return vip::byte(vram, regs, address);
+    match map::place_of(map::aligned(size, address)) {
+        Place::Wram(i) => Found::Value(number::number_at(wram, size, i)),
+        Place::Vram(i) => Found::Value(number::number_at(vram, size, i)),
+        Place::Rom(a) => Found::Value(number::number_at(rom, size, map::wrapped(a, rom.len()))),
+        _ => Found::Elsewhere,
     }
-    if region == 6 {
-        return pak::byte(pak, address);
-    }
-    if region == 2 {
-        return ports::byte(regs, address);
-    }
-    0
 }
 
-fn half_elsewhere(vram: &[u8], pak: &[u8], regs: &Device, address: u32) -> u32
+// What stands in none of ROM, WRAM and VRAM. It stands apart from the fast path.
+pub fn elsewhere(pak: &[u8], regs: &Device, size: u32, address: u32) -> u32
     requires { ⌜
-        (length (now vram) ≡ vramBytes) × (pakOk (length (now pak)) ≡ true) × (regionOf address ≡ 5 → ⊥)
-        × (regionOf address ≡ 7 → ⊥)
+        (pakOk (length (now pak)) ≡ true) × (sizeOk size ≡ true) × Outside (alignedOf size address)
         ⌝ }
     ensures { λ r. ⌜
-        ((rom wram : List ℕ)
-        → Reads (memoryOf rom wram (now (vram .entry)) (now (pak .entry)) (now (regs .entry))) 2 address r)
+        ((rom wram vram : List ℕ)
+        → Reads (memoryOf rom wram vram (now (pak .entry)) (now (regs .entry))) size address r)
         ⌝ }
 {
-    let region = address / 16777216 % 8;
-    if region == 0 {
-        return vip::half(vram, regs, address);
+    match map::place_of(map::aligned(size, address)) {
+        Place::Pak(a) => pak::read(pak, size, a),
+        Place::Register(v) => registers::read(regs, size, v),
+        Place::Port(o) => registers::port(regs, o),
+        _ => 0,
     }
-    if region == 6 {
-        return pak::half(pak, address);
-    }
-    if region == 2 {
-        return ports::half(regs, address);
-    }
-    0
 }
 
-fn word_elsewhere(vram: &[u8], pak: &[u8], regs: &Device, address: u32) -> u32
+pub fn load(
+    rom: &[u8],
+    wram: &[u8],
+    vram: &[u8],
+    pak: &[u8],
+    regs: &Device,
+    size: u32,
+    address: u32,
+) -> u32
     requires { ⌜
-        (length (now vram) ≡ vramBytes) × (pakOk (length (now pak)) ≡ true) × (regionOf address ≡ 5 → ⊥)
-        × (regionOf address ≡ 7 → ⊥)
+        Lengths (length (now rom)) (length (now wram)) (length (now vram)) (length (now pak)) × (sizeOk size ≡ true)
         ⌝ }
-    ensures { λ r. ⌜
-        ((rom wram : List ℕ)
-        → Reads (memoryOf rom wram (now (vram .entry)) (now (pak .entry)) (now (regs .entry))) 4 address r)
-        ⌝ }
+    ensures { λ r. ⌜ Reads (entering rom wram vram pak regs) size address r ⌝ }
 {
-    let region = address / 16777216 % 8;
-    if region == 0 {
-        return vip::word(vram, regs, address);
+    match direct(rom, wram, vram, size, address) {
+        Found::Value(v) => v,
+        Found::Elsewhere => elsewhere(pak, regs, size, address),
     }
-    if region == 6 {
-        return pak::word(pak, address);
-    }
-    if region == 2 {
-        return ports::word(regs, address);
-    }
-    0
 }
 
-// One of these, by its bytes `address` to `last`. It stands apart from the fast paths to WRAM and ROM.
-fn elsewhere(vram: &[u8], pak: &[u8], regs: &Device, address: u32, last: u32) -> u32
-    requires { ⌜
-        (length (now vram) ≡ vramBytes) × (pakOk (length (now pak)) ≡ true) × (regionOf address ≡ 5 → ⊥)
-        × (regionOf address ≡ 7 → ⊥) × (address ≤ last) × (last - address < 4) × (last - address ≡ 2 → ⊥)
-        ⌝ }
-    ensures { λ r. ⌜
-        ((rom wram : List ℕ)
-        → Reads (memoryOf rom wram (now (vram .entry)) (now (pak .entry)) (now (regs .entry)))
-        (last - address + 1) address r)
-        ⌝ }
+// A byte.
+pub fn byte(rom: &[u8], wram: &[u8], vram: &[u8], pak: &[u8], regs: &Device, address: u32) -> Loaded
+    requires { ⌜ Lengths (length (now rom)) (length (now wram)) (length (now vram)) (length (now pak)) ⌝ }
+    ensures { λ r. ⌜ Reads (entering rom wram vram pak regs) 1 address (r .value) ⌝ }
 {
-    let more = last - address;
-    if more == 0 {
-        return byte_elsewhere(vram, pak, regs, address);
+    Loaded {
+        value: load(rom, wram, vram, pak, regs, 1, address),
     }
-    if more == 1 {
-        return half_elsewhere(vram, pak, regs, address);
+}
+
+// A halfword.
+pub fn half(rom: &[u8], wram: &[u8], vram: &[u8], pak: &[u8], regs: &Device, address: u32) -> Loaded
+    requires { ⌜ Lengths (length (now rom)) (length (now wram)) (length (now vram)) (length (now pak)) ⌝ }
+    ensures { λ r. ⌜ Reads (entering rom wram vram pak regs) 2 address (r .value) ⌝ }
+{
+    Loaded {
+        value: load(rom, wram, vram, pak, regs, 2, address),
     }
-    word_elsewhere(vram, pak, regs, address)
+}
+
+// A word.
+pub fn word(rom: &[u8], wram: &[u8], vram: &[u8], pak: &[u8], regs: &Device, address: u32) -> Loaded
+    requires { ⌜ Lengths (length (now rom)) (length (now wram)) (length (now vram)) (length (now pak)) ⌝ }
+    ensures { λ r. ⌜ Reads (entering rom wram vram pak regs) 4 address (r .value) ⌝ }
+{
+    Loaded {
+        value: load(rom, wram, vram, pak, regs, 4, address),
+    }
 }
 
 // A halfword of WRAM, and one of ROM, where the address is in its region.
@@ -126,70 +124,6 @@ pub fn rom_half(rom: &[u8], address: u32) -> u32
         × (r < 65536)
         ⌝ }
 {
-    let i = wrap::wrapped(address - address % 2, rom.len());
+    let i = map::wrapped(address - address % 2, rom.len());
     word::half_at(rom, i)
-}
-
-pub fn byte(rom: &[u8], wram: &[u8], vram: &[u8], pak: &[u8], regs: &Device, address: u32) -> Loaded
-    requires { ⌜ Lengths (length (now rom)) (length (now wram)) (length (now vram)) (length (now pak)) ⌝ }
-    ensures { λ r. ⌜ Reads (entering rom wram vram pak regs) 1 address (r .value) ⌝ }
-{
-    let region = address / 16777216 % 8;
-    if region == 5 {
-        let i = (address % 65536) as usize;
-        return Loaded {
-            value: word::byte_at(wram, i),
-        };
-    }
-    if region == 7 {
-        let i = wrap::wrapped(address, rom.len());
-        return Loaded {
-            value: word::byte_at(rom, i),
-        };
-    }
-    Loaded {
-        value: elsewhere(vram, pak, regs, address, address),
-    }
-}
-
-pub fn half(rom: &[u8], wram: &[u8], vram: &[u8], pak: &[u8], regs: &Device, address: u32) -> Loaded
-    requires { ⌜ Lengths (length (now rom)) (length (now wram)) (length (now vram)) (length (now pak)) ⌝ }
-    ensures { λ r. ⌜ Reads (entering rom wram vram pak regs) 2 address (r .value) ⌝ }
-{
-    let region = address / 16777216 % 8;
-    if region == 5 {
-        return Loaded {
-            value: wram_half(wram, address),
-        };
-    }
-    if region == 7 {
-        return Loaded {
-            value: rom_half(rom, address),
-        };
-    }
-    Loaded {
-        value: elsewhere(vram, pak, regs, address, address + 1),
-    }
-}
-
-pub fn word(rom: &[u8], wram: &[u8], vram: &[u8], pak: &[u8], regs: &Device, address: u32) -> Loaded
-    requires { ⌜ Lengths (length (now rom)) (length (now wram)) (length (now vram)) (length (now pak)) ⌝ }
-    ensures { λ r. ⌜ Reads (entering rom wram vram pak regs) 4 address (r .value) ⌝ }
-{
-    let region = address / 16777216 % 8;
-    if region == 5 {
-        let i = (address % 65536 - address % 4) as usize;
-        return Loaded {
-            value: word::word_at(wram, i),
-        };
-    }
-    if region == 7 {
-        let i = wrap::wrapped(address - address % 4, rom.len());
-        return Loaded {
-            value: word::word_at(rom, i),
-        };
-    }
-    Loaded {
-        value: elsewhere(vram, pak, regs, address, address + 3),
-    }
 }

@@ -3,7 +3,8 @@
 use crate::Place;
 ghost use mathlib.Core.Path.{_≡_};
 ghost use mathlib.Core.Bool.{true};
-ghost use Prim.Native.Nat.{_<_};
+ghost use Prim.Native.Nat.{_%_, _<_};
+ghost use Rattle.bus.specs.Refusal.{pakOk};
 ghost use Rattle.bus.specs.Memory.{alignedOf, sizeOk};
 ghost use Rattle.bus.specs.inner.LeadsTo.{LeadsTo, VipLeadsTo};
 
@@ -51,4 +52,12 @@ pub fn aligned(size: u32, address: u32) -> u32
     ensures { λ r. ⌜ r ≡ alignedOf size address ⌝ }
 {
     address - (address & (size - 1))
+}
+
+// An address mod the length of a memory that repeats: of ROM or of pak RAM, whose lengths are powers of two.
+pub fn wrapped(address: u32, length: usize) -> usize
+    requires { ⌜ (pakOk length ≡ true) × (0 < length) ⌝ }
+    ensures { λ r. ⌜ (r ≡ address % length) × (r < length) ⌝ }
+{
+    (address as usize) & (length - 1)
 }

@@ -1,126 +1,85 @@
-// Stores into memories whose lengths are accepted: what the processor uses after one test. `value` is the
-// whole source register: a byte store writes its low 16 bits to a VIP register.
+// Stores of 1, 2 or 4 bytes into memories whose lengths are accepted: what the processor uses after one test. `value`
+// is the whole source register: a byte store writes its low 16 bits to a VIP register.
 use crate::Device;
+use crate::Place;
+use crate::map;
+use crate::number;
 use crate::pak;
-use crate::ports;
-use crate::vip;
+use crate::registers;
 ghost use mathlib.Core.Path.{_≡_};
 ghost use mathlib.Core.Bool.{true};
 ghost use mathlib.Core.List.{List};
-ghost use Prim.Native.Nat.{ℕ, _+_, _%_, _^_};
+ghost use Prim.Native.Nat.{ℕ};
 ghost use lib.ListN.{length};
-ghost use Rattle.bus.specs.Place.{regionOf};
 ghost use Rattle.bus.specs.Refusal.{pakOk, vramBytes};
-ghost use Rattle.bus.specs.Memory.{memoryOf, Lengths, storeOf};
+ghost use Rattle.bus.specs.Memory.{memoryOf, Lengths, storeOf, alignedOf, sizeOk};
 ghost use Rattle.bus.specs.Lent.{entering, leaving};
+ghost use Rattle.bus.specs.inner.LeadsTo.{OutsideRam};
+ghost use Rattle.bus.specs.inner.Finds.{Stores};
 
-// A byte, a halfword and a word that do not go to WRAM: to the VIP, to pak RAM, to the timer, or nowhere.
-fn byte_elsewhere(vram: &mut [u8], pak: &mut [u8], regs: &mut Device, address: u32, value: u32)
-    requires { ⌜ (length (now vram) ≡ vramBytes) × (pakOk (length (now pak)) ≡ true) × (regionOf address ≡ 5 → ⊥) ⌝ }
+// The fast path: whether it was stored in WRAM or VRAM; nothing changes where it was not.
+pub fn direct(wram: &mut [u8], vram: &mut [u8], size: u32, address: u32, value: u32) -> bool
+    requires { ⌜ (length (now wram) ≡ 65536) × (length (now vram) ≡ vramBytes) × (sizeOk size ≡ true) ⌝ }
     ensures { λ r. ⌜
-        ((rom wram : List ℕ)
-        → memoryOf rom wram (now (vram .exit)) (now (pak .exit)) (now (regs .exit))
-        ≡ storeOf (memoryOf rom wram (now (vram .entry)) (now (pak .entry)) (now (regs .entry))) 1 address value)
+        ((rom pak regs : List ℕ)
+        → Stores (memoryOf rom (now (wram .entry)) (now (vram .entry)) pak regs) size address value r
+        (memoryOf rom (now (wram .exit)) (now (vram .exit)) pak regs))
         ⌝ }
 {
-    let region = address / 16777216 % 8;
-    if region == 0 {
-        vip::put_byte(vram, regs, address, value);
-        return;
-    }
-    if region == 6 {
-        pak::put_byte(pak, address, value);
-        return;
-    }
-    if region == 2 {
-        ports::put_byte(regs, address, value);
+    match map::place_of(map::aligned(size, address)) {
+        Place::Wram(i) => {
+            number::put_number(wram, size, i, value);
+            true
+        }
+        Place::Vram(i) => {
+            number::put_number(vram, size, i, value);
+            true
+        }
+        _ => false,
     }
 }
 
-fn half_elsewhere(vram: &mut [u8], pak: &mut [u8], regs: &mut Device, address: u32, value: u32)
-    requires { ⌜ (length (now vram) ≡ vramBytes) × (pakOk (length (now pak)) ≡ true) × (regionOf address ≡ 5 → ⊥) ⌝ }
+// What goes to neither WRAM nor VRAM. It stands apart from the fast path.
+pub fn elsewhere(pak: &mut [u8], regs: &mut Device, size: u32, address: u32, value: u32)
+    requires { ⌜
+        (pakOk (length (now pak)) ≡ true) × (sizeOk size ≡ true) × OutsideRam (alignedOf size address)
+        ⌝ }
     ensures { λ r. ⌜
-        ((rom wram : List ℕ)
-        → memoryOf rom wram (now (vram .exit)) (now (pak .exit)) (now (regs .exit))
-        ≡ storeOf (memoryOf rom wram (now (vram .entry)) (now (pak .entry)) (now (regs .entry))) 2 address value)
+        ((rom wram vram : List ℕ)
+        → memoryOf rom wram vram (now (pak .exit)) (now (regs .exit))
+        ≡ storeOf (memoryOf rom wram vram (now (pak .entry)) (now (regs .entry))) size address value)
         ⌝ }
 {
-    let region = address / 16777216 % 8;
-    if region == 0 {
-        vip::put_half(vram, regs, address, value);
-        return;
-    }
-    if region == 6 {
-        pak::put_half(pak, address, value);
-        return;
-    }
-    if region == 2 {
-        ports::put_half(regs, address, value);
+    match map::place_of(map::aligned(size, address)) {
+        Place::Pak(a) => pak::write(pak, size, a, value),
+        Place::Register(v) => registers::write(regs, size, v, value),
+        Place::Port(o) => registers::put_port(regs, o, value),
+        _ => {}
     }
 }
 
-fn word_elsewhere(vram: &mut [u8], pak: &mut [u8], regs: &mut Device, address: u32, value: u32)
-    requires { ⌜ (length (now vram) ≡ vramBytes) × (pakOk (length (now pak)) ≡ true) × (regionOf address ≡ 5 → ⊥) ⌝ }
-    ensures { λ r. ⌜
-        ((rom wram : List ℕ)
-        → memoryOf rom wram (now (vram .exit)) (now (pak .exit)) (now (regs .exit))
-        ≡ storeOf (memoryOf rom wram (now (vram .entry)) (now (pak .entry)) (now (regs .entry))) 4 address value)
-        ⌝ }
-{
-    let region = address / 16777216 % 8;
-    if region == 0 {
-        vip::put_word(vram, regs, address, value);
-        return;
-    }
-    if region == 6 {
-        pak::put_word(pak, address, value);
-        return;
-    }
-    if region == 2 {
-        ports::put_word(regs, address, value);
-    }
-}
-
-// One of these, into the bytes `address` to `last`, which wraps. It stands apart from the fast path to WRAM.
-fn elsewhere(
+pub fn store(
+    rom: &[u8],
+    wram: &mut [u8],
     vram: &mut [u8],
     pak: &mut [u8],
     regs: &mut Device,
+    size: u32,
     address: u32,
-    last: u32,
     value: u32,
 )
-    requires { ⌜ (length (now vram) ≡ vramBytes) × (pakOk (length (now pak)) ≡ true) × (regionOf address ≡ 5 → ⊥) ⌝ }
-    ensures byte { λ r. ⌜
-        (last ≡ address
-        → ((rom wram : List ℕ)
-        → memoryOf rom wram (now (vram .exit)) (now (pak .exit)) (now (regs .exit))
-        ≡ storeOf (memoryOf rom wram (now (vram .entry)) (now (pak .entry)) (now (regs .entry))) 1 address value))
+    requires { ⌜
+        Lengths (length (now rom)) (length (now wram)) (length (now vram)) (length (now pak)) × (sizeOk size ≡ true)
         ⌝ }
-    ensures half { λ r. ⌜
-        (last ≡ (address + 1) % 2 ^ 32
-        → ((rom wram : List ℕ)
-        → memoryOf rom wram (now (vram .exit)) (now (pak .exit)) (now (regs .exit))
-        ≡ storeOf (memoryOf rom wram (now (vram .entry)) (now (pak .entry)) (now (regs .entry))) 2 address value))
-        ⌝ }
-    ensures word { λ r. ⌜
-        (last ≡ (address + 3) % 2 ^ 32
-        → ((rom wram : List ℕ)
-        → memoryOf rom wram (now (vram .exit)) (now (pak .exit)) (now (regs .exit))
-        ≡ storeOf (memoryOf rom wram (now (vram .entry)) (now (pak .entry)) (now (regs .entry))) 4 address value))
-        ⌝ }
+    ensures { λ r. ⌜ leaving rom wram vram pak regs ≡ storeOf (entering rom wram vram pak regs) size address value ⌝ }
 {
-    if last == address {
-        byte_elsewhere(vram, pak, regs, address, value);
+    if direct(wram, vram, size, address, value) {
         return;
     }
-    if last == std::num::wrapping_add_u32(address, 1) {
-        half_elsewhere(vram, pak, regs, address, value);
-        return;
-    }
-    word_elsewhere(vram, pak, regs, address, value);
+    elsewhere(pak, regs, size, address, value);
 }
 
+// A byte.
 pub fn byte(
     rom: &[u8],
     wram: &mut [u8],
@@ -133,15 +92,10 @@ pub fn byte(
     requires { ⌜ Lengths (length (now rom)) (length (now wram)) (length (now vram)) (length (now pak)) ⌝ }
     ensures { λ r. ⌜ leaving rom wram vram pak regs ≡ storeOf (entering rom wram vram pak regs) 1 address value ⌝ }
 {
-    let region = address / 16777216 % 8;
-    if region == 5 {
-        let i = (address % 65536) as usize;
-        wram[i] = (value % 256) as u8;
-        return;
-    }
-    elsewhere(vram, pak, regs, address, address, value);
+    store(rom, wram, vram, pak, regs, 1, address, value);
 }
 
+// A halfword.
 pub fn half(
     rom: &[u8],
     wram: &mut [u8],
@@ -154,22 +108,10 @@ pub fn half(
     requires { ⌜ Lengths (length (now rom)) (length (now wram)) (length (now vram)) (length (now pak)) ⌝ }
     ensures { λ r. ⌜ leaving rom wram vram pak regs ≡ storeOf (entering rom wram vram pak regs) 2 address value ⌝ }
 {
-    let region = address / 16777216 % 8;
-    if region == 5 {
-        let i = (address % 65536 - address % 2) as usize;
-        word::put_half(wram, i, value);
-        return;
-    }
-    elsewhere(
-        vram,
-        pak,
-        regs,
-        address,
-        std::num::wrapping_add_u32(address, 1),
-        value,
-    );
+    store(rom, wram, vram, pak, regs, 2, address, value);
 }
 
+// A word.
 pub fn word(
     rom: &[u8],
     wram: &mut [u8],
@@ -182,18 +124,5 @@ pub fn word(
     requires { ⌜ Lengths (length (now rom)) (length (now wram)) (length (now vram)) (length (now pak)) ⌝ }
     ensures { λ r. ⌜ leaving rom wram vram pak regs ≡ storeOf (entering rom wram vram pak regs) 4 address value ⌝ }
 {
-    let region = address / 16777216 % 8;
-    if region == 5 {
-        let i = (address % 65536 - address % 4) as usize;
-        word::put_word(wram, i, value);
-        return;
-    }
-    elsewhere(
-        vram,
-        pak,
-        regs,
-        address,
-        std::num::wrapping_add_u32(address, 3),
-        value,
-    );
+    store(rom, wram, vram, pak, regs, 4, address, value);
 }

@@ -1,6 +1,7 @@
--- From the verdict that a call found to its answer, for a load and a store of any size: refused, done with the device registers
--- lent, or done past them. A call's own proof names only where these facts stand in it. Assumes nothing.
+-- From the verdict that a call found to its answer, for a load and a store of any size: refused or done; and what an
+-- access does that is lent a copy of the device registers. Assumes nothing.
 use Prim.Native.Nat.{ℕ}
+use mathlib.Core.Bool.{Bool, true, false, true≢false, false≢true}
 use mathlib.Core.List.{List}
 use mathlib.Core.Path.{_≡_, sym, ap, subst, _∙_}
 use lib.ListN.{length}
@@ -9,7 +10,9 @@ use Rattle.refusal.specs.declared.Verdict.{Verdict}
 use Rattle.refusal.specs.declared.Verdict.the-variants.{Accepted, Refused}
 use Rattle.bus_timer.specs.declared.TimerLines.{TimerLines}
 use Rattle.bus.specs.Registers.{deviceLength, drawingIn, hardwareIn, deviceOf}
-use Rattle.bus.specs.Memory.{Memory, Lengths, withRegs, verdictAt, verdictOf, Reads, storeOf}
+use Rattle.bus.specs.Memory.{Memory, Lengths, withRegs, verdictAt, verdictOf, Reads, storeOf, alignedOf}
+use Rattle.bus.specs.inner.Finds.{Stores}
+use Rattle.bus.specs.inner.LeadsTo.{OutsideRam}
 use Rattle.bus.proofs.Devices.{device-whole}
 use Rattle.bus.proofs.Kept.{store-shape}
 use Rattle.bus.proofs.Accepted.{accepted-lengths}
@@ -28,13 +31,9 @@ module _ (m : Memory) (size a : ℕ) (found : Verdict) (e : found ≡ verdictOf 
   unfolding checkedLoadOf
   load-refused n h = sym (rw (sym e ∙ h))
 
-  module _ (h : found ≡ Accepted) (r : Reading) (u : r .undefined ≡ undefinedOf m size a) where
-    pub load-past : Reads m size a (r .value) → load.Value r ≡ checkedLoadOf m size a
-    unfolding checkedLoadOf
-    load-past p = sym (rw (sym e ∙ h) (rw (← p .means, ← u)))
-
-    pub load-lent : (lent : List ℕ) → lent ≡ m .regs → Reads (withRegs m lent) size a (r .value) → load.Value r ≡ checkedLoadOf m size a
-    load-lent lent same p = load-past (subst (λ (x : List ℕ). Reads (withRegs m x) size a (r .value)) same p)
+  pub load-done : found ≡ Accepted → (r : Reading) → r .undefined ≡ undefinedOf m size a → Reads m size a (r .value) → load.Value r ≡ checkedLoadOf m size a
+  unfolding checkedLoadOf
+  load-done h r u p = sym (rw (sym e ∙ h) (rw (← p .means, ← u)))
 
   module _ (v : ℕ) where
     -- the verdict and the memory afterwards
@@ -45,16 +44,30 @@ module _ (m : Memory) (size a : ℕ) (found : Verdict) (e : found ≡ verdictOf 
     unfolding checkedStoreOf
     store-refused n h = (sym h ∙ e, sym (rw (sym e ∙ h)))
 
-    module _ (h : found ≡ Accepted) where
-      pub store-past : (left : Memory) → left ≡ storeOf m size a v → Answers Accepted left
-      unfolding checkedStoreOf
-      store-past left p = (sym h ∙ e, p ∙ sym (rw (sym e ∙ h)))
+    pub store-done : found ≡ Accepted → (verdict : Verdict) → verdict ≡ Accepted → (left : Memory) → left ≡ storeOf m size a v → Answers verdict left
+    unfolding checkedStoreOf
+    store-done h verdict k left p = (k ∙ (sym h ∙ e), p ∙ sym (rw (sym e ∙ h)))
 
-      pub store-lent : length (m .regs) ≡ deviceLength → (lent : List ℕ) → lent ≡ m .regs → (left : Memory) → left ≡ storeOf (withRegs m lent) size a v
-          → (drawn : List ℕ) → drawn ≡ drawingIn (left .regs) → (timer : TimerLines) → timer ≡ hardwareIn (left .regs)
-          → Answers Accepted (withRegs left (deviceOf drawn timer))
-      store-lent l lent same left p drawn d timer t =
-          let after : left ≡ storeOf m size a v = p ∙ ap (λ (x : List ℕ). storeOf (withRegs m x) size a v) same in
-          let whole : length (left .regs) ≡ deviceLength = ap (λ (n : Memory). length (n .regs)) after ∙ (store-shape m size a v .same-regs ∙ l) in
-          let parts : deviceOf drawn timer ≡ left .regs = rw (d, t) (device-whole (left .regs) whole) in
-          subst (Answers Accepted) (sym (ap (withRegs left) parts)) (store-past left after)
+-- an access that was lent a copy of the device registers
+module _ (m : Memory) (size a : ℕ) (lent : List ℕ) (same : lent ≡ m .regs) where
+  pub load-lent : (r : ℕ) → Reads (withRegs m lent) size a r → Reads m size a r
+  load-lent r p = subst (λ (x : List ℕ). Reads (withRegs m x) size a r) same p
+
+  pub store-lent : (v : ℕ) → length (m .regs) ≡ deviceLength → (left : Memory) → left ≡ storeOf (withRegs m lent) size a v
+      → (drawn : List ℕ) → drawn ≡ drawingIn (left .regs) → (timer : TimerLines) → timer ≡ hardwareIn (left .regs)
+      → withRegs left (deviceOf drawn timer) ≡ storeOf m size a v
+  store-lent v l left p drawn d timer t =
+      let after : left ≡ storeOf m size a v = p ∙ ap (λ (x : List ℕ). storeOf (withRegs m x) size a v) same in
+      let whole : length (left .regs) ≡ deviceLength = ap (λ (n : Memory). length (n .regs)) after ∙ (store-shape m size a v .same-regs ∙ l) in
+      let parts : deviceOf drawn timer ≡ left .regs = rw (d, t) (device-whole (left .regs) whole) in
+      ap (withRegs left) parts ∙ after
+
+-- what the fast path of a store tells
+pub stored-all : (m : Memory) (size a v : ℕ) (r : Bool) (after : Memory) → r ≡ true → Stores m size a v r after → after ≡ storeOf m size a v
+stored-all m size a v true after e p = p
+stored-all m size a v false after e p = absurd (false≢true e)
+
+pub stored-not : (m : Memory) (size a v : ℕ) (r : Bool) (after : Memory) → r ≡ false → Stores m size a v r after
+    → (after ≡ m) × OutsideRam (alignedOf size a)
+stored-not m size a v true after e p = absurd (true≢false e)
+stored-not m size a v false after e p = p

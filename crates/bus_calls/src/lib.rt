@@ -1,17 +1,23 @@
 // The bus's public calls: each tests refusals 1 to 5 and then loads or stores. They take the drawing registers and the
-// request lines with the timer by value, and a store gives both back. Only accesses to regions 0 to 2, where the VIP
-// and the timer are, are lent a copy of them as device registers.
+// request lines with the timer by value, and a store gives both back. Only accesses that the bus's fast path does not
+// answer are lent a copy of them as device registers.
 use bus::Drawing;
+use bus::Found;
 use bus::device;
 use bus::load;
-use bus::outside;
 use bus::refusals;
 use bus::store;
 use bus_timer::TimerLines;
 use refusal::Refusal;
 use refusal::Verdict;
 ghost use mathlib.Core.Path.{_≡_};
-ghost use Rattle.bus.specs.Memory.{verdictOf, storeOf};
+ghost use mathlib.Core.Bool.{true};
+ghost use mathlib.Core.List.{List};
+ghost use Prim.Native.Nat.{ℕ};
+ghost use lib.ListN.{length};
+ghost use Rattle.refusal.specs.declared.Verdict.the-variants.{Accepted};
+ghost use Rattle.bus.specs.Refusal.{vramBytes, pakOk};
+ghost use Rattle.bus.specs.Memory.{memoryOf, verdictOf, storeOf, Lengths, Reads, sizeOk};
 ghost use Rattle.bus.specs.Lent.{enteringWith, leavingWith};
 ghost use Rattle.bus.specs.Registers.{deviceOf};
 ghost use Rattle.bus_calls.specs.Access.{checkedLoadOf, checkedStoreOf};
@@ -34,6 +40,75 @@ pub struct Stored {
     pub verdict: Verdict,
     pub drawing: Drawing,
     pub hardware: TimerLines,
+}
+
+// What 1, 2 or 4 bytes hold, in memories whose lengths are accepted.
+fn read(
+    rom: &[u8],
+    wram: &[u8],
+    vram: &[u8],
+    pak: &[u8],
+    drawing: Drawing,
+    hardware: TimerLines,
+    size: u32,
+    address: u32,
+) -> u32
+    requires { ⌜
+        Lengths (length (now rom)) (length (now wram)) (length (now vram)) (length (now pak)) × (sizeOk size ≡ true)
+        ⌝ }
+    ensures { λ r. ⌜ Reads (enteringWith rom wram vram pak (deviceOf (drawing .regs) hardware)) size address r ⌝ }
+{
+    match load::direct(rom, wram, vram, size, address) {
+        Found::Value(value) => value,
+        Found::Elsewhere => {
+            let regs = drawing.regs;
+            let lent = device::device_of(regs, hardware);
+            load::elsewhere(pak, &lent, size, address)
+        }
+    }
+}
+
+// Stores 1, 2 or 4 bytes there.
+fn write(
+    wram: &mut [u8],
+    vram: &mut [u8],
+    pak: &mut [u8],
+    drawing: Drawing,
+    hardware: TimerLines,
+    size: u32,
+    address: u32,
+    value: u32,
+) -> Stored
+    requires { ⌜
+        (length (now wram) ≡ 65536) × (length (now vram) ≡ vramBytes) × (pakOk (length (now pak)) ≡ true)
+        × (sizeOk size ≡ true)
+        ⌝ }
+    ensures verdict { λ r. ⌜ r .verdict ≡ Accepted ⌝ }
+    ensures memory { λ r. ⌜
+        ((rom : List ℕ)
+        → memoryOf rom (now (wram .exit)) (now (vram .exit)) (now (pak .exit))
+        (deviceOf (r .drawing .regs) (r .hardware))
+        ≡ storeOf (memoryOf rom (now (wram .entry)) (now (vram .entry)) (now (pak .entry))
+        (deviceOf (drawing .regs) hardware)) size address value)
+        ⌝ }
+{
+    if store::direct(wram, vram, size, address, value) {
+        return Stored {
+            verdict: Verdict::Accepted,
+            drawing,
+            hardware,
+        };
+    }
+    let before = drawing.regs;
+    let mut lent = device::device_of(before, hardware);
+    store::elsewhere(pak, &mut lent, size, address, value);
+    let regs = device::drawing_in(&lent);
+    let timer = device::hardware_in(&lent);
+    Stored {
+        verdict: Verdict::Accepted,
+        drawing: Drawing { regs },
+        hardware: timer,
+    }
 }
 
 // Loads a byte.
@@ -61,14 +136,7 @@ pub fn load_byte(
     match verdict {
         Verdict::Accepted => {
             let undefined = bus_defined::byte(address);
-            if address / 16777216 % 8 < 3 {
-                let regs = drawing.regs;
-                let lent = device::device_of(regs, hardware);
-                let loaded = load::byte(rom, wram, vram, pak, &lent, address);
-                let value = loaded.value;
-                return Load::Value(Reading { value, undefined });
-            }
-            let value = outside::byte(rom, wram, pak, address);
+            let value = read(rom, wram, vram, pak, drawing, hardware, 1, address);
             Load::Value(Reading { value, undefined })
         }
         Verdict::Refused(refusal) => Load::Refused(refusal),
@@ -100,14 +168,7 @@ pub fn load_half(
     match verdict {
         Verdict::Accepted => {
             let undefined = bus_defined::half(address);
-            if address / 16777216 % 8 < 3 {
-                let regs = drawing.regs;
-                let lent = device::device_of(regs, hardware);
-                let loaded = load::half(rom, wram, vram, pak, &lent, address);
-                let value = loaded.value;
-                return Load::Value(Reading { value, undefined });
-            }
-            let value = outside::half(rom, wram, pak, address);
+            let value = read(rom, wram, vram, pak, drawing, hardware, 2, address);
             Load::Value(Reading { value, undefined })
         }
         Verdict::Refused(refusal) => Load::Refused(refusal),
@@ -139,14 +200,7 @@ pub fn load_word(
     match verdict {
         Verdict::Accepted => {
             let undefined = bus_defined::word(address);
-            if address / 16777216 % 8 < 3 {
-                let regs = drawing.regs;
-                let lent = device::device_of(regs, hardware);
-                let loaded = load::word(rom, wram, vram, pak, &lent, address);
-                let value = loaded.value;
-                return Load::Value(Reading { value, undefined });
-            }
-            let value = outside::word(rom, wram, pak, address);
+            let value = read(rom, wram, vram, pak, drawing, hardware, 4, address);
             Load::Value(Reading { value, undefined })
         }
         Verdict::Refused(refusal) => Load::Refused(refusal),
@@ -182,26 +236,7 @@ pub fn store_byte(
         hardware,
     );
     match verdict {
-        Verdict::Accepted => {
-            if address / 16777216 % 8 < 3 {
-                let before = drawing.regs;
-                let mut lent = device::device_of(before, hardware);
-                store::byte(rom, wram, vram, pak, &mut lent, address, value);
-                let regs = device::drawing_in(&lent);
-                let timer = device::hardware_in(&lent);
-                return Stored {
-                    verdict: Verdict::Accepted,
-                    drawing: Drawing { regs },
-                    hardware: timer,
-                };
-            }
-            outside::put_byte(wram, pak, address, value);
-            Stored {
-                verdict: Verdict::Accepted,
-                drawing,
-                hardware,
-            }
-        }
+        Verdict::Accepted => write(wram, vram, pak, drawing, hardware, 1, address, value),
         Verdict::Refused(refusal) => Stored {
             verdict: Verdict::Refused(refusal),
             drawing,
@@ -239,26 +274,7 @@ pub fn store_half(
         hardware,
     );
     match verdict {
-        Verdict::Accepted => {
-            if address / 16777216 % 8 < 3 {
-                let before = drawing.regs;
-                let mut lent = device::device_of(before, hardware);
-                store::half(rom, wram, vram, pak, &mut lent, address, value);
-                let regs = device::drawing_in(&lent);
-                let timer = device::hardware_in(&lent);
-                return Stored {
-                    verdict: Verdict::Accepted,
-                    drawing: Drawing { regs },
-                    hardware: timer,
-                };
-            }
-            outside::put_half(wram, pak, address, value);
-            Stored {
-                verdict: Verdict::Accepted,
-                drawing,
-                hardware,
-            }
-        }
+        Verdict::Accepted => write(wram, vram, pak, drawing, hardware, 2, address, value),
         Verdict::Refused(refusal) => Stored {
             verdict: Verdict::Refused(refusal),
             drawing,
@@ -296,26 +312,7 @@ pub fn store_word(
         hardware,
     );
     match verdict {
-        Verdict::Accepted => {
-            if address / 16777216 % 8 < 3 {
-                let before = drawing.regs;
-                let mut lent = device::device_of(before, hardware);
-                store::word(rom, wram, vram, pak, &mut lent, address, value);
-                let regs = device::drawing_in(&lent);
-                let timer = device::hardware_in(&lent);
-                return Stored {
-                    verdict: Verdict::Accepted,
-                    drawing: Drawing { regs },
-                    hardware: timer,
-                };
-            }
-            outside::put_word(wram, pak, address, value);
-            Stored {
-                verdict: Verdict::Accepted,
-                drawing,
-                hardware,
-            }
-        }
+        Verdict::Accepted => write(wram, vram, pak, drawing, hardware, 4, address, value),
         Verdict::Refused(refusal) => Stored {
             verdict: Verdict::Refused(refusal),
             drawing,

@@ -12,7 +12,7 @@ use Rattle.bus.proofs.map.vip_place.Tie as tie
 returns : tie.Need-returns
 returns c =
     let v = c .before .args .v in
-    record { within = omega arith; in-word = refl; each = λ j near. vip-low (v + j) (omega arith) }
+    record { within = omega arith; in-word = refl; each = λ j near. vip-low (v + j) (omega arith); not-between = λ b. omega (arith, b .low) }
 
 returns-2 : tie.Need-returns-2
 returns-2 c = (refl, record { low = omega arith; high = omega arith })
@@ -27,6 +27,7 @@ returns-3 c =
       each = λ j near.
           let e : v + j - 491520 ≡ v - 491520 + j = omega arith in
           vip-mirror (v + j) (omega arith) ∙ ap vramAt (rw e (mirror-step (v - 491520) j (omega arith)));
+      not-between = λ b. omega (arith, b .high);
     }
 
 pub vip-place-spec : {M : Type 1} → statement M
