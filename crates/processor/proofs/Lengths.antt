@@ -1,4 +1,4 @@
--- What an accepted call tells of the memories: the bus's verdict was accepted, so the lengths are those of 1 to 4.
+-- What an accepted call says of the memories: the bus's verdict was accepted, so the lengths are those of 1 to 4.
 use Prim.Native.Nat.{ℕ}
 use mathlib.Core.List.{List}
 use mathlib.Core.Path.{_≡_, refl}

@@ -11,7 +11,7 @@ use Rattle.bus.specs.Memory.{Memory, verdictAt}
 use Rattle.refusal.specs.declared.Verdict.{Verdict}
 use Rattle.refusal.specs.declared.Verdict.the-variants.{Accepted, Refused}
 use Rattle.refusal.specs.declared.Refusal as refusal
-use Rattle.processor_machine.specs.State.{State}
+use Rattle.processor_machine.specs.State.{State, eipcPlace, eipswPlace, fepcPlace, fepswPlace, sr25Place, sr31Place}
 use Rattle.processor_machine.specs.System.{pswBitsOf}
 use Rattle.processor.specs.Record.{stateIn, busOf}
 use Rattle.processor.specs.declared.Processor.{Processor}
@@ -27,7 +27,8 @@ isEven a = eqb (a % 2) 0
 -- PC, EIPC, FEPC and system register 25 are even
 unfoldable pub evenOk : List ℕ → ℕ → Bool
 evenOk sys pc =
-    both (isEven pc) (both (isEven (getD sys 0 0)) (both (isEven (getD sys 2 0)) (isEven (getD sys 5 0))))
+    both (isEven pc)
+    (both (isEven (getD sys eipcPlace 0)) (both (isEven (getD sys fepcPlace 0)) (isEven (getD sys sr25Place 0))))
 
 -- a PSW format has no bit outside 0x000FF3FF
 abbrev pub isFormat : ℕ → Bool
@@ -35,16 +36,17 @@ isFormat v = eqb (pswBitsOf v) v
 
 -- PSW, EIPSW and FEPSW
 unfoldable pub formatsOk : List ℕ → ℕ → Bool
-formatsOk sys psw = both (isFormat psw) (both (isFormat (getD sys 1 0)) (isFormat (getD sys 3 0)))
+formatsOk sys psw =
+    both (isFormat psw) (both (isFormat (getD sys eipswPlace 0)) (isFormat (getD sys fepswPlace 0)))
 
 -- 5, of the processor: general register 0 is 0, the addresses even, the formats within their bits, and system register
 -- 31 at most 0x80000000
 unfoldable pub stateOk : List ℕ → List ℕ → ℕ → ℕ → Bool
 stateOk regs sys pc psw =
-    both (eqb (getD regs 0 0) 0) (both (evenOk sys pc) (both (formatsOk sys psw) (leb (getD sys 7 0) (2 ^ 31))))
+    both (eqb (getD regs 0 0) 0) (both (evenOk sys pc) (both (formatsOk sys psw) (leb (getD sys sr31Place 0) (2 ^ 31))))
 
 -- the lowest number whose condition holds
-unfoldable pub acceptanceAt : ℕ → ℕ → ℕ → ℕ → List ℕ → List ℕ → List ℕ → ℕ → ℕ → Verdict
+unfoldable pub acceptanceAt : (rom wram vram pak : ℕ) (device regs sys : List ℕ) (pc psw : ℕ) → Verdict
 acceptanceAt rom wram vram pak device regs sys pc psw =
     thenOf (verdictAt rom wram vram pak device) (unless (stateOk regs sys pc psw) refusal.the-variants.State Accepted)
 

@@ -5,7 +5,7 @@ use Rattle.bus.specs.Registers.{deviceLength}
 use Rattle.bus.specs.Memory.{Memory}
 use Rattle.refusal.specs.declared.Verdict.{Verdict}
 use Rattle.refusal.specs.declared.Verdict.the-variants as verdict
-use Rattle.processor_machine.specs.State.{stateOf}
+use Rattle.processor_machine.specs.State.{stateOf, ecrPlace}
 use Rattle.processor_step.specs.Step.{stepOf}
 use Rattle.processor_undefined.specs.Reads.{noneOf, undefinedStepOf}
 use Rattle.processor_undefined.specs.declared.Undefined.{Undefined}
@@ -60,12 +60,11 @@ unfoldable pub checkedRunOf : ℕ → Processor → Memory → Ran
 checkedRunOf budget p m = runWhen (acceptanceIn p m) budget p m
 
 -- reset: "PC 0xFFFFFFF0, ECR 0xFFF0, PSW 0x8000, all else 0 (H), running"; "Lines and timer reset to 0" (paper 02, W6).
--- ECR is number 4 of the stored system registers
 unfoldable pub resetOf : Machine
 resetOf =
     record {
       processor =
-          processorOf (stateOf (replicate 32 0) (set (replicate 8 0) 4 0xFFF0) 0xFFFFFFF0 0x8000 Running)
+          processorOf (stateOf (replicate 32 0) (set (replicate 8 0) ecrPlace 0xFFF0) 0xFFFFFFF0 0x8000 Running)
           (replicate deviceLength 0);
       drawing = record { regs = replicate 13 0 };
     }

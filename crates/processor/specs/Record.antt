@@ -1,12 +1,13 @@
 -- The processor's record as the public calls have it, and what it stands for: a state (machine, State), and the request
--- lines and the timer among the device registers of the memory (bus, Registers). The public calls lend the memories
--- with the drawing registers alone.
+-- lines and the timer among the device registers of the memory (bus, Registers). The caller's memories have the
+-- drawing registers alone.
 use Prim.Native.Nat.{ℕ}
 use mathlib.Core.List.{List, [], _∷_}
 use lib.ListN.{getD}
 use Rattle.bus.specs.Registers.{drawingIn, hardwareIn, deviceOf}
 use Rattle.bus.specs.Memory.{Memory, withRegs}
-use Rattle.processor_machine.specs.State.{State, stateOf}
+use Rattle.processor_machine.specs.State.{State, stateOf, eipcPlace, eipswPlace, fepcPlace, fepswPlace, ecrPlace}
+use Rattle.processor_machine.specs.State.{sr25Place, sr29Place, sr31Place}
 use Rattle.processor.specs.declared.Processor.{Processor}
 
 -- the stored system registers, in the state's order
@@ -17,11 +18,11 @@ systemIn p = p .eipc ∷ p .eipsw ∷ p .fepc ∷ p .fepsw ∷ p .ecr ∷ p .sr2
 abbrev pub stateIn : Processor → State
 stateIn p = stateOf (p .regs) (systemIn p) (p .pc) (p .psw) (p .mode)
 
--- the memory that a step has: the record's lines and timer stand beside the drawing registers
+-- the memory that a step has: the record's lines and timer follow the drawing registers
 abbrev pub busOf : Processor → Memory → Memory
 busOf p m = withRegs m (deviceOf (m .regs) (p .hardware))
 
--- the memory as it was lent: the drawing registers alone
+-- the caller's memory ("lent" in paper 01): the drawing registers alone
 abbrev pub lentOf : Memory → Memory
 lentOf m = withRegs m (drawingIn (m .regs))
 
@@ -31,15 +32,15 @@ processorOf s device =
     record {
       regs = s .regs;
       pc = s .pc;
-      eipc = getD (s .sys) 0 0;
-      eipsw = getD (s .sys) 1 0;
-      fepc = getD (s .sys) 2 0;
-      fepsw = getD (s .sys) 3 0;
-      ecr = getD (s .sys) 4 0;
+      eipc = getD (s .sys) eipcPlace 0;
+      eipsw = getD (s .sys) eipswPlace 0;
+      fepc = getD (s .sys) fepcPlace 0;
+      fepsw = getD (s .sys) fepswPlace 0;
+      ecr = getD (s .sys) ecrPlace 0;
       psw = s .psw;
-      sr25 = getD (s .sys) 5 0;
-      sr29 = getD (s .sys) 6 0;
-      sr31 = getD (s .sys) 7 0;
+      sr25 = getD (s .sys) sr25Place 0;
+      sr29 = getD (s .sys) sr29Place 0;
+      sr31 = getD (s .sys) sr31Place 0;
       mode = s .mode;
       hardware = hardwareIn device;
     }

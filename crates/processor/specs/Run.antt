@@ -51,6 +51,6 @@ runOf (suc budget) s m =
     let t = stepOf s m in
     afterStep (afterOf (t .answer)) t (runOf budget (t .state) (t .memory))
 
--- the same put together from the lent registers and memories and what the code returns
+-- the same put together from the caller's registers and memories and what the code returns
 abbrev pub ranBy : List ℕ → List ℕ → Finished → Memory → Run
 ranBy regs sys r m = runWith (r .verdict) (r .count) (stateOf regs sys (r .pc) (r .psw) (r .mode)) m

@@ -1,5 +1,5 @@
-// The processor's public calls: a step, a run, a reset, over the lent memories. Records go in and come back by value;
-// inside, the registers are lent.
+// The processor's public calls: a step, a run, a reset, over the caller's memories. Records go in and come back by
+// value; inside, the registers are borrowed.
 pub mod acceptance;
 pub mod calls;
 pub mod record;
@@ -57,7 +57,7 @@ pub enum After {
     Stopped(Verdict),
 }
 
-// What a run leaves beside the lent registers and memories.
+// What a run leaves next to the borrowed registers and memories.
 pub struct Finished {
     pub pc: u32,
     pub psw: u32,

@@ -1,4 +1,4 @@
-// The record of the public calls, and the registers that are lent inside.
+// The record of the public calls, and the registers that are borrowed inside.
 use crate::Processor;
 use bus::Device;
 use bus::device::hardware_in;
@@ -7,7 +7,7 @@ ghost use mathlib.Core.Path.{_≡_};
 ghost use Rattle.processor.specs.Record.{systemIn, processorOf};
 ghost use Rattle.processor_machine.specs.State.{stateOf};
 
-// The stored system registers of a record, in the order of the lent ones.
+// The stored system registers of a record, in the order of the borrowed ones.
 pub fn system(p: Processor) -> [u32; 8]
     ensures { λ r. ⌜ r ≡ systemIn p ⌝ }
 {
@@ -23,7 +23,7 @@ pub fn system(p: Processor) -> [u32; 8]
     ]
 }
 
-// The record of the lent registers, PC, PSW, the mode and the device registers.
+// The record of the borrowed registers, PC, PSW, the mode and the device registers.
 pub fn joined(
     regs: [u32; 32],
     sys: [u32; 8],

@@ -1,4 +1,4 @@
--- When a signed sum of words is no signed word: where the sign of the wrapped sum is neither part's. A difference a - b is
+-- When a signed sum of words is not a signed word: where the sign of the wrapped sum is neither part's. A difference a - b is
 -- what b is added to for a, and overflows where that sum does.
 use Prim.Native.Nat.{ℕ, zero, suc, _+_, _-_, _*_, _/_, _%_, _^_, _<_, _≤_}
 use mathlib.Core.Path.{_≡_, ap₂, sym, _∙_}

@@ -117,7 +117,7 @@ not-extended w h k e =
           omega (arith, extend-high (w % 2 ^ 32) g)
     ]
 
--- OV of a product of 64 bits: read signed, it is no signed word
+-- OV of a product of 64 bits: read signed, it is not a signed word
 pub product-overflow : (w : ℕ) → w < 2 ^ 64 → overflowsOf w ≡ bitOf (outside (signed64 w))
 unfolding overflowsOf signedOf
 product-overflow w h =

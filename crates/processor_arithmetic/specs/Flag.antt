@@ -61,11 +61,11 @@ zeroOf v = bitOf (eqb v 0)
 
 -- PSW after a result v with a carry and an overflow: the bits above CY stay
 unfoldable pub flagsOf : ℕ → ℕ → ℕ → ℕ → ℕ
-flagsOf psw cy ov v = psw / 16 * 16 + cy * 8 + ov * 4 + signOf v * 2 + zeroOf v
+flagsOf psw cy ov v = psw / 2 ^ 4 * 2 ^ 4 + cy * 2 ^ cyFlag + ov * 2 ^ ovFlag + signOf v * 2 ^ sFlag + zeroOf v
 
 -- the same where 000's column for CY is "-": CY and the bits above stay
 unfoldable pub keepCarryOf : ℕ → ℕ → ℕ → ℕ
-keepCarryOf psw ov v = psw / 8 * 8 + ov * 4 + signOf v * 2 + zeroOf v
+keepCarryOf psw ov v = psw / 2 ^ 3 * 2 ^ 3 + ov * 2 ^ ovFlag + signOf v * 2 ^ sFlag + zeroOf v
 
 -- SEI sets ID, CLI clears it
 unfoldable pub setIdOf : ℕ → ℕ

@@ -1,5 +1,5 @@
 -- Words and whole numbers: the signed reading of a word, the two's complement of a whole number, and which whole
--- numbers are no signed word.
+-- numbers are not signed words.
 use Prim.Native.Nat.{ℕ, _-_, _%_, _^_}
 use mathlib.Core.Bool.{Bool, true}
 use lib.IntN.{ℤ, pos, negsuc, negℤ}
@@ -15,7 +15,7 @@ signed a = signedOf (2 ^ 31) a
 abbrev pub signed64 : ℕ → ℤ
 signed64 w = signedOf (2 ^ 63) w
 
--- whether a whole number is no signed word: below -2 ^ 31, or not below 2 ^ 31
+-- whether a whole number is not a signed word: below -2 ^ 31, or not below 2 ^ 31
 abbrev pub outside : ℤ → Bool
 outside z = pick (ltZ z (negℤ (pos (2 ^ 31)))) true (leZ (pos (2 ^ 31)) z)
 

@@ -42,7 +42,7 @@ abbrev pub MultiplySigned : Type 0
 MultiplySigned =
     (a b psw : ℕ) → a < 2 ^ 32 → b < 2 ^ 32 → signed64 (whole (multiplyOf a b psw)) ≡ signed a *ℤ signed b
 
--- OV of MUL: the product of the signed readings is no signed word
+-- OV of MUL: the product of the signed readings is not a signed word
 abbrev pub MultiplyOverflow : Type 0
 MultiplyOverflow =
     (a b psw : ℕ) → a < 2 ^ 32 → b < 2 ^ 32
@@ -53,7 +53,7 @@ abbrev pub MultiplyUnsigned : Type 0
 MultiplyUnsigned =
     (a b psw : ℕ) → a < 2 ^ 32 → b < 2 ^ 32 → Words (a * b) (multiplyUnsignedOf a b psw)
 
--- OV of MULU, by the same rule: the 64-bit product, read signed, is no signed word
+-- OV of MULU, by the same rule: the 64-bit product, read signed, is not a signed word
 abbrev pub MultiplyUnsignedOverflow : Type 0
 MultiplyUnsignedOverflow =
     (a b psw : ℕ) → a < 2 ^ 32 → b < 2 ^ 32

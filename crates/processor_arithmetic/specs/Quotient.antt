@@ -13,7 +13,7 @@ divideUnsignedOf a b psw =
     record { r30 = a % b; reg2 = q; psw = keepCarryOf psw 0 q }
 
 -- DIV "truncates towards zero", over the signed readings: the quotient is `quotZ`, rounded towards zero, the remainder
--- `remZ`, with the dividend's sign. OV where the quotient is no signed word: 0x80000000 by -1 alone, whose quotient
+-- `remZ`, with the dividend's sign. OV where the quotient is not a signed word: 0x80000000 by -1 alone, whose quotient
 -- 2 ^ 31 is the word 0x80000000 (theorems `divide-overflow`, `divide-at-overflow`)
 unfoldable pub divideOf : ℕ → ℕ → ℕ → Pair
 divideOf a b psw =

@@ -17,7 +17,7 @@ SumPlaced =
     → Placed psw (bitOf (leb (2 ^ 32) (a + b))) (bitOf (outside (signed a +ℤ signed b))) ((a + b) % 2 ^ 32)
     (sumOf a b psw .psw)
 
--- OV of a sum: the sum of the signed readings is no signed word
+-- OV of a sum: the sum of the signed readings is not a signed word
 abbrev pub SumOverflow : Type 0
 SumOverflow =
     (a b psw : ℕ) → a < 2 ^ 32 → b < 2 ^ 32
@@ -41,7 +41,7 @@ DifferencePlaced =
     → Placed psw (bitOf (ltb a b)) (bitOf (outside (signed a -ℤ signed b))) ((a + (2 ^ 32 - b)) % 2 ^ 32)
     (differenceOf a b psw .psw)
 
--- OV of a difference: the difference of the signed readings is no signed word
+-- OV of a difference: the difference of the signed readings is not a signed word
 abbrev pub DifferenceOverflow : Type 0
 DifferenceOverflow =
     (a b psw : ℕ) → a < 2 ^ 32 → b < 2 ^ 32

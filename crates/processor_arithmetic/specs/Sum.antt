@@ -1,5 +1,5 @@
 -- Sums and differences with their flags (document 000, "Arithmetic"). CY: "unsigned wrap-around"; OV: "signed
--- wrap-around", so that the sum or difference of the signed readings is no signed word.
+-- wrap-around", so that the sum or difference of the signed readings is not a signed word.
 use Prim.Native.Nat.{ℕ, _+_, _-_, _%_, _^_}
 use lib.Dec.{ltb, leb}
 use lib.IntN.{_+ℤ_, _-ℤ_}

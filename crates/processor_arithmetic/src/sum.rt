@@ -9,7 +9,7 @@ ghost use Rattle.processor_arithmetic.specs.Flag.{bitOf};
 ghost use Rattle.processor_arithmetic.specs.Integer.{signed, outside};
 ghost use Rattle.processor_arithmetic.specs.Sum.{sumOf, differenceOf, compareOf};
 
-// 1 where the signed sum of a and b is no signed word: the sign of the wrapped sum is neither's.
+// 1 where the signed sum of a and b is not a signed word: the sign of the wrapped sum is neither's.
 fn overflow(a: u32, b: u32, sum: u32) -> u32
     requires { ⌜ sum ≡ (a + b) % 2 ^ 32 ⌝ }
     ensures { λ r. ⌜ (r ≡ bitOf (outside (signed a +ℤ signed b))) × (r < 2) ⌝ }

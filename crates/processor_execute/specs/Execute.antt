@@ -37,29 +37,29 @@ use Rattle.processor_machine.specs.declared.Mode.the-variants.{Halted}
 use Rattle.processor_machine.specs.declared.Answer.the-variants.{Ended}
 
 -- the instruction ended with these general registers and PSW, and goes on at pc
-abbrev pub goesOn : List ℕ → ℕ → ℕ → State → Memory → Stepped
+abbrev pub goesOn : (regs : List ℕ) (pc psw : ℕ) → State → Memory → Stepped
 goesOn regs pc psw s m = steppedOf Ended (stateOf regs (s .sys) pc psw (s .mode)) m
 
 -- it gave one value, to register n
-abbrev pub givesOf : ℕ → ℕ → ℕ → State → Memory → Stepped
+abbrev pub givesOf : (n v next : ℕ) → State → Memory → Stepped
 givesOf n v next s m = goesOn (putOf (s .regs) n v) next (s .psw) s m
 
 -- it gave a result with flags, to register n
-abbrev pub resultOf : ℕ → Outcome → ℕ → State → Memory → Stepped
+abbrev pub resultOf : (n : ℕ) (o : Outcome) (next : ℕ) → State → Memory → Stepped
 resultOf n o next s m = goesOn (putOf (s .regs) n (o .value)) next (o .psw) s m
 
 -- it gave two results: r30's first, so that reg2's wins where reg2 is r30
-abbrev pub pairOf : ℕ → Pair → ℕ → State → Memory → Stepped
+abbrev pub pairOf : (n : ℕ) (p : Pair) (next : ℕ) → State → Memory → Stepped
 pairOf n p next s m = goesOn (putOf (putOf (s .regs) 30 (p .r30)) n (p .reg2)) next (p .psw) s m
 
 -- a division, unless the divisor is zero
-abbrev pub dividesOf : ℕ → ℕ → Pair → ℕ → State → Memory → Stepped
+abbrev pub dividesOf : (divisor n : ℕ) (p : Pair) (next : ℕ) → State → Memory → Stepped
 dividesOf divisor n p next s m =
     pick (eqb divisor 0) (raiseOf cause.the-variants.ZeroDivision next s m) (pairOf n p next s m)
 
 -- it came to a floating outcome: a number goes to register n as its word, a whole number as it is, and a trap leaves
 -- the general registers as found
-abbrev pub settlesOf : ℕ → FloatOutcome → ℕ → State → Memory → Stepped
+abbrev pub settlesOf : (n : ℕ) (o : FloatOutcome) (next : ℕ) → State → Memory → Stepped
 settlesOf n (Number v underflowed) next s m =
     let w = toBits binary32 v in
     goesOn (putOf (s .regs) n w) next (numberFlagsOf (s .psw) w underflowed) s m

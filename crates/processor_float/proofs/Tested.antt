@@ -1,4 +1,4 @@
--- What the code's test of an operand says: a word which is not reserved is no NaN. Assumes nothing.
+-- What the code's test of an operand says: a word which is not reserved is not a NaN. Assumes nothing.
 use Prim.Native.Nat.{ℕ, _%_, _^_}
 use mathlib.Core.Path.{_≡_, sym, subst, _∙_}
 use mathlib.Core.Bool.{Bool, false, not}

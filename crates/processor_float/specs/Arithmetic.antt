@@ -28,7 +28,7 @@ isDivide Multiply = false
 isDivide Divide = true
 
 -- whether the exact result is zero; a is x's float and b is y's
-abbrev pub vanishesOf : Operation → ℕ → ℕ → Float → Float → Bool
+abbrev pub vanishesOf : (op : Operation) (x y : ℕ) (a b : Float) → Bool
 vanishesOf Add x y a b = eq a (neg b)
 vanishesOf Subtract x y a b = eq a b
 vanishesOf Multiply x y a b = isZero x || isZero y

@@ -5,14 +5,14 @@ use mathlib.Core.Bool.{Bool, true, false}
 use lib.Dec.{ltb, eqb}
 use Rattle.word.specs.Bit.{withBit}
 use Rattle.word.specs.Choose.{pick}
-use Rattle.processor_arithmetic.specs.Flag.{bitOf, keepCarryOf, fudFlag}
+use Rattle.processor_arithmetic.specs.Flag.{bitOf, keepCarryOf, sFlag, cyFlag, fudFlag}
 use Rattle.processor_float.specs.Operand.{isZero}
 use Rattle.processor_float.specs.declared.Compared.{Compared}
 use Rattle.processor_float.specs.declared.Compared.the-variants.{Lower, Equal, Higher, Reserved}
 
--- Z, and S and CY alike; OV is cleared
+-- Z, and S and CY alike; OV is cleared, and the bits above CY stay
 unfoldable pub orderFlagsOf : ℕ → Bool → Bool → ℕ
-orderFlagsOf psw zero negative = psw / 16 * 16 + bitOf negative * 10 + bitOf zero
+orderFlagsOf psw zero negative = psw / 2 ^ 4 * 2 ^ 4 + bitOf negative * (2 ^ cyFlag + 2 ^ sFlag) + bitOf zero
 
 -- FUD, bit 5: set where the result underflowed, else kept
 unfoldable pub underflowOf : ℕ → Bool → ℕ

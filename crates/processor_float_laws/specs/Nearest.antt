@@ -6,7 +6,7 @@ use mathlib.Core.Logic.{_≢_}
 use lib.IntN.{ℤ, pos, natAbs, _-ℤ_, _*ℤ_}
 use Rattle.processor_float.specs.Operand.{valueOf}
 
--- a word that is no infinity and no NaN
+-- a word that is not an infinity and not a NaN
 abbrev pub Finite : ℕ → Type 0
 Finite w = w % 2 ^ 31 < 0x7F800000
 

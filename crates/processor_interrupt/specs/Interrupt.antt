@@ -17,7 +17,7 @@ lineOf n lines = bitAt n lines
 
 -- I, bits 19 to 16 of PSW
 abbrev pub maskingLevelOf : ℕ → ℕ
-maskingLevelOf psw = psw / 65536 % 16
+maskingLevelOf psw = psw / 2 ^ 16 % 2 ^ 4
 
 -- the highest raised level, where a line is raised: "the highest such level wins"
 unfoldable pub levelOf : ℕ → ℕ
@@ -51,13 +51,13 @@ interruptHandlerOf level = 0xFFFFFE00 + 16 * level
 
 -- PSW with I replaced
 unfoldable pub withLevelOf : ℕ → ℕ → ℕ
-withLevelOf level psw = psw / 1048576 * 1048576 + level * 65536 + psw % 65536
+withLevelOf level psw = psw / 2 ^ 20 * 2 ^ 20 + level * 2 ^ 16 + psw % 2 ^ 16
 
 -- the entry: as a regular exception's, "and sets I to level + 1"; a halted machine wakes. The restore PC is the
 -- record's: HALT has moved it past itself
 unfoldable pub interruptedOf : ℕ → State → State
 interruptedOf level s =
     let sys = set (set (s .sys) eipcPlace (s .pc)) eipswPlace (s .psw) in
-    stateOf (s .regs) (set sys ecrPlace (getD sys ecrPlace 0 / 65536 * 65536 + interruptCodeOf level))
+    stateOf (s .regs) (set sys ecrPlace (getD sys ecrPlace 0 / 2 ^ 16 * 2 ^ 16 + interruptCodeOf level))
     (interruptHandlerOf level)
     (withLevelOf (level + 1) (regularOf (s .psw))) Running

@@ -5,7 +5,7 @@ use mathlib.Core.List.{List, [], _∷_, map}
 use mathlib.Core.Path.{_≡_, refl}
 use lib.ListN.{getD, replicate}
 use Rattle.processor_arithmetic.specs.Flag.{setEpOf, setIdOf, clearAeOf, regularOf}
-use Rattle.processor_machine.specs.State.{stateOf}
+use Rattle.processor_machine.specs.State.{stateOf, eipcPlace, eipswPlace, ecrPlace}
 use Rattle.processor_machine.specs.declared.Mode.{Mode}
 use Rattle.processor_machine.specs.declared.Mode.the-variants.{Running, Halted, Fatal}
 use Rattle.processor_interrupt.specs.Interrupt.{levelOf, allowsOf, acceptsOf, withLevelOf, interruptedOf}
@@ -24,7 +24,7 @@ abbrev enteredOf : InterruptRow → List ℕ
 enteredOf r =
     let s = interruptedOf (levelOf (r .lines))
     (stateOf (replicate 32 0) (replicate 8 0) 0x07000100 (r .psw) (r .mode)) in
-    s .pc ∷ s .psw ∷ getD (s .sys) 0 0 ∷ getD (s .sys) 1 0 ∷ getD (s .sys) 4 0 ∷ []
+    s .pc ∷ s .psw ∷ getD (s .sys) eipcPlace 0 ∷ getD (s .sys) eipswPlace 0 ∷ getD (s .sys) ecrPlace 0 ∷ []
 
 abbrev pub acceptedRows : List InterruptRow
 acceptedRows = interruptRow 0x12 0 Running ∷ interruptRow 0x06 0x20000 Running ∷ interruptRow 0x01 0x2000 Halted ∷ []

@@ -17,7 +17,7 @@ use Rattle.processor_machine.specs.declared.Cause.{Cause}
 use Rattle.processor_machine.specs.declared.Mode.the-variants.{Fatal}
 use Rattle.processor_machine.specs.declared.Answer.the-variants.{Trapped, TurnedFatal}
 
--- k is none of these numbers
+-- k is not one of these numbers
 abbrev pub Outside : ℕ → List ℕ → Type 0
 Outside k [] = Unit {0}
 Outside k (n ∷ ns) = (k ≢ n) × Outside k ns

@@ -1,6 +1,6 @@
 -- Exceptions (document 000, "Exception Processing", "List of Exceptions"; paper 01): the code, handler and restore PC
 -- of each cause, and the one entry that all of them take.
-use Prim.Native.Nat.{ℕ, _+_, _*_, _/_, _%_}
+use Prim.Native.Nat.{ℕ, _+_, _*_, _/_, _%_, _^_}
 use lib.Dec.{ltb}
 use lib.ListN.{getD, set}
 use Rattle.word.specs.Bit.{isSet, withBit}
@@ -60,23 +60,23 @@ abbrev pub fatalOf : Cause → State → Memory → Stepped
 fatalOf cause s m = steppedOf (TurnedFatal cause) (stateOf (s .regs) (s .sys) (s .pc) (s .psw) Fatal) m
 
 -- a duplexed exception: FEPC, FEPSW and the high half of ECR are filled
-abbrev pub duplexedEntryOf : Cause → ℕ → ℕ → ℕ → State → Memory → Stepped
+abbrev pub duplexedEntryOf : (cause : Cause) (code restore saved : ℕ) → State → Memory → Stepped
 duplexedEntryOf cause code restore saved s m =
     let sys = set (set (s .sys) fepcPlace restore) fepswPlace saved in
     steppedOf (Trapped cause)
-    (stateOf (s .regs) (set sys ecrPlace (getD sys ecrPlace 0 % 65536 + code * 65536)) 0xFFFFFFD0 (duplexedOf saved)
+    (stateOf (s .regs) (set sys ecrPlace (getD sys ecrPlace 0 % 2 ^ 16 + code * 2 ^ 16)) 0xFFFFFFD0 (duplexedOf saved)
     (s .mode)) m
 
 -- a regular exception: EIPC, EIPSW and the low half of ECR are filled
-abbrev pub regularEntryOf : Cause → ℕ → ℕ → ℕ → ℕ → State → Memory → Stepped
+abbrev pub regularEntryOf : (cause : Cause) (code handler restore saved : ℕ) → State → Memory → Stepped
 regularEntryOf cause code handler restore saved s m =
     let sys = set (set (s .sys) eipcPlace restore) eipswPlace saved in
     steppedOf (Trapped cause)
-    (stateOf (s .regs) (set sys ecrPlace (getD sys ecrPlace 0 / 65536 * 65536 + code)) handler (regularOf saved)
+    (stateOf (s .regs) (set sys ecrPlace (getD sys ecrPlace 0 / 2 ^ 16 * 2 ^ 16 + code)) handler (regularOf saved)
     (s .mode)) m
 
 -- the entry, by NP and EP: `saved` is the PSW that is saved
-unfoldable pub enterOf : Cause → ℕ → ℕ → ℕ → ℕ → State → Memory → Stepped
+unfoldable pub enterOf : (cause : Cause) (code handler restore saved : ℕ) → State → Memory → Stepped
 enterOf cause code handler restore saved s m =
     pick (isSet npFlag (s .psw)) (fatalOf cause s m)
     (pick (isSet epFlag (s .psw)) (duplexedEntryOf cause code restore saved s m)

@@ -44,7 +44,7 @@ pub record State : Type 0 where
   pub psw : ℕ
   pub mode : Mode
 
-abbrev pub stateOf : List ℕ → List ℕ → ℕ → ℕ → Mode → State
+abbrev pub stateOf : (regs sys : List ℕ) (pc psw : ℕ) (mode : Mode) → State
 stateOf regs sys pc psw mode = record { regs = regs; sys = sys; pc = pc; psw = psw; mode = mode }
 
 -- what a step gives: what it did, and the machine afterwards
@@ -56,7 +56,7 @@ pub record Stepped : Type 0 where
 abbrev pub steppedOf : Answer → State → Memory → Stepped
 steppedOf answer state memory = record { answer = answer; state = state; memory = memory }
 
--- the same put together from the lent registers and memories and what the code returns
+-- the same put together from the caller's registers and memories and what the code returns
 abbrev pub leaves : List ℕ → List ℕ → Control → Memory → Stepped
 leaves regs sys r m = steppedOf (r .answer) (stateOf regs sys (r .pc) (r .psw) (r .mode)) m
 

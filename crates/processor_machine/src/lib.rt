@@ -1,4 +1,4 @@
-// The processor while it runs: its 32 general registers and eight system registers, both lent, PC and PSW; and the
+// The processor while it runs: its 32 general registers and eight system registers, both the caller's, PC and PSW; and the
 // exceptions. The functions here are for the crates above; the calls that test their arguments and refuse are those of
 // the crate processor.
 pub mod exception;
@@ -38,7 +38,7 @@ pub enum Answer {
     Refused(Refusal),
 }
 
-// What a step leaves beside the lent registers and memories.
+// What a step leaves next to the caller's registers and memories.
 pub struct Control {
     pub pc: u32,
     pub psw: u32,

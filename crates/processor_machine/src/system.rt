@@ -1,4 +1,4 @@
-// The system registers: EIPC, EIPSW, FEPC, FEPSW, ECR, 25, 29 and 31 are lent in this order, PSW goes by value.
+// The system registers: EIPC, EIPSW, FEPC, FEPSW, ECR, 25, 29 and 31 are the caller's, in this order; PSW goes by value.
 ghost use mathlib.Core.Path.{_≡_};
 ghost use Rattle.processor_machine.specs.System.{pswBitsOf, systemOf, writtenOf, statusOf};
 
@@ -30,7 +30,7 @@ pub fn read(sys: &[u32; 8], psw: u32, id: u32) -> u32
     }
 }
 
-// What LDSR writes: the lent registers change, and PSW afterwards is the answer.
+// What LDSR writes: the caller's registers change, and PSW afterwards is the answer.
 pub fn write(sys: &mut [u32; 8], psw: u32, id: u32, v: u32) -> u32
     ensures { λ r. ⌜ statusOf (now (sys .exit)) r ≡ writtenOf (now (sys .entry)) psw id v ⌝ }
 {

@@ -44,7 +44,7 @@ first-accepted (verdict.Refused n) later e =
     let z : _≡_ {A = ℕ} 0 1 = cc in
     absurd (omega arith)
 
--- the lengths that an accepted call was lent
+-- the lengths of an accepted call's memories
 pub accepted-memories : (p : Processor) (m : Memory) (v : Verdict) → v ≡ acceptanceIn p m → v ≡ verdict.Accepted
     → Lengths (length (m .rom)) (length (m .wram)) (length (m .vram)) (length (m .pak))
 unfolding acceptanceAt

@@ -1,6 +1,6 @@
 -- Replay of a recorded trace (paper 02, W10: "four little-endian words per completed step: PC before, PC after, PSW
--- after, and the sum of the 32 registers after, mod 2^32"), 16 bytes a record. The machine is stepped beside the trace;
--- at each record the model's own refusal, missing step or turn to fatal is told first, and then the first word that
+-- after, and the sum of the 32 registers after, mod 2^32"), 16 bytes per record. Each record is compared with a step.
+-- At each record the model's own refusal, missing step or turn to fatal is reported first, and then the first word that
 -- differs.
 use Prim.Native.Nat.{ℕ, zero, suc, _+_, _*_, _/_, _%_, _^_}
 use mathlib.Core.List.{List}
@@ -88,13 +88,13 @@ afterRecord Completed word t rest =
 afterRecord (Ends e) word t rest = replayWith e 0 (t .state) (t .memory)
 
 -- a replay of n records, from record k on
-unfoldable pub replayOf : ℕ → ℕ → List ℕ → State → Memory → Replay
+unfoldable pub replayOf : (n k : ℕ) (trace : List ℕ) → State → Memory → Replay
 replayOf zero k trace s m = replayWith end.Agreed 0 s m
 replayOf (suc n) k trace s m =
     let t = stepOf s m in
     afterRecord (tellingOf (t .answer)) (firstDifferenceOf (recordAt trace k) (recordOf s t)) t
     (replayOf n (k + 1) trace (t .state) (t .memory))
 
--- the same put together from the lent registers and memories and what the code returns
+-- the same put together from the caller's registers and memories and what the code returns
 abbrev pub replayedBy : List ℕ → List ℕ → FinishedReplay → Memory → Replay
 replayedBy regs sys r m = replayWith (r .end) (r .agreed) (stateOf regs sys (r .pc) (r .psw) (r .mode)) m

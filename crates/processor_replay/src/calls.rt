@@ -14,7 +14,7 @@ ghost use mathlib.Core.Path.{_≡_};
 ghost use Rattle.bus.specs.Lent.{enteringWith, leavingWith};
 ghost use Rattle.processor_replay.specs.Calls.{replayedOf, checkedReplayOf};
 
-// Steps the machine beside a trace.
+// Steps the machine and compares each step with a trace.
 pub fn replay(
     rom: &[u8],
     wram: &mut [u8],

@@ -25,7 +25,7 @@ pub enum Told {
     Ends(End),
 }
 
-// What the replay of a trace leaves beside the lent registers and memories.
+// What the replay of a trace leaves next to the borrowed registers and memories.
 pub struct FinishedReplay {
     pub pc: u32,
     pub psw: u32,

@@ -41,7 +41,7 @@ pub record Differs (word : ℕ) (a b : Record) : Type 0 where
   pub equal : (w : ℕ) → w < word → wordOf w a ≡ wordOf w b
   pub different : wordOf word a ≡ wordOf word b → ⊥
 
--- the step after the agreed records completes, and its record differs first in the word told
+-- the step after the agreed records completes, and its record differs first in the reported word
 pub record Parts (trace : List ℕ) (s : State) (m : Memory) (r : Replay) : Type 0 where
   pub word : ℕ
   pub told : r .end ≡ Differed word
@@ -49,7 +49,7 @@ pub record Parts (trace : List ℕ) (s : State) (m : Memory) (r : Replay) : Type
   pub differs : Differs word (recordAt trace (r .agreed)) (stepRecordAt (r .agreed) s m)
 
 -- a replay of n records: each one before the prefix's end is that of a completed step; below n the next step answers as
--- told, or its record differs
+-- reported, or its record differs
 pub record EndsSo (n : ℕ) (trace : List ℕ) (s : State) (m : Memory) (r : Replay) : Type 0 where
   pub within : r .agreed ≤ n
   pub completed : (i : ℕ) → i < r .agreed → toldAt i s m ≡ Completed

@@ -56,7 +56,7 @@ module _ (f s : ℕ) where
   unfolding decodeOf shortRows branchRows longRows
   row-29 e = rw e
 
-  -- 111110, which has rows of its own
+  -- 111110, which has separate rows
   row-62 : f / 1024 ≡ 62 → decodeOf f s ≡ extendedOf f s
   unfolding decodeOf shortRows branchRows longRows
   row-62 e = rw e
@@ -82,7 +82,7 @@ below-test f (suc n) q all h =
       | no ne ↦ below-test f n q (later (f n) (everyBelow f n) all) (omega arith)
     ]
 
--- the rows that load, and those that are no instruction by themselves
+-- the rows that load, and those that are not an instruction by themselves
 abbrev apart : List ℕ
 apart = 28 ∷ 29 ∷ 48 ∷ 49 ∷ 51 ∷ 56 ∷ 57 ∷ 59 ∷ 62 ∷ []
 
