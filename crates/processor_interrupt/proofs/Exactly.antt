@@ -7,6 +7,7 @@ use borrow.Author.Tests.{eqb-true, eqb-false, ne-eqb, leb-true, le-leb}
 use lib.Dec.{eqb, leb}
 use Rattle.word.specs.Bit.{bitAt}
 use Rattle.word.specs.Choose.{pick}
+use Rattle.word.proofs.Choices.{pick-both}
 use Rattle.processor_arithmetic.specs.Flag.{idFlag, epFlag, npFlag}
 use Rattle.processor_machine.specs.Exception.{regularEntryOf}
 use Rattle.processor_machine.specs.declared.Mode.{Mode}
@@ -22,10 +23,6 @@ false-not-true e = let z : _≡_ {A = ℕ} 0 1 = cc in omega arith
 second-holds : (c t : Bool) → pick c false t ≡ true → (c ≡ false) × (t ≡ true)
 second-holds true t e = absurd (false-not-true e)
 second-holds false t e = (refl, e)
-
-first-holds : (c t : Bool) → pick c t false ≡ true → (c ≡ true) × (t ≡ true)
-first-holds true t e = (refl, e)
-first-holds false t e = absurd (false-not-true e)
 
 -- a flag that is not 1 is 0
 flag-clear : (x : ℕ) → eqb (x % 2) 1 ≡ false → x % 2 ≡ 0
@@ -76,7 +73,7 @@ pub accepts-taken : AcceptsTaken
 unfolding acceptsOf
 accepts-taken lines psw mode e =
     let some = second-holds (eqb (lines % 32) 0) _ e in
-    let awake = first-holds (awakeOf mode) (allowsOf psw (levelOf lines)) (some .1) in
+    let awake = pick-both (awakeOf mode) (allowsOf psw (levelOf lines)) (some .1) in
     let a = allows psw (levelOf lines) (awake .1) in
     record {
       acceptable =

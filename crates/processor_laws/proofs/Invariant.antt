@@ -7,6 +7,7 @@ use native.Mathlib.Omega.{arith}
 use borrow.Author.Tests.{eqb-true, eq-eqb, leb-true, le-leb}
 use lib.Dec.{eqb, leb}
 use lib.ListN.{length, getD}
+use Rattle.word.proofs.Choices.{pick-both}
 use Rattle.bus.specs.Registers.{deviceLength}
 use Rattle.bus.specs.Memory.{Memory, verdictOf}
 use Rattle.refusal.specs.Number.{unless, thenOf}
@@ -69,12 +70,6 @@ pub record Good (s : State) (m : Memory) : Type 0 where
   pub format : Format (s .psw)
   pub memories : Memories m
 
-both-true : (a b : Bool) → both a b ≡ true → (a ≡ true) × (b ≡ true)
-both-true true b e = (refl, e)
-both-true false b e =
-    let z : _≡_ {A = ℕ} 0 1 = cc in
-    absurd (omega arith)
-
 then-accepted : (v later : Verdict) → thenOf v later ≡ Accepted → (v ≡ Accepted) × (later ≡ Accepted)
 then-accepted Accepted later e = (refl, e)
 then-accepted (Refused n) later e =
@@ -100,14 +95,14 @@ module _ (s : State) where
   pub passed : stateOk (s .regs) (s .sys) (s .pc) (s .psw) ≡ true → Passed s
   unfolding stateOk evenOk formatsOk
   passed h =
-      let a = both-true (eqb (getD (s .regs) 0 0) 0) _ h in
-      let b = both-true (evenOk (s .sys) (s .pc)) _ (a .1) in
-      let c = both-true (formatsOk (s .sys) (s .psw)) (leb (getD (s .sys) 7 0) (2 ^ 31)) (b .1) in
-      let d = both-true (isEven (s .pc)) _ (b .0) in
-      let e = both-true (isEven (getD (s .sys) 0 0)) _ (d .1) in
-      let f = both-true (isEven (getD (s .sys) 2 0)) (isEven (getD (s .sys) 5 0)) (e .1) in
-      let g = both-true (isFormat (s .psw)) _ (c .0) in
-      let i = both-true (isFormat (getD (s .sys) 1 0)) (isFormat (getD (s .sys) 3 0)) (g .1) in
+      let a = pick-both (eqb (getD (s .regs) 0 0) 0) _ h in
+      let b = pick-both (evenOk (s .sys) (s .pc)) _ (a .1) in
+      let c = pick-both (formatsOk (s .sys) (s .psw)) (leb (getD (s .sys) 7 0) (2 ^ 31)) (b .1) in
+      let d = pick-both (isEven (s .pc)) _ (b .0) in
+      let e = pick-both (isEven (getD (s .sys) 0 0)) _ (d .1) in
+      let f = pick-both (isEven (getD (s .sys) 2 0)) (isEven (getD (s .sys) 5 0)) (e .1) in
+      let g = pick-both (isFormat (s .psw)) _ (c .0) in
+      let i = pick-both (isFormat (getD (s .sys) 1 0)) (isFormat (getD (s .sys) 3 0)) (g .1) in
       record {
         zero-register = eqb-true (getD (s .regs) 0 0) 0 (a .0);
         pc-even = eqb-true (s .pc % 2) 0 (d .0);
