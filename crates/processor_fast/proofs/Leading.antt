@@ -42,14 +42,14 @@ module _ (s₀ : State) (m₀ : Memory) (n : ℕ) (regs regs' sys sys' : List �
     (first : loadOf m 2 (addressOf base x) ≡ f) (second : loadOf m 2 ((addressOf base x + 2) % 2 ^ 32) ≡ s)
     (even : base % 2 ≡ 0) (aligned : x % 2 ≡ 0) (lines : ℕ) (turns : Turns lines base f s r x psw g regs sys m regs' sys' m') where
   -- it was done
-  pub leads-more : Stays s₀ m₀ (machineOf regs sys base x psw g) m → (to wide ov k : ℕ) → r ≡ Done to wide ov → k ≡ suc n
-      → Leads s₀ m₀ k (machineOf regs' sys' base to psw (record { wide = wide; ov = ov })) m'
-  leads-more stays to wide ov k e h =
+  pub leads-more : Stays s₀ m₀ (machineOf regs sys base x psw g) m → (to addition value k : ℕ) → r ≡ Done to addition value → k ≡ suc n
+      → Leads s₀ m₀ k (machineOf regs' sys' base to psw (record { addition = addition; value = value })) m'
+  leads-more stays to addition value k e h =
       let d = rw e at (turns even aligned) in
       rw h (more before stays (d .0 ∙ step-at regs sys base x psw f s g m first second))
 
-  pub aligned-more : (to wide ov : ℕ) → r ≡ Done to wide ov → to % 2 ≡ 0
-  aligned-more to wide ov e = (rw e at (turns even aligned)) .1
+  pub aligned-more : (to addition value : ℕ) → r ≡ Done to addition value → to % 2 ≡ 0
+  aligned-more to addition value e = (rw e at (turns even aligned)) .1
 
   -- it was done, and changed PSW above its flags
   pub leads-masked : Stays s₀ m₀ (machineOf regs sys base x psw g) m → (p to k : ℕ) → r ≡ Masked p → to ≡ (x + 2) % 2 ^ 32 → k ≡ suc n

@@ -19,7 +19,7 @@ use Rattle.processor_fast.proofs.Acceptance.{above}
 
 pub turned : (r : Fast) (lines base x psw : ℕ) (g : Flags) (regs₀ sys : List ℕ) (m₀ : Memory) (regs : List ℕ) (m : Memory) (t : Stepped)
     → Does r base psw regs₀ m₀ regs m sys t → Turned r lines base x psw g regs₀ sys m₀ regs sys m t
-turned (Done to wide ov) lines base x psw g regs₀ sys m₀ regs m t d = d
+turned (Done to addition value) lines base x psw g regs₀ sys m₀ regs m t d = d
 turned (Masked p) lines base x psw g regs₀ sys m₀ regs m t d = absurd d
 turned NotHere lines base x psw g regs₀ sys m₀ regs m t d = (d .0, refl, d .1)
 

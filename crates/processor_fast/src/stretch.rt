@@ -74,9 +74,9 @@ fn inside(
             high,
             flags,
         ) {
-            Fast::Done { x: to, wide, ov } => {
+            Fast::Done { x: to, addition, value } => {
                 x = to;
-                flags = Flags { wide, ov };
+                flags = Flags { addition, value };
                 left -= 1;
             }
             Fast::Masked { psw: p } => {

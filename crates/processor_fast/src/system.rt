@@ -36,8 +36,8 @@ pub fn stsr(regs: &mut [u32; 32], sys: &[u32; 8], f: u32, x: u32, psw: u32, flag
     put(regs, f / 32 % 32, v);
     Fast::Done {
         x: after_one(x),
-        wide: flags.wide,
-        ov: flags.ov,
+        addition: flags.addition,
+        value: flags.value,
     }
 }
 
@@ -59,8 +59,8 @@ pub fn ldsr(regs: &[u32; 32], sys: &mut [u32; 8], f: u32, x: u32, psw: u32, flag
     let _ = system::write(sys, status::packed(psw, flags), id, v);
     Fast::Done {
         x: after_one(x),
-        wide: flags.wide,
-        ov: flags.ov,
+        addition: flags.addition,
+        value: flags.value,
     }
 }
 

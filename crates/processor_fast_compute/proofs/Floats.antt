@@ -26,5 +26,5 @@ number-over psw g w = order-over psw g (eqb (w % 2 ^ 31) 0) (ltb (2 ^ 31) w)
 module _ (base x psw : ℕ) (regs₀ regs sys : List ℕ) (g : Flags) (m : Memory) (to next : ℕ) (on : addressOf base to ≡ next) (even : to % 2 ≡ 0) where
   -- an instruction that goes on with these registers and this PSW
   pub goes-on : (r : Flags) (p : ℕ) (rs : List ℕ) → packedOf psw r ≡ p → regs ≡ rs
-      → Does (Done to (r .wide) (r .ov)) base psw regs₀ m regs m sys (goesOn rs next p (machineOf regs₀ sys base x psw g) m)
+      → Does (Done to (r .addition) (r .value)) base psw regs₀ m regs m sys (goesOn rs next p (machineOf regs₀ sys base x psw g) m)
   goes-on r p rs e h = (rw (on, e, h), even)

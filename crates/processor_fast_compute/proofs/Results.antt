@@ -41,17 +41,17 @@ two-even x h = omega arith
 module _ (base x psw n : ℕ) (regs₀ regs sys : List ℕ) (g : Flags) (m : Memory) (to next : ℕ) (on : addressOf base to ≡ next) (even : to % 2 ≡ 0) where
   -- a result with flags
   pub result-does : (r : Flags) (o : Outcome) → Gives psw r o → regs ≡ putOf regs₀ n (packedValueOf r)
-      → Does (Done to (r .wide) (r .ov)) base psw regs₀ m regs m sys (resultOf n o next (machineOf regs₀ sys base x psw g) m)
+      → Does (Done to (r .addition) (r .value)) base psw regs₀ m regs m sys (resultOf n o next (machineOf regs₀ sys base x psw g) m)
   result-does r o e p = (rw (on, e .flags, p, e .value), even)
 
   -- a value that leaves the flags
   pub value-does : (v : ℕ) → regs ≡ putOf regs₀ n v
-      → Does (Done to (g .wide) (g .ov)) base psw regs₀ m regs m sys (givesOf n v next (machineOf regs₀ sys base x psw g) m)
+      → Does (Done to (g .addition) (g .value)) base psw regs₀ m regs m sys (givesOf n v next (machineOf regs₀ sys base x psw g) m)
   value-does v p = (rw (on, p), even)
 
   -- two results
   pub pair-does : (r : Pair) (o : arithmetic.Pair) → GivesPair psw r o → regs ≡ putOf (putOf regs₀ 30 (r .r30)) n (packedValueOf (r .flags))
-      → Does (Done to (r .flags .wide) (r .flags .ov)) base psw regs₀ m regs m sys (pairOf n o next (machineOf regs₀ sys base x psw g) m)
+      → Does (Done to (r .flags .addition) (r .flags .value)) base psw regs₀ m regs m sys (pairOf n o next (machineOf regs₀ sys base x psw g) m)
   pair-does r o e p = (rw (on, e .flags, p, e .reg2, e .r30), even)
 
 -- a register that keeps its own value
@@ -66,7 +66,7 @@ put-same regs n =
 -- a comparison leaves its flags alone
 pub compare-does : (base x psw n : ℕ) (regs sys : List ℕ) (g : Flags) (m : Memory) (to next : ℕ) → addressOf base to ≡ next → to % 2 ≡ 0
     → (r : Flags) (b : ℕ) → Gives psw r (differenceOf (getD regs (n % 32) 0) b (packedOf psw g))
-    → Does (Done to (r .wide) (r .ov)) base psw regs m regs m sys (resultOf n (compareOf (getD regs (n % 32) 0) b
+    → Does (Done to (r .addition) (r .value)) base psw regs m regs m sys (resultOf n (compareOf (getD regs (n % 32) 0) b
     (packedOf psw g)) next (machineOf regs sys base x psw g) m)
 unfolding compareOf
 compare-does base x psw n regs sys g m to next on even r b e = (rw (on, e .flags, put-same regs n), even)
@@ -74,5 +74,5 @@ compare-does base x psw n regs sys g m to next on even r b e = (rw (on, e .flags
 -- a store
 pub store-does : (base x psw : ℕ) (regs sys : List ℕ) (g : Flags) (m₀ m : Memory) (to next : ℕ) → addressOf base to ≡ next → to % 2 ≡ 0
     → (w : Memory) → m ≡ w
-    → Does (Done to (g .wide) (g .ov)) base psw regs m₀ regs m sys (goesOn regs next (packedOf psw g) (machineOf regs sys base x psw g) w)
+    → Does (Done to (g .addition) (g .value)) base psw regs m₀ regs m sys (goesOn regs next (packedOf psw g) (machineOf regs sys base x psw g) w)
 store-does base x psw regs sys g m₀ m to next on even w e = (rw (on, e), even)

@@ -17,7 +17,6 @@ use processor_lazy_flags::condition;
 use processor_lazy_flags::product;
 use processor_lazy_flags::quotient;
 use processor_lazy_flags::shift;
-use processor_lazy_flags::status::low;
 use processor_lazy_flags::sum;
 use processor_machine::register::put;
 ghost use mathlib.Core.Path.{_≡_};
@@ -34,28 +33,28 @@ ghost use Rattle.processor_fast_compute.specs.inner.Fast.{Computes};
 fn result(regs: &mut [u32; 32], n: u32, flags: Flags, x: u32) -> Fast
     ensures { λ r. ⌜
         (now (regs .exit) ≡ putOf (now (regs .entry)) n (packedValueOf flags))
-        × (r ≡ Fast.Done x (flags .wide) (flags .ov))
+        × (r ≡ Fast.Done x (flags .addition) (flags .value))
         ⌝ }
 {
-    put(regs, n, low(flags.wide));
+    put(regs, n, flags.value);
     Fast::Done {
         x,
-        wide: flags.wide,
-        ov: flags.ov,
+        addition: flags.addition,
+        value: flags.value,
     }
 }
 
 // A value for register n that leaves the flags.
 fn value(regs: &mut [u32; 32], n: u32, v: u32, x: u32, flags: Flags) -> Fast
     ensures { λ r. ⌜
-        (now (regs .exit) ≡ putOf (now (regs .entry)) n v) × (r ≡ Fast.Done x (flags .wide) (flags .ov))
+        (now (regs .exit) ≡ putOf (now (regs .entry)) n v) × (r ≡ Fast.Done x (flags .addition) (flags .value))
         ⌝ }
 {
     put(regs, n, v);
     Fast::Done {
         x,
-        wide: flags.wide,
-        ov: flags.ov,
+        addition: flags.addition,
+        value: flags.value,
     }
 }
 
@@ -63,16 +62,16 @@ fn value(regs: &mut [u32; 32], n: u32, v: u32, x: u32, flags: Flags) -> Fast
 fn pair(regs: &mut [u32; 32], n: u32, p: Pair, x: u32) -> Fast
     ensures { λ r. ⌜
         (now (regs .exit) ≡ putOf (putOf (now (regs .entry)) 30 (p .r30)) n (packedValueOf (p .flags)))
-        × (r ≡ Fast.Done x (p .flags .wide) (p .flags .ov))
+        × (r ≡ Fast.Done x (p .flags .addition) (p .flags .value))
         ⌝ }
 {
     put(regs, 30, p.r30);
     let flags = p.flags;
-    put(regs, n, low(flags.wide));
+    put(regs, n, flags.value);
     Fast::Done {
         x,
-        wide: flags.wide,
-        ov: flags.ov,
+        addition: flags.addition,
+        value: flags.value,
     }
 }
 
@@ -193,8 +192,8 @@ pub fn cmp(regs: &[u32; 32], f: u32, x: u32, flags: Flags) -> Fast
     let o = sum::sub(a, b);
     Fast::Done {
         x: after_one(x),
-        wide: o.wide,
-        ov: o.ov,
+        addition: o.addition,
+        value: o.value,
     }
 }
 
@@ -285,8 +284,8 @@ pub fn cmp_immediate(regs: &[u32; 32], f: u32, x: u32, flags: Flags) -> Fast
     let o = sum::sub(a, b);
     Fast::Done {
         x: after_one(x),
-        wide: o.wide,
-        ov: o.ov,
+        addition: o.addition,
+        value: o.value,
     }
 }
 

@@ -35,8 +35,8 @@ fn settle(regs: &mut [u32; 32], n: u32, o: FloatOutcome, x: u32, flags: Flags) -
             let g = order::number(w);
             Fast::Done {
                 x: after_two(x),
-                wide: g.wide,
-                ov: g.ov,
+                addition: g.addition,
+                value: g.value,
             }
         }
         FloatOutcome::Word(w) => {
@@ -44,8 +44,8 @@ fn settle(regs: &mut [u32; 32], n: u32, o: FloatOutcome, x: u32, flags: Flags) -
             let g = bitwise::value(w, flags);
             Fast::Done {
                 x: after_two(x),
-                wide: g.wide,
-                ov: g.ov,
+                addition: g.addition,
+                value: g.value,
             }
         }
         FloatOutcome::Reserved => Fast::NotHere,
@@ -57,12 +57,12 @@ fn settle(regs: &mut [u32; 32], n: u32, o: FloatOutcome, x: u32, flags: Flags) -
 
 // After a comparison.
 fn ordered(g: Flags, x: u32) -> Fast
-    ensures { λ r. ⌜ r ≡ Fast.Done ((x + 4) % 2 ^ 32) (g .wide) (g .ov) ⌝ }
+    ensures { λ r. ⌜ r ≡ Fast.Done ((x + 4) % 2 ^ 32) (g .addition) (g .value) ⌝ }
 {
     Fast::Done {
         x: after_two(x),
-        wide: g.wide,
-        ov: g.ov,
+        addition: g.addition,
+        value: g.value,
     }
 }
 

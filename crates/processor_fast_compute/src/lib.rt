@@ -7,7 +7,7 @@ pub mod floating;
 // What the dispatch did: the instruction, which goes on at index x with these flags, or at the following one with this
 // PSW above its flags; or nothing.
 pub enum Fast {
-    Done { x: u32, wide: u64, ov: u32 },
+    Done { x: u32, addition: u64, value: u32 },
     Masked { psw: u32 },
     NotHere,
 }

@@ -51,7 +51,7 @@ module _ (base x d : ℕ) (hb : base % 2 ≡ 0) (hx : x % 2 ≡ 0) (hd : d % 2 �
 -- a branch whose condition is k
 pub branch-does : (base x psw f k : ℕ) (regs sys : List ℕ) (g : Flags) (m : Memory) (b : Bool) → base % 2 ≡ 0 → x % 2 ≡ 0
     → f / 512 % 16 ≡ k → b ≡ conditionOf k (packedOf psw g)
-    → Does (Done (pick b ((x + extendOf 256 (f % 512 / 2 * 2)) % 2 ^ 32) ((x + 2) % 2 ^ 32)) (g .wide) (g .ov)) base psw regs m regs m sys
+    → Does (Done (pick b ((x + extendOf 256 (f % 512 / 2 * 2)) % 2 ^ 32) ((x + 2) % 2 ^ 32)) (g .addition) (g .value)) base psw regs m regs m sys
     (performOf (format.branch f) (nextOf false (addressOf base x)) (machineOf regs sys base x psw g) m)
 unfolding executeOf
 branch-does base x psw f k regs sys g m true hb hx e h =

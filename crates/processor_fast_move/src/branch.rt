@@ -24,21 +24,21 @@ ghost use Rattle.processor_fast_compute.specs.inner.Fast.{Computes, PerformsAt}
 fn branch(taken: bool, f: u32, x: u32, flags: Flags) -> Fast
     ensures { λ r. ⌜
         r ≡ Fast.Done (pick taken ((x + extendOf 256 (f % 512 / 2 * 2)) % 2 ^ 32) ((x + 2) % 2 ^ 32))
-        (flags .wide) (flags .ov)
+        (flags .addition) (flags .value)
         ⌝ }
 {
     if taken {
         let to = std::num::wrapping_add_u32(x, extend9(f % 512 / 2 * 2));
         return Fast::Done {
             x: to,
-            wide: flags.wide,
-            ov: flags.ov,
+            addition: flags.addition,
+            value: flags.value,
         };
     }
     Fast::Done {
         x: after_one(x),
-        wide: flags.wide,
-        ov: flags.ov,
+        addition: flags.addition,
+        value: flags.value,
     }
 }
 
@@ -141,8 +141,8 @@ pub fn jmp(regs: &[u32; 32], base: u32, f: u32, x: u32, flags: Flags) -> Fast
     let to = std::num::wrapping_sub_u32(t - t % 2, base);
     Fast::Done {
         x: to,
-        wide: flags.wide,
-        ov: flags.ov,
+        addition: flags.addition,
+        value: flags.value,
     }
 }
 
@@ -162,8 +162,8 @@ pub fn jr(f: u32, s: u32, x: u32, flags: Flags) -> Fast
     let to = target(f, s, x);
     Fast::Done {
         x: to,
-        wide: flags.wide,
-        ov: flags.ov,
+        addition: flags.addition,
+        value: flags.value,
     }
 }
 
@@ -178,7 +178,7 @@ pub fn jal(regs: &mut [u32; 32], base: u32, f: u32, s: u32, x: u32, flags: Flags
     let to = target(f, s, x);
     Fast::Done {
         x: to,
-        wide: flags.wide,
-        ov: flags.ov,
+        addition: flags.addition,
+        value: flags.value,
     }
 }

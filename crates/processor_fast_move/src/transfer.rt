@@ -35,14 +35,14 @@ fn address(regs: &[u32; 32], f: u32, s: u32) -> u32
 // A value that was read, for register n.
 fn loaded(regs: &mut [u32; 32], n: u32, v: u32, x: u32, flags: Flags) -> Fast
     ensures { λ r. ⌜
-        (now (regs .exit) ≡ putOf (now (regs .entry)) n v) × (r ≡ Fast.Done x (flags .wide) (flags .ov))
+        (now (regs .exit) ≡ putOf (now (regs .entry)) n v) × (r ≡ Fast.Done x (flags .addition) (flags .value))
         ⌝ }
 {
     put(regs, n, v);
     Fast::Done {
         x,
-        wide: flags.wide,
-        ov: flags.ov,
+        addition: flags.addition,
+        value: flags.value,
     }
 }
 
@@ -200,8 +200,8 @@ pub fn store_byte(
     }
     Fast::Done {
         x: after_two(x),
-        wide: flags.wide,
-        ov: flags.ov,
+        addition: flags.addition,
+        value: flags.value,
     }
 }
 
@@ -235,8 +235,8 @@ pub fn store_half(
     }
     Fast::Done {
         x: after_two(x),
-        wide: flags.wide,
-        ov: flags.ov,
+        addition: flags.addition,
+        value: flags.value,
     }
 }
 
@@ -270,7 +270,7 @@ pub fn store_word(
     }
     Fast::Done {
         x: after_two(x),
-        wide: flags.wide,
-        ov: flags.ov,
+        addition: flags.addition,
+        value: flags.value,
     }
 }

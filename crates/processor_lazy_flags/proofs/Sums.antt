@@ -1,28 +1,79 @@
--- The carry of a sum and the borrow of a difference at 64 bits.
-use Prim.Native.Nat.{ℕ, _+_, _-_, _/_, _%_, _^_, _<_, _≤_}
-use mathlib.Core.Path.{_≡_}
+-- The addition that lazy flags keep: of a sum, of a difference, and for a CY and an OV that are known.
+use Prim.Native.Nat.{ℕ, zero, suc, _+_, _-_, _*_, _/_, _%_, _^_, _<_, _≤_}
+use mathlib.Core.Path.{_≡_, refl, sym, _∙_}
 use native.Mathlib.Decide.{decLt}
 use native.Mathlib.Omega.{arith}
 use borrow.Author.Tests.{lt-ltb, le-ltb, lt-leb, le-leb}
+use lib.Bits.{bitAnd, bitXor}
 use lib.Dec.{ltb, leb}
+use lib.IntN.{_+ℤ_, _-ℤ_}
 use Rattle.processor_arithmetic.specs.Flag.{bitOf}
+use Rattle.processor_arithmetic.specs.Integer.{signed, outside}
+use Rattle.processor_arithmetic.proofs.Overflow.{sum-overflow-signs, difference-sum-outside}
+use Rattle.processor_lazy_flags.specs.inner.Packed.{packedValueOf, carryOf, overflowOf, Holds}
+use Rattle.processor_lazy_flags.specs.declared.Flags.{Flags}
 
--- w is a - b, wrapped: its bit 32 is the borrow
-pub borrow-bit : (a b w : ℕ) → a < 2 ^ 32 → b < 2 ^ 32 → w < 2 ^ 64 → (w + b) % 2 ^ 64 ≡ a → w / 2 ^ 32 % 2 ≡ bitOf (ltb a b)
-borrow-bit a b w ha hb hw e =
+-- a wrapped sum is less than a part where it wrapped
+carry-less : (a b : ℕ) → a < 2 ^ 32 → b < 2 ^ 32 → ltb ((a + b) % 2 ^ 32) a ≡ leb (2 ^ 32) (a + b)
+carry-less a b ha hb =
+    elim (decLt (a + b) (2 ^ 32)) [
+      | yes h ↦
+          let k : a ≤ (a + b) % 2 ^ 32 = omega arith in
+          simp (lt-leb (2 ^ 32) (a + b) h, le-ltb ((a + b) % 2 ^ 32) a k)
+      | no h ↦
+          let k : 2 ^ 32 ≤ a + b = omega arith in
+          let l : (a + b) % 2 ^ 32 < a = omega arith in
+          simp (le-leb (2 ^ 32) (a + b) k, lt-ltb ((a + b) % 2 ^ 32) a l)
+    ]
+
+-- a word is less than its wrapped difference where it borrowed
+borrow-less : (a b : ℕ) → a < 2 ^ 32 → b < 2 ^ 32 → ltb a ((a + (2 ^ 32 - b)) % 2 ^ 32) ≡ ltb a b
+borrow-less a b ha hb =
     elim (decLt a b) [
-      | yes h ↦ simp (lt-ltb a b h) (omega arith)
+      | yes h ↦
+          let k : a < (a + (2 ^ 32 - b)) % 2 ^ 32 = omega arith in
+          simp (lt-ltb a b h, lt-ltb a ((a + (2 ^ 32 - b)) % 2 ^ 32) k)
       | no h ↦
           let k : b ≤ a = omega arith in
-          simp (le-ltb a b k) (omega arith)
+          let l : (a + (2 ^ 32 - b)) % 2 ^ 32 ≤ a = omega arith in
+          simp (le-ltb a b k, le-ltb a ((a + (2 ^ 32 - b)) % 2 ^ 32) l)
     ]
 
--- bit 32 of the sum of two words says that it is 2 ^ 32 or more
-pub carry-bit : (s : ℕ) → s < 2 ^ 33 → s / 2 ^ 32 % 2 ≡ bitOf (leb (2 ^ 32) s)
-carry-bit s h =
-    elim (decLt s (2 ^ 32)) [
-      | yes l ↦ simp (lt-leb (2 ^ 32) s l) (omega arith)
-      | no l ↦
-          let k : 2 ^ 32 ≤ s = omega arith in
-          simp (le-leb (2 ^ 32) s k) (omega arith)
-    ]
+module _ (a b : ℕ) (r : Flags) (ha : a < 2 ^ 32) (hb : b < 2 ^ 32) where
+  pub sum-holds : r .value ≡ (a + b) % 2 ^ 32 → r .addition ≡ (a + b) % 2 ^ 32 * 2 ^ 32 + a
+      → Holds r ((a + b) % 2 ^ 32) (bitOf (leb (2 ^ 32) (a + b))) (bitOf (outside (signed a +ℤ signed b)))
+  sum-holds v e =
+      let s : r .addition / 2 ^ 32 ≡ (a + b) % 2 ^ 32 = omega arith in
+      let p : r .addition % 2 ^ 32 ≡ a = omega arith in
+      let o : ((a + b) % 2 ^ 32 + (2 ^ 32 - a)) % 2 ^ 32 ≡ b = omega arith in
+      record { value = omega arith; carry = rw (s, p, carry-less a b ha hb); overflow = rw (s, p, o) }
+
+  pub difference-holds : r .value ≡ (a + (2 ^ 32 - b)) % 2 ^ 32 → r .addition ≡ a * 2 ^ 32 + (a + (2 ^ 32 - b)) % 2 ^ 32
+      → Holds r ((a + (2 ^ 32 - b)) % 2 ^ 32) (bitOf (ltb a b)) (bitOf (outside (signed a -ℤ signed b)))
+  difference-holds v e =
+      let s : r .addition / 2 ^ 32 ≡ a = omega arith in
+      let p : r .addition % 2 ^ 32 ≡ (a + (2 ^ 32 - b)) % 2 ^ 32 = omega arith in
+      let o : (a + (2 ^ 32 - (a + (2 ^ 32 - b)) % 2 ^ 32)) % 2 ^ 32 ≡ b = omega arith in
+      record { value = omega arith; carry = rw (s, p, borrow-less a b ha hb); overflow = rw (s, p, o) (difference-sum-outside a b ha hb) }
+
+-- OV of an addition of known numbers
+known : (p q s ov : ℕ) → p < 2 ^ 32 → q < 2 ^ 32 → s ≡ (p + q) % 2 ^ 32 → bitAnd (bitXor p s) (bitXor q s) / 2 ^ 31 ≡ ov
+    → bitOf (outside (signed p +ℤ signed q)) ≡ ov
+known p q s ov hp hq e o = sym (sum-overflow-signs p q s hp hq e) ∙ o
+
+-- CY alone: a part of 0 or 1, and the sum 0
+pub carried-holds : (r : Flags) (cy : ℕ) → cy < 2 → r .value < 2 ^ 32 → r .addition ≡ cy → Holds r (r .value) cy 0
+carried-holds r zero h v e = record { value = omega arith; carry = rw e; overflow = rw e (known 0 0 0 0 (omega arith) (omega arith) refl refl) }
+carried-holds r (suc zero) h v e = record { value = omega arith; carry = rw e; overflow = rw e (known 1 4294967295 0 0 (omega arith) (omega arith) refl refl) }
+carried-holds r (suc (suc cy)) h v e = absurd (omega arith)
+
+-- CY and OV: both parts have CY for their top bit, the sum has the carry into it
+pub made-holds : (r : Flags) (cy ov : ℕ) → cy < 2 → ov < 2 → r .value < 2 ^ 32
+    → r .addition ≡ bitXor cy ov * 2147483648 * 2 ^ 32 + (cy * 2147483648 + bitXor cy ov) → Holds r (r .value) cy ov
+made-holds r zero zero h k v e = record { value = omega arith; carry = rw e; overflow = rw e (known 0 0 0 0 (omega arith) (omega arith) refl refl) }
+made-holds r zero (suc zero) h k v e = record { value = omega arith; carry = rw e; overflow = rw e (known 1 2147483647 2147483648 1 (omega arith) (omega arith) refl refl) }
+made-holds r (suc zero) zero h k v e = record { value = omega arith; carry = rw e; overflow = rw e (known 2147483649 4294967295 2147483648 0 (omega arith) (omega arith) refl refl) }
+made-holds r (suc zero) (suc zero) h k v e = record { value = omega arith; carry = rw e; overflow = rw e (known 2147483648 2147483648 0 1 (omega arith) (omega arith) refl refl) }
+made-holds r zero (suc (suc ov)) h k v e = absurd (omega arith)
+made-holds r (suc zero) (suc (suc ov)) h k v e = absurd (omega arith)
+made-holds r (suc (suc cy)) ov h k v e = absurd (omega arith)

@@ -6,31 +6,42 @@ use native.Mathlib.Decide.{decLt}
 use native.Mathlib.Omega.{arith}
 use borrow.Author.Tests.{lt-leb, le-leb, eq-eqb, ne-eqb}
 use lib.Bits.{bitXor, xor-shr, xor-lt}
-use lib.Dec.{eqb, leb}
+use lib.Dec.{eqb, ltb, leb}
+use lib.IntN.{_+ℤ_}
 use Rattle.word.specs.Bit.{isSet}
 use Rattle.word.specs.Choose.{pick}
 use Rattle.processor_arithmetic.proofs.Bits.{bit-small}
 use Rattle.processor_arithmetic.specs.Condition.{_xor_, conditionOf}
 use Rattle.processor_arithmetic.specs.Flag.{bitOf, zeroOf, flagsOf, sFlag, ovFlag}
-use Rattle.processor_lazy_flags.specs.inner.Packed.{packedValueOf, carryOf, overflowOf, packedOf}
+use Rattle.processor_arithmetic.specs.Integer.{signed, outside}
+use Rattle.processor_lazy_flags.specs.inner.Packed.{packedValueOf, partIn, sumIn, otherIn, carryOf, overflowOf, packedOf}
 use Rattle.processor_lazy_flags.specs.declared.Flags.{Flags}
 
 module _ (psw : ℕ) (g : Flags) where
+  z : bitOf (eqb (packedValueOf g) 0) < 2
+  z = bit-small (eqb (packedValueOf g) 0)
+
+  c : carryOf g < 2
+  c = bit-small (ltb (sumIn g) (partIn g))
+
+  o : overflowOf g < 2
+  o = bit-small (outside (signed (partIn g) +ℤ signed (otherIn g)))
+
   pub carry-bit : packedOf psw g / 8 % 2 ≡ carryOf g
   unfolding packedOf flagsOf
-  carry-bit = omega (arith, bit-small (eqb (packedValueOf g) 0))
+  carry-bit = omega (arith, z, c, o)
 
   pub overflow-bit : packedOf psw g / 4 % 2 ≡ overflowOf g
   unfolding packedOf flagsOf
-  overflow-bit = omega (arith, bit-small (eqb (packedValueOf g) 0))
+  overflow-bit = omega (arith, z, c, o)
 
   pub sign-bit : packedOf psw g / 2 % 2 ≡ packedValueOf g / 2 ^ 31 % 2
   unfolding packedOf flagsOf
-  sign-bit = omega (arith, bit-small (eqb (packedValueOf g) 0))
+  sign-bit = omega (arith, z, c, o)
 
   pub zero-bit : packedOf psw g / 1 % 2 ≡ zeroOf (packedValueOf g)
   unfolding packedOf flagsOf
-  zero-bit = omega (arith, bit-small (eqb (packedValueOf g) 0))
+  zero-bit = omega (arith, z, c, o)
 
 -- a word's top bit, by a comparison
 pub top-bit : (x : ℕ) → x < 2 ^ 32 → leb (2 ^ 31) x ≡ eqb (x / 2 ^ 31 % 2) 1

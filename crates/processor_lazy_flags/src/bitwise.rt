@@ -1,6 +1,7 @@
 // AND, OR, XOR and NOT: OV is cleared, CY kept.
 use crate::Flags;
-use crate::status::kept;
+use crate::status::carried;
+use crate::status::carry;
 ghost use mathlib.Core.Path.{_≡_};
 ghost use Prim.Native.Nat.{ℕ};
 ghost use Rattle.processor_arithmetic.specs.Bitwise.{bitsOf, andOf, orOf, xorOf, notOf};
@@ -10,8 +11,7 @@ ghost use Rattle.processor_lazy_flags.specs.inner.Packed.{packedOf, Give
 pub fn value(v: u32, flags: Flags) -> Flags
     ensures { λ r. ⌜ ((psw : ℕ) → Gives psw r (bitsOf v (packedOf psw flags))) ⌝ }
 {
-    let wide = kept(flags.wide, v);
-    Flags { wide, ov: 0 }
+    carried(v, carry(flags))
 }
 
 pub fn and(a: u32, b: u32, flags: Flags) -> Flags

@@ -1,6 +1,6 @@
 // The conditions of Bcond and SETF, by their numbers.
 use crate::Flags;
-use crate::status::low;
+use crate::status::overflow;
 use crate::status::packed;
 ghost use mathlib.Core.Path.{_≡_};
 ghost use Prim.Native.Nat.{ℕ};
@@ -11,35 +11,35 @@ ghost use Rattle.processor_lazy_flags.specs.inner.Packed.{packedOf};
 pub fn overflowed(flags: Flags) -> bool
     ensures { λ r. ⌜ ((psw : ℕ) → r ≡ conditionOf 0 (packedOf psw flags)) ⌝ }
 {
-    2147483648 <= flags.ov
+    2147483648 <= overflow(flags)
 }
 
 // C.
 pub fn carry(flags: Flags) -> bool
     ensures { λ r. ⌜ ((psw : ℕ) → r ≡ conditionOf 1 (packedOf psw flags)) ⌝ }
 {
-    flags.wide / 4294967296 % 2 == 1
+    flags.addition / 4294967296 < flags.addition % 4294967296
 }
 
 // Z.
 pub fn zero(flags: Flags) -> bool
     ensures { λ r. ⌜ ((psw : ℕ) → r ≡ conditionOf 2 (packedOf psw flags)) ⌝ }
 {
-    low(flags.wide) == 0
+    flags.value == 0
 }
 
 // N.
 pub fn negative(flags: Flags) -> bool
     ensures { λ r. ⌜ ((psw : ℕ) → r ≡ conditionOf 4 (packedOf psw flags)) ⌝ }
 {
-    2147483648 <= low(flags.wide)
+    2147483648 <= flags.value
 }
 
 // LT.
 pub fn less(flags: Flags) -> bool
     ensures { λ r. ⌜ ((psw : ℕ) → r ≡ conditionOf 6 (packedOf psw flags)) ⌝ }
 {
-    2147483648 <= low(flags.wide) ^ flags.ov
+    2147483648 <= flags.value ^ overflow(flags)
 }
 
 // H.

@@ -1,5 +1,5 @@
-// The flags of a result kept as what they are made of, and put into PSW only where it is asked for. The functions here
-// are `pub` for the crates above: internal, not calls of the library.
+// Lazy flags: what the flags of a result are made of. PSW gets them only where it is asked for. The functions here are
+// `pub` for the crates above: internal, not calls of the library.
 pub mod bitwise;
 pub mod condition;
 pub mod order;
@@ -9,10 +9,11 @@ pub mod shift;
 pub mod status;
 pub mod sum;
 
-// S and Z are those of the low word of `wide`, CY is its bit 32, OV the top bit of `ov`.
+// S and Z are those of `value`. CY and OV are those of an addition of two words: the high word of `addition` is its
+// wrapped sum, the low word one of its parts. They are computed only where they are asked for.
 pub struct Flags {
-    pub wide: u64,
-    pub ov: u32,
+    pub addition: u64,
+    pub value: u32,
 }
 
 // The two results of a multiplication or division: the one for r30, and the one for reg2 as the flags have it.

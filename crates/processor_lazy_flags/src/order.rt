@@ -10,21 +10,27 @@ pub fn lower() -> Flags
     ensures { λ r. ⌜ ((psw : ℕ) → packedOf psw r ≡ orderedOf psw false true) ⌝ }
 {
     Flags {
-        wide: 6442450944,
-        ov: 0,
+        addition: 1,
+        value: 2147483648,
     }
 }
 
 pub fn equal() -> Flags
     ensures { λ r. ⌜ ((psw : ℕ) → packedOf psw r ≡ orderedOf psw true false) ⌝ }
 {
-    Flags { wide: 0, ov: 0 }
+    Flags {
+        addition: 0,
+        value: 0,
+    }
 }
 
 pub fn higher() -> Flags
     ensures { λ r. ⌜ ((psw : ℕ) → packedOf psw r ≡ orderedOf psw false false) ⌝ }
 {
-    Flags { wide: 1, ov: 0 }
+    Flags {
+        addition: 0,
+        value: 1,
+    }
 }
 
 // After a number, whose word is w.

@@ -1,20 +1,21 @@
 // MUL and MULU.
 use crate::Flags;
 use crate::Pair;
-use crate::status::kept;
+use crate::status::carry;
+use crate::status::made;
 ghost use mathlib.Core.Path.{_≡_};
-ghost use Prim.Native.Nat.{ℕ, _+_, _*_, _/_, _%_, _^_};
+ghost use Prim.Native.Nat.{ℕ, _+_, _*_, _^_, _<_};
 ghost use Rattle.processor_arithmetic.specs.Product.{overflowsOf, wordsOf, productOf, multiplyOf, multiplyUnsignedOf};
 ghost use Rattle.processor_lazy_flags.specs.inner.Packed.{packedOf, GivesPair};
 
-// The top bit where a 64-bit product is not its low word read signed.
+// 1 where a 64-bit product is not its low word read signed.
 fn overflow(high: u32, low: u32) -> u32
-    ensures { λ r. ⌜ r / 2 ^ 31 % 2 ≡ overflowsOf (high * 2 ^ 32 + low) ⌝ }
+    ensures { λ r. ⌜ (r ≡ overflowsOf (high * 2 ^ 32 + low)) × (r < 2) ⌝ }
 {
     if high == low / 2147483648 * 4294967295 {
         return 0;
     }
-    2147483648
+    1
 }
 
 // The two words of a 64-bit product.
@@ -24,11 +25,8 @@ fn words(w: u64, flags: Flags) -> Pair
     let low = (w % 4294967296) as u32;
     let r30 = (w / 4294967296) as u32;
     let ov = overflow(r30, low);
-    let wide = kept(flags.wide, low);
-    Pair {
-        r30,
-        flags: Flags { wide, ov },
-    }
+    let flags = made(low, carry(flags), ov);
+    Pair { r30, flags }
 }
 
 pub fn mulu(a: u32, b: u32, flags: Flags) -> Pair

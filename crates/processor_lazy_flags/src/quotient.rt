@@ -1,7 +1,9 @@
 // DIV and DIVU, for a divisor that is not zero.
 use crate::Flags;
 use crate::Pair;
-use crate::status::kept;
+use crate::status::carried;
+use crate::status::carry;
+use crate::status::made;
 use crate::status::packed;
 ghost use mathlib.Core.Path.{_≡_};
 ghost use Prim.Native.Nat.{ℕ, _<_};
@@ -13,11 +15,8 @@ pub fn divu(a: u32, b: u32, flags: Flags) -> Pair
     ensures { λ r. ⌜ ((psw : ℕ) → GivesPair psw r (divideUnsignedOf a b (packedOf psw flags))) ⌝ }
 {
     let r30 = a % b;
-    let wide = kept(flags.wide, a / b);
-    Pair {
-        r30,
-        flags: Flags { wide, ov: 0 },
-    }
+    let flags = carried(a / b, carry(flags));
+    Pair { r30, flags }
 }
 
 // Two words that are not negative are divided as they are.
@@ -32,10 +31,6 @@ pub fn div(a: u32, b: u32, flags: Flags) -> Pair
     }
     let p = processor_arithmetic::quotient::div(a, b, packed(0, flags));
     let r30 = p.r30;
-    let wide = kept(flags.wide, p.reg2);
-    let ov = p.psw / 4 % 2 * 2147483648;
-    Pair {
-        r30,
-        flags: Flags { wide, ov },
-    }
+    let flags = made(p.reg2, carry(flags), p.psw / 4 % 2);
+    Pair { r30, flags }
 }

@@ -1,6 +1,6 @@
 // SHL, SHR and SAR. The amount is the low five bits of b.
 use crate::Flags;
-use crate::status::joined;
+use crate::status::carried;
 ghost use mathlib.Core.Path.{_≡_};
 ghost use Prim.Native.Nat.{ℕ, _<_};
 ghost use Rattle.processor_arithmetic.specs.Shift.{rightOutOf, arithmeticRightOf, shiftLeftOf, shiftRightOf};
@@ -12,7 +12,7 @@ pub fn shl(a: u32, b: u32) -> Flags
 {
     let n = b % 32;
     let wide = (a as u64) << n;
-    Flags { wide, ov: 0 }
+    carried((wide % 4294967296) as u32, (wide / 4294967296 % 2) as u32)
 }
 
 // The last bit out to the right.
@@ -27,8 +27,7 @@ pub fn shr(a: u32, b: u32) -> Flags
     ensures { λ r. ⌜ ((psw : ℕ) (g : Flags) → Gives psw r (shiftRightOf a b (packedOf psw g))) ⌝ }
 {
     let n = b % 32;
-    let wide = joined(out(a, n), a >> n);
-    Flags { wide, ov: 0 }
+    carried(a >> n, out(a, n))
 }
 
 // a shifted right with copies of its top bit.
@@ -46,6 +45,5 @@ pub fn sar(a: u32, b: u32) -> Flags
     ensures { λ r. ⌜ ((psw : ℕ) (g : Flags) → Gives psw r (shiftArithmeticOf a b (packedOf psw g))) ⌝ }
 {
     let n = b % 32;
-    let wide = joined(out(a, n), arithmetic_right(a, n));
-    Flags { wide, ov: 0 }
+    carried(arithmetic_right(a, n), out(a, n))
 }

@@ -1,40 +1,64 @@
-// PSW and the flags that are kept.
+// PSW and the lazy flags.
 use crate::Flags;
 ghost use mathlib.Core.Path.{_≡_};
 ghost use Prim.Native.Nat.{_+_, _*_, _/_, _%_, _^_, _<_};
-ghost use Rattle.processor_lazy_flags.specs.inner.Packed.{packedOf};
+ghost use Rattle.processor_lazy_flags.specs.inner.Packed.{packedOf, packedValueOf, carryOf, overflowOf, Holds};
 ghost use Rattle.processor_arithmetic.specs.Flag.{zeroOf};
 
-// The value that S and Z are of.
-pub fn low(wide: u64) -> u32
-    ensures { λ r. ⌜ r ≡ wide % 2 ^ 32 ⌝ }
+// A sum above one of its parts.
+pub fn joined(sum: u32, part: u32) -> u64
+    ensures { λ r. ⌜ r ≡ sum * 2 ^ 32 + part ⌝ }
 {
-    (wide % 4294967296) as u32
+    sum as u64 * 4294967296 + part as u64
 }
 
-// A value below a carry.
-pub fn joined(cy: u32, value: u32) -> u64
+// A value with this CY and OV clear. 1 and 0xFFFFFFFF have the sum 0: they carry and, as 1 and -1, do not overflow.
+pub fn carried(value: u32, cy: u32) -> Flags
     requires { ⌜ cy < 2 ⌝ }
-    ensures { λ r. ⌜ r ≡ cy * 2 ^ 32 + value ⌝ }
+    ensures { λ r. ⌜ Holds r value cy 0 ⌝ }
 {
-    cy as u64 * 4294967296 + value as u64
+    Flags {
+        addition: cy as u64,
+        value,
+    }
 }
 
-// Another value below the carry of `wide`.
-pub fn kept(wide: u64, value: u32) -> u64
-    ensures { λ r. ⌜ r ≡ wide / 2 ^ 32 * 2 ^ 32 + value ⌝ }
+// A value with these CY and OV. A carry into the top bit differs from the one out of it where OV is set; so both parts
+// have CY for their top bit, and the sum has the carry into it.
+pub fn made(value: u32, cy: u32, ov: u32) -> Flags
+    requires { ⌜ (cy < 2) × (ov < 2) ⌝ }
+    ensures { λ r. ⌜ Holds r value cy ov ⌝ }
 {
-    wide / 4294967296 * 4294967296 + value as u64
+    let top = cy ^ ov;
+    Flags {
+        addition: joined(top * 2147483648, cy * 2147483648 + top),
+        value,
+    }
+}
+
+// CY: the wrapped sum is less than either part.
+pub fn carry(flags: Flags) -> u32
+    ensures { λ r. ⌜ (r ≡ carryOf flags) × (r < 2) ⌝ }
+{
+    processor_arithmetic::flag::bit(flags.addition / 4294967296 < flags.addition % 4294967296)
+}
+
+// A word whose top bit is OV: the sign of the wrapped sum is neither part's.
+pub fn overflow(flags: Flags) -> u32
+    ensures { λ r. ⌜ r / 2 ^ 31 ≡ overflowOf flags ⌝ }
+{
+    let sum = (flags.addition / 4294967296) as u32;
+    let part = (flags.addition % 4294967296) as u32;
+    let other = std::num::wrapping_sub_u32(sum, part);
+    (part ^ sum) & (other ^ sum)
 }
 
 // PSW with these flags.
 pub fn packed(psw: u32, flags: Flags) -> u32
     ensures { λ r. ⌜ r ≡ packedOf psw flags ⌝ }
 {
-    let wide = flags.wide;
-    let ov = flags.ov / 2147483648 % 2;
-    let cy = (wide / 4294967296 % 2) as u32;
-    processor_arithmetic::flag::flags(psw, cy, ov, low(wide))
+    let ov = overflow(flags) / 2147483648 % 2;
+    processor_arithmetic::flag::flags(psw, carry(flags), ov, flags.value)
 }
 
 // A value with the S and Z of PSW, which are not both set.
@@ -53,8 +77,5 @@ pub fn unpacked(psw: u32) -> Flags
     requires { ⌜ (psw % 4 ≡ 3 → ⊥) ⌝ }
     ensures { λ r. ⌜ packedOf psw r ≡ psw ⌝ }
 {
-    Flags {
-        wide: joined(psw / 8 % 2, value(psw)),
-        ov: psw / 4 % 2 * 2147483648,
-    }
+    made(value(psw), psw / 8 % 2, psw / 4 % 2)
 }

@@ -29,8 +29,8 @@ machineOf regs sys base x psw g = stateOf regs sys (addressOf base x) (packedOf 
 -- an answer, for an instruction that gives t and leaves PSW above its flags: before it the general registers and the
 -- memory were regs₀ and m₀
 abbrev pub Does : Fast → ℕ → ℕ → List ℕ → Memory → List ℕ → Memory → List ℕ → Stepped → Type 0
-Does (Done x wide ov) base psw regs₀ m₀ regs m sys t =
-    (steppedOf Ended (machineOf regs sys base x psw (record { wide = wide; ov = ov })) m ≡ t) × (x % 2 ≡ 0)
+Does (Done x addition value) base psw regs₀ m₀ regs m sys t =
+    (steppedOf Ended (machineOf regs sys base x psw (record { addition = addition; value = value })) m ≡ t) × (x % 2 ≡ 0)
 Does (Masked p) base psw regs₀ m₀ regs m sys t = ⊥
 Does NotHere base psw regs₀ m₀ regs m sys t = (regs ≡ regs₀) × (m ≡ m₀)
 

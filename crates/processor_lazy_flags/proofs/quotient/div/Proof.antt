@@ -24,16 +24,15 @@ returns c =
 returns-2 : tie.Need-returns-2
 unfolding divideOf
 returns-2 c = λ psw.
-    let a = c .before .before .before .before .before .args in
-    let p = c .before .before .div in
+    let a = c .before .before .before .before .before .before .args in
+    let p = c .before .before .before .div in
     let z = quotZ (signed (a .a)) (signed (a .b)) in
     let q : p .result .reg2 ≡ complementOf (2 ^ 32) (quotZ (signed (a .a)) (signed (a .b))) = ap (λ (x : Pair). x .reg2) (p .ensures) in
     let s : bitOf (outside (quotZ (signed (a .a)) (signed (a .b)))) < 2 = bit-small (outside z) in
     let o : p .result .psw / 4 % 2 ≡ bitOf (outside (quotZ (signed (a .a)) (signed (a .b)))) =
     rw (p .ensures) (keep-overflow _ _ _ s (complement-word z)) in
-    gives-pair psw (a .flags) _ _ _ _
-    (ap (λ (x : Pair). x .r30) (p .ensures)) (omega (arith, c .before .kept .ensures, q))
-    (omega (arith, c .before .kept .ensures)) (omega (arith, o, s))
+    gives-pair psw (a .flags) _ _ _ _ (ap (λ (x : Pair). x .r30) (p .ensures))
+    (rw (c .before .before .carry .ensures .0, q, o) at (c .made .ensures))
 
 pub div-spec : {M : Type 1} → statement M
 div-spec =
