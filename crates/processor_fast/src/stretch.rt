@@ -74,7 +74,11 @@ fn inside(
             high,
             flags,
         ) {
-            Fast::Done { x: to, addition, value } => {
+            Fast::Done {
+                x: to,
+                addition,
+                value,
+            } => {
                 x = to;
                 flags = Flags { addition, value };
                 left -= 1;

@@ -63,17 +63,23 @@ known p q s ov hp hq e o = sym (sum-overflow-signs p q s hp hq e) ∙ o
 
 -- CY alone: a part of 0 or 1, and the sum 0
 pub carried-holds : (r : Flags) (cy : ℕ) → cy < 2 → r .value < 2 ^ 32 → r .addition ≡ cy → Holds r (r .value) cy 0
-carried-holds r zero h v e = record { value = omega arith; carry = rw e; overflow = rw e (known 0 0 0 0 (omega arith) (omega arith) refl refl) }
-carried-holds r (suc zero) h v e = record { value = omega arith; carry = rw e; overflow = rw e (known 1 4294967295 0 0 (omega arith) (omega arith) refl refl) }
+carried-holds r zero h v e =
+    record { value = omega arith; carry = rw e; overflow = rw e (known 0 0 0 0 (omega arith) (omega arith) refl refl) }
+carried-holds r (suc zero) h v e =
+    record { value = omega arith; carry = rw e; overflow = rw e (known 1 4294967295 0 0 (omega arith) (omega arith) refl refl) }
 carried-holds r (suc (suc cy)) h v e = absurd (omega arith)
 
 -- CY and OV: both parts have CY for their top bit, the sum has the carry into it
 pub made-holds : (r : Flags) (cy ov : ℕ) → cy < 2 → ov < 2 → r .value < 2 ^ 32
     → r .addition ≡ bitXor cy ov * 2147483648 * 2 ^ 32 + (cy * 2147483648 + bitXor cy ov) → Holds r (r .value) cy ov
-made-holds r zero zero h k v e = record { value = omega arith; carry = rw e; overflow = rw e (known 0 0 0 0 (omega arith) (omega arith) refl refl) }
-made-holds r zero (suc zero) h k v e = record { value = omega arith; carry = rw e; overflow = rw e (known 1 2147483647 2147483648 1 (omega arith) (omega arith) refl refl) }
-made-holds r (suc zero) zero h k v e = record { value = omega arith; carry = rw e; overflow = rw e (known 2147483649 4294967295 2147483648 0 (omega arith) (omega arith) refl refl) }
-made-holds r (suc zero) (suc zero) h k v e = record { value = omega arith; carry = rw e; overflow = rw e (known 2147483648 2147483648 0 1 (omega arith) (omega arith) refl refl) }
+made-holds r zero zero h k v e =
+    record { value = omega arith; carry = rw e; overflow = rw e (known 0 0 0 0 (omega arith) (omega arith) refl refl) }
+made-holds r zero (suc zero) h k v e =
+    record { value = omega arith; carry = rw e; overflow = rw e (known 1 2147483647 2147483648 1 (omega arith) (omega arith) refl refl) }
+made-holds r (suc zero) zero h k v e =
+    record { value = omega arith; carry = rw e; overflow = rw e (known 2147483649 4294967295 2147483648 0 (omega arith) (omega arith) refl refl) }
+made-holds r (suc zero) (suc zero) h k v e =
+    record { value = omega arith; carry = rw e; overflow = rw e (known 2147483648 2147483648 0 1 (omega arith) (omega arith) refl refl) }
 made-holds r zero (suc (suc ov)) h k v e = absurd (omega arith)
 made-holds r (suc zero) (suc (suc ov)) h k v e = absurd (omega arith)
 made-holds r (suc (suc cy)) ov h k v e = absurd (omega arith)
