@@ -95,6 +95,20 @@ impl Command {
         }
     }
 
+    /// Whether it takes long, and says what it did so far when a signal comes.
+    fn looks_at_signals(&self) -> bool {
+        matches!(
+            self,
+            Command::Run(_)
+                | Command::Step(_)
+                | Command::Trace(_)
+                | Command::Replay(_)
+                | Command::Judge(_)
+                | Command::Expect(_)
+                | Command::Verify(_)
+        )
+    }
+
     fn run(&self) -> Result<Report, Failure> {
         match self {
             Command::Demo(options) => commands::demo::run(options),
@@ -128,10 +142,14 @@ pub fn run(arguments: Vec<OsString>, output_is_closed: bool) -> i32 {
         warn("vbmodel: standard output: is closed; it must be open, to a file, a pipe or a terminal\n");
         return 2;
     }
-    interrupt::install();
     let parsed = description().try_get_matches_from(&arguments);
     match parsed.and_then(|matches| Cli::from_arg_matches(&matches)) {
-        Ok(Cli { command }) => reported(command.run(), command.json()),
+        Ok(Cli { command }) => {
+            if !command.looks_at_signals() {
+                interrupt::at_once();
+            }
+            reported(command.run(), command.json())
+        }
         Err(error) if error.kind() == ErrorKind::DisplayHelpOnMissingArgumentOrSubcommand => {
             warn(&error.to_string());
             2
@@ -210,4 +228,28 @@ fn safe(text: &str) -> String {
             None => printable(line),
         })
         .collect()
+}
+
+#[cfg(test)]
+mod tests {
+    use super::*;
+    use std::collections::BTreeSet;
+
+    /// The parser's own check runs in a debug build alone; names of groups and options that are there twice are found in
+    /// both.
+    #[test]
+    fn the_parsers_description_of_every_command_is_sound() {
+        description().debug_assert();
+        let all = description();
+        for command in std::iter::once(&all).chain(all.get_subcommands()) {
+            let groups: Vec<_> =
+                command.get_groups().map(|group| group.get_id().as_str()).collect();
+            let options: Vec<_> =
+                command.get_arguments().filter_map(|one| one.get_long()).collect();
+            for names in [groups, options] {
+                let distinct: BTreeSet<&str> = names.iter().copied().collect();
+                assert_eq!(distinct.len(), names.len(), "{}: {names:?}", command.get_name());
+            }
+        }
+    }
 }

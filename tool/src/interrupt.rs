@@ -2,8 +2,11 @@
 //! status 130. Every other ends at once. No temporary file stays.
 
 use std::fs;
-use std::sync::atomic::{AtomicBool, Ordering};
+use std::io::{stderr, Write};
+use std::sync::atomic::{AtomicBool, AtomicU8, Ordering};
 use std::sync::Arc;
+use std::thread;
+use std::time::{Duration, Instant};
 
 use signal_hook::consts::{SIGHUP, SIGINT, SIGTERM, SIGXFSZ};
 use signal_hook::iterator::Signals;
@@ -13,9 +16,18 @@ use crate::files::remove_all;
 /// The exit status of a command that was stopped.
 pub const STATUS: i32 = 130;
 
+/// How long a command may read its input after a signal before it is ended without an answer.
+const PATIENCE: Duration = Duration::from_millis(500);
+
 static ASKED: AtomicBool = AtomicBool::new(false);
-/// Whether the command looks at `asked`.
-static WATCHED: AtomicBool = AtomicBool::new(false);
+static PHASE: AtomicU8 = AtomicU8::new(STARTING);
+
+/// The arguments or the input are being read: it is not known yet what the command does with a signal.
+const STARTING: u8 = 0;
+/// A signal ends the command at once.
+const AT_ONCE: u8 = 1;
+/// The command looks at `asked`.
+const WATCHED: u8 = 2;
 
 /// From now on signals are taken. Without a handler they end the process, as they do by themselves.
 pub fn install() {
@@ -25,20 +37,37 @@ pub fn install() {
     let taken = [SIGINT, SIGTERM, SIGHUP];
     let taken = taken.into_iter().filter(|&signal| signal != SIGHUP || !is_ignored(SIGHUP));
     let Ok(mut signals) = Signals::new(taken) else { return };
-    std::thread::spawn(move || {
-        for _ in signals.forever() {
-            let again = ASKED.swap(true, Ordering::Relaxed);
-            if again || !WATCHED.load(Ordering::Relaxed) {
-                remove_all();
-                std::process::exit(STATUS);
-            }
+    thread::spawn(move || signals.forever().for_each(|_| take()));
+}
+
+/// A signal has come. One that comes while the command starts waits for it to say what it does.
+fn take() {
+    if ASKED.swap(true, Ordering::SeqCst) {
+        end();
+    }
+    let begun = Instant::now();
+    while PHASE.load(Ordering::SeqCst) != WATCHED {
+        if PHASE.load(Ordering::SeqCst) == AT_ONCE || begun.elapsed() > PATIENCE {
+            end();
         }
-    });
+        thread::sleep(Duration::from_millis(2));
+    }
+}
+
+fn end() -> ! {
+    remove_all();
+    let _ = stderr().write_all(b"vbmodel: stopped by a signal\n");
+    std::process::exit(STATUS);
+}
+
+/// From now on a signal ends the command at once.
+pub fn at_once() {
+    PHASE.store(AT_ONCE, Ordering::SeqCst);
 }
 
 /// From now on a signal asks to stop; a second one stops at once.
 pub fn watch() {
-    WATCHED.store(true, Ordering::Relaxed);
+    PHASE.store(WATCHED, Ordering::SeqCst);
 }
 
 pub fn asked() -> bool {

@@ -19,6 +19,7 @@ extern "C" fn look() {
 static BEFORE_MAIN: extern "C" fn() = look;
 
 fn main() {
+    vbmodel::interrupt::install();
     let closed = OUTPUT_IS_CLOSED.load(Ordering::Relaxed);
     std::process::exit(vbmodel::cli::run(std::env::args_os().collect(), closed));
 }

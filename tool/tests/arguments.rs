@@ -73,6 +73,7 @@ fn the_demos_next_command_runs_as_printed() {
     }
 }
 
+/// As soon as the signal is taken, which is before the program is read.
 #[test]
 fn ctrl_c_prints_and_writes_what_was_done() {
     let folder = with_loop("arguments-interrupt");
@@ -96,9 +97,33 @@ fn ctrl_c_prints_and_writes_what_was_done() {
     assert_eq!(output.status.code(), Some(130));
     let value: serde_json::Value = serde_json::from_slice(&output.stdout).unwrap();
     assert_eq!(value["answer"], "interrupted");
-    assert!(value["count"].as_u64().unwrap() > 0);
+    assert!(value["count"].as_u64().is_some());
     assert_eq!(value["pc"], 0xFFFF_FFF0u32);
     assert_eq!(folder.read("p").len(), 180);
+}
+
+/// A command that waits for its input, or that has nothing to say so far, says that it was stopped.
+#[test]
+fn a_signal_is_answered_in_every_command() {
+    let folder = with_loop("arguments-signals");
+    for arguments in ["run --rom -", "disasm -", "replay --rom - x"] {
+        let mut child = Command::new(env!("CARGO_BIN_EXE_vbmodel"))
+            .args(arguments.split(' '))
+            .current_dir(folder.path("."))
+            .stdin(Stdio::piped())
+            .stdout(Stdio::piped())
+            .stderr(Stdio::piped())
+            .spawn()
+            .unwrap();
+        // it stays open, and nothing comes
+        let input = child.stdin.take();
+        common::interrupt(child.id());
+        let output = child.wait_with_output().unwrap();
+        drop(input);
+        let error = String::from_utf8(output.stderr).unwrap();
+        let answer = (output.status.code(), error.as_str());
+        assert_eq!(answer, (Some(130), "vbmodel: stopped by a signal\n"), "{arguments}");
+    }
 }
 
 /// On a terminal of 30 columns.

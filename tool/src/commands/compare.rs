@@ -70,11 +70,11 @@ pub struct Options {
     #[arg(long, value_name = "N", default_value = "10", value_parser = number::word)]
     first: u32,
     #[command(flatten)]
-    seen: brightness::Options,
+    seen: brightness::BrightnessOptions,
     /// Group the differing pixels by the world or object that gives the model's value there
     #[arg(long)]
     why: bool,
-    /// PNG pixels to a pixel's side, 1 to 16
+    /// Enlarge each pixel so many times, 1 to 16
     #[arg(long, value_name = "N", default_value = "1", value_parser = number::scale)]
     scale: usize,
     /// The folder for the PNG that marks the differences
@@ -87,17 +87,17 @@ pub struct Options {
 
 /// What is reported; its members are those of the JSON.
 #[derive(Serialize)]
-struct Told {
+struct Reported {
     verdict: Verdict,
     vram: String,
     drawing: String,
     frame: u32,
-    eyes: Vec<EyeTold>,
+    eyes: Vec<EyeReported>,
     written: Vec<String>,
 }
 
 #[derive(Serialize)]
-struct EyeTold {
+struct EyeReported {
     eye: &'static str,
     capture: String,
     verdict: Verdict,
@@ -123,8 +123,8 @@ struct Invalid<'a> {
 
 pub fn run(options: &Options) -> Result<Report, Failure> {
     compared(options).or_else(|failure| {
-        let told = Invalid { verdict: Verdict::Invalid, failure: &failure };
-        let json = json(&told);
+        let reported = Invalid { verdict: Verdict::Invalid, failure: &failure };
+        let json = json(&reported);
         Ok(Report { text: String::new(), json, status: 2, failure: Some(failure), aside: false })
     })
 }
@@ -157,12 +157,12 @@ fn compared(options: &Options) -> Result<Report, Failure> {
         if !found.is_empty() {
             mark(options, &mut outputs, eye_name(eye), &expected, &capture.picture);
         }
-        let mut told = EyeTold::of(eye, &input, &found, options.first as usize);
-        told.levels = capture.levels;
-        if let (true, Some(bounds)) = (options.why, told.bounds) {
-            told.explain(&scene, eye, &bounds, &found);
+        let mut reported = EyeReported::of(eye, &input, &found, options.first as usize);
+        reported.levels = capture.levels;
+        if let (true, Some(bounds)) = (options.why, reported.bounds) {
+            reported.explain(&scene, eye, &bounds, &found);
         }
-        eyes.push(told);
+        eyes.push(reported);
     }
     outputs.write()?;
     Ok(report(options, &scene, eyes, &outputs))
@@ -204,9 +204,9 @@ fn mark(options: &Options, outputs: &mut Outputs, eye: &str, expected: &Picture,
     outputs.add_in(&options.out, name, png);
 }
 
-fn report(options: &Options, scene: &Read, eyes: Vec<EyeTold>, outputs: &Outputs) -> Report {
+fn report(options: &Options, scene: &Read, eyes: Vec<EyeReported>, outputs: &Outputs) -> Report {
     let fault = eyes.iter().any(|eye| eye.models_agree == Some(false));
-    let told = Told {
+    let reported = Reported {
         verdict: match eyes.iter().all(|eye| eye.verdict == Verdict::Pass) {
             _ if fault => Verdict::Fault,
             true => Verdict::Pass,
@@ -218,19 +218,19 @@ fn report(options: &Options, scene: &Read, eyes: Vec<EyeTold>, outputs: &Outputs
         eyes,
         written: outputs.paths(),
     };
-    let mut text: String = told.eyes.iter().map(|eye| eye.text(options.frame)).collect();
-    text.extend(told.written.iter().map(|path| format!("written: {path}\n")));
-    let status = match told.verdict {
+    let mut text: String = reported.eyes.iter().map(|eye| eye.text(options.frame)).collect();
+    text.extend(reported.written.iter().map(|path| format!("written: {path}\n")));
+    let status = match reported.verdict {
         Verdict::Fault => why::FAULT,
         Verdict::Pass => 0,
         _ => 1,
     };
-    Report::new(text, &told, status)
+    Report::new(text, &reported, status)
 }
 
-impl EyeTold {
-    fn of(eye: Eye, capture: &Input, found: &[Difference], first: usize) -> EyeTold {
-        EyeTold {
+impl EyeReported {
+    fn of(eye: Eye, capture: &Input, found: &[Difference], first: usize) -> EyeReported {
+        EyeReported {
             eye: eye_name(eye),
             capture: capture.name(),
             verdict: if found.is_empty() { Verdict::Pass } else { Verdict::Fail },
@@ -259,8 +259,8 @@ impl EyeTold {
         };
         let mut text = format!("{} eye, frame {frame}: {found}\n", self.eye);
         if let Some(levels) = &self.levels {
-            let told: Vec<String> = levels.iter().map(Level::text).collect();
-            text += &format!("  levels taken: {}\n", told.join(", "));
+            let reported: Vec<String> = levels.iter().map(Level::text).collect();
+            text += &format!("  levels taken: {}\n", reported.join(", "));
         }
         for pixel in &self.first {
             let Difference { x, y, expected, seen } = pixel;

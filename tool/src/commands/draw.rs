@@ -62,7 +62,7 @@ pub struct Options {
     #[arg(long, value_name = "FILE")]
     save_vram: Option<PathBuf>,
     #[command(flatten)]
-    seen: brightness::Options,
+    seen: brightness::BrightnessOptions,
     /// Print JSON
     #[arg(long)]
     pub json: bool,
@@ -142,11 +142,11 @@ pub fn run(options: &Options) -> Result<Report, Failure> {
     }
     outputs.write()?;
     let laid = overlay.as_ref().map(Overlay::text).unwrap_or_default();
-    let told = Reported { frame, scale, as_is, overlay, written: outputs.paths() };
-    let lines: String = told.written.iter().map(|path| format!("written: {path}\n")).collect();
+    let reported = Reported { frame, scale, as_is, overlay, written: outputs.paths() };
+    let lines: String = reported.written.iter().map(|path| format!("written: {path}\n")).collect();
     let done = if as_is { "as it is in VRAM" } else { "drawn, both eyes" };
-    let status = if told.overlay.as_ref().is_none_or(Overlay::is_whole) { 0 } else { 2 };
-    Ok(Report::new(format!("{laid}frame {frame} {done}\n{lines}"), &told, status))
+    let status = if reported.overlay.as_ref().is_none_or(Overlay::is_whole) { 0 } else { 2 };
+    Ok(Report::new(format!("{laid}frame {frame} {done}\n{lines}"), &reported, status))
 }
 
 /// VRAM after drawing, or as it is, and what became of an overlay's writes.

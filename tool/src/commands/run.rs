@@ -16,7 +16,7 @@ use crate::interrupt;
 use crate::reports::progress::Progress;
 use crate::running::follow::{follow, End, Followed, Stops};
 use crate::running::session::Session;
-use crate::running::watch;
+use crate::running::watch::WatchOptions;
 
 /// Instructions between two looks at the clock and at Ctrl-C.
 const SLICE: u64 = 2_000_000;
@@ -66,7 +66,7 @@ pub struct Options {
     #[command(flatten)]
     stops: Stops,
     #[command(flatten)]
-    watch: watch::Options,
+    watch: WatchOptions,
     #[command(flatten)]
     saves: Saves,
     /// Print JSON
@@ -135,7 +135,7 @@ impl Sliced {
 
     fn tell(&mut self, count: u64) {
         let Sliced { begun, progress, budget } = self;
-        progress.tell(|| {
+        progress.show(|| {
             let rate = count as f64 / begun.elapsed().as_secs_f64() / 1e6;
             let (done, all) = (grouped(count), grouped(*budget));
             format!("{done} of at most {all} instructions, {rate:.0} million a second")

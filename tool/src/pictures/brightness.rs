@@ -18,7 +18,7 @@ const ALLOWED: &str =
     "it must be opaque red or grey of one of the 129 levels that draw --brightness writes";
 
 #[derive(Args)]
-pub struct Options {
+pub struct BrightnessOptions {
     /// Show apparent brightness instead of pixel values: 0 to 128, from black to full red
     #[arg(long)]
     brightness: bool,
@@ -48,7 +48,7 @@ impl Seen {
     }
 }
 
-impl Options {
+impl BrightnessOptions {
     pub fn asked(&self) -> bool {
         self.brightness
     }

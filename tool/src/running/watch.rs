@@ -8,7 +8,7 @@ use clap::Args;
 use crate::running::follow::Effects;
 
 #[derive(Args)]
-pub struct Options {
+pub struct WatchOptions {
     /// Stop after the first instruction that fetched or loaded an undefined byte: one of the VIP's unmapped ranges, or of
     /// a register address where there is no register
     #[arg(long)]
@@ -18,7 +18,7 @@ pub struct Options {
     warn: bool,
 }
 
-impl Options {
+impl WatchOptions {
     pub fn is_on(&self) -> bool {
         self.watch_undefined
     }
@@ -30,7 +30,7 @@ impl Options {
 }
 
 pub struct Watch<'a> {
-    options: &'a Options,
+    options: &'a WatchOptions,
     /// Where the reported instructions stand.
     warned: BTreeSet<u32>,
     /// What the run stops at.

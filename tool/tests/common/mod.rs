@@ -56,6 +56,16 @@ impl Folder {
         Ran::of(output)
     }
 
+    /// Runs the tool here with these arguments.
+    pub fn vbmodel_with(&self, arguments: &[String]) -> Ran {
+        let output = Command::new(env!("CARGO_BIN_EXE_vbmodel"))
+            .args(arguments)
+            .current_dir(&self.0)
+            .output()
+            .unwrap();
+        Ran::of(output)
+    }
+
     /// Runs the tool here with bytes at its standard input.
     pub fn vbmodel_fed(&self, arguments: &str, bytes: &[u8]) -> Ran {
         let mut child = Command::new(env!("CARGO_BIN_EXE_vbmodel"))
@@ -232,10 +242,8 @@ pub fn interrupt(process: u32) {
     };
     let begun = std::time::Instant::now();
     while !catches() && begun.elapsed().as_secs() < 20 {
-        std::thread::sleep(std::time::Duration::from_millis(20));
+        std::thread::sleep(std::time::Duration::from_millis(1));
     }
-    // the signal is taken before the command is ready to stop by it
-    std::thread::sleep(std::time::Duration::from_millis(300));
     let sent = Command::new("kill").args(["-INT", &process.to_string()]).status().unwrap();
     assert!(sent.success());
 }
