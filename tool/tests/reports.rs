@@ -158,11 +158,27 @@ fn a_trace_that_differs_is_explained() {
     assert_eq!(explained["instruction"], "BNE 0x07000018");
     assert_eq!(
         (&explained["flags_expected"], &explained["flags_seen"]),
-        (&"CY level 0".into(), &"Z CY level 0".into())
+        (&"CY".into(), &"Z CY".into())
     );
     let before = explained["before"].as_array().unwrap();
     assert_eq!(before.len(), 8);
-    assert!(before[7].as_str().unwrap().starts_with("12,344  0x0700001E  "), "{before:?}");
+    assert!(
+        before[7].as_str().unwrap().starts_with("12,344      0x0700001E 0x07000020 "),
+        "{before:?}"
+    );
+    // as `replay` says it of the same trace
+    let arguments = "replay --rom lot/demo.rom lot/parts/die-14/steps.trace --last 8 --json";
+    let replay = json_lines(&folder.vbmodel(arguments).text).remove(0);
+    assert_eq!(replay["agreed"], 12_345);
+    assert_eq!(explained["instruction"], replay["instruction"]["instruction"]);
+    assert_eq!(
+        (&explained["operands"], &explained["hints"]),
+        (&replay["operands"], &replay["hints"])
+    );
+    let text = folder.vbmodel(&arguments.replace(" --json", "")).text;
+    for line in before.iter().chain([&explained["did"]]) {
+        assert!(text.contains(line.as_str().unwrap()), "{line}\nnot in\n{text}");
+    }
     let totals = &json.last().unwrap()["totals"];
     assert_eq!(totals["instructions"][0]["what"], "steps: BNE");
     assert_eq!(totals["tests"][0], serde_json::json!({"what": "picture", "parts": 4}));
@@ -189,7 +205,7 @@ fn the_page_has_maps_failures_first_and_needs_nothing_else() {
         "<h3>die-04: fail, bin 3</h3>",
         "\u{2717} fail",
         "? invalid",
-        "before it PSW is 0x",
+        "before it psw is 0x",
         "Worlds and objects that fail most",
         "Instructions that fail most",
     ] {

@@ -1,7 +1,5 @@
 //! Why parts fail: the pictures of the first of them, and what the model did where a trace first differs.
 
-use std::collections::BTreeMap;
-
 use model::world::Eye;
 
 use super::attempt::{capture_path, found_again, Model, Place};
@@ -12,8 +10,8 @@ use crate::lot::{Attempt, Lot};
 use crate::pictures::difference::Difference;
 use crate::pictures::explain::{explain, eye_name, Question};
 use crate::plan::{self, watched, Frame, Records};
-use crate::programs::disassembly::disassemble;
-use crate::report::{Detail, Part, Pixel, TraceExplained, Zoom};
+use crate::report::{Detail, Part, Pixel, TraceExplained, TraceFound, Zoom};
+use crate::running::replay::{named, Ending, Explanation, Step};
 
 /// Parts of a verdict that have pictures.
 pub const PICTURED: usize = 200;
@@ -22,88 +20,59 @@ const BEFORE: u64 = 8;
 /// Columns and rows of an enlarged piece.
 const PIECE: (usize, usize) = (32, 24);
 
-/// Says of every trace that differs what the model did there. Each program is run once more.
+/// Says of every trace that differs what the model did there, as `replay` does. Each program is run once more.
 pub fn explain_traces(model: Model, parts: &mut [Part]) -> Result<(), Failure> {
     for (number, test) in model.plan.tests.iter().enumerate() {
         let Some(records) = &model.expected[number].records else { continue };
-        let mut found: BTreeMap<u64, TraceExplained> = BTreeMap::new();
-        for trace in parts.iter().filter_map(|part| part.tests.get(number)?.trace.as_ref()) {
-            if trace.expected.is_some() {
-                found.insert(trace.record, TraceExplained::default());
-            }
-        }
-        let stops: Vec<u64> = found.keys().copied().collect();
+        let traces =
+            parts.iter_mut().filter_map(|part| part.tests.get_mut(number)?.trace.as_deref_mut());
+        let mut traces: Vec<&mut TraceFound> =
+            traces.filter(|trace| trace.expected.is_some()).collect();
+        traces.sort_by_key(|trace| trace.record);
+        let mut stops: Vec<u64> = traces.iter().map(|trace| trace.record).collect();
+        stops.dedup();
         if stops.is_empty() {
             continue;
         }
+        let mut traces = traces.into_iter().peekable();
         watched(test, &stops, &mut |record, bench| {
-            found.insert(record, explained(bench, record, records));
+            let step = step_at(bench, record, records);
+            while let Some(trace) = traces.next_if(|trace| trace.record == record) {
+                let explanation = step.explain(Some(trace.seen));
+                trace.explained = Some(TraceExplained::of(&explanation));
+            }
         })?;
-        for part in parts.iter_mut() {
-            let Some(trace) = part.tests.get_mut(number).and_then(|test| test.trace.as_mut())
-            else {
-                continue;
-            };
-            let flags = |record: &Record| flags(record[2]);
-            trace.explained = found.get(&trace.record).cloned().map(|one| TraceExplained {
-                flags_expected: trace.expected.as_ref().map_or(String::new(), flags),
-                flags_seen: flags(&trace.seen),
-                ..one
-            });
-        }
     }
     Ok(())
 }
 
-/// The instruction that is next, its operands, and those of the records before.
-fn explained(bench: &Bench, record: u64, records: &Records) -> TraceExplained {
-    let instruction = instruction(bench, bench.machine.processor.pc);
+/// The model's step at a record; the bench is left as it was.
+fn step_at(bench: &mut Bench, record: u64, records: &Records) -> Step {
     let first = record.saturating_sub(BEFORE);
-    let before = records.some(first, (record - first) as usize).unwrap_or_default();
-    let line = |(number, one): (u64, &Record)| {
-        let text = self::instruction(bench, one[0]);
-        format!("{}  0x{:08X}  {text}", vb::grouped(number), one[0])
-    };
-    TraceExplained {
-        operands: operands(&instruction, bench),
-        before: (first..).zip(&before).map(line).collect(),
-        instruction,
-        ..TraceExplained::default()
-    }
+    let last = records.some(first, (record - first) as usize).unwrap_or_default();
+    let (machine, memories) = (bench.machine, bench.memories());
+    let step = Step::of(bench, record, Ending::Differed, &last);
+    bench.machine = machine;
+    bench.restore_memories(memories);
+    step
 }
 
-fn instruction(bench: &Bench, pc: u32) -> String {
-    let memories =
-        vb::ReadMemories { rom: &bench.rom, wram: &bench.wram, vram: &bench.vram, pak: &bench.pak };
-    let half = |address: u32| bench.machine.load_half(&memories, address).unwrap_or(0);
-    disassemble(pc, half(pc), half(pc.wrapping_add(2))).text
-}
-
-/// The registers that an instruction's text names, with their values.
-fn operands(instruction: &str, bench: &Bench) -> Vec<(String, u32)> {
-    let words = instruction.split(|c: char| !c.is_ascii_alphanumeric());
-    let mut named: Vec<(String, u32)> = Vec::new();
-    for word in words {
-        let number = word.strip_prefix('r').and_then(|number| number.parse::<usize>().ok());
-        let value = number.and_then(|number| bench.machine.processor.regs.get(number));
-        if let Some(value) = value.filter(|_| named.iter().all(|(name, _)| name != word)) {
-            named.push((word.to_string(), *value));
+impl TraceExplained {
+    fn of(found: &Explanation) -> TraceExplained {
+        let flags = |record: &Option<Record>| record.map_or(String::new(), |one| named(one[2]));
+        TraceExplained {
+            instruction: found
+                .instruction
+                .as_ref()
+                .map_or(String::new(), |one| one.instruction.clone()),
+            did: found.instruction.as_ref().map_or(String::new(), |one| one.text()),
+            operands: found.operands.clone(),
+            flags_expected: flags(&found.expected_record),
+            flags_seen: flags(&found.seen_record),
+            hints: found.hints.clone(),
+            before: found.lines_before().iter().map(|line| line.trim_start().to_string()).collect(),
         }
     }
-    named.push(("PSW".to_string(), bench.machine.processor.psw));
-    named
-}
-
-/// PSW's flags that are set, by 000's names.
-fn flags(psw: u32) -> String {
-    let names = ["Z", "S", "OV", "CY", "FPR", "FUD", "FOV", "FZD", "FIV", "FRO"];
-    let low =
-        names.iter().enumerate().filter(|(bit, _)| psw >> bit & 1 == 1).map(|(_, name)| *name);
-    let high = [(12, "ID"), (13, "AE"), (14, "EP"), (15, "NP")];
-    let high = high.iter().filter(|(bit, _)| psw >> bit & 1 == 1).map(|(_, name)| *name);
-    let mut all: Vec<String> = low.chain(high).map(str::to_string).collect();
-    all.push(format!("level {}", psw >> 16 & 15));
-    all.join(" ")
 }
 
 /// Makes the pictures of a part's captures that differ.
@@ -143,7 +112,7 @@ fn detail(model: Model, attempt: &Attempt, place: Place, pixels: usize) -> Resul
 }
 
 impl Zoom {
-    fn around(first: &Difference) -> Zoom {
+    pub fn around(first: &Difference) -> Zoom {
         let (width, height) = PIECE;
         Zoom {
             left: first.x.saturating_sub(width / 2).min(vb::COLUMNS - width),

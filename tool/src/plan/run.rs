@@ -1,10 +1,13 @@
 //! The model's answer to a test: its program is run once, its frames are drawn when the plan says, its records kept.
 
+use std::fs;
+
 use vb::{grouped, record, Answer, Drawing, Refusal, Stop};
 
 use super::{Asked, Records, Source, Test, When};
 use crate::commands::draw::Views;
 use crate::failure::Failure;
+use crate::files::regular;
 use crate::inputs::scene::{Read, Scene};
 use crate::inputs::schedule::{Part, Schedule};
 use crate::inputs::setup::{Bench, Setup};
@@ -51,17 +54,24 @@ pub fn expected(test: &Test) -> Result<Expected, Failure> {
         message: format!("{}: {}", test.place, failure.message),
         ..failure
     };
+    for path in &test.files {
+        // a file that is not there is named by the one who reads it, who knows what it must be
+        if fs::metadata(path).is_ok() {
+            regular(path, "a file").map_err(named)?;
+        }
+    }
     match &test.source {
         Source::Scene(scene) => of_scene(test, scene).map_err(named),
         Source::Program(setup) => of_program(test, setup, &[], &mut |_, _| {}).map_err(named),
     }
 }
 
-/// Runs it again and shows the machine before each of these records, which must be in order.
+/// Runs it again and shows the machine before each of these records, which must be in order. What is done to it there must
+/// be undone.
 pub fn watched(
     test: &Test,
     stops: &[u64],
-    see: &mut dyn FnMut(u64, &Bench),
+    see: &mut dyn FnMut(u64, &mut Bench),
 ) -> Result<(), Failure> {
     match &test.source {
         Source::Scene(_) => Ok(()),
@@ -89,7 +99,7 @@ fn of_program(
     test: &Test,
     setup: &Setup,
     stops: &[u64],
-    see: &mut dyn FnMut(u64, &Bench),
+    see: &mut dyn FnMut(u64, &mut Bench),
 ) -> Result<Expected, Failure> {
     let mut bench = setup.bench()?;
     let schedule = Schedule::given(test.schedule.as_deref())?;
@@ -152,7 +162,7 @@ struct Run<'a> {
     watching: bool,
     /// The records before which the machine is shown.
     stops: &'a [u64],
-    see: &'a mut dyn FnMut(u64, &Bench),
+    see: &'a mut dyn FnMut(u64, &mut Bench),
 }
 
 impl Run<'_> {

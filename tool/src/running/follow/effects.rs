@@ -9,7 +9,7 @@ use crate::programs::disassembly::{disassemble, Access};
 use crate::running::outcome::exception_name;
 
 /// An instruction and its effects; its members are those of the JSON.
-#[derive(Serialize)]
+#[derive(Clone, Serialize)]
 pub struct Effects {
     pub pc: u32,
     pub halfwords: Vec<u16>,
@@ -34,7 +34,7 @@ pub struct Effects {
 }
 
 /// Memory that was written.
-#[derive(Serialize)]
+#[derive(Clone, Serialize)]
 pub struct Written {
     pub address: u32,
     pub width: u32,

@@ -75,12 +75,12 @@ impl Followed {
     }
 }
 
-/// Follows a program. `tell` is given each instruction, and answers whether to go on.
+/// Follows a program. `see` is given each instruction, and answers whether to go on.
 pub fn follow(
     bench: &mut Bench,
     budget: u64,
     stops: &Stops,
-    tell: &mut dyn FnMut(&Effects) -> bool,
+    see: &mut dyn FnMut(&Effects) -> bool,
 ) -> Result<Followed, Failure> {
     let watched = stops.watch.iter().map(|range| place::range(bench, range));
     let watched: Vec<(At, usize)> = watched.collect::<Result<_, _>>().map_err(Failure::bad)?;
@@ -99,7 +99,7 @@ pub fn follow(
         };
         count += u64::from(!effects.turned_fatal);
         let end = match effects.written_within(bench, &watched) {
-            _ if !tell(&effects) => End::Enough,
+            _ if !see(&effects) => End::Enough,
             Some(address) => End::Watched(address),
             None if stops.until.contains(&bench.machine.processor.pc) => {
                 End::Reached(bench.machine.processor.pc)

@@ -1,7 +1,7 @@
 //! What a record that differs says: the instruction, its operands, the flags by name, and what would explain the sum.
 
 use serde::Serialize;
-use vb::{grouped, op, record, Decoded, Processor, Word};
+use vb::{grouped, op, record, Decoded, Processor};
 
 use crate::inputs::setup::Bench;
 use crate::inputs::trace::{records, Record, WORDS};
@@ -10,7 +10,7 @@ use crate::running::follow::{step, Effects};
 /// How the model and the record part.
 #[derive(Clone, Copy)]
 pub enum Ending {
-    Differed(Word),
+    Differed,
     /// The model makes a step that has no record.
     Step,
     /// The model makes no step.
@@ -85,7 +85,7 @@ pub fn field(psw: u32, (_, low, bits): (&str, u32, u32)) -> u32 {
 }
 
 /// `Z CY NP I=3`, or `none`: the fields that are not zero.
-fn named(psw: u32) -> String {
+pub fn named(psw: u32) -> String {
     let set = FIELDS.iter().filter(|one| field(psw, **one) != 0);
     let set: Vec<String> = set
         .map(|one| match one.2 {
@@ -100,49 +100,64 @@ fn named(psw: u32) -> String {
     }
 }
 
-impl Explanation {
-    /// Explains the record with this index, `seen`. The bench holds the machine before the step there, and afterwards
-    /// the machine after it.
-    pub fn of(
-        bench: &mut Bench,
-        index: u64,
-        ending: Ending,
-        seen: Option<Record>,
-        last: &[Record],
-    ) -> Explanation {
+/// The model's step at a record, which may be compared with several records that dies have there.
+pub struct Step {
+    index: u64,
+    ending: Ending,
+    before: Processor,
+    after: Processor,
+    instruction: Option<Effects>,
+    last: Vec<Record>,
+    last_instructions: Vec<String>,
+}
+
+impl Step {
+    /// The step at the record with this index, after the last records. The bench holds the machine before the step, and
+    /// afterwards the machine after it.
+    pub fn of(bench: &mut Bench, index: u64, ending: Ending, last: &[Record]) -> Step {
         let before = bench.machine.processor;
-        let before_instructions = last.iter().map(|record| instruction_at(bench, record)).collect();
+        let last_instructions = last.iter().map(|record| instruction_at(bench, record)).collect();
         let instruction = match ending {
-            Ending::Differed(_) | Ending::Step => step(bench).ok().flatten(),
+            Ending::Differed | Ending::Step => step(bench).ok().flatten(),
             Ending::NoStep => Effects::before(bench).ok(),
         };
         let after = bench.machine.processor;
+        let last = last.to_vec();
+        Step { index, ending, before, after, instruction, last, last_instructions }
+    }
+
+    /// Explains what a die has there.
+    pub fn explain(&self, seen: Option<Record>) -> Explanation {
+        let Step { before, after, instruction, .. } = self;
         let mut found = Explanation {
             word: None,
             expected: None,
             seen: None,
             expected_record: None,
             seen_record: seen,
-            operands: operands(&before, instruction.as_ref()),
+            operands: operands(before, instruction.as_ref()),
             flags: Vec::new(),
             hints: Vec::new(),
-            before: last.to_vec(),
-            before_instructions,
-            index,
-            instruction,
+            before: self.last.clone(),
+            before_instructions: self.last_instructions.clone(),
+            index: self.index,
+            instruction: instruction.clone(),
         };
-        let expected = records(&record(before.pc, &after)).next();
-        if let (Ending::Differed(word), Some(expected), Some(seen)) = (ending, expected, seen) {
-            let word = word as usize;
-            found.word = Some(word);
-            (found.expected, found.seen) = (Some(expected[word]), Some(seen[word]));
+        let expected = records(&record(before.pc, after)).next();
+        if let (Ending::Differed, Some(expected), Some(seen)) = (self.ending, expected, seen) {
+            let differing = (0..4).find(|&word| expected[word] != seen[word]);
+            found.word = differing;
+            (found.expected, found.seen) =
+                (differing.map(|word| expected[word]), differing.map(|word| seen[word]));
             found.expected_record = Some(expected);
             found.flags = flags(expected[2], seen[2]);
-            found.hints = hints(&before, &after, found.instruction.as_ref(), &expected, &seen);
+            found.hints = hints(before, after, instruction.as_ref(), &expected, &seen);
         }
         found
     }
+}
 
+impl Explanation {
     pub fn lines(&self) -> Vec<String> {
         let mut lines = Vec::new();
         if let (Some(word), Some(expected), Some(seen)) = (self.word, self.expected, self.seen) {
@@ -169,14 +184,22 @@ impl Explanation {
             }));
         }
         lines.extend(self.hints.iter().map(|hint| format!("hint:         {hint}")));
-        let first = self.index - self.before.len() as u64;
-        let rows = self.before.iter().zip(&self.before_instructions);
-        lines.extend((first..).zip(rows).map(|(n, (record, instruction))| {
-            format!("{}  {instruction}", row(&grouped(n), record))
-        }));
+        lines.extend(self.lines_before());
         lines.extend(self.expected_record.iter().map(|record| row("expected", record)));
         lines.extend(self.seen_record.iter().map(|record| row("seen", record)));
         lines
+    }
+}
+
+impl Explanation {
+    /// The records before it, with the instruction at each.
+    pub fn lines_before(&self) -> Vec<String> {
+        let first = self.index - self.before.len() as u64;
+        let rows = self.before.iter().zip(&self.before_instructions);
+        let line = |(n, (record, instruction)): (u64, (&Record, &String))| {
+            format!("{}  {instruction}", row(&grouped(n), record))
+        };
+        (first..).zip(rows).map(line).collect()
     }
 }
 

@@ -9,7 +9,7 @@ use std::time::Instant;
 
 use vb::{grouped, Answer, Mode, Refusal, Replayed, Word};
 
-pub use explanation::{field, Explanation, FIELDS};
+pub use explanation::{field, named, Ending, Explanation, Step, FIELDS};
 pub use found::{Found, Verdict};
 
 use crate::failure::Failure;
@@ -18,7 +18,6 @@ use crate::inputs::setup::Bench;
 use crate::inputs::trace::{records, Record, Traces};
 use crate::interrupt;
 use crate::reports::progress::Progress;
-use explanation::Ending;
 use kept::Kept;
 
 /// What is asked of a trace.
@@ -186,7 +185,7 @@ impl Replay<'_> {
             self.later.first = self.later.first.or(Some(index));
             return Ok(());
         }
-        let explanation = self.explained(bench, index, Ending::Differed(word))?;
+        let explanation = self.explained(bench, index, Ending::Differed)?;
         self.first = Some((index, word, explanation));
         Ok(())
     }
@@ -201,7 +200,7 @@ impl Replay<'_> {
         let after = bench.machine;
         self.kept.restore(bench)?;
         let last: Vec<Record> = self.last.iter().copied().collect();
-        let explanation = Explanation::of(bench, index, ending, self.wrong, &last);
+        let explanation = Step::of(bench, index, ending, &last).explain(self.wrong);
         match bench.machine == after {
             true => Ok(explanation),
             false => Err(Failure::bad(format!(
@@ -219,7 +218,7 @@ impl Replay<'_> {
             self.traces.records.map(|all| format!(" of {}", grouped(all))).unwrap_or_default();
         let what = if self.first.is_none() { "agree" } else { "compared" };
         self.progress
-            .tell(|| format!("{}{all} records {what}, {rate:.1} million a second", grouped(count)));
+            .show(|| format!("{}{all} records {what}, {rate:.1} million a second", grouped(count)));
     }
 
     fn found(mut self, bench: &mut Bench, count: u64, end: End) -> Result<Found, Failure> {
