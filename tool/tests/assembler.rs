@@ -83,10 +83,10 @@ fn a_disassembly_has_labels_and_says_what_is_no_instruction() {
     ];
     let bytes: Vec<u8> = halves.iter().flat_map(|half| half.to_le_bytes()).collect();
     folder.write("some.rom", &bytes);
-    let told = folder.vbmodel("disasm some.rom");
-    assert_eq!((told.status, told.error.as_str()), (0, ""));
+    let said = folder.vbmodel("disasm some.rom");
+    assert_eq!((said.status, said.error.as_str()), (0, ""));
     let lines: Vec<String> =
-        told.text.lines().map(|l| l.split_whitespace().collect::<Vec<_>>().join(" ")).collect();
+        said.text.lines().map(|l| l.split_whitespace().collect::<Vec<_>>().join(" ")).collect();
     assert_eq!(
         lines,
         [
@@ -191,7 +191,7 @@ fn bytes_and_expressions_are_assembled() {
 #[test]
 fn refusal_6_names_the_halfwords_and_the_mnemonic() {
     let folder = Folder::new("assembler-six");
-    for (half, told) in [
+    for (half, said) in [
         ("0xE841, 0x0004", "0xE841 0x0004 (CAXI)"),
         ("0x7C0B", "0x7C0B (MOVBSU)"),
         ("0x7038", "0x7038 (LDSR)"),
@@ -201,7 +201,7 @@ fn refusal_6_names_the_halfwords_and_the_mnemonic() {
         assert_eq!(folder.vbmodel("asm six.s -o six.rom").status, 0);
         let ran = folder.vbmodel("run --rom six.rom");
         assert_eq!(ran.status, 2);
-        let expected = format!("refusal 6: the instruction {told} at 0xFFFFFFF0 is not modelled");
+        let expected = format!("refusal 6: the instruction {said} at 0xFFFFFFF0 is not modelled");
         assert!(ran.text.contains(&expected), "{}", ran.text);
     }
 }

@@ -134,6 +134,117 @@ fn bad_input_a_file_that_may_not_be_read() {
     assert_eq!((ran.status, ran.error.as_str()), (2, message));
 }
 
+/// A plan and a lot of one part, each of whose files in turn cannot be read: a folder, a pipe and a file that gives an
+/// error stand in its place; then, for a user without rights, it is the file itself.
+#[test]
+fn bad_input_a_file_of_a_plan_or_lot_that_cannot_be_read() {
+    let folder = Folder::new("bad-input-plan");
+    assert_eq!(folder.vbmodel("demo --lot lot").status, 0);
+    assert_eq!(folder.shell("cd lot/parts && mkdir one && mv die-01 one && rm -r die-* && mv one/die-01 . && rmdir one").status, 0);
+    folder.write("lot/parts/parts.csv", b"part\ndie-01\n");
+    let judge = "judge --plan lot/plan.toml lot/parts";
+    assert_eq!(folder.vbmodel(judge).status, 0);
+    let as_nobody = "setpriv --reuid=65534 --clear-groups \"$VB\"";
+    let tried = folder.shell(&format!("{as_nobody} {judge}"));
+    let tool = if tried.status == 0 { as_nobody } else { "\"$VB\"" };
+    for (file, is_of_the_part) in [
+        ("lot/plan.toml", false),
+        ("lot/demo.rom", false),
+        ("lot/frame.schedule", false),
+        ("lot/parts/parts.csv", false),
+        ("lot/parts/die-01/picture.frame0.left.png", true),
+        ("lot/parts/die-01/picture.frame1.right.png", true),
+        ("lot/parts/die-01/steps.trace", true),
+    ] {
+        for (make, what) in [
+            ("mkdir FILE", "is a folder"),
+            ("mkfifo FILE", "is a device or a pipe"),
+            ("ln -s /proc/self/mem FILE", "Input/output error"),
+            ("cp kept FILE; chmod 000 FILE", "Permission denied"),
+        ] {
+            if what == "Permission denied" && tried.status != 0 {
+                continue;
+            }
+            fs::rename(folder.path(file), folder.path("kept")).unwrap();
+            assert_eq!(folder.shell(&make.replace("FILE", file)).status, 0);
+            let ran = folder.shell(&format!("timeout 60 {tool} {judge}"));
+            assert_eq!(ran.status, 2, "{file} {what}: {}{}", ran.text, ran.error);
+            let line = match is_of_the_part {
+                true => ran.text.lines().find(|line| line.starts_with("invalid  die-01: ")),
+                false => ran.error.lines().next(),
+            };
+            let line = line.unwrap_or_default();
+            let named = line.contains(&format!("{file}: {what}; it must be "));
+            assert!(named, "{file} {what}: {}{}", ran.text, ran.error);
+            match is_of_the_part {
+                true => {
+                    assert!(ran.text.contains("1 part: 0 pass, 0 fail, 1 invalid"), "{}", ran.text)
+                }
+                false => assert_eq!((ran.text.as_str(), ran.error.lines().count()), ("", 1)),
+            }
+            assert_eq!(folder.shell(&format!("rm -r {file} && mv kept {file}")).status, 0);
+        }
+    }
+    assert_eq!(folder.vbmodel(judge).status, 0);
+}
+
+/// A name may hold a newline, and codes that drive a terminal.
+#[test]
+fn names_with_newlines_and_escapes_are_printed_on_one_line() {
+    let folder = Folder::with_demo("bad-input-names");
+    let (name, printed) = ("a\n\x1b[31mb\u{202e}", "a\\n\\x1b[31mb\\u{202e}");
+    fs::create_dir(folder.path(name)).unwrap();
+    folder.write(&format!("{name}.toml"), b"[[part]]\nnome = 'x'\n[[part]]\nname = ''\n");
+    folder.write(&format!("{name}.csv"), b"name,frame\nx,one\n,0\n");
+    folder.write(&format!("{name}.txt"), b"x");
+    folder.write(&format!("{name}.plan"), b"name = 3\n");
+    folder.write(
+        "lot.toml",
+        "[[part]]\nname = \"a\\n\\u001Bb\"\nleft = \"c\\n\\u001Bd\"\n".as_bytes(),
+    );
+    for arguments in [
+        "judge NAME",
+        "judge NAME.toml",
+        "judge NAME.csv",
+        "judge NAME.txt",
+        "judge NAME.none",
+        "judge lot.toml --vram NAME --drawing out/drawing.bin",
+        "draw --vram out/vram.bin --drawing out/drawing.bin --out NAME.txt/x",
+        "judge --plan NAME.plan out",
+        "judge --plan NAME.none out",
+        "expect --plan NAME.plan --out x",
+        "verify NAME.txt",
+        "merge NAME.txt",
+        "run --rom NAME",
+        "run --rom NAME.txt",
+        "run --rom out/rom.bin --save-wram NAME",
+        "trace --rom out/rom.bin -o NAME",
+        "replay --rom out/rom.bin NAME.txt",
+        "draw --state NAME.txt",
+        "compare --vram out/vram.bin --drawing out/drawing.bin --capture NAME.txt",
+        "why left 0 0 --vram NAME.txt --drawing out/drawing.bin",
+        "state show NAME.txt",
+        "asm NAME.txt -o x",
+        "disasm NAME.txt",
+    ] {
+        let arguments: Vec<String> =
+            arguments.split(' ').map(|word| word.replace("NAME", name)).collect();
+        let ran = folder.vbmodel_with(&arguments);
+        assert_eq!(ran.status, 2, "{arguments:?}: {}{}", ran.text, ran.error);
+        let all = ran.text.clone() + &ran.error;
+        assert!(all.contains(printed), "{arguments:?}: {all}");
+        assert!(!all.contains('\x1b') && !all.contains('\u{202e}'), "{arguments:?}: {all:?}");
+        // a line that began in the middle of the name would begin so
+        let torn =
+            all.lines().any(|line| line.starts_with("\\x1b[31mb") || line.starts_with("[31mb"));
+        assert!(!torn, "{arguments:?}: {all}");
+    }
+    // and nothing in the sources prints a path by itself
+    let sources =
+        folder.shell(&format!("grep -rn '\\.display()' {}/src", env!("CARGO_MANIFEST_DIR")));
+    assert_eq!(sources.text, "");
+}
+
 /// The aim is 30 ms on an idle machine.
 #[test]
 #[ignore = "timed"]

@@ -66,14 +66,14 @@ fn the_recommended_table_shows_each_shade_once() {
 #[test]
 fn brightness_is_refused_as_the_library_says() {
     let folder = Folder::with_demo("brightness-refused");
-    for (start, told) in [
+    for (start, said) in [
         ("94", "refusal 15: the column table is to start at entry 94; "),
         ("256", "refusal 15: the column table is to start at entry 256; "),
     ] {
-        let told = format!(
-            "vbmodel: {told}a start is from 95 to 255, since 384 columns use 96 entries downwards"
+        let said = format!(
+            "vbmodel: {said}a start is from 95 to 255, since 384 columns use 96 entries downwards"
         );
-        folder.refused(&format!("draw {SCENE} --brightness --start {start} --out a"), &told);
+        folder.refused(&format!("draw {SCENE} --brightness --start {start} --out a"), &said);
     }
     folder.refused(
         &format!("draw {SCENE} --brightness --eye anaglyph --out a"),

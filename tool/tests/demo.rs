@@ -243,7 +243,7 @@ fn a_scale_makes_squares() {
 }
 
 #[test]
-fn a_folder_that_cannot_be_written_is_told() {
+fn a_folder_that_cannot_be_written_is_reported() {
     let folder = Folder::new("demo-unwritable");
     folder.write("file", b"x");
     let before = folder.names();

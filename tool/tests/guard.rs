@@ -469,7 +469,7 @@ fn salvage_of_an_all_zero_file_warns() {
     let ran = folder.vbmodel("state salvage blank -o b.state");
     assert_eq!(ran.status, 1, "{}", ran.error);
     let line = "warning:      the file is all zeros: each body counts as kept because its sum is right, but nothing here can \
-                be told from a blank file\n";
+                be distinguished from a blank file\n";
     assert!(ran.text.contains(line), "{}", ran.text);
     let mut file = vec![0; 327_962];
     file[327_961] = 1;

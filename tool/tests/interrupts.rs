@@ -1,4 +1,4 @@
-//! Request lines and the timer from the command line: raised, lowered and told of ticks by hand or by a schedule.
+//! Request lines and the timer from the command line: raised, lowered and said of ticks by hand or by a schedule.
 
 mod common;
 
@@ -147,7 +147,7 @@ fn w6_a_halted_machine_waits_for_its_schedule() {
 }
 
 #[test]
-fn w6_wrong_levels_and_schedules_are_told_and_nothing_is_written() {
+fn w6_wrong_levels_and_schedules_are_reported_and_nothing_is_written() {
     let folder = Folder::with_rom("lines-wrong", &[CLI, HALT], &[RETI]);
     for option in ["--raise 5", "--lower all", "--raise 0x"] {
         let ran = folder.vbmodel(&format!("run --rom a.rom {option} --save-processor p"));

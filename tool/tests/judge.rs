@@ -37,7 +37,8 @@ fn a_folder_is_judged_by_its_names() {
     assert_eq!(lines[0], "pass     good: frame 0, left eye equal; right eye equal");
     let start = "fail     worn & <old>: frame 0, left eye: 11,715 of 86,016 pixels, columns ";
     assert!(lines[1].starts_with(start) && lines[1].ends_with("; right eye equal"), "{}", lines[1]);
-    assert_eq!(lines[2..], ["2 parts: 1 pass, 1 fail"]);
+    assert_eq!(lines[2], "2 parts: 1 pass, 1 fail");
+    assert_eq!(heads(&lines[3..]), ["lot    lot, ", "model  vbmodel ", "read   6 files, "]);
     ["left", "right"].iter().for_each(|eye| {
         fs::remove_file(folder.path(&format!("lot/worn & <old>.{eye}.png"))).unwrap()
     });
@@ -67,7 +68,16 @@ fn a_folder_is_judged_by_its_names() {
     let ran = folder.vbmodel("judge lot");
     let line = "unknown files in the lot (remove or rename, or give --allow-extra): .left.png, notes.txt\n\
                 3 parts: 3 pass, 0 fail, 2 unknown files\n";
-    assert!(ran.status == 2 && ran.text.ends_with(line), "{}", ran.text);
+    assert!(ran.status == 2 && ran.text.contains(line), "{}", ran.text);
+}
+
+/// How the lines begin that say what was judged, by which model, and from which files.
+fn heads<'a>(lines: &[&'a str]) -> Vec<&'a str> {
+    let known = ["lot    lot, ", "model  vbmodel ", "read   6 files, "];
+    let head = |line: &&'a str| {
+        known.iter().find(|head| line.starts_with(**head)).map(|head| &line[..head.len()])
+    };
+    lines.iter().map(|line| head(line).unwrap_or(line)).collect()
 }
 
 /// The demo's machine as a saved state of form 1: a count, kind, offset and length of each body, the bodies.
@@ -141,7 +151,8 @@ fn manifests_in_toml_and_csv_are_judged() {
     let ran = folder.vbmodel("judge lots/a.toml");
     assert_eq!(ran.status, 2, "{}", ran.text);
     let starts = |text: &str, starts: &[&str]| {
-        assert_eq!(text.lines().count(), starts.len(), "{text}");
+        // and three lines of the header
+        assert_eq!(text.lines().count(), starts.len() + 3, "{text}");
         for (line, start) in text.lines().zip(starts) {
             assert!(line.starts_with(start), "{line}\nnot\n{start}");
         }
@@ -176,8 +187,9 @@ fn a_manifest_may_come_from_a_spreadsheet() {
     let text = "\u{FEFF}name;vram;drawing;frame;left\r\ngood;out/vram.bin;out/drawing.bin;1;out/frame1-left.png\r\n";
     folder.write("lot.csv", text.as_bytes());
     let ran = folder.vbmodel("judge lot.csv --eyes left");
-    let expected = "pass     good: frame 1, left eye equal\n1 part: 1 pass, 0 fail\n";
-    assert_eq!((ran.status, ran.text.as_str()), (0, expected), "{}", ran.error);
+    let expected =
+        "pass     good: frame 1, left eye equal\n1 part: 1 pass, 0 fail\nlot    lot.csv, ";
+    assert!(ran.status == 0 && ran.text.starts_with(expected), "{}{}", ran.text, ran.error);
 }
 
 #[test]
@@ -186,7 +198,9 @@ fn json_has_a_line_for_each_part_and_one_for_all() {
     let ran = folder.vbmodel("judge lot --json --first 2");
     assert_eq!(ran.status, 1);
     let lines = json_lines(&ran.text);
-    assert_eq!(lines.len(), 3);
+    assert_eq!(lines.len(), 4);
+    assert_eq!(lines[0]["header"]["lot"], "lot");
+    let lines = &lines[1..];
     assert_eq!((&lines[0]["name"], &lines[0]["verdict"]), (&"good".into(), &"pass".into()));
     let left = &lines[1]["eyes"][0];
     assert_eq!(left["capture"], "lot/worn & <old>.left.png");
@@ -211,8 +225,9 @@ fn junit_is_written_for_a_test_server() {
     for part in [
         "<testsuite name=\"vbmodel judge\" tests=\"4\" failures=\"1\" errors=\"2\" skipped=\"0\" time=\"",
         "<testcase classname=\"vbmodel.judge\" name=\"good\"/>",
-        "name=\"worn &amp; &lt;old&gt;\">\n    <failure message=\"frame 0, left eye: 11,715 of 86,016 pixels",
-        "name=\"bad\">\n    <error message=\"lot/bad.left.png (6 bytes): a capture is a raw frame buffer",
+        "name=\"worn &amp; &lt;old&gt;\">\n    <failure message=\"captures: frame 0, left eye: 11,715 of 86,016 pixels",
+        "name=\"bad\">\n    <error message=\"captures: lot/bad.left.png (6 bytes): a capture is a raw frame buffer",
+        "<property name=\"file lot/all.vram\" value=\"SHA-256 ",
         "name=\"unknown files\">\n    <error message=\"notes.txt\"/>",
     ] {
         assert!(xml.contains(part), "{part}: {xml}");
@@ -233,21 +248,62 @@ fn the_page_needs_nothing_else_and_explains_a_failed_part() {
     let page = String::from_utf8(folder.read("report.html")).unwrap();
     for part in [
         "2 parts: 1 pass, 1 fail",
-        "<tr class=\"pass\"><td>good</td>",
-        "<h2>worn &amp; &lt;old&gt;: fail</h2>",
-        "11,715 of 86,016 pixels differ, in columns ",
-        "<svg viewBox=\"0 0 384 224\"><rect x=\"",
-        "<h3>right eye: equal</h3>",
-        "<th>What the model shows there</th>",
+        "<tr id=\"row-0\" class=\"pass\"><td>good<td>",
+        "<h3>worn &amp; &lt;old&gt;: fail, bin 2</h3>",
+        "<p>frame 0; scene lot/all.vram, lot/all.drawing</p>",
+        "11,715 of 86,016 pixels differ, columns ",
+        "<th>What the model shows there",
         "<pre>pixel (297, 9) of the left eye: value 0\n",
+        "<tr><th scope=\"row\">Model</th><td>vbmodel ",
     ] {
         assert!(page.contains(part), "{part}");
     }
-    // three of the eye that differs, one of the eye that does not
-    assert_eq!(page.matches("src=\"data:image/png;base64,").count(), 4);
+    // of the eye that differs: the model's picture, what the capture changes, and where; shown five times
+    let count = |text: &str| page.matches(text).count();
+    assert_eq!((count("href=\"data:image/png;base64,"), count("role=\"img\"")), (3, 5));
     for outside in ["http://", "https://", "src=\"/", "<link", "url("] {
         assert!(!page.contains(outside), "{outside}");
     }
+}
+
+#[test]
+fn a_lot_without_a_plan_has_the_header_and_every_form_of_report() {
+    let folder = with_lot("judge-forms");
+    let forms = "--report r.json --csv r.csv --stdf r.stdf --html r.html --junit r.xml";
+    let ran = folder.vbmodel(&format!("judge lot {forms}"));
+    assert_eq!((ran.status, ran.error.as_str()), (1, ""), "{}", ran.text);
+    let report = json_lines(&String::from_utf8(folder.read("r.json")).unwrap());
+    let header = &report[0]["header"];
+    assert!(header["plan"].is_null() && header["command"].as_str().unwrap().contains(forms));
+    assert_eq!(header["model"]["vb_version"], vbsys::VERSION);
+    let of = |one: &Value| one["files"].as_array().unwrap().clone();
+    let files: Vec<Value> =
+        of(header).into_iter().chain(report[1..3].iter().flat_map(of)).collect();
+    assert_eq!(files.len(), 6, "two of the scene, four captures");
+    let line = |file: &Value| {
+        format!("{}  {}\n", file["sha256"].as_str().unwrap(), file["path"].as_str().unwrap())
+    };
+    let list: String = files.iter().map(line).collect();
+    folder.write("list", list.as_bytes());
+    let checked = folder.shell("sha256sum --check --quiet list");
+    assert_eq!((checked.status, checked.text.as_str()), (0, ""), "{}", checked.error);
+    let csv = String::from_utf8(folder.read("r.csv")).unwrap();
+    assert!(csv.contains("\ngood,1,yes,pass,1,,,,every test passes,pass,0,"), "{csv}");
+    assert!(
+        csv.contains("\nworn & <old>,1,yes,fail,2,,,,\"captures: frame 0, left eye: 11,715 "),
+        "{csv}"
+    );
+    assert!(folder.read("r.stdf").starts_with(&[2, 0, 0, 10, 2, 4]));
+    // and the report can be tried again
+    let same = folder.vbmodel("verify r.json");
+    let text =
+        "files:    6 read again, all as they were\nverdicts: the same for 2 tests of parts\n";
+    assert_eq!((same.status, same.text.as_str()), (0, text), "{}", same.error);
+    fs::copy(folder.path("lot/worn & <old>.left.png"), folder.path("lot/good.left.png")).unwrap();
+    let other = folder.vbmodel("verify r.json");
+    assert!(other.text.contains("  good: was pass, bin 1; is fail, bin 2\n"), "{}", other.text);
+    let page = String::from_utf8(folder.read("r.html")).unwrap();
+    assert!(page.contains("SHA-256, length and name of 6 files"));
 }
 
 #[test]
@@ -277,7 +333,7 @@ fn an_invalid_part_does_not_stop_the_others() {
 }
 
 #[test]
-fn bad_input_a_lot_that_is_none_is_told() {
+fn bad_input_what_is_not_a_lot_is_reported() {
     let folder = with_lot("judge-none");
     folder.write("lot.txt", b"x");
     folder.write("bytes.toml", b"\xFF");
@@ -288,8 +344,8 @@ fn bad_input_a_lot_that_is_none_is_told() {
     for (lot, message) in [
         ("none", "none: No such file or directory; it must be a folder, or a manifest whose name ends in .toml or .csv"),
         ("lot.txt", "lot.txt: a lot is a folder, or a manifest whose name ends in .toml or .csv"),
-        ("bytes.toml", "bytes.toml (1 bytes): is no text; it must be a manifest, TOML or CSV"),
-        ("wrong.toml", "wrong.toml (8 bytes): is no manifest: invalid type: integer `3`, expected a sequence for key `part` at line 1 column 8"),
+        ("bytes.toml", "bytes.toml (1 bytes): not a text file; it must be a manifest, TOML or CSV"),
+        ("wrong.toml", "wrong.toml (8 bytes): not a manifest: invalid type: integer `3`, expected a sequence for key `part` at line 1 column 8"),
         ("empty.toml", "empty.toml: has no part"),
         ("nothing", "nothing: has no part"),
         ("heads.csv", "heads.csv (10 bytes): its first line must name the columns: name, and of state, vram, drawing, frame, left, right, capture, threshold and eyes those that are used"),
@@ -331,7 +387,7 @@ fn a_lot_is_stopped_by_ctrl_c_with_what_was_judged() {
     let output = child.wait_with_output().unwrap();
     assert_eq!(output.status.code(), Some(130));
     let text = String::from_utf8(output.stdout).unwrap();
-    assert!(text.lines().last().unwrap().ends_with(" not judged"), "{text}");
+    assert!(text.lines().any(|line| line.ends_with(" not judged")), "{text}");
 }
 
 /// The parts wait for a FIFO each, so that the lot

@@ -253,18 +253,18 @@ fn draw_lays_an_overlay_and_tells_refused_writes() {
                  word 0x0007_E000 0x12345678\nbyte 0x3D800 1\n";
     folder.write("paint.txt", lines.as_bytes());
     let ran = folder.vbmodel(&format!("draw {SCENE} --overlay paint.txt --save-vram after.bin"));
-    let told = "overlay: 2 written, 1 refused\n  line 4: refusal 13: the probe was to write at 0x0003D800; it may write \
+    let said = "overlay: 2 written, 1 refused\n  line 4: refusal 13: the probe was to write at 0x0003D800; it may write \
                 characters 1,536 to 2,047 and background maps 12 and 13, at 0x0001E000 to 0x0001FFFF, 0x00038000 to \
                 0x0003BFFF and their mirrors\nframe 0 drawn, both eyes\n";
     assert_eq!(ran.status, 2, "a write of the overlay that is refused is an error");
-    assert!(ran.text.starts_with(told), "{}", ran.text);
+    assert!(ran.text.starts_with(said), "{}", ran.text);
     let (before, after) = (folder.read("out/vram.bin"), folder.read("after.bin"));
     assert_eq!(after[0x3_8000..0x3_8002], [0x00, 0x06]);
     assert_eq!(after[0x1_E000..0x1_E004], [0x78, 0x56, 0x34, 0x12]);
     assert_eq!(after[0x3_D800], before[0x3_D800]);
     let json = folder.vbmodel(&format!("draw {SCENE} --overlay paint.txt --json"));
-    let told = "\"overlay\": {\"written\": 2, \"refused\": [{\"line\": 4, \"refusal\": 13, \"error\": \"refusal 13: ";
-    assert!(json.text.contains(told), "{}", json.text);
+    let said = "\"overlay\": {\"written\": 2, \"refused\": [{\"line\": 4, \"refusal\": 13, \"error\": \"refusal 13: ";
+    assert!(json.text.contains(said), "{}", json.text);
 }
 
 #[test]

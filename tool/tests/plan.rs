@@ -315,8 +315,4 @@ fn a_report_is_never_written_over_what_was_read() {
         assert!(ran.error.contains(path), "{}", ran.error);
     }
     assert_eq!(folder.read("plan.toml"), before);
-    folder.refused(
-        "judge parts --csv a.csv",
-        "vbmodel: a.csv: --report, --csv and --stdf need --plan",
-    );
 }

@@ -32,7 +32,7 @@ fn a_wrong_key_or_value_is_named_with_its_line_and_what_is_allowed() {
         ("name = 'p'\n[[test]]\nname = 'a.b'\n", "line 3: name is \"a.b\"; it must be letters, digits, `-` and `_`, as in a file's name"),
         ("name = 'p'\n[[test]]\nname = 'a'\n", "line 3: the test needs `rom`, or `state`, or `vram` and `drawing`"),
         ("name = 'p'\n[[test]]\nname = 'a'\nstate = 's'\nbudget = 5\n", "line 5: `budget` needs a program; the test has no `rom`"),
-        ("name = 'p'\n[[test]]\nname = 'a'\nstate = 's'\nvram = 'v'\n", "line 5: `vram` beside `state`; a state holds it, give one of them"),
+        ("name = 'p'\n[[test]]\nname = 'a'\nstate = 's'\nvram = 'v'\n", "line 5: `vram` and `state` are both given; a state holds it, give one of them"),
         ("name = 'p'\n[[test]]\nname = 'a'\nstate = 's'\ntrace = 'whole'\n", "line 5: trace needs a program; the test has no `rom`"),
         ("HEAD budgt = 5\n", "line 5: unknown key `budgt`; did you mean `budget`?"),
         ("HEAD budget = 'many'\n", "line 5: budget is \"many\"; it must be a whole number from 1 to 9,223,372,036,854,775,807"),

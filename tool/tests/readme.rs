@@ -69,7 +69,7 @@ fn the_manual_leads_from_a_folder_of_captures_to_a_report() {
     let folder = repository("readme-judge");
     follow(&folder, "Judging a lot", 1);
     let page = String::from_utf8(folder.read("report.html")).unwrap();
-    assert!(page.contains("<h2>die-2: fail</h2>"));
+    assert!(page.contains("<h3>die-2: fail, bin 2</h3>"));
 }
 
 #[test]

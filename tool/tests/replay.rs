@@ -62,7 +62,7 @@ fn w10_a_trace_has_four_words_a_step() {
 }
 
 #[test]
-fn w10_the_first_record_that_differs_is_told() {
+fn w10_the_first_record_that_differs_is_reported() {
     let folder = with_rom("replay-differs", &[LET_IN, ADD_1_R1, BACK]);
     assert_eq!(folder.vbmodel("trace --rom a.rom --budget 1_000 -o a.trace").status, 0);
     let ran = folder.vbmodel("replay --rom a.rom --partial a.trace");
@@ -106,7 +106,7 @@ fn w10_the_first_record_that_differs_is_told() {
 }
 
 #[test]
-fn w10_what_the_model_does_is_told_first() {
+fn w10_what_the_model_does_is_reported_first() {
     for (name, code, psw, verdict, status) in [
         ("replay-halted", HALT, "0", "halted", 1),
         ("replay-fatal", ILLEGAL, "0x8000", "turned fatal", 1),
@@ -119,13 +119,13 @@ fn w10_what_the_model_does_is_told_first() {
         for more in [[0; 16], [0xFF; 16]] {
             folder
                 .write("b.trace", &[folder.read("a.trace"), more.to_vec(), more.to_vec()].concat());
-            let (found, told) = replay(&folder, &format!("{set} b.trace"));
+            let (found, said) = replay(&folder, &format!("{set} b.trace"));
             assert_eq!(
-                (found, &told["reason"], &told["agreed"]),
+                (found, &said["reason"], &said["agreed"]),
                 (status, &verdict.into(), &agreed.into())
             );
-            assert_eq!(told["regs"][1], 1);
-            assert_eq!(told.get("word"), None);
+            assert_eq!(said["regs"][1], 1);
+            assert_eq!(said.get("word"), None);
         }
         let text = folder.vbmodel(&format!("replay --rom a.rom {set} b.trace")).text;
         assert!(text.contains("\ninstruction:  0xFFFFFFF"), "{text}");
@@ -133,12 +133,12 @@ fn w10_what_the_model_does_is_told_first() {
     let folder = with_rom("replay-was-fatal", &[ILLEGAL]);
     assert_eq!(folder.vbmodel("run --rom a.rom --save-processor p").status, 0);
     folder.write("a.trace", &[0; 16]);
-    let (status, told) = replay(&folder, "--processor p a.trace");
-    assert_eq!((status, &told["reason"], &told["agreed"]), (1, &"fatal".into(), &0.into()));
+    let (status, said) = replay(&folder, "--processor p a.trace");
+    assert_eq!((status, &said["reason"], &said["agreed"]), (1, &"fatal".into(), &0.into()));
     // a fatal machine has no record
     folder.write("empty", &[]);
-    let (status, told) = replay(&folder, "--processor p empty");
-    assert_eq!((status, &told["verdict"], &told["agreed"]), (0, &"pass".into(), &0.into()));
+    let (status, said) = replay(&folder, "--processor p empty");
+    assert_eq!((status, &said["verdict"], &said["agreed"]), (0, &"pass".into(), &0.into()));
 }
 
 #[test]
@@ -155,30 +155,30 @@ fn w10_several_traces_with_a_schedule_are_one() {
     assert_eq!(ran.status, 0, "{}", ran.error);
     let trace = folder.read("a.trace");
     assert!(words(&trace).chunks(4).any(|record| record[1] == 0xFFFF_FE40));
-    let (status, told) =
+    let (status, said) =
         replay(&folder, &format!("{timer} --schedule s a.trace --save-processor q"));
-    assert_eq!((status, &told["agreed"]), (0, &(trace.len() / 16).into()));
+    assert_eq!((status, &said["agreed"]), (0, &(trace.len() / 16).into()));
     assert!(folder.read("p") == folder.read("q"), "the machine that the trace leaves");
     // the same in three files, and without the schedule: the first acceptance is missed
     folder.write("1", &trace[..48]);
     folder.write("2", &[]);
     folder.write("3", &trace[48..]);
     assert_eq!(replay(&folder, &format!("{timer} --schedule s 1 2 3")).0, 0);
-    let (status, told) = replay(&folder, &format!("{timer} 1 2 3"));
-    assert_eq!((status, &told["reason"], &told["agreed"]), (1, &"halted".into(), &3.into()));
+    let (status, said) = replay(&folder, &format!("{timer} 1 2 3"));
+    assert_eq!((status, &said["reason"], &said["agreed"]), (1, &"halted".into(), &3.into()));
     // a piece alone is partial
     let alone = format!("{timer} --schedule s 1");
-    let (status, told) = replay(&folder, &alone);
+    let (status, said) = replay(&folder, &alone);
     assert_eq!(
-        (status, &told["verdict"], &told["reason"]),
+        (status, &said["verdict"], &said["reason"]),
         (2, &"invalid".into(), &"short".into())
     );
     assert_eq!(replay(&folder, &format!("{alone} --partial")).0, 0);
     // an interrupt that the trace does not have
     folder.write("t", b"at 1 raise vip\n");
-    let (status, told) = replay(&folder, "--schedule t a.trace");
+    let (status, said) = replay(&folder, "--schedule t a.trace");
     assert_eq!(
-        (status, &told["agreed"], &told["instruction"]["interrupt"]),
+        (status, &said["agreed"], &said["instruction"]["interrupt"]),
         (1, &1.into(), &4.into())
     );
 }
@@ -330,8 +330,8 @@ fn w10_a_long_trace_is_read_in_pieces() {
         0
     );
     folder.write("rest.trace", &trace[1_600_000..]);
-    let (status, told) = replay(&folder, "--partial --state half.state rest.trace");
-    assert_eq!((status, &told["agreed"]), (0, &200_000.into()));
+    let (status, said) = replay(&folder, "--partial --state half.state rest.trace");
+    assert_eq!((status, &said["agreed"]), (0, &200_000.into()));
     let again =
         folder.vbmodel("trace --rom a.rom --state half.state --budget 200_000 -o again.trace");
     assert_eq!(again.status, 0, "{}", again.error);
@@ -352,7 +352,7 @@ fn w10_a_long_replay_on_a_terminal_shows_progress() {
 }
 
 #[test]
-fn w10_bad_traces_are_told_and_nothing_is_written() {
+fn w10_bad_traces_are_reported_and_nothing_is_written() {
     let folder = with_rom("replay-bad", &[LET_IN, ADD_1_R1, BACK]);
     assert_eq!(folder.vbmodel("trace --rom a.rom --budget 3 -o a.trace").status, 0);
     folder.write("odd.trace", &[0; 31]);

@@ -155,7 +155,7 @@ fn each_refusal_names_the_file_its_length_and_the_rule() {
 }
 
 #[test]
-fn bad_files_are_told() {
+fn bad_files_are_reported() {
     let folder = with_rom("run-bad", &[HALT]);
     folder.write("short.processor", &[0; 171]);
     folder.write("mode.processor", &record(&[(42, 3)]));

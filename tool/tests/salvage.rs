@@ -33,7 +33,7 @@ fn w13_an_undamaged_state_comes_out_as_it_is() {
 }
 
 #[test]
-fn w13_what_is_lost_and_kept_is_told_in_words() {
+fn w13_what_is_lost_and_kept_is_reported_in_words() {
     let folder = with_state("salvage-damaged");
     let sound = folder.read("a.state");
     for (changes, lost, contents) in [

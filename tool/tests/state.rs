@@ -159,7 +159,7 @@ fn shows_pak_ram(folder: &Folder) {
     ));
 }
 
-/// Changes of a state's bytes, the byte that is told, and the rest of the line.
+/// Changes of a state's bytes, the byte that is said, and the rest of the line.
 type Broken = (&'static [(usize, u8)], usize, &'static str);
 
 /// Where the records of a state without pak RAM are.
@@ -216,11 +216,11 @@ const BROKEN: [Broken; 19] = [
 fn state_show_tells_the_rule_and_the_byte() {
     let folder = with_state("state-rules");
     let sound = folder.read("a.state");
-    for (changes, byte, told) in BROKEN {
+    for (changes, byte, said) in BROKEN {
         let mut file = sound.clone();
         changes.iter().for_each(|&(at, value)| file[at] = value);
         folder.write("b.state", &file);
-        let message = format!("b.state (327,920 bytes): refusal 10: {told}");
+        let message = format!("b.state (327,920 bytes): refusal 10: {said}");
         folder.refused("state show b.state", &format!("vbmodel: {message}"));
         // every command says the same
         for command in [
@@ -236,7 +236,7 @@ fn state_show_tells_the_rule_and_the_byte() {
         let value: Value = serde_json::from_str(&json.text).unwrap();
         assert_eq!((json.status, &value["sound"]), (2, &false.into()));
         assert_eq!((&value["refusal"], &value["error"]), (&10.into(), &message.into()));
-        assert_eq!(value["byte"], byte, "{told}");
+        assert_eq!(value["byte"], byte, "{said}");
         let contents = byte < 42;
         assert_eq!(value["rule"], if contents { "contents" } else { "register" });
         assert_eq!(

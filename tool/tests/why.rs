@@ -150,9 +150,9 @@ fn the_list_is_the_proved_librarys_and_the_models_is_the_same() {
             "the bytes it answers to, {}, proved; the independent model's are the same:\n",
             listed.len()
         );
-        let (_, told) = ran.text.split_once(&head).unwrap_or_else(|| panic!("{}", ran.text));
+        let (_, said) = ran.text.split_once(&head).unwrap_or_else(|| panic!("{}", ran.text));
         // two bytes a line, in drawing order
-        let mut printed: Vec<u64> = told
+        let mut printed: Vec<u64> = said
             .lines()
             .map_while(|line| line.strip_prefix("  0x"))
             .map(|line| u64::from_str_radix(&line[..5], 16).unwrap())

@@ -69,11 +69,11 @@ pub fn run(options: &Options) -> Result<Report, Failure> {
     outputs.add_main(&options.output, bytes);
     outputs.write()?;
     let written = Written { rom: shown(&options.output), bytes: length, accepted };
-    let mut told = format!("{}: {} bytes\n", written.rom, grouped(length as u64));
+    let mut reported = format!("{}: {} bytes\n", written.rom, grouped(length as u64));
     if !accepted {
-        told +=
+        reported +=
             "note: a ROM has a power of two bytes from 1,024 on; `.org` and `.space` fill one up\n";
     }
     let aside = options.output == Path::new("-");
-    Ok(Report { aside, ..Report::new(told, &written, 0) })
+    Ok(Report { aside, ..Report::new(reported, &written, 0) })
 }

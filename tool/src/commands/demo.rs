@@ -56,7 +56,7 @@ pub fn run(options: &Options) -> Result<Report, Failure> {
 /// A lot to try a plan on.
 fn lot(folder: &Path) -> Result<Report, Failure> {
     let (plan, parts) = crate::demo::lot::write(folder)?;
-    let [plan, parts] = [&plan, &parts].map(|path| path.display().to_string());
+    let [plan, parts] = [&plan, &parts].map(|path| shown(path));
     let lines = [
         format!("a test plan: {plan}"),
         format!("captures and traces of 24 dies on a wafer: {parts}"),

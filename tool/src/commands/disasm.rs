@@ -21,7 +21,7 @@ use crate::programs::disassembly::{disassemble, written};
 
 Each line has its address and halfwords in a comment. A branch or jump to an instruction of the text has a label.
 Halfwords that are no instruction, that have unused bits set or that are not modelled are `.half`, with what they are
-in the comment, so that `vbmodel asm` makes the same bytes of the text. Data is told as instructions too: a ROM does not
+in the comment, so that `vbmodel asm` makes the same bytes of the text. Data is listed as instructions too: a ROM does not
 say which is which.
 Exit status: 0 done; 2 bad input.")]
 pub struct Options {

@@ -35,14 +35,14 @@ pub struct Options {
 
 /// What is reported; its members are those of the JSON.
 #[derive(Serialize)]
-struct Told {
+struct Reported {
     plan: String,
-    tests: Vec<TestTold>,
+    tests: Vec<TestReported>,
     written: Vec<String>,
 }
 
 #[derive(Serialize)]
-struct TestTold {
+struct TestReported {
     name: String,
     instructions: u64,
     frames: usize,
@@ -62,15 +62,15 @@ pub fn run(options: &Options) -> Result<Report, Failure> {
     }
     outputs.write()?;
     let written = outputs.paths();
-    let told = |(test, expected): (&Test, &Expected)| TestTold {
+    let reported = |(test, expected): (&Test, &Expected)| TestReported {
         name: test.name.clone(),
         instructions: expected.count,
         frames: expected.frames.len(),
         records: expected.records.as_ref().map(Records::count),
     };
-    let tests = plan.tests.iter().zip(&expected).map(told).collect();
-    let told = Told { plan: plan.name.clone(), tests, written };
-    Ok(Report::new(told.text(), &told, 0))
+    let tests = plan.tests.iter().zip(&expected).map(reported).collect();
+    let reported = Reported { plan: plan.name.clone(), tests, written };
+    Ok(Report::new(reported.text(), &reported, 0))
 }
 
 fn frames(options: &Options, test: &Test, expected: &Expected, outputs: &mut Outputs) {
@@ -94,10 +94,10 @@ fn bytes(records: &Records) -> Result<Vec<u8>, Failure> {
     Ok(bytes)
 }
 
-impl Told {
+impl Reported {
     fn text(&self) -> String {
         let mut text = String::new();
-        for TestTold { name, instructions, frames, records } in &self.tests {
+        for TestReported { name, instructions, frames, records } in &self.tests {
             let records = records.map_or(String::new(), |n| format!(", {} records", grouped(n)));
             text += &format!(
                 "{name}: {} instructions, {frames} frames{records}\n",

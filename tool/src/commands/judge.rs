@@ -1,27 +1,24 @@
 //! `vbmodel judge`: a whole lot against the model, on all cores.
 
 use std::path::{Path, PathBuf};
-use std::sync::atomic::{AtomicUsize, Ordering};
-use std::sync::Mutex;
 use std::time::Instant;
 
 use clap::Args;
-use rayon::prelude::*;
 use serde::Serialize;
 
 use super::Report;
 use crate::failure::Failure;
-use crate::files::Outputs;
+use crate::files::{printable, Outputs};
 use crate::inputs::number;
 use crate::interrupt;
 use crate::judge::{
-    judge, judge_lot, junit, model_of, page, plain, Asked, Eyes, Judged, Lot, Model, Part, Summary,
-    Wish,
+    judge_captures, judge_lot, model_of, Asked, Eyes, Judged, Lot, Model, Summary, Wish,
 };
 use crate::plan::Plan;
-use crate::report::{shard, Forms, Shard};
+use crate::report::{
+    self, header_json, header_lines, shard, Captures, Forms, Header, Shard, Totals,
+};
 use crate::reports::json::json;
-use crate::reports::progress::Progress;
 
 #[derive(Args)]
 #[command(after_help = "Example: the demo's two frames as a lot, with a report to look at
@@ -113,15 +110,10 @@ struct Whole<'a> {
 }
 
 pub fn run(options: &Options) -> Result<Report, Failure> {
-    if let Some(plan) = &options.plan {
-        return by_plan(options, plan);
+    match &options.plan {
+        Some(plan) => by_plan(options, plan),
+        None => by_captures(options),
     }
-    let Forms { report, csv, stdf, .. } = &options.forms;
-    if let Some(path) = report.as_ref().or(csv.as_ref()).or(stdf.as_ref()) {
-        let name = plain(&path.to_string_lossy());
-        return Err(Failure::bad(format!("{name}: --report, --csv and --stdf need --plan")));
-    }
-    by_captures(options)
 }
 
 /// A lot whose parts are judged by a test plan.
@@ -148,82 +140,50 @@ fn by_plan(options: &Options, plan: &Path) -> Result<Report, Failure> {
 /// A lot whose parts have scenes and captures.
 fn by_captures(options: &Options) -> Result<Report, Failure> {
     let begun = Instant::now();
-    let (html, xml) = (&options.forms.html, &options.forms.junit);
-    let defaults = Part {
+    let captures = Captures {
         vram: options.vram.clone(),
         drawing: options.drawing.clone(),
         state: options.state.clone(),
         threshold: options.threshold,
-        eyes: Some(options.eyes),
-        ..Part::default()
+        eyes: options.eyes,
     };
-    let lot = Lot::read(&options.lot, &defaults)?;
-    let files = [html, xml].into_iter().flatten().map(PathBuf::as_path);
-    Outputs::test(files)?;
+    let lot = Lot::read(&options.lot, &captures.clone().into())?;
+    options.forms.test()?;
     interrupt::watch();
-    let wish = Wish { first: options.first as usize, pictures: html.is_some() };
-    let judged = all(&lot, wish);
-    let unknown = if options.allow_extra { 0 } else { lot.unknown.len() };
-    let summary = Summary::of(&judged, lot.entries.len(), unknown);
-
-    let mut outputs = Outputs::default();
-    if let Some(path) = html {
-        let title = format!("{} judged", name(&options.lot));
-        outputs.add(path, page(&title, &judged, &summary, &lot.unknown)?.into_bytes());
-    }
-    if let Some(path) = xml {
-        let seconds = begun.elapsed().as_secs_f64();
-        outputs.add(path, junit(&judged, &summary, &lot.unknown, seconds)?);
-    }
-    Ok(report(&lot, &judged, summary, &outputs))
+    let wish = Wish { first: options.first as usize, pictures: options.forms.has_pictures() };
+    let header = Header::of_captures(&options.lot, captures, options.allow_extra);
+    let (report, judged) = judge_captures(&lot, &header, wish);
+    let totals = Totals::of(&report);
+    let outputs = options.forms.outputs(&report, &totals, begun.elapsed().as_secs_f64())?;
+    Ok(printed(&report, &judged, &outputs))
 }
 
-fn name(lot: &Path) -> String {
-    lot.file_name().unwrap_or(lot.as_os_str()).to_string_lossy().into_owned()
-}
-
-/// Every part, in the lot's order; fewer where Ctrl-C came.
-fn all(lot: &Lot, wish: Wish) -> Vec<Judged> {
-    let progress = Mutex::new(Progress::new());
-    let done = AtomicUsize::new(0);
-    let judged = lot.entries.par_iter().map(|entry| {
-        if interrupt::asked() {
-            return None;
-        }
-        let judged = judge(entry, wish);
-        let done = done.fetch_add(1, Ordering::Relaxed) + 1;
-        if let Ok(mut progress) = progress.try_lock() {
-            progress.tell(|| format!("{done} of {} parts", lot.entries.len()));
-        }
-        Some(judged)
-    });
-    let judged: Vec<Option<Judged>> = judged.collect();
-    if let Ok(mut progress) = progress.lock() {
-        progress.clear();
-    }
-    judged.into_iter().flatten().collect()
-}
-
-fn report(lot: &Lot, judged: &[Judged], summary: Summary, outputs: &Outputs) -> Report {
+/// Every part on a line, the sum and the header in short; as JSON the header, the parts and the sum.
+fn printed(report: &report::Report, judged: &[Judged], outputs: &Outputs) -> Report {
+    let header = &report.header;
+    let unknown = header.unknown.as_slice();
+    let unknown_files = if header.allow_extra { 0 } else { unknown.len() };
+    let summary = Summary::of(judged, header.parts, unknown_files);
     let failure = outputs.write().err();
     let written = if failure.is_none() { outputs.paths() } else { Vec::new() };
     let mut text: String = judged.iter().map(line).collect();
-    if !lot.unknown.is_empty() {
-        let wish = match summary.unknown_files {
+    if !unknown.is_empty() {
+        let wish = match unknown_files {
             0 => "not judged",
             _ => "remove or rename, or give --allow-extra",
         };
-        text += &format!("unknown files in the lot ({wish}): {}\n", lot.unknown.join(", "));
+        text += &format!("unknown files in the lot ({wish}): {}\n", unknown.join(", "));
     }
     text += &format!("{}\n", summary.text());
+    text.extend(header_lines(report).iter().map(|line| format!("{line}\n")));
     text.extend(written.iter().map(|path| format!("written: {path}\n")));
-    let mut lines: Vec<String> = judged.iter().map(json).collect();
-    let unknown = lot.unknown.as_slice();
+    let mut lines = vec![header_json(report)];
+    lines.extend(judged.iter().map(json));
     lines.push(json(&Whole { summary, unknown, written: &written, failure: failure.clone() }));
     let status = if failure.is_some() { 2 } else { summary.status() };
     Report { text, json: lines.join("\n"), status, failure, aside: false }
 }
 
 fn line(one: &Judged) -> String {
-    format!("{:<7}  {}: {}\n", one.verdict.word(), plain(&one.name), plain(&one.line()))
+    format!("{:<7}  {}: {}\n", one.verdict.word(), printable(&one.name), printable(&one.line()))
 }

@@ -9,8 +9,7 @@ use clap::Args;
 
 use super::Report;
 use crate::failure::Failure;
-use crate::files::{reason, register};
-use crate::judge::plain_path;
+use crate::files::{reason, register, shown};
 use crate::report::{self, read_lines, Forms};
 
 #[derive(Args)]
@@ -39,7 +38,7 @@ pub fn run(options: &Options) -> Result<Report, Failure> {
     let mut of = 0;
     for path in &options.reports {
         let report = read(path)?;
-        let named = |rule: String| Failure::bad(format!("{}: {rule}", plain_path(path)));
+        let named = |rule: String| Failure::bad(format!("{}: {rule}", shown(path)));
         let shard = report.header.shard;
         let shard = shard.ok_or_else(|| named("is not the report of a shard".to_string()))?;
         if let Some((first, _)) = shards.values().next() {
@@ -53,7 +52,7 @@ pub fn run(options: &Options) -> Result<Report, Failure> {
         }
         of = shard.of;
         if let Some((_, other)) = shards.insert(shard.number, (report, path)) {
-            let rule = format!("is shard {} of {of}, as is {}", shard.number, plain_path(other));
+            let rule = format!("is shard {} of {of}, as is {}", shard.number, shown(other));
             return Err(named(rule));
         }
     }
@@ -68,12 +67,12 @@ pub fn run(options: &Options) -> Result<Report, Failure> {
 pub fn read(path: &Path) -> Result<report::Report, Failure> {
     let wrong = |error: std::io::Error| {
         let wanted = "it must be a report of `judge --report`";
-        Failure::bad(format!("{}: {}; {wanted}", plain_path(path), reason(&error)))
+        Failure::bad(format!("{}: {}; {wanted}", shown(path), reason(&error)))
     };
     register(&fs::metadata(path).map_err(wrong)?);
     let text = fs::read(path).map_err(wrong)?;
     let text = String::from_utf8(text)
-        .map_err(|_| Failure::bad(format!("{}: not a text file", plain_path(path))))?;
+        .map_err(|_| Failure::bad(format!("{}: not a text file", shown(path))))?;
     read_lines(path, &text)
 }
 

@@ -13,7 +13,7 @@ use crate::selftest::{self, Checked};
 
 #[derive(Args)]
 #[command(
-    after_help = "Checks what you run: the papers' worked rows; the independent model against the proved library, on \
+    after_help = "Checks what you run: the specification's worked rows; the independent model against the proved library, on \
 random accesses, programs, floating instructions, frames, byte lists and saved states; and the demo's pictures.
 
 Example: a minute, and the inputs of an earlier run again

@@ -127,8 +127,8 @@ fn show(options: &Show) -> Result<Report, Failure> {
     let input = Input::read(&options.file, STATE)?;
     Ok(match Saved::of(&input) {
         Ok(saved) => {
-            let told = Reported::of(&input, &saved);
-            Report::new(told.text(), &told, 0)
+            let reported = Reported::of(&input, &saved);
+            Report::new(reported.text(), &reported, 0)
         }
         Err(wrong) => refused(&input, wrong),
     })
@@ -155,18 +155,18 @@ struct Moved {
 fn moves(options: &Move) -> Result<Report, Failure> {
     let input = Input::read(&options.file, STATE)?;
     let (form, bytes) = moved(&input)?;
-    let told = Moved {
+    let reported = Moved {
         file: input.name(),
         from: form.other().number(),
         to: form.number(),
         bytes: bytes.len(),
         written: shown(&options.out),
     };
-    let Moved { file, from, to, written: out, .. } = &told;
+    let Moved { file, from, to, written: out, .. } = &reported;
     let length = grouped(bytes.len() as u64);
     let text =
         format!("{file}: moved from form {from} to form {to}\nwritten: {out} ({length} bytes)\n");
-    written(&options.out, bytes, Report::new(text, &told, 0))
+    written(&options.out, bytes, Report::new(text, &reported, 0))
 }
 
 /// What is reported of a salvage.
@@ -186,7 +186,7 @@ struct Salvaged {
 
 /// A sum of zero is the sum of a body of zeros.
 const BLANK: &str = "the file is all zeros: each body counts as kept because its sum is right, but nothing here can \
-                     be told from a blank file";
+                     be distinguished from a blank file";
 
 const SALVAGED: &str = "a saved state of form 2";
 
@@ -205,7 +205,7 @@ fn salvage(options: &Salvage) -> Result<Report, Failure> {
     let layout = Layout::of_length(Form::Two, file.len()).expect("the library has salvaged it");
     let (lost, kept) =
         layout.bodies.iter().partition(|body| found.replaced.contains(&u32::from(body.kind)));
-    let told = Salvaged {
+    let reported = Salvaged {
         file: input.name(),
         undamaged: found.replaced.is_empty() && !found.contents_differ,
         lost,
@@ -214,8 +214,8 @@ fn salvage(options: &Salvage) -> Result<Report, Failure> {
         warning: file.iter().all(|&byte| byte == 0).then_some(BLANK),
         written: shown(&options.out),
     };
-    let status = i32::from(!told.undamaged);
-    written(&options.out, room, Report::new(told.text(), &told, status))
+    let status = i32::from(!reported.undamaged);
+    written(&options.out, room, Report::new(reported.text(), &reported, status))
 }
 
 /// Whether a file of the one length that both forms have is right as form 1.
@@ -354,7 +354,7 @@ fn refused(input: &Input, wrong: NoState) -> Report {
             (Some("register"), Some(name.clone()), None, Some(*found))
         }
     };
-    let told = Refused {
+    let reported = Refused {
         file: input.name(),
         sound: false,
         bytes: input.bytes.len(),
@@ -365,5 +365,5 @@ fn refused(input: &Input, wrong: NoState) -> Report {
         expected,
         found,
     };
-    Report { failure: Some(failure), ..Report::new(String::new(), &told, 2) }
+    Report { failure: Some(failure), ..Report::new(String::new(), &reported, 2) }
 }

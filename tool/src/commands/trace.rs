@@ -96,7 +96,7 @@ impl Recorder<'_> {
                 if interrupt::asked() {
                     return Ok(Followed { count, end: End::Interrupted });
                 }
-                self.tell(before + count);
+                self.show(before + count);
             }
             let (machine, mut memories) = bench.borrowed();
             let pc = machine.processor.pc;
@@ -117,8 +117,8 @@ impl Recorder<'_> {
         Ok(Followed { count, end: End::Budget })
     }
 
-    fn tell(&mut self, count: u64) {
+    fn show(&mut self, count: u64) {
         let rate = count as f64 / self.begun.elapsed().as_secs_f64().max(1e-9) / 1e6;
-        self.progress.tell(|| format!("{} records, {rate:.1} million a second", grouped(count)));
+        self.progress.show(|| format!("{} records, {rate:.1} million a second", grouped(count)));
     }
 }

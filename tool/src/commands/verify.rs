@@ -10,9 +10,11 @@ use vb::grouped;
 
 use super::{merge, Report};
 use crate::failure::Failure;
-use crate::files::reason;
+use crate::files::{printable, reason};
 use crate::interrupt;
-use crate::judge::{judge_lot, model_of, plain, Asked, Model, Verdict};
+use crate::judge::{
+    judge_captures, judge_lot, model_of, Asked, Lot as CaptureLot, Model, Verdict, Wish,
+};
 use crate::plan::Plan;
 use crate::report::{self, FileRead, Hash};
 
@@ -35,7 +37,7 @@ pub struct Options {
 
 /// What is reported; its members are those of the JSON.
 #[derive(Serialize)]
-struct Told {
+struct Reported {
     files: usize,
     changed: Vec<Changed>,
     parts: usize,
@@ -71,7 +73,7 @@ pub fn run(options: &Options) -> Result<Report, Failure> {
         Ok(after) => (Some(after), None),
         Err(failure) => (None, Some(failure)),
     };
-    let told = Told {
+    let reported = Reported {
         files: files.len(),
         changed,
         parts: before.parts.len(),
@@ -81,12 +83,12 @@ pub fn run(options: &Options) -> Result<Report, Failure> {
         }),
         failure: failure.clone(),
     };
-    let status = match &told {
-        Told { failure: Some(_), .. } => 2,
-        Told { changed, verdicts, .. } if changed.is_empty() && verdicts.is_empty() => 0,
+    let status = match &reported {
+        Reported { failure: Some(_), .. } => 2,
+        Reported { changed, verdicts, .. } if changed.is_empty() && verdicts.is_empty() => 0,
         _ => 1,
     };
-    Ok(Report { failure, ..Report::new(told.text(), &told, status) })
+    Ok(Report { failure, ..Report::new(reported.text(), &reported, status) })
 }
 
 fn changed(file: &FileRead) -> Option<Changed> {
@@ -125,7 +127,12 @@ fn hashed(path: &Path) -> Result<(u64, Hash), String> {
 
 fn judged_again(before: &report::Report) -> Result<report::Report, Failure> {
     let header = &before.header;
-    let plan = Plan::read(Path::new(&header.plan_file))?;
+    let Some(plan) = &header.plan_file else {
+        let captures = header.captures.clone().unwrap_or_default();
+        let lot = CaptureLot::read(Path::new(&header.lot), &captures.into())?;
+        return Ok(judge_captures(&lot, header, Wish { first: 0, pictures: false }).0);
+    };
+    let plan = Plan::read(Path::new(plan))?;
     let expected = model_of(&plan)?;
     let model = Model { plan: &plan, expected: &expected };
     let asked = Asked { allow_extra: header.allow_extra, shard: header.shard, pictures: None };
@@ -153,7 +160,7 @@ fn others(before: &report::Report, after: &report::Report) -> Vec<Other> {
     names.into_iter().filter(|name| before.get(*name) != after.get(*name)).map(other).collect()
 }
 
-impl Told {
+impl Reported {
     fn text(&self) -> String {
         let mut lines = vec![match self.changed.len() {
             0 => format!("files:    {} read again, all as they were", grouped(self.files as u64)),
@@ -162,8 +169,9 @@ impl Told {
                 grouped(self.files as u64)
             ),
         }];
-        lines
-            .extend(self.changed.iter().map(|one| format!("  {}: {}", plain(&one.path), one.what)));
+        lines.extend(
+            self.changed.iter().map(|one| format!("  {}: {}", printable(&one.path), one.what)),
+        );
         lines.extend(self.model.iter().map(|model| format!("model:    {model}")));
         if self.failure.is_none() {
             lines.push(match self.verdicts.len() {
@@ -173,7 +181,8 @@ impl Told {
                 count => format!("verdicts: {count} are not the same"),
             });
         }
-        let line = |one: &Other| format!("  {}: was {}; is {}", plain(&one.part), one.was, one.is);
+        let line =
+            |one: &Other| format!("  {}: was {}; is {}", printable(&one.part), one.was, one.is);
         lines.extend(self.verdicts.iter().map(line));
         lines.join("\n") + "\n"
     }

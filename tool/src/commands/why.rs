@@ -19,7 +19,7 @@ pub const FAULT: i32 = 3;
   vbmodel why left 192 120 --vram out/vram.bin --drawing out/drawing.bin
 
 The answer is computed by the independent model, which shares no code with the proved library; the library's own value
-of the pixel is printed beside it. The list of the bytes that the pixel answers to is the library's, and proved; the
+of the pixel is printed next to it. The list of the bytes that the pixel answers to is the library's, and proved; the
 independent model's must be the same. One memory gives frames 0 and 1 the same pixels, so no frame is named.
 Exit status: 0 answered; 2 refused or bad input; 3 the independent model and the proved library differ, in the value or
 in the list, which is a fault of one of them and not of a die.")]
@@ -64,12 +64,12 @@ pub fn run(options: &Options) -> Result<Report, Failure> {
     let library_value = drawn_by_library(&scene, eye, x, y)?;
     let (vram, drawing) = (scene.vram.bytes.as_slice(), &scene.drawing);
     let every_object = options.objects;
-    let told = explain(&Question { vram, drawing, eye, x, y, library_value, every_object })?;
-    Ok(report(&told))
+    let reported = explain(&Question { vram, drawing, eye, x, y, library_value, every_object })?;
+    Ok(report(&reported))
 }
 
-fn report(told: &Explanation) -> Report {
-    Report::new(told.text(), told, if told.agree { 0 } else { FAULT })
+fn report(reported: &Explanation) -> Report {
+    Report::new(reported.text(), reported, if reported.agree { 0 } else { FAULT })
 }
 
 /// The library's value of the pixel; its refusals come first.

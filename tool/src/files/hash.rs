@@ -39,14 +39,20 @@ impl FileRead {
     }
 }
 
-/// Reads a file that must be a regular one, so that no part can make the others wait.
-pub fn read_hashed(path: &Path, wanted: &str) -> Result<(Input, FileRead), Failure> {
+/// Refuses a device or a pipe: it would make the command wait, and could not be read again.
+pub fn regular(path: &Path, wanted: &str) -> Result<(), Failure> {
     let wrong =
         |what: String| Failure::bad(format!("{}: {what}; it must be {wanted}", shown(path)));
     let about = fs::metadata(path).map_err(|error| wrong(reason(&error)))?;
-    if !about.is_file() && !about.is_dir() {
-        return Err(wrong("is a device or a pipe".to_string()));
+    match about.is_file() || about.is_dir() {
+        true => Ok(()),
+        false => Err(wrong("is a device or a pipe".to_string())),
     }
+}
+
+/// Reads a file that must be a regular one, so that no part can make the others wait.
+pub fn read_hashed(path: &Path, wanted: &str) -> Result<(Input, FileRead), Failure> {
+    regular(path, wanted)?;
     let input = Input::read(path, wanted)?;
     let read = FileRead::whole(&input);
     Ok((input, read))

@@ -1,5 +1,6 @@
 //! Files in, and files out: all of them whole, or none; and none that was read is written over.
 
+mod hash;
 mod input;
 mod names;
 mod output;
@@ -8,6 +9,7 @@ mod read;
 mod stream;
 mod temporary;
 
+pub use hash::{read_hashed, regular, FileRead, Hash};
 pub use input::{reason, register_standard_input, Input};
 pub use names::{hidden, printable, shown};
 pub use output::Outputs;

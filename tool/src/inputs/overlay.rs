@@ -84,7 +84,7 @@ fn write_of(line: usize, text: &str) -> Result<Write, String> {
         "byte" => Width::Byte,
         "half" => Width::Half,
         "word" => Width::Word,
-        other => return Err(format!("`{other}` is none of byte, half and word")),
+        other => return Err(format!("`{other}` is not byte, half or word")),
     };
     Ok(Write { line, width, address: number::word(address)?, value: number::word(value)? })
 }
@@ -127,7 +127,7 @@ mod tests {
     fn bad_lines_are_named() {
         for (text, message) in [
             ("word 0", "line 1: a write is byte, half or word, an address and a value"),
-            ("\nnibble 0 0", "line 2: `nibble` is none of byte, half and word"),
+            ("\nnibble 0 0", "line 2: `nibble` is not byte, half or word"),
             ("byte 0 0x100000000", "line 1: `0x100000000` is above 0xFFFFFFFF"),
         ] {
             assert_eq!(writes_of(text).unwrap_err(), message);

@@ -6,7 +6,7 @@ use clap::Args;
 use vb::{Drawing, Refusal};
 
 use crate::failure::Failure;
-use crate::files::Input;
+use crate::files::{FileRead, Input};
 use crate::inputs::state::{scene_of, STATE};
 
 /// What the files must be.
@@ -32,20 +32,28 @@ pub struct Read {
     pub vram: Input,
     pub drawing: Drawing,
     pub drawing_file: Input,
+    /// The files as they are: two, or a saved state.
+    pub files: Vec<FileRead>,
 }
 
 impl Scene {
     pub fn read(&self) -> Result<Read, Failure> {
-        let (vram, drawing_file) = match (&self.state, &self.vram, &self.drawing) {
-            (Some(state), _, _) => scene_of(&Input::read(state, STATE)?)?,
+        let (vram, drawing_file, files) = match (&self.state, &self.vram, &self.drawing) {
+            (Some(state), _, _) => {
+                let input = Input::read(state, STATE)?;
+                let (vram, drawing) = scene_of(&input)?;
+                (vram, drawing, vec![FileRead::whole(&input)])
+            }
             (None, Some(vram), Some(drawing)) => {
-                (Input::read(vram, VRAM)?, Input::read(drawing, DRAWING)?)
+                let (vram, drawing) = (Input::read(vram, VRAM)?, Input::read(drawing, DRAWING)?);
+                let files = [&vram, &drawing].map(FileRead::whole).to_vec();
+                (vram, drawing, files)
             }
             (None, None, _) => return Err(Failure::bad("no VRAM is named")),
             (None, _, None) => return Err(Failure::bad("no drawing record is named")),
         };
         let drawing = drawing_of(&drawing_file)?;
-        Ok(Read { vram, drawing, drawing_file })
+        Ok(Read { vram, drawing, drawing_file, files })
     }
 }
 

@@ -40,7 +40,7 @@ pub struct Traces {
 }
 
 impl Traces {
-    /// Opens all of them; a file that is no whole number of records is refused before anything is done.
+    /// Opens all of them; a file whose length is not a whole number of records is refused before anything is done.
     pub fn open(paths: &[PathBuf]) -> Result<Traces, Failure> {
         let mut files: Vec<(PathBuf, Box<dyn Read>)> = Vec::new();
         let mut records = Some(0);
@@ -110,7 +110,7 @@ impl Traces {
     }
 }
 
-/// Refusal 14 where a length is no multiple of 16.
+/// Refusal 14 where a length is not a multiple of 16.
 fn whole(path: &Path, length: u64) -> Result<(), Failure> {
     if length.is_multiple_of(RECORD_LENGTH as u64) {
         return Ok(());

@@ -6,9 +6,10 @@ use model::world::Eye;
 use vb::VRAM_LENGTH;
 
 use super::trace;
-use super::{plain_path, Verdict};
+use super::Verdict;
 use crate::commands::compare::CAPTURE;
 use crate::failure::Failure;
+use crate::files::shown;
 use crate::inputs::capture::{Capture, Wanted};
 use crate::lot::{Attempt, Part, Seen, Slot, What};
 use crate::pictures::difference::{differences, Bounds, Difference};
@@ -81,7 +82,7 @@ fn judge_test(model: Model, attempt: &Attempt, number: usize, files: &mut Vec<Fi
         eyes: Vec::new(),
         trace: None,
     };
-    if !attempt.files.keys().any(|slot| slot.test == number) {
+    if !attempt.files.slots().any(|slot| slot.test == number) {
         tested.problems.push("nothing of it is there".to_string());
         tested.verdict = Verdict::Invalid;
         return tested;
@@ -101,8 +102,8 @@ fn judge_test(model: Model, attempt: &Attempt, number: usize, files: &mut Vec<Fi
     }
     if let Some(records) = &expected.records {
         let path = attempt.files.get(&Slot { test: number, what: What::Trace });
-        match trace::judge(path.map(|path| path.as_path()), records, test, expected, files) {
-            Ok(found) => tested.trace = found,
+        match trace::judge(path, records, test, expected, files) {
+            Ok(found) => tested.trace = found.map(Box::new),
             Err(failure) => tested.problem(failure.message),
         }
     }
@@ -140,17 +141,17 @@ fn judge_eye(
 ) -> Result<Option<(EyeFound, bool)>, Failure> {
     let Some(path) = capture_path(test, attempt, place)? else { return Ok(None) };
     let frame = &expected.frames[place.frame];
-    let (capture, read) = capture(path, test, frame, place.eye)?;
+    let (Capture { picture, levels }, read) = capture(path, test, frame, place.eye)?;
     if !files.contains(&read) {
         files.push(read);
     }
-    let found = differences(frame.view(place.eye), &capture);
+    let found = differences(frame.view(place.eye), &picture);
     let Some(bounds) = Bounds::of(&found) else { return Ok(None) };
     let sources = Sources::of(&frame.vram, &registers(&frame.drawing), place.eye, &bounds);
     let mut shares = sources.shares(&frame.vram, &found);
     let more_shares = shares.len().saturating_sub(KEPT);
     shares.truncate(KEPT);
-    let told = EyeFound {
+    let eye = EyeFound {
         frame: place.frame,
         eye: eye_name(place.eye).to_string(),
         capture: path.to_string_lossy().into_owned(),
@@ -159,8 +160,9 @@ fn judge_eye(
         first: found[0],
         shares,
         more_shares,
+        levels,
     };
-    Ok(Some((told, sources.agree(&found))))
+    Ok(Some((eye, sources.agree(&found))))
 }
 
 /// The file of an eye's capture; none where it is not there and was not asked for.
@@ -175,8 +177,8 @@ pub fn capture_path<'a>(
     match (at(seen), at(Seen::Both)) {
         (Some(one), Some(both)) => Err(Failure::bad(format!(
             "{} and {} are two captures of the {name} eye; it must have one",
-            plain_path(both),
-            plain_path(one)
+            shown(both),
+            shown(one)
         ))),
         (Some(path), None) | (None, Some(path)) => Ok(Some(path)),
         (None, None) if test.eyes.need(eye.number()) => {
@@ -186,13 +188,13 @@ pub fn capture_path<'a>(
     }
 }
 
-/// A capture's picture, and its file.
+/// A capture, and its file.
 pub fn capture(
     path: &Path,
     test: &Test,
     frame: &Frame,
     eye: Eye,
-) -> Result<(Picture, FileRead), Failure> {
+) -> Result<(Capture, FileRead), Failure> {
     let (input, read) = read_hashed(path, CAPTURE)?;
     let is_dump = path.extension().is_some_and(|end| end == "dump");
     if is_dump && input.bytes.len() != VRAM_LENGTH {
@@ -200,7 +202,7 @@ pub fn capture(
         return Err(Failure::bad(input.wrong(rule)));
     }
     let wanted = Wanted { frame: frame.buffer, eye: eye.number(), threshold: test.threshold };
-    Ok((Capture::read(&input, wanted)?.picture, read))
+    Ok((Capture::read(&input, wanted)?, read))
 }
 
 impl Frame {
@@ -219,7 +221,7 @@ pub fn found_again(
     frame: &Frame,
     eye: Eye,
 ) -> Result<(Picture, Vec<Difference>), Failure> {
-    let (seen, _) = capture(path, test, frame, eye)?;
-    let found = differences(frame.view(eye), &seen);
-    Ok((seen, found))
+    let (Capture { picture, .. }, _) = capture(path, test, frame, eye)?;
+    let found = differences(frame.view(eye), &picture);
+    Ok((picture, found))
 }

@@ -17,7 +17,7 @@ use crate::plan::{expected, Expected, Plan};
 use crate::report::{self, read_hashed, Header, Report, Shard};
 use crate::reports::progress::Progress;
 
-/// What is wanted beside the verdicts.
+/// What is wanted in addition to the verdicts.
 pub struct Asked {
     pub allow_extra: bool,
     pub shard: Option<Shard>,
@@ -67,7 +67,7 @@ fn all(model: Model, parts: &[&Part]) -> Vec<Vec<report::Part>> {
         let judged: Vec<report::Part> = judged.collect();
         let done = done.fetch_add(1, Ordering::Relaxed) + 1;
         if let Ok(mut progress) = progress.try_lock() {
-            progress.tell(|| how_far(done, parts.len(), begun.elapsed().as_secs_f64()));
+            progress.show(|| how_far(done, parts.len(), begun.elapsed().as_secs_f64()));
         }
         Some(judged)
     });

@@ -8,8 +8,9 @@ use std::collections::{BTreeMap, BTreeSet};
 use std::fs;
 use std::path::{Path, PathBuf};
 
-use super::{plain, plain_path, Entry, Lot, Part};
+use super::{Entry, Lot, Part};
 use crate::failure::Failure;
+use crate::files::{printable, shown};
 
 /// What a file is, by the end of its name.
 #[derive(Clone, Copy)]
@@ -41,7 +42,7 @@ struct Found {
 }
 
 pub fn read(folder: &Path) -> Result<Lot, Failure> {
-    let failed = |error: std::io::Error| Failure::bad(format!("{}: {error}", folder.display()));
+    let failed = |error: std::io::Error| Failure::bad(format!("{}: {error}", shown(folder)));
     let mut names = Vec::new();
     for entry in fs::read_dir(folder).map_err(failed)? {
         names.push(entry.map_err(failed)?.file_name());
@@ -56,7 +57,7 @@ pub fn read(folder: &Path) -> Result<Lot, Failure> {
             Some((part, kind)) if !part.is_empty() => found.take(part, kind, path),
             _ => match ending(&name.to_lowercase()) {
                 Some((part, kind)) if !part.is_empty() => found.mistyped(&name, kind, path),
-                _ => lot.unknown.push(plain(&name)),
+                _ => lot.unknown.push(printable(&name)),
             },
         }
     }
@@ -88,11 +89,11 @@ impl Found {
             Kind::Dump => &mut part.capture,
         };
         if let Some(other) = place.replace(path.clone()) {
-            let [first, second] = [&other, &path].map(|path| plain_path(path));
+            let [first, second] = [&other, &path].map(|path| shown(path));
             part.refuse(format!("{first} and {second} are the same capture; it must have one"));
         }
         if let Some(wrong) = wrong {
-            part.refuse(format!("{}: {wrong}", plain_path(&path)));
+            part.refuse(format!("{}: {wrong}", shown(&path)));
         }
     }
 
@@ -106,7 +107,7 @@ impl Found {
         let part = &name[..name.len() - end.len()];
         self.take(part, kind, path.clone());
         let (base, frame, _) = framed(part);
-        let wrong = format!("{}: the ending must be written `{end}`", plain_path(&path));
+        let wrong = format!("{}: the ending must be written `{end}`", shown(&path));
         match kind {
             Kind::Vram | Kind::Drawing | Kind::State => {
                 self.scenes.entry(part.to_string()).or_default().refuse(wrong)
@@ -125,7 +126,7 @@ impl Found {
         spelled.retain(|_, names| names.len() > 1);
         let wrong = |name: &str| {
             let names: Vec<String> =
-                spelled.get(&name.to_lowercase())?.iter().map(|name| plain(name)).collect();
+                spelled.get(&name.to_lowercase())?.iter().map(|name| printable(name)).collect();
             Some(format!("the names {} differ only in case", names.join(" and ")))
         };
         for (name, part) in &mut self.scenes {
@@ -174,7 +175,7 @@ fn framed(name: &str) -> (String, u32, Option<String>) {
         ("frame0", _) => (base.to_string(), 0, None),
         ("frame1", _) => (base.to_string(), 1, None),
         (_, Some(number)) if number.chars().all(|c| c.is_ascii_digit()) => {
-            let wrong = format!("`{}` is not a frame; write frame0 or frame1", plain(last));
+            let wrong = format!("`{}` is not a frame; write frame0 or frame1", printable(last));
             (base.to_string(), u32::from(number == "1"), Some(wrong))
         }
         _ => (name.to_string(), 0, None),

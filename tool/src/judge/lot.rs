@@ -3,14 +3,17 @@
 use std::collections::HashSet;
 use std::path::{Path, PathBuf};
 
-use super::{folder, manifest, plain_path, Entry, Part};
+use super::{folder, manifest, Entry, Part};
 use crate::failure::Failure;
+use crate::files::{shown, FileRead};
 
 /// The entries in order, and the files of a folder that no naming rule takes.
 #[derive(Default)]
 pub struct Lot {
     pub entries: Vec<Entry>,
     pub unknown: Vec<String>,
+    /// The manifest.
+    pub files: Vec<FileRead>,
 }
 
 impl Lot {
@@ -22,16 +25,16 @@ impl Lot {
             Some("csv") => manifest::csv(path)?,
             _ if path.exists() => {
                 let rule = "a lot is a folder, or a manifest whose name ends in .toml or .csv";
-                return Err(Failure::bad(format!("{}: {rule}", path.display())));
+                return Err(Failure::bad(format!("{}: {rule}", shown(path))));
             }
             _ => {
                 let wanted = "it must be a folder, or a manifest whose name ends in .toml or .csv";
                 let given = "No such file or directory";
-                return Err(Failure::bad(format!("{}: {given}; {wanted}", path.display())));
+                return Err(Failure::bad(format!("{}: {given}; {wanted}", shown(path))));
             }
         };
         if lot.entries.is_empty() {
-            return Err(Failure::bad(format!("{}: has no part", path.display())));
+            return Err(Failure::bad(format!("{}: has no part", shown(path))));
         }
         lot.entries.iter_mut().for_each(|entry| entry.complete(defaults));
         lot.refuse_repeated();
@@ -82,7 +85,7 @@ impl Part {
             return Some(wrong.clone());
         }
         let two = |first: &Option<PathBuf>, second: &Option<PathBuf>, what: &str| {
-            let [first, second] = [first.as_deref()?, second.as_deref()?].map(plain_path);
+            let [first, second] = [first.as_deref()?, second.as_deref()?].map(shown);
             Some(format!("{first} and {second} are {what}; it must have one"))
         };
         two(&self.state, &self.vram, "two scenes")

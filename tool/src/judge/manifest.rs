@@ -7,7 +7,7 @@ use serde::Deserialize;
 
 use super::{Entry, Eyes, Lot, Part};
 use crate::failure::Failure;
-use crate::files::Input;
+use crate::files::{printable, shown, FileRead, Input};
 use crate::inputs::capture::LARGEST_THRESHOLD;
 
 const MANIFEST: &str = "a manifest, TOML or CSV";
@@ -31,14 +31,14 @@ fn text(path: &Path) -> Result<(Input, String), Failure> {
     match String::from_utf8(input.bytes.clone()) {
         // a spreadsheet may put a mark before the text
         Ok(text) => Ok((input, text.trim_start_matches('\u{FEFF}').to_string())),
-        Err(_) => Err(Failure::bad(input.wrong(format!("is no text; it must be {MANIFEST}")))),
+        Err(_) => Err(Failure::bad(input.wrong(format!("not a text file; it must be {MANIFEST}")))),
     }
 }
 
 pub fn toml(path: &Path) -> Result<Lot, Failure> {
     let (input, text) = text(path)?;
     let read: Toml = toml::from_str(&text)
-        .map_err(|error| Failure::bad(input.wrong(format!("is no manifest: {error}"))))?;
+        .map_err(|error| Failure::bad(input.wrong(format!("not a manifest: {error}"))))?;
     let folder = path.parent().unwrap_or(Path::new(""));
     let defaults = Part {
         state: read.state,
@@ -53,7 +53,7 @@ pub fn toml(path: &Path) -> Result<Lot, Failure> {
     if let Some(wrong) = defaults.out_of_range() {
         return Err(Failure::bad(input.wrong(wrong)));
     }
-    let mut lot = Lot::default();
+    let mut lot = Lot { files: vec![FileRead::whole(&input)], ..Lot::default() };
     for (number, value) in read.part.into_iter().enumerate() {
         let place = format!("part {}", number + 1);
         let mut entry = match value.clone().try_into::<Part>() {
@@ -61,7 +61,7 @@ pub fn toml(path: &Path) -> Result<Lot, Failure> {
             Err(error) => {
                 let name = value.get("name").and_then(|name| name.as_str()).map(str::to_string);
                 let name = name.filter(|name| !name.trim().is_empty()).unwrap_or(place);
-                Entry::wrong(name, format!("{}: {error}", path.display()))
+                Entry::wrong(name, format!("{}: {}", shown(path), printable(&error.to_string())))
             }
         };
         entry.complete(&defaults);
@@ -78,14 +78,14 @@ pub fn csv(path: &Path) -> Result<Lot, Failure> {
     let between = if first.contains(';') && !first.contains(',') { b';' } else { b',' };
     let mut reader = csv::ReaderBuilder::new();
     let mut reader = reader.trim(csv::Trim::All).delimiter(between).from_reader(text.as_bytes());
-    let broken = |error: csv::Error| Failure::bad(input.wrong(format!("is no manifest: {error}")));
+    let broken = |error: csv::Error| Failure::bad(input.wrong(format!("not a manifest: {error}")));
     let heads = reader.headers().map_err(broken)?.clone();
     if !heads.iter().any(|head| head == "name") {
         let rule = "its first line must name the columns: name, and of state, vram, drawing, frame, left, right, \
                     capture, threshold and eyes those that are used";
         return Err(Failure::bad(input.wrong(rule)));
     }
-    let mut lot = Lot::default();
+    let mut lot = Lot { files: vec![FileRead::whole(&input)], ..Lot::default() };
     for record in reader.records() {
         let line = |position: Option<&csv::Position>| {
             format!("line {}", position.map_or(0, |position| position.line()))
@@ -96,9 +96,10 @@ pub fn csv(path: &Path) -> Result<Lot, Failure> {
         });
         let entry = match read {
             Ok((part, place)) => taken(part, folder, path, place),
-            Err(error) => {
-                Entry::wrong(line(error.position()), format!("{}: {error}", path.display()))
-            }
+            Err(error) => Entry::wrong(
+                line(error.position()),
+                format!("{}: {}", shown(path), printable(&error.to_string())),
+            ),
         };
         lot.entries.push(entry);
     }
@@ -114,7 +115,7 @@ fn taken(part: Part, folder: &Path, manifest: &Path, place: String) -> Entry {
         None => return Entry::of(part.within(folder)),
     };
     let name = if named { part.name } else { place };
-    Entry::wrong(name, format!("{}: {wrong}", manifest.display()))
+    Entry::wrong(name, format!("{}: {wrong}", shown(manifest)))
 }
 
 impl Part {

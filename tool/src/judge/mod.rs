@@ -2,24 +2,21 @@
 
 mod attempt;
 mod by_plan;
+mod captures;
 mod explained;
 mod folder;
-mod html;
-mod junit;
 mod lot;
 mod manifest;
 mod summary;
 mod trace;
 mod verdict;
 
-pub use crate::files::{printable as plain, shown as plain_path};
 pub use attempt::Model;
 pub use by_plan::{judge_lot, model_of, Asked};
-pub use html::page;
-pub use junit::junit;
+pub use captures::judge_captures;
 pub use lot::Lot;
 pub use summary::Summary;
-pub use verdict::{judge, missing, Judged, Verdict, Wish};
+pub use verdict::{missing, Judged, Verdict, Wish};
 
 use std::path::PathBuf;
 

@@ -7,9 +7,8 @@ use std::path::Path;
 use sha2::{Digest, Sha256};
 use vb::{grouped, Refusal, RECORD_LENGTH};
 
-use super::plain_path;
 use crate::failure::Failure;
-use crate::files::{reason, register};
+use crate::files::{reason, register, shown};
 use crate::inputs::trace::{records, Record};
 use crate::plan::{Asked, Ended, Expected, Records, Test};
 use crate::report::{FileRead, Hash, TraceFound};
@@ -28,7 +27,7 @@ pub fn judge(
 ) -> Result<Option<TraceFound>, Failure> {
     let path = path.ok_or_else(|| Failure::bad("no trace"))?;
     let wrong =
-        |what: String| Failure::bad(format!("{}: {what}; it must be {WANTED}", plain_path(path)));
+        |what: String| Failure::bad(format!("{}: {what}; it must be {WANTED}", shown(path)));
     // looked at before it is opened: opening a pipe may wait for ever
     let about = fs::metadata(path).map_err(|error| wrong(reason(&error)))?;
     if !about.is_file() {
@@ -43,7 +42,7 @@ pub fn judge(
     files.push(FileRead::of(path, bytes, Hash(hash.finalize().into())));
     if !bytes.is_multiple_of(RECORD_LENGTH as u64) {
         let refusal = Refusal::TraceLength { given: bytes as usize };
-        let message = format!("{} ({} bytes): {refusal}", plain_path(path), grouped(bytes));
+        let message = format!("{} ({} bytes): {refusal}", shown(path), grouped(bytes));
         return Err(Failure::refused(&refusal, message));
     }
     let there = bytes / RECORD_LENGTH as u64;
@@ -66,7 +65,7 @@ pub fn judge(
     match there < records.count() {
         true => Err(Failure::bad(format!(
             "{}: agrees for {} records; {} were asked for",
-            plain_path(path),
+            shown(path),
             grouped(there),
             grouped(records.count())
         ))),

@@ -8,7 +8,7 @@ use super::{Entry, Eyes, Part};
 use crate::commands::compare::CAPTURE;
 use crate::commands::draw::Views;
 use crate::failure::Failure;
-use crate::files::Input;
+use crate::files::{FileRead, Input};
 use crate::inputs::capture::{Capture, Level, Wanted};
 use crate::inputs::scene::{Read, Scene};
 use crate::pictures::difference::{differences, Bounds, Difference};
@@ -59,6 +59,12 @@ pub struct Judged {
     pub vram: Option<String>,
     pub drawing: Option<String>,
     pub eyes: Vec<EyeJudged>,
+    /// The captures that were read.
+    #[serde(rename = "files")]
+    pub captures: Vec<FileRead>,
+    /// The files of its scene.
+    #[serde(skip)]
+    pub scene: Vec<FileRead>,
     #[serde(flatten)]
     pub failure: Option<Failure>,
 }
@@ -76,11 +82,11 @@ pub struct EyeJudged {
     pub levels: Option<Vec<Level>>,
     #[serde(skip)]
     pub agree: bool,
-    /// The model's picture and the capture, as long as they may be needed.
+    /// The first pixel that differs.
     #[serde(skip)]
-    shown: Option<(Picture, Picture)>,
+    pub start: Option<Difference>,
     #[serde(skip)]
-    pub pictures: Option<Pictures>,
+    pub shown: Option<Shown>,
 }
 
 /// A differing pixel, and why the model has its value.
@@ -93,10 +99,12 @@ pub struct Explained {
     pub text: String,
 }
 
-/// PNGs of the model's picture and, where the capture differs, of that and of the differences.
-pub struct Pictures {
-    pub expected: Vec<u8>,
-    pub differing: Option<(Vec<u8>, Vec<u8>)>,
+/// PNGs in base64, as a report has them: the model's picture, what the capture changes, and marks where it does.
+#[derive(Clone)]
+pub struct Shown {
+    pub model: String,
+    pub changes: String,
+    pub marks: String,
 }
 
 pub fn judge(entry: &Entry, wish: Wish) -> Judged {
@@ -107,6 +115,8 @@ pub fn judge(entry: &Entry, wish: Wish) -> Judged {
         vram: None,
         drawing: None,
         eyes: Vec::new(),
+        captures: Vec::new(),
+        scene: Vec::new(),
         failure: None,
     };
     let done = match &entry.part {
@@ -120,8 +130,6 @@ pub fn judge(entry: &Entry, wish: Wish) -> Judged {
         Judged { eyes, .. } if eyes.iter().all(|eye| eye.equal) => Verdict::Pass,
         _ => Verdict::Fail,
     };
-    let wanted = wish.pictures && matches!(judged.verdict, Verdict::Fail | Verdict::Fault);
-    judged.eyes.iter_mut().for_each(|eye| eye.show(wanted));
     judged
 }
 
@@ -131,6 +139,7 @@ impl Judged {
         self.frame = part.frame.unwrap_or(0);
         let Part { state, vram, drawing, .. } = part.clone();
         let scene = Scene { state, vram, drawing }.read()?;
+        self.scene.clone_from(&scene.files);
         (self.vram, self.drawing) = (Some(scene.vram.name()), Some(scene.drawing_file.name()));
         let drawn = scene.drawn(self.frame)?;
         let mut wrong: Vec<Failure> = Vec::new();
@@ -158,6 +167,10 @@ impl Judged {
         wish: Wish,
     ) -> Result<(), Failure> {
         let Some(input) = capture(part, eye)? else { return Ok(()) };
+        let read = FileRead::whole(&input);
+        if !self.captures.contains(&read) {
+            self.captures.push(read);
+        }
         let threshold = part.threshold.unwrap_or(0);
         let wanted = Wanted { frame: self.frame, eye: eye.number(), threshold };
         let capture = Capture::read(&input, wanted)?;
@@ -231,10 +244,16 @@ fn judge_eye(
         first: Vec::new(),
         levels: capture.levels,
         agree: true,
-        shown: wish.pictures.then_some((expected, capture.picture)),
-        pictures: None,
+        start: found.first().copied(),
+        shown: None,
     };
     if let Some(bounds) = bounds {
+        let seen = &capture.picture;
+        judged.shown = wish.pictures.then(|| Shown {
+            model: base64::encode(expected.png(1)),
+            changes: base64::encode(expected.changes(seen)),
+            marks: base64::encode(expected.marks(seen)),
+        });
         let vram = &scene.vram.bytes;
         let sources = Sources::of(vram, &registers(&scene.drawing), eye, &bounds);
         judged.shares = sources.shares(vram, &found);
@@ -246,7 +265,7 @@ fn judge_eye(
 }
 
 fn explained(scene: &Read, eye: Eye, pixel: &Difference) -> Result<Explained, Failure> {
-    let told = explain(&Question {
+    let why = explain(&Question {
         vram: &scene.vram.bytes,
         drawing: &scene.drawing,
         eye,
@@ -255,17 +274,10 @@ fn explained(scene: &Read, eye: Eye, pixel: &Difference) -> Result<Explained, Fa
         library_value: pixel.expected,
         every_object: false,
     })?;
-    Ok(Explained { pixel: *pixel, because: told.winner(), text: told.text() })
+    Ok(Explained { pixel: *pixel, because: why.winner(), text: why.text() })
 }
 
 impl EyeJudged {
-    /// Makes the pictures of a part that differs in this eye or the other, and lets go of what they are made from.
-    fn show(&mut self, wanted: bool) {
-        let Some((expected, seen)) = self.shown.take().filter(|_| wanted) else { return };
-        let differing = (!self.equal).then(|| (seen.png(1), expected.marked(&seen, 1)));
-        self.pictures = Some(Pictures { expected: expected.png(1), differing });
-    }
-
     fn line(&self) -> String {
         let Some(bounds) = &self.bounds else { return format!("{} eye equal", self.eye) };
         let (count, all) = (grouped(self.different as u64), grouped((COLUMNS * ROWS) as u64));

@@ -16,8 +16,7 @@ use std::path::{Path, PathBuf};
 use rayon::prelude::*;
 
 use crate::failure::Failure;
-use crate::files::reason;
-use crate::judge::{plain, plain_path};
+use crate::files::{printable, reason, shown};
 use crate::plan::Plan;
 use names::{attempt, flat, within_part, Named};
 
@@ -44,18 +43,43 @@ pub struct Part {
 #[derive(Default)]
 pub struct Attempt {
     pub number: u32,
-    pub files: BTreeMap<Slot, PathBuf>,
+    pub files: Files,
     /// What makes it invalid before any file is read.
     pub problems: Vec<String>,
 }
 
-type Found = BTreeMap<String, BTreeMap<u32, Attempt>>;
+/// The files by what they are. A list: an attempt has few, and a lot may have 100,000 of these.
+#[derive(Default)]
+pub struct Files(Vec<(Slot, PathBuf)>);
+
+impl Files {
+    pub fn get(&self, slot: &Slot) -> Option<&Path> {
+        self.0.iter().find(|(one, _)| one == slot).map(|(_, path)| path.as_path())
+    }
+
+    pub fn slots(&self) -> impl Iterator<Item = &Slot> {
+        self.0.iter().map(|(slot, _)| slot)
+    }
+
+    /// Gives the file that was there before.
+    fn insert(&mut self, slot: Slot, path: PathBuf) -> Option<PathBuf> {
+        if let Some((_, there)) = self.0.iter_mut().find(|(one, _)| *one == slot) {
+            return Some(std::mem::replace(there, path));
+        }
+        self.0.reserve_exact(1);
+        self.0.push((slot, path));
+        None
+    }
+}
+
+/// The attempts of each part, by their numbers.
+type Found = BTreeMap<String, Vec<Attempt>>;
 
 impl Lot {
     pub fn read(folder: &Path, plan: &Plan, allow_extra: bool) -> Result<Lot, Failure> {
         let failed = |what: String| {
             let wanted = "it must be a folder of parts";
-            Failure::bad(format!("{}: {what}; {wanted}", plain_path(folder)))
+            Failure::bad(format!("{}: {what}; {wanted}", shown(folder)))
         };
         let entries = entries(folder).map_err(failed)?;
         let list = entries.iter().map(DirEntry::path).find(|path| path.ends_with(LIST));
@@ -65,7 +89,7 @@ impl Lot {
         lot.unknown.sort();
         lot.parts = joined(found, listed, allow_extra);
         if lot.parts.is_empty() {
-            let name = plain_path(folder);
+            let name = shown(folder);
             return Err(Failure::bad(format!(
                 "{name}: has no part; a part is a folder of captures and traces"
             )));
@@ -89,15 +113,15 @@ fn found(entries: &[DirEntry], plan: &Plan, unknown: &mut Vec<String>) -> Found 
         let is_folder = entry.path().is_dir();
         match (attempt(&name), flat(&name, plan)) {
             (Some((part, number)), _) if is_folder && !name.starts_with('.') => {
-                unknown.extend(others.iter().map(|other| format!("{}/{other}", plain(&name))));
+                unknown.extend(others.iter().map(|other| format!("{}/{other}", printable(&name))));
                 let there = &mut at(&mut found, part, number).problems;
                 there.append(&mut read.problems);
-                for (slot, path) in read.files {
+                for (slot, path) in read.files.0 {
                     put(&mut found, part, number, slot, path);
                 }
             }
             _ if is_folder || name == LIST => {
-                unknown.extend((name != LIST).then(|| plain(&name)));
+                unknown.extend((name != LIST).then(|| printable(&name)));
             }
             (_, Some((part, number, Named::Slot(slot)))) => {
                 put(&mut found, part, number, slot, entry.path());
@@ -105,7 +129,7 @@ fn found(entries: &[DirEntry], plan: &Plan, unknown: &mut Vec<String>) -> Found 
             (_, Some((part, number, Named::Mistyped))) => {
                 at(&mut found, part, number).problems.push(mistyped(&entry.path()));
             }
-            _ => unknown.push(plain(&name)),
+            _ => unknown.push(printable(&name)),
         }
     }
     found
@@ -120,7 +144,7 @@ fn part_folder(folder: &Path, plan: &Plan) -> (Attempt, Vec<String>) {
     let all = match entries(folder) {
         Ok(all) => all,
         Err(error) => {
-            read.problems.push(format!("{}: {error}", plain_path(folder)));
+            read.problems.push(format!("{}: {error}", shown(folder)));
             return (read, unknown);
         }
     };
@@ -129,21 +153,24 @@ fn part_folder(folder: &Path, plan: &Plan) -> (Attempt, Vec<String>) {
         match within_part(&name, plan) {
             Named::Slot(slot) => insert(&mut read, slot, entry.path()),
             Named::Mistyped => read.problems.push(mistyped(&entry.path())),
-            Named::Unknown => unknown.push(plain(&name)),
+            Named::Unknown => unknown.push(printable(&name)),
         }
     }
     (read, unknown)
 }
 
 fn mistyped(path: &Path) -> String {
-    format!("{}: the name differs only in case from one that the plan asks for", plain_path(path))
+    format!("{}: the name differs only in case from one that the plan asks for", shown(path))
 }
 
 fn at<'a>(found: &'a mut Found, part: &str, number: u32) -> &'a mut Attempt {
     let attempts = found.entry(part.to_string()).or_default();
-    let there = attempts.entry(number).or_default();
-    there.number = number;
-    there
+    let place = attempts.partition_point(|one| one.number < number);
+    if attempts.get(place).is_none_or(|one| one.number != number) {
+        attempts.reserve_exact(1);
+        attempts.insert(place, Attempt { number, ..Attempt::default() });
+    }
+    &mut attempts[place]
 }
 
 fn put(found: &mut Found, part: &str, number: u32, slot: Slot, path: PathBuf) {
@@ -152,7 +179,7 @@ fn put(found: &mut Found, part: &str, number: u32, slot: Slot, path: PathBuf) {
 
 fn insert(attempt: &mut Attempt, slot: Slot, path: PathBuf) {
     if let Some(other) = attempt.files.insert(slot, path.clone()) {
-        let mut two = [plain_path(&other), plain_path(&path)];
+        let mut two = [shown(&other), shown(&path)];
         two.sort();
         attempt.problems.push(format!("{} and {} are the same; it must have one", two[0], two[1]));
     }
@@ -170,9 +197,8 @@ fn joined(mut found: Found, listed: Option<Vec<(String, Listed)>>, allow_extra: 
     for name in found.keys() {
         *spelled.entry(name.to_lowercase()).or_default() += 1;
     }
-    let part = |(name, attempts): (String, BTreeMap<u32, Attempt>)| {
+    let part = |(name, mut attempts): (String, Vec<Attempt>)| {
         let place = listed.remove(&name);
-        let mut attempts: Vec<Attempt> = attempts.into_values().collect();
         let problem = match (spelled[&name.to_lowercase()], &place) {
             (2.., _) => Some("the name differs only in case from another part's".to_string()),
             (_, None) if is_listed && !allow_extra => Some(format!("{LIST} does not list it")),

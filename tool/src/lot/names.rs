@@ -94,7 +94,7 @@ mod tests {
     use super::*;
 
     #[test]
-    fn a_retest_is_told_from_a_name() {
+    fn a_retest_is_known_by_its_name() {
         for (name, part) in [
             ("die-17", Some(("die-17", 1))),
             ("die-17@2", Some(("die-17", 2))),

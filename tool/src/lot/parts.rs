@@ -4,8 +4,7 @@ use std::collections::HashMap;
 use std::path::Path;
 
 use crate::failure::Failure;
-use crate::files::Input;
-use crate::judge::{plain, plain_path};
+use crate::files::{printable, read_hashed, shown};
 
 const WANTED: &str =
     "a list of parts: CSV whose first line names the columns part, wafer, x, y and others";
@@ -24,7 +23,7 @@ pub struct Listed {
 type Lines<K> = HashMap<K, (u64, String)>;
 
 pub fn read(path: &Path) -> Result<Vec<(String, Listed)>, Failure> {
-    let input = Input::read(path, WANTED)?;
+    let (input, _) = read_hashed(path, WANTED)?;
     let text = String::from_utf8(input.bytes.clone())
         .map_err(|_| Failure::bad(input.wrong("not a text file")))?;
     let text = text.trim_start_matches('\u{FEFF}');
@@ -33,7 +32,7 @@ pub fn read(path: &Path) -> Result<Vec<(String, Listed)>, Failure> {
     let mut reader = csv::ReaderBuilder::new();
     let mut reader = reader.trim(csv::Trim::All).delimiter(between).from_reader(text.as_bytes());
     let wrong = |line: u64, rule: String| {
-        Failure::bad(format!("{}: line {line}: {}", plain_path(path), plain(&rule)))
+        Failure::bad(format!("{}: line {line}: {}", shown(path), printable(&rule)))
     };
     let heads = reader.headers().map_err(|error| wrong(1, error.to_string()))?.clone();
     if !heads.iter().any(|head| head == "part") {

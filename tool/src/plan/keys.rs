@@ -7,7 +7,7 @@ use toml::value::{Table, Value};
 use vb::grouped;
 
 use crate::failure::Failure;
-use crate::judge::plain;
+use crate::files::{printable, shown};
 
 /// One table of a plan: the whole file, or the test of a number.
 pub struct Keys<'a> {
@@ -19,7 +19,7 @@ pub struct Keys<'a> {
 }
 
 impl Keys<'_> {
-    /// The line of a key, or of the table where the key has none of its own.
+    /// The line of a key, or of the table where the key is not written.
     pub fn line(&self, key: &str) -> usize {
         let (mut tests, mut table_line) = (0, 1);
         for (number, line) in self.text.lines().enumerate() {
@@ -43,14 +43,14 @@ impl Keys<'_> {
 
     /// What is wrong with a key.
     pub fn wrong(&self, key: &str, rule: impl std::fmt::Display) -> Failure {
-        let file = plain(&self.file.to_string_lossy());
+        let file = shown(&self.file);
         Failure::bad(format!("{file}: line {}: {rule}", self.line(key)))
     }
 
     /// What was given for a key, and what is allowed.
     pub fn not_allowed(&self, key: &str, allowed: &str) -> Failure {
         let given = self.table.get(key).map_or("not given".to_string(), Value::to_string);
-        self.wrong(key, format!("{key} is {}; it must be {allowed}", plain(given.trim())))
+        self.wrong(key, format!("{key} is {}; it must be {allowed}", printable(given.trim())))
     }
 
     /// Refuses a key that is not known, with the nearest one that is.
@@ -64,7 +64,7 @@ impl Keys<'_> {
             0..=3 => format!("did you mean `{nearest}`?"),
             _ => format!("the keys are {}", known.join(", ")),
         };
-        Err(self.wrong(other, format!("unknown key `{}`; {meant}", plain(other))))
+        Err(self.wrong(other, format!("unknown key `{}`; {meant}", printable(other))))
     }
 
     pub fn text(&self, key: &str) -> Result<Option<String>, Failure> {

@@ -14,10 +14,10 @@ use std::path::{Path, PathBuf};
 use toml::value::{Table, Value};
 
 use crate::failure::Failure;
-use crate::files::Input;
+use crate::files::{read_hashed, shown};
 use crate::inputs::scene::Scene;
 use crate::inputs::setup::Setup;
-use crate::judge::{plain_path, Eyes};
+use crate::judge::Eyes;
 use keys::Keys;
 
 /// The largest number of a bin.
@@ -82,7 +82,7 @@ pub enum Asked {
 
 impl Plan {
     pub fn read(file: &Path) -> Result<Plan, Failure> {
-        let input = Input::read(file, PLAN)?;
+        let (input, _) = read_hashed(file, PLAN)?;
         let text = String::from_utf8(input.bytes.clone())
             .map_err(|_| Failure::bad(input.wrong("not a text file")))?;
         let text = text.trim_start_matches('\u{FEFF}');
@@ -110,7 +110,7 @@ fn syntax(file: &Path, error: &toml::de::Error) -> Failure {
     let message = error.to_string();
     let what = message.split(" at line ").next().unwrap_or_default();
     let line = error.line_col().map_or(String::new(), |(line, _)| format!("line {}: ", line + 1));
-    Failure::bad(format!("{}: {line}not TOML: {what}", plain_path(file)))
+    Failure::bad(format!("{}: {line}not TOML: {what}", shown(file)))
 }
 
 fn tests(keys: &Keys) -> Result<Vec<Test>, Failure> {

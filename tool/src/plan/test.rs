@@ -7,6 +7,7 @@ use toml::Value;
 use super::keys::Keys;
 use super::{Asked, Source, Test, When, LARGEST_BIN};
 use crate::failure::Failure;
+use crate::files::shown;
 use crate::inputs::capture::LARGEST_THRESHOLD;
 use crate::inputs::changes::{assignment, placed, Changes, Side};
 use crate::inputs::scene::Scene;
@@ -54,7 +55,7 @@ impl Test {
         let frames = frames(keys, is_scene, trace, budget)?;
         let threshold = keys.number("threshold", 0..=u64::from(LARGEST_THRESHOLD))?.unwrap_or(0);
         Ok(Test {
-            place: format!("{}: line {}: test {name}", keys.file.display(), keys.line("name")),
+            place: format!("{}: line {}: test {name}", shown(&keys.file), keys.line("name")),
             name,
             source,
             budget,
@@ -97,7 +98,8 @@ fn source(keys: &Keys, files: &mut Vec<PathBuf>) -> Result<Source, Failure> {
     if state.is_some() {
         let other = ["wram", "vram", "pak", "processor", "drawing"];
         if let Some(other) = other.iter().find(|key| keys.table.contains_key(**key)) {
-            let rule = format!("`{other}` beside `state`; a state holds it, give one of them");
+            let rule =
+                format!("`{other}` and `state` are both given; a state holds it, give one of them");
             return Err(keys.wrong(other, rule));
         }
     }

@@ -17,13 +17,13 @@ pub struct Forms {
     /// Where to write the verdicts as JUnit XML
     #[arg(long, value_name = "FILE")]
     pub junit: Option<PathBuf>,
-    /// With --plan: where to write the whole report as JSON, a value on each line, for `verify` and `merge`
+    /// Where to write the whole report as JSON, a value on each line, for `verify` and, of a plan's shards, `merge`
     #[arg(long, value_name = "FILE")]
     pub report: Option<PathBuf>,
-    /// With --plan: where to write a line for each part as CSV
+    /// Where to write a line for each part as CSV
     #[arg(long, value_name = "FILE")]
     pub csv: Option<PathBuf>,
-    /// With --plan: where to write the report as STDF V4
+    /// Where to write the report as STDF V4
     #[arg(long, value_name = "FILE")]
     pub stdf: Option<PathBuf>,
 }
@@ -44,7 +44,13 @@ impl Forms {
         self.html.is_some() || self.report.is_some()
     }
 
-    fn outputs(&self, report: &Report, totals: &Totals, seconds: f64) -> Result<Outputs, Failure> {
+    /// What was asked for, to be written.
+    pub fn outputs(
+        &self,
+        report: &Report,
+        totals: &Totals,
+        seconds: f64,
+    ) -> Result<Outputs, Failure> {
         let mut outputs = Outputs::default();
         if let Some(path) = &self.html {
             outputs.add(path, html::page(report, totals)?.into_bytes());
@@ -70,6 +76,7 @@ impl Forms {
         let outputs = self.outputs(report, &totals, seconds)?;
         let failure = outputs.write().err();
         let written = if failure.is_none() { outputs.paths() } else { Vec::new() };
+        drop(outputs);
         let mut text = text(report, &totals);
         text.extend(written.iter().map(|path| format!("written: {path}\n")));
         let json = json_lines(report, &totals, false).trim_end().to_string();

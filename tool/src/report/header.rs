@@ -1,19 +1,28 @@
 //! What stands at the head of every form of a report: what was judged, by which model, and when.
 
+use std::path::PathBuf;
 use std::time::SystemTime;
 
 use serde::{Deserialize, Serialize};
 
 use super::FileRead;
 use crate::failure::Failure;
+use crate::files::printable;
+use crate::judge::Eyes;
 use crate::plan::{Expected, Plan, Records};
 use crate::reports::invocation;
 use crate::version::{version, Version};
 
 #[derive(Clone, Debug, Deserialize, PartialEq, Serialize)]
 pub struct Header {
-    pub plan: String,
-    pub plan_file: String,
+    /// The plan's name and file; none where parts were judged by their captures alone.
+    #[serde(default, skip_serializing_if = "Option::is_none")]
+    pub plan: Option<String>,
+    #[serde(default, skip_serializing_if = "Option::is_none")]
+    pub plan_file: Option<String>,
+    /// What such parts were judged by.
+    #[serde(default, skip_serializing_if = "Option::is_none")]
+    pub captures: Option<Captures>,
     pub lot: String,
     pub model: Identity,
     pub command: String,
@@ -28,8 +37,22 @@ pub struct Header {
     pub parts: usize,
     /// Files of the lot that no rule takes.
     pub unknown: Vec<String>,
-    /// The plan's files, and the list of parts.
+    /// The plan's files, and the list of parts; or the manifest, and scenes.
     pub files: Vec<FileRead>,
+}
+
+/// What holds for parts of a lot of captures that do not say it themselves.
+#[derive(Clone, Debug, Default, Deserialize, PartialEq, Eq, Serialize)]
+pub struct Captures {
+    #[serde(default, skip_serializing_if = "Option::is_none")]
+    pub state: Option<PathBuf>,
+    #[serde(default, skip_serializing_if = "Option::is_none")]
+    pub vram: Option<PathBuf>,
+    #[serde(default, skip_serializing_if = "Option::is_none")]
+    pub drawing: Option<PathBuf>,
+    #[serde(default, skip_serializing_if = "Option::is_none")]
+    pub threshold: Option<u8>,
+    pub eyes: Eyes,
 }
 
 /// Which model it was.
@@ -104,8 +127,8 @@ impl Header {
             instructions: expected.count,
         };
         Header {
-            plan: plan.name.clone(),
-            plan_file: plan.file.to_string_lossy().into_owned(),
+            plan: Some(plan.name.clone()),
+            plan_file: Some(plan.file.to_string_lossy().into_owned()),
             pass_bin: plan.pass_bin,
             invalid_bin: plan.invalid_bin,
             tests: plan.tests.iter().zip(expected).map(test).collect(),
@@ -116,8 +139,9 @@ impl Header {
     /// Model, command and date, with nothing judged yet.
     pub fn bare(lot: &str) -> Header {
         Header {
-            plan: String::new(),
-            plan_file: String::new(),
+            plan: None,
+            plan_file: None,
+            captures: None,
             lot: lot.to_string(),
             model: Identity::now(),
             command: invocation::command(),
@@ -133,6 +157,12 @@ impl Header {
         }
     }
 
+    /// `demo (demo/plan.toml)`, where there is a plan.
+    pub fn plan_text(&self) -> Option<String> {
+        let file = self.plan_file.as_deref().unwrap_or_default();
+        self.plan.as_ref().map(|plan| printable(&format!("{plan} ({file})")))
+    }
+
     /// Whether another report is one of the same plan, lot and model.
     pub fn joins(&self, other: &Header) -> Result<(), Failure> {
         let differs = |what: &str, one: &str, two: &str| {
@@ -146,7 +176,10 @@ impl Header {
         };
         match (plain(self), plain(other)) {
             (one, two) if one == two => Ok(()),
-            (one, two) if one.plan != two.plan => differs("the plan", &one.plan, &two.plan),
+            (one, two) if one.plan != two.plan => {
+                let named = |header: &Header| header.plan.clone().unwrap_or_default();
+                differs("the plan", &named(&one), &named(&two))
+            }
             (one, two) if one.lot != two.lot => differs("the lot", &one.lot, &two.lot),
             (one, two) if one.model != two.model => {
                 differs("the model", &one.model.text(), &two.model.text())

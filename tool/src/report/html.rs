@@ -5,11 +5,13 @@ use tinytemplate::TinyTemplate;
 use vb::grouped;
 
 use super::lines::read;
-use super::section::{section, Model, Reason, Section, Shared};
+use super::section::{section, Model, Reason, Shared};
 use super::wafers::{fills, wafers, Wafer};
 use super::{Count, Part, Report, Totals};
 use crate::failure::Failure;
-use crate::judge::{plain, Verdict};
+use crate::files::printable;
+use crate::judge::Verdict;
+use crate::reports::invocation::quoted;
 
 /// Rows of a table of what fails most.
 const LISTED: usize = 10;
@@ -31,13 +33,14 @@ struct Page {
     bins: Vec<BinRow>,
     counts: Vec<Counted>,
     wafers: Vec<Wafer>,
-    failed: Vec<Rows>,
+    /// Rows and sections are ready HTML: made piece by piece, they need little memory however many parts there are.
+    failed: String,
     more: String,
     models: Vec<Model>,
-    sections: Vec<Section>,
+    sections: String,
     reasons: Vec<Reason>,
     passed_count: String,
-    passed: Vec<Rows>,
+    passed: String,
     files_count: String,
     files: String,
 }
@@ -71,6 +74,7 @@ struct Counted {
 struct Rows {
     /// Whether it is left until it comes into view.
     later: bool,
+    said: bool,
     rows: Vec<Row>,
 }
 
@@ -89,19 +93,28 @@ struct Row {
 }
 
 pub fn page(report: &Report, totals: &Totals) -> Result<String, Failure> {
-    let mut templates = TinyTemplate::new();
-    let added = [
-        ("page", include_str!("page.html")),
-        ("row", include_str!("row.html")),
-        ("section", include_str!("section.html")),
-    ]
-    .into_iter()
-    .try_for_each(|(name, text)| templates.add_template(name, text));
-    let rendered = added.and_then(|()| templates.render("page", &view(report, totals)));
-    rendered.map_err(|error| Failure::bad(format!("the page: {error}")))
+    let made = templates().and_then(|templates| {
+        let view = view(report, totals, &templates)?;
+        templates.render("page", &view)
+    });
+    made.map_err(|error| Failure::bad(format!("the page: {error}")))
 }
 
-fn view(report: &Report, totals: &Totals) -> Page {
+type Made<T> = Result<T, tinytemplate::error::Error>;
+
+fn templates() -> Made<TinyTemplate<'static>> {
+    let mut templates = TinyTemplate::new();
+    for (name, text) in [
+        ("page", include_str!("page.html")),
+        ("rows", include_str!("rows.html")),
+        ("section", include_str!("section.html")),
+    ] {
+        templates.add_template(name, text)?;
+    }
+    Ok(templates)
+}
+
+fn view(report: &Report, totals: &Totals, templates: &TinyTemplate) -> Made<Page> {
     let of = |verdict: Verdict| {
         let all = report.parts.iter().enumerate();
         all.filter(move |(_, part)| part.verdict == verdict)
@@ -109,15 +122,18 @@ fn view(report: &Report, totals: &Totals) -> Page {
     let wrong = [Verdict::Fault, Verdict::Fail, Verdict::Invalid];
     let mut shared = Shared::default();
     let first = wrong.iter().flat_map(|one| of(*one).take(SHOWN));
-    let sections = first.map(|(number, part)| section(number, part, &mut shared)).collect();
+    let mut sections = String::new();
+    for (number, part) in first {
+        sections += &templates.render("section", &section(number, part, &mut shared))?;
+    }
     let (models, reasons) = shared.all();
     let failed = wrong.iter().flat_map(|one| {
         of(*one).enumerate().map(|(n, (number, part))| row(number, part, n < SHOWN))
     });
     let passed = of(Verdict::Pass).map(|(number, part)| row(number, part, false));
     let more = wrong.iter().map(|one| of(*one).count().saturating_sub(SHOWN)).sum();
-    Page {
-        title: format!("{}: {}", plain(&report.header.plan), plain(&report.header.lot)),
+    Ok(Page {
+        title: title(report),
         css: include_str!("page.css"),
         js: include_str!("page.js"),
         summary: totals.text(),
@@ -135,45 +151,51 @@ fn view(report: &Report, totals: &Totals) -> Page {
         bins: bins(report, totals),
         counts: counts(totals),
         wafers: wafers(report),
-        failed: chunks(failed.collect()),
-        more: self::more(more, &report.header.plan_file),
+        failed: rows(failed, true, templates)?,
+        more: self::more(more, report.header.plan_file.as_deref()),
         models,
         sections,
         reasons,
         passed_count: format!("{} parts", grouped(of(Verdict::Pass).count() as u64)),
-        passed: chunks(passed.collect()),
+        passed: rows(passed, false, templates)?,
         files_count: grouped(report.files().count() as u64),
         files: report
             .files()
             .map(|file| {
-                format!("{}  {:>12}  {}\n", file.sha256, grouped(file.bytes), plain(&file.path))
+                format!("{}  {:>12}  {}\n", file.sha256, grouped(file.bytes), printable(&file.path))
             })
             .collect(),
-    }
+    })
 }
 
-fn chunks(rows: Vec<Row>) -> Vec<Rows> {
-    let mut rows = rows.into_iter();
-    let chunk = || {
-        let rows: Vec<Row> = rows.by_ref().take(CHUNK).collect();
-        (!rows.is_empty()).then_some(Rows { later: rows.len() == CHUNK, rows })
-    };
-    std::iter::from_fn(chunk).collect()
+/// `demo: demo/parts`, or the lot alone.
+fn title(report: &Report) -> String {
+    let plan = report.header.plan.as_ref().map(|plan| format!("{plan}: "));
+    printable(&format!("{}{}", plan.unwrap_or_default(), report.header.lot))
+}
+
+/// The table of parts, in pieces; `said` where it has what is wrong with each.
+fn rows(all: impl Iterator<Item = Row>, said: bool, templates: &TinyTemplate) -> Made<String> {
+    let mut all = all.peekable();
+    let mut text = String::new();
+    while all.peek().is_some() {
+        let rows: Vec<Row> = all.by_ref().take(CHUNK).collect();
+        text += &templates.render("rows", &Rows { later: rows.len() == CHUNK, said, rows })?;
+    }
+    Ok(text)
 }
 
 fn header(report: &Report) -> Vec<Named> {
     let header = &report.header;
-    let mut rows = vec![
-        Named {
-            name: "Plan",
-            value: format!("{} ({})", plain(&header.plan), plain(&header.plan_file)),
-        },
-        Named { name: "Lot", value: plain(&header.lot) },
+    let plan = header.plan_text().map(|value| Named { name: "Plan", value });
+    let mut rows: Vec<Named> = plan.into_iter().collect();
+    rows.extend([
+        Named { name: "Lot", value: printable(&header.lot) },
         Named { name: "Model", value: header.model.text() },
-        Named { name: "Command", value: plain(&header.command) },
+        Named { name: "Command", value: printable(&header.command) },
         Named { name: "Date", value: header.date.clone() },
         Named { name: "Read", value: read(report) },
-    ];
+    ]);
     let shard = header.shard.map(|shard| format!("{} of {}", shard.number, shard.of));
     rows.extend(shard.map(|value| Named { name: "Shard", value }));
     rows
@@ -211,28 +233,34 @@ fn counts(totals: &Totals) -> Vec<Counted> {
 }
 
 /// How to see why where a part has no section.
-fn more(count: usize, plan: &str) -> String {
+fn more(count: usize, plan: Option<&str>) -> String {
     if count == 0 {
         return String::new();
     }
+    let why = match plan {
+        Some(plan) => format!(
+            "vbmodel expect --plan {} --out expected, then vbmodel why EYE COLUMN ROW --vram \
+             expected/TEST.frameN.vram --drawing expected/TEST.frameN.drawing",
+            printable(&quoted(plan))
+        ),
+        None => "vbmodel why EYE COLUMN ROW with the part's scene".to_string(),
+    };
     format!(
         "The first {SHOWN} parts of each verdict have their pictures and traces below; {} have the line above alone. For a \
-         pixel of those: vbmodel expect --plan {} --out expected, then vbmodel why EYE COLUMN ROW --vram \
-         expected/TEST.frameN.vram --drawing expected/TEST.frameN.drawing",
-        grouped(count as u64),
-        plain(plan)
+         pixel of those: {why}",
+        grouped(count as u64)
     )
 }
 
 fn row(number: usize, part: &Part, linked: bool) -> Row {
     let at = |(x, y): (i16, i16)| format!("x {x}, y {y}");
-    let wafer = part.wafer.iter().map(|wafer| plain(wafer));
+    let wafer = part.wafer.iter().map(|wafer| printable(wafer));
     let place: Vec<String> = wafer.chain(part.x.zip(part.y).map(at)).collect();
     let note = if part.decides { "" } else { " (tested again)" };
     Row {
         number,
         linked,
-        name: plain(&part.title()) + note,
+        name: printable(&part.title()) + note,
         verdict: part.verdict.word(),
         sign: match part.verdict {
             Verdict::Pass => "\u{2713}",
@@ -244,7 +272,7 @@ fn row(number: usize, part: &Part, linked: bool) -> Row {
         place: place.join(", "),
         line: match part.verdict {
             Verdict::Pass => String::new(),
-            _ => plain(&part.line()),
+            _ => printable(&part.line()),
         },
     }
 }
@@ -258,7 +286,7 @@ mod tests {
         Detail, EyeFound, FileRead, Hash, Header, Pixel, TestHeader, Tested, Zoom,
     };
 
-    /// A lot of 10,000 parts that all fail: four captures of each differ, each in a few pixels of its own.
+    /// A lot of 10,000 parts that all fail: four captures of each differ, each in one column.
     fn lot() -> Report {
         let values: Vec<u8> = (0..vb::COLUMNS * vb::ROWS).map(|i| (i * i / 97 % 4) as u8).collect();
         let model = Picture::of_values(values.clone());
@@ -278,6 +306,7 @@ mod tests {
                     first,
                     shares: Vec::new(),
                     more_shares: 0,
+                    levels: None,
                 }
             };
             let eyes: Vec<EyeFound> = eyes.into_iter().map(eye).collect();

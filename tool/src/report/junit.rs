@@ -1,7 +1,7 @@
 //! The report for a test server: a failed part is a failure, an invalid one an error.
 
 use super::xml::{Case, Suite, Wrong};
-use super::{Part, Report, Totals};
+use super::{Part, Pixel, Report, Totals};
 use crate::failure::Failure;
 use crate::judge::Verdict;
 
@@ -12,7 +12,7 @@ pub fn junit(report: &Report, totals: &Totals, seconds: f64) -> Result<Vec<u8>, 
         cases.push(Case::unknown_files(&report.header.unknown));
     }
     let suite = Suite {
-        name: report.header.plan.clone(),
+        name: report.header.plan.clone().unwrap_or_else(|| "vbmodel judge".to_string()),
         tests: totals.parts + extra,
         failures: totals.fail,
         errors: totals.invalid + totals.fault + extra,
@@ -29,23 +29,24 @@ pub fn junit(report: &Report, totals: &Totals, seconds: f64) -> Result<Vec<u8>, 
 fn properties(report: &Report) -> Vec<(String, String)> {
     let header = &report.header;
     let facts = [
-        ("plan", &header.plan),
-        ("plan file", &header.plan_file),
-        ("lot", &header.lot),
-        ("model", &header.model.text()),
-        ("command", &header.command),
-        ("date", &header.date),
+        ("plan", header.plan.clone()),
+        ("plan file", header.plan_file.clone()),
+        ("lot", Some(header.lot.clone())),
+        ("model", Some(header.model.text())),
+        ("command", Some(header.command.clone())),
+        ("date", Some(header.date.clone())),
     ];
-    let facts = facts.map(|(name, value)| (name.to_string(), value.clone()));
+    let facts = facts.into_iter().filter_map(|(name, value)| Some((name.to_string(), value?)));
     let files = report.files().map(|file| {
         (format!("file {}", file.path), format!("SHA-256 {}, {} bytes", file.sha256, file.bytes))
     });
-    facts.into_iter().chain(files).collect()
+    facts.chain(files).collect()
 }
 
 fn case(part: &Part) -> Case {
     let tests = part.tests.iter().map(|test| format!("{}: {}", test.test, test.verdict.word()));
-    let text = tests.collect::<Vec<String>>().join("\n");
+    let pixels = part.details.iter().flat_map(|detail| &detail.pixels);
+    let text = tests.chain(pixels.map(Pixel::line)).collect::<Vec<String>>().join("\n");
     let wrong = |kind| Some(Wrong { kind, message: part.line(), text });
     let wrong = match part.verdict {
         Verdict::Pass => None,

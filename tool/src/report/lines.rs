@@ -6,8 +6,9 @@ use serde::{Deserialize, Serialize};
 
 use super::{Header, Part, Report, Totals, TraceFound};
 use crate::failure::Failure;
+use crate::files::{printable, shown};
 use crate::inputs::trace::WORDS;
-use crate::judge::{plain, plain_path, Verdict};
+use crate::judge::Verdict;
 use crate::reports::json::json;
 
 /// Parts that did not pass that a terminal is shown; every form that is written has all.
@@ -29,6 +30,11 @@ struct LastTotals {
     not_judged: usize,
 }
 
+/// The header as JSON, on one line.
+pub fn header_json(report: &Report) -> String {
+    json(&One { header: Some(&report.header), totals: None })
+}
+
 #[derive(Serialize)]
 struct One<'a, T> {
     #[serde(skip_serializing_if = "Option::is_none")]
@@ -39,7 +45,7 @@ struct One<'a, T> {
 
 /// The header, each part, and the totals. Pictures are left out where they are not wanted.
 pub fn json_lines(report: &Report, totals: &Totals, pictures: bool) -> String {
-    let mut text = json(&One { header: Some(&report.header), totals: None }) + "\n";
+    let mut text = header_json(report) + "\n";
     for part in &report.parts {
         text += &match pictures || part.details.is_empty() {
             true => json(part),
@@ -55,7 +61,7 @@ pub fn read_lines(path: &Path, text: &str) -> Result<Report, Failure> {
     let wrong = |line: usize, what: &str| {
         Failure::bad(format!(
             "{}: line {line}: {what}; it must be a report of `judge --report`",
-            plain_path(path)
+            shown(path)
         ))
     };
     let lines: Vec<&str> = text.lines().collect();
@@ -63,7 +69,7 @@ pub fn read_lines(path: &Path, text: &str) -> Result<Report, Failure> {
         return Err(wrong(1, "the report is not whole"));
     };
     let header: HeaderLine =
-        serde_json::from_str(first).map_err(|error| wrong(1, &plain(&error.to_string())))?;
+        serde_json::from_str(first).map_err(|error| wrong(1, &printable(&error.to_string())))?;
     let (last, parts) = rest.split_last().unwrap_or((&"", &[]));
     let last: LastLine =
         serde_json::from_str(last).map_err(|_| wrong(lines.len(), "the report is not whole"))?;
@@ -71,7 +77,7 @@ pub fn read_lines(path: &Path, text: &str) -> Result<Report, Failure> {
         Report { header: header.header, parts: Vec::new(), not_judged: last.totals.not_judged };
     for (number, line) in parts.iter().enumerate() {
         let part = serde_json::from_str(line);
-        report.parts.push(part.map_err(|error| wrong(number + 2, &plain(&error.to_string())))?);
+        report.parts.push(part.map_err(|error| wrong(number + 2, &printable(&error.to_string())))?);
     }
     Ok(report)
 }
@@ -101,13 +107,18 @@ pub fn text(report: &Report, totals: &Totals) -> String {
     lines.push(bins.join(", "));
     let shown = totals.percent().map_or(String::new(), |percent| format!("; yield {percent:.1} %"));
     lines.push(totals.text() + &shown);
-    let Header { plan, plan_file, model, date, .. } = &report.header;
-    lines.extend([
-        format!("plan   {} ({}), {date}", plain(plan), plain(plan_file)),
-        format!("model  {}", model.text()),
-        format!("read   {}", read(report)),
-    ]);
+    lines.extend(header_lines(report));
     lines.into_iter().filter(|line| !line.is_empty()).map(|line| line + "\n").collect()
+}
+
+/// The header in short: what was judged and when, by which model, from which files.
+pub fn header_lines(report: &Report) -> Vec<String> {
+    let Header { lot, model, date, .. } = &report.header;
+    let judged = match report.header.plan_text() {
+        Some(plan) => format!("plan   {plan}, {date}"),
+        None => format!("lot    {}, {date}", printable(lot)),
+    };
+    vec![judged, format!("model  {}", model.text()), format!("read   {}", read(report))]
 }
 
 /// How much was read, and one hash over the list of all hashes.
@@ -125,7 +136,12 @@ pub fn read(report: &Report) -> String {
 
 fn line(part: &Part) -> String {
     let note = if part.decides { "" } else { " (tested again)" };
-    format!("{:<7}  {}{note}: {}", part.verdict.word(), plain(&part.title()), plain(&part.line()))
+    format!(
+        "{:<7}  {}{note}: {}",
+        part.verdict.word(),
+        printable(&part.title()),
+        printable(&part.line())
+    )
 }
 
 impl TraceFound {

@@ -2,7 +2,6 @@
 
 mod csv;
 mod forms;
-mod hash;
 mod header;
 mod html;
 mod junit;
@@ -13,17 +12,17 @@ mod totals;
 mod wafers;
 mod xml;
 
+pub use crate::files::{read_hashed, FileRead, Hash};
 pub use forms::Forms;
-pub use hash::{read_hashed, FileRead, Hash};
-pub use header::{shard, Header, Shard, TestHeader};
-pub use lines::{json_lines, read_lines, text};
+pub use header::{shard, Captures, Header, Shard, TestHeader};
+pub use lines::{header_json, header_lines, json_lines, read_lines, text};
 pub use totals::{Count, Totals};
-pub use xml::{Case, Suite, Wrong};
 
 use std::collections::BTreeMap;
 
 use serde::{Deserialize, Serialize};
 
+use crate::inputs::capture::Level;
 use crate::inputs::trace::Record;
 use crate::judge::Verdict;
 use crate::pictures::difference::{Bounds, Difference};
@@ -75,7 +74,7 @@ pub struct Tested {
     #[serde(default, skip_serializing_if = "Vec::is_empty")]
     pub eyes: Vec<EyeFound>,
     #[serde(default, skip_serializing_if = "Option::is_none")]
-    pub trace: Option<TraceFound>,
+    pub trace: Option<Box<TraceFound>>,
 }
 
 /// A capture that differs.
@@ -90,6 +89,9 @@ pub struct EyeFound {
     /// What the model shows there, most first; at most ten.
     pub shares: Vec<Share>,
     pub more_shares: usize,
+    /// The samples that were taken for each level, where a threshold allows others.
+    #[serde(default, skip_serializing_if = "Option::is_none")]
+    pub levels: Option<Vec<Level>>,
 }
 
 /// A trace that differs.
@@ -115,12 +117,17 @@ pub struct TraceFound {
 #[derive(Clone, Debug, Default, Deserialize, Serialize)]
 pub struct TraceExplained {
     pub instruction: String,
-    /// The registers that the instruction names, before it.
+    /// The instruction with its address, halfwords and effects.
+    pub did: String,
+    /// The registers that the instruction names, and PSW, before it.
     pub operands: Vec<(String, u32)>,
     /// PSW's flags that are set, by name.
     pub flags_expected: String,
     pub flags_seen: String,
-    /// The instructions of the records before it.
+    /// What would explain the difference.
+    #[serde(default, skip_serializing_if = "Vec::is_empty")]
+    pub hints: Vec<String>,
+    /// The records before it, with the instruction at each.
     pub before: Vec<String>,
 }
 
@@ -153,6 +160,14 @@ pub struct Pixel {
     pub pixel: Difference,
     pub because: String,
     pub text: String,
+}
+
+impl Pixel {
+    /// `column 297, row 9: expected 0, seen 2; BKCOL`
+    pub fn line(&self) -> String {
+        let Difference { x, y, expected, seen } = self.pixel;
+        format!("column {x}, row {y}: expected {expected}, seen {seen}; {}", self.because)
+    }
 }
 
 impl Report {
@@ -193,7 +208,7 @@ impl Tested {
             count => format!(", and {} more captures", count - 1),
         };
         all.extend(self.eyes.first().map(|eye| eye.line() + &more));
-        all.extend(self.trace.iter().map(TraceFound::line));
+        all.extend(self.trace.iter().map(|trace| trace.line()));
         all.join("; ")
     }
 }
@@ -204,8 +219,12 @@ impl EyeFound {
             self.shares.first().map_or(String::new(), |one| format!(", most by {}", one.what));
         let count = vb::grouped(self.different as u64);
         let EyeFound { frame, eye, bounds, .. } = self;
+        let levels = self.levels.as_ref().map_or(String::new(), |all| {
+            let all: Vec<String> = all.iter().map(Level::text).collect();
+            format!("; levels taken: {}", all.join(", "))
+        });
         format!(
-            "frame {frame}, {eye} eye: {count} of 86,016 pixels differ, {}{most}",
+            "frame {frame}, {eye} eye: {count} of 86,016 pixels differ, {}{most}{levels}",
             bounds.text()
         )
     }

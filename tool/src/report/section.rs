@@ -6,8 +6,8 @@ use serde::Serialize;
 use vb::grouped;
 
 use super::{Detail, EyeFound, Part, Tested, TraceFound};
+use crate::files::printable;
 use crate::inputs::trace::Record;
-use crate::judge::plain;
 use crate::pictures::difference::{Bounds, Difference};
 use crate::pictures::sources::Share;
 
@@ -126,30 +126,35 @@ struct TraceView {
     seen: Vec<String>,
     flags_expected: String,
     flags_seen: String,
-    instruction: String,
+    did: String,
     operands: String,
+    hints: Vec<String>,
     before: String,
 }
 
 pub fn section(number: usize, part: &Part, shared: &mut Shared) -> Section {
     let wrong = part.tests.iter().filter(|test| test.verdict != crate::judge::Verdict::Pass);
-    let columns =
-        part.columns.iter().map(|(name, value)| format!("{} {}", plain(name), plain(value)));
+    let columns = part
+        .columns
+        .iter()
+        .map(|(name, value)| format!("{} {}", printable(name), printable(value)));
     let mut about: Vec<String> =
-        part.wafer.iter().map(|wafer| format!("wafer {}", plain(wafer))).collect();
+        part.wafer.iter().map(|wafer| format!("wafer {}", printable(wafer))).collect();
     about.extend(part.x.zip(part.y).map(|(x, y)| format!("x {x}, y {y}")));
     about.extend(columns);
     about.push(match part.decides {
+        true if part.attempt == 1 => String::new(),
         true => format!("test {} of the part, which decides", part.attempt),
         false => format!("test {} of the part, which was tested again", part.attempt),
     });
+    about.retain(|one| !one.is_empty());
     Section {
         number,
-        name: plain(&part.title()),
+        name: printable(&part.title()),
         verdict: part.verdict.word(),
         bin: part.bin,
         about: about.join("; "),
-        problems: part.problems.iter().map(|one| plain(one)).collect(),
+        problems: part.problems.iter().map(|one| printable(one)).collect(),
         tests: wrong.map(|test| test_view(part, test, shared)).collect(),
     }
 }
@@ -164,9 +169,9 @@ fn test_view(part: &Part, test: &Tested, shared: &mut Shared) -> TestView {
     TestView {
         name: test.test.clone(),
         verdict: test.verdict.word(),
-        problems: test.problems.iter().map(|one| plain(one)).collect(),
+        problems: test.problems.iter().map(|one| printable(one)).collect(),
         eyes: test.eyes.iter().map(eye).collect(),
-        traces: test.trace.iter().map(trace_view).collect(),
+        traces: test.trace.iter().map(|trace| trace_view(trace)).collect(),
     }
 }
 
@@ -185,7 +190,7 @@ fn eye_view(
     };
     let pixels = detail.iter().flat_map(|detail| &detail.pixels);
     EyeView {
-        line: format!("{}; capture {}", found.line(), plain(&found.capture)),
+        line: format!("{}; capture {}", found.line(), printable(&found.capture)),
         pixels: pixels.map(|one| pixel(one, shared)).collect(),
         shown: detail.map(|detail| shown(found, detail, shared)).into_iter().collect(),
         shares: found.shares.clone(),
@@ -222,13 +227,14 @@ fn trace_view(found: &TraceFound) -> TraceView {
     let operands: Vec<String> = explained.operands.iter().map(operand).collect();
     let records = grouped(found.records);
     TraceView {
-        line: format!("{}; {records} records in {}", found.line(), plain(&found.file)),
+        line: format!("{}; {records} records in {}", found.line(), printable(&found.file)),
         expected: found.expected.as_ref().map_or_else(none, words),
         seen: words(&found.seen),
         flags_expected: explained.flags_expected,
         flags_seen: explained.flags_seen,
-        instruction: explained.instruction,
+        did: explained.did,
         operands: operands.join(", "),
+        hints: explained.hints,
         before: explained.before.join("\n"),
     }
 }

@@ -111,7 +111,7 @@ fn master(report: &Report, now: u32) -> Fields {
         .cn("VUE/VIP replacement")
         .cn("")
         .cn("vbmodel")
-        .cn(&header.plan)
+        .cn(header.plan.as_deref().unwrap_or("captures"))
         .cn(&header.model.commit)
         .cn("")
         .cn("")
@@ -122,12 +122,13 @@ fn master(report: &Report, now: u32) -> Fields {
 /// What the records have no field for.
 fn facts(report: &Report) -> Vec<String> {
     let header = &report.header;
-    let mut all = vec![
-        format!("PLAN {} ({})", header.plan, header.plan_file),
+    let mut all: Vec<String> =
+        header.plan_text().into_iter().map(|plan| format!("PLAN {plan}")).collect();
+    all.extend([
         format!("MODEL {}", header.model.text()),
         format!("DATE {}", header.date),
         format!("COMMAND {}", header.command),
-    ];
+    ]);
     if report.not_judged > 0 {
         all.push(format!("INCOMPLETE {} parts were not judged", report.not_judged));
     }

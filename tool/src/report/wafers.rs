@@ -8,7 +8,8 @@ use serde::Serialize;
 use vb::grouped;
 
 use super::{Part, Report};
-use crate::judge::{plain, Verdict};
+use crate::files::printable;
+use crate::judge::Verdict;
 
 /// From one die to the next, the map's edge, and a die's side; page.js has the first two as well.
 const PITCH: i32 = 24;
@@ -101,7 +102,11 @@ fn wafer(name: &str, mut dies: Vec<Die>, fills: &BTreeMap<u16, &'static str>) ->
         let _ = write!(listed, "{},{},{} ", die.y, die.x, die.number);
     }
     Wafer {
-        name: if name.is_empty() { "wafer".to_string() } else { format!("wafer {}", plain(name)) },
+        name: if name.is_empty() {
+            "wafer".to_string()
+        } else {
+            format!("wafer {}", printable(name))
+        },
         summary: format!("{} of {} parts pass", grouped(passed as u64), grouped(dies.len() as u64)),
         width: 2 * EDGE + PITCH * right + SIDE,
         height: 2 * EDGE + PITCH * bottom + SIDE,

@@ -8,7 +8,7 @@ use terminal_size::{terminal_size_using_fd, Width};
 
 pub struct Progress {
     on: bool,
-    told: Instant,
+    last: Instant,
     shown: bool,
 }
 
@@ -20,15 +20,15 @@ impl Default for Progress {
 
 impl Progress {
     pub fn new() -> Progress {
-        Progress { on: stderr().is_terminal(), told: Instant::now(), shown: false }
+        Progress { on: stderr().is_terminal(), last: Instant::now(), shown: false }
     }
 
     /// Shows the line where the last one is a quarter of a second old.
-    pub fn tell(&mut self, line: impl FnOnce() -> String) {
-        if !self.on || self.told.elapsed() < Duration::from_millis(250) {
+    pub fn show(&mut self, line: impl FnOnce() -> String) {
+        if !self.on || self.last.elapsed() < Duration::from_millis(250) {
             return;
         }
-        (self.told, self.shown) = (Instant::now(), true);
+        (self.last, self.shown) = (Instant::now(), true);
         let _ = write!(stderr(), "\r\x1b[K{}", cut(&line(), width()));
         let _ = stderr().flush();
     }

@@ -6,6 +6,7 @@ use std::path::PathBuf;
 
 use sha2::{Digest, Sha256};
 
+use crate::files::shown;
 use crate::version::version;
 
 /// The library must be of the program's own version. A program that was installed with a list of sums must have its sum;
@@ -24,7 +25,7 @@ pub fn digest() -> String {
             let program = env::current_exe().and_then(fs::read).expect("the program can be read");
             let seen: String =
                 Sha256::digest(program).iter().map(|byte| format!("{byte:02x}")).collect();
-            assert_eq!(seen, recorded, "the program has another sum than {} says", list.display());
+            assert_eq!(seen, recorded, "the program has another sum than {} says", shown(&list));
             "the program has its recorded sum".to_string()
         }
     };

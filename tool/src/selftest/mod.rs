@@ -1,4 +1,4 @@
-//! The self-test: the linked library against the papers' worked rows, the independent model and the demo's recorded
+//! The self-test: the linked library against the specification's worked rows, the independent model and the demo's recorded
 //! pictures. Each check stops at its first difference.
 
 mod demo;
@@ -39,16 +39,16 @@ pub fn run(seed: u64, time: Duration, mut done: impl FnMut(&Checked)) -> bool {
     let hook = panic::take_hook();
     panic::set_hook(Box::new(|_| {}));
     let mut agrees = true;
-    let mut tell = |checked: Checked| {
+    let mut report = |checked: Checked| {
         agrees &= checked.agrees;
         done(&checked);
     };
-    tell(checked("digest", digest::digest));
-    tell(checked("worked rows", worked::rows));
+    report(checked("digest", digest::digest));
+    report(checked("worked rows", worked::rows));
     let shares: u32 = CHECKS.iter().map(|check| check.3).sum();
     for (number, (name, what, check, share)) in CHECKS.into_iter().enumerate() {
         let until = Instant::now() + time * share / shares;
-        tell(checked(name, move || {
+        report(checked(name, move || {
             let (mut random, mut count) = (generator(seed, number as u64), 0);
             loop {
                 count += check(&mut random);
@@ -61,7 +61,7 @@ pub fn run(seed: u64, time: Duration, mut done: impl FnMut(&Checked)) -> bool {
             }
         }));
     }
-    tell(checked("demo", demo::pictures));
+    report(checked("demo", demo::pictures));
     panic::set_hook(hook);
     agrees
 }

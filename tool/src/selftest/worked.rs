@@ -6,7 +6,7 @@ use worked::floating;
 /// Every row; a row that the library answers otherwise panics.
 pub fn rows() -> String {
     let count = floating_rows() + probes() + ticks() + column_table();
-    format!("{} rows as the papers print them", grouped(count as u64))
+    format!("{} rows as the specification prints them", grouped(count as u64))
 }
 
 fn floating_rows() -> usize {

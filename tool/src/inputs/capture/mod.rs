@@ -2,7 +2,7 @@
 
 mod samples;
 
-use serde::Serialize;
+use serde::{Deserialize, Serialize};
 use vb::{image_offset, COLUMNS, IMAGE_LENGTH, ROWS, VRAM_LENGTH};
 
 use crate::failure::Failure;
@@ -33,7 +33,7 @@ pub struct Capture {
 }
 
 /// The samples that were taken for one value.
-#[derive(Clone, Debug, PartialEq, Eq, Serialize)]
+#[derive(Clone, Debug, Deserialize, PartialEq, Eq, Serialize)]
 pub struct Level {
     pub value: u8,
     /// What the value's sample should be.
@@ -188,7 +188,7 @@ struct Square<'a> {
 impl Square<'_> {
     fn at(&self, i: usize, exact: bool) -> Result<[u8; 3], String> {
         let (x, y) = (self.scale * self.x + i % self.scale, self.scale * self.y + i / self.scale);
-        self.samples.colour(x, y, exact).map_err(|what| self.told(&what))
+        self.samples.colour(x, y, exact).map_err(|what| self.described(&what))
     }
 
     /// The one colour of all of them.
@@ -219,12 +219,12 @@ impl Square<'_> {
     fn wrong(&self, [red, green, blue]: [u8; 3], threshold: u8) -> String {
         let what = format!("has the colour {red:02X}{green:02X}{blue:02X}");
         match threshold {
-            0 => self.told(&what),
-            _ => format!("{}, by at most {threshold} (--threshold)", self.told(&what)),
+            0 => self.described(&what),
+            _ => format!("{}, by at most {threshold} (--threshold)", self.described(&what)),
         }
     }
 
-    fn told(&self, what: &str) -> String {
+    fn described(&self, what: &str) -> String {
         format!("in the PNG, pixel ({}, {}) {what}; {}", self.x, self.y, self.allowed)
     }
 }

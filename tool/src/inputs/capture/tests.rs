@@ -82,11 +82,11 @@ fn any_alpha_is_refused() {
 fn samples_of_16_bits_between_the_levels_are_refused() {
     let right = png(ColorType::Grayscale, BitDepth::Sixteen, &[0xAA; 2 * PIXELS], &[]);
     assert!(read(&right) == Ok(Picture::of_values(vec![2; PIXELS])));
-    for (n, value, told) in [(1, 0xFE, "00FE"), (0, 0x55, "5500")] {
+    for (n, value, given) in [(1, 0xFE, "00FE"), (0, 0x55, "5500")] {
         let data = changed(&[0, 0], n, value);
         let bytes = png(ColorType::Grayscale, BitDepth::Sixteen, &data, &[]);
         let what =
-            format!("has the 16-bit sample {told}, which is none of 0000, 5555, AAAA and FFFF");
+            format!("has the 16-bit sample {given}, which is none of 0000, 5555, AAAA and FFFF");
         refused_pixel(&bytes, &what);
     }
     let data = changed(&[0x55, 0x55, 0, 0, 0, 0], 1, 0x80);
@@ -98,9 +98,9 @@ fn samples_of_16_bits_between_the_levels_are_refused() {
 fn bytes_after_iend_are_refused() {
     let one = pattern().png(1);
     for more in [vec![0], one.clone()] {
-        let told = vb::grouped(more.len() as u64);
+        let given = vb::grouped(more.len() as u64);
         let both = [one.clone(), more].concat();
-        refused(&both, &format!("{told} bytes follow the PNG's IEND; it must be the file's end"));
+        refused(&both, &format!("{given} bytes follow the PNG's IEND; it must be the file's end"));
     }
     refused(&one[..one.len() - 12], "the PNG cannot be read: it ends before its IEND");
     refused(&one[..one.len() - 13], "the PNG cannot be read: ");

@@ -1,4 +1,4 @@
-//! Which rule a file breaks that is no saved state, and at which byte.
+//! Which rule a file breaks that is not a saved state, and at which byte.
 
 use std::fmt;
 

@@ -33,7 +33,7 @@ pub struct Saved {
     pub pak: Vec<u8>,
 }
 
-/// Why a file is no saved state, and the rule that it breaks.
+/// Why a file is not a saved state, and the rule that it breaks.
 pub struct NoState {
     pub failure: Failure,
     pub fault: Option<Fault>,
@@ -100,12 +100,12 @@ fn restored(file: &[u8], layout: Layout) -> Result<Saved, Refusal> {
 }
 
 fn no_state(input: &Input, fault: Option<Fault>, refusal: Option<Refusal>) -> NoState {
-    let told = match (&fault, &refusal) {
+    let message = match (&fault, &refusal) {
         (Some(fault), _) => input.wrong(fault),
         (None, Some(refusal)) => input.wrong(refusal),
         (None, None) => input.wrong(format!("it must be {STATE}")),
     };
     let number = refusal.map(|refusal| refusal.number());
     let number = number.or(fault.as_ref().map(Fault::refusal));
-    NoState { failure: Failure { refusal: number, message: told }, fault }
+    NoState { failure: Failure { refusal: number, message }, fault }
 }

@@ -38,7 +38,7 @@ fn both_forms_give_vram_and_drawing_record() {
 }
 
 #[test]
-fn the_length_that_both_forms_have_is_told_by_the_first_halfword() {
+fn the_length_that_both_forms_have_is_known_by_the_first_halfword() {
     let (first, second) = (state(Form::One, 32), state(Form::Two, 0));
     assert_eq!((first.len(), second.len()), (327_962, 327_962));
     for (file, form) in [(first, Form::One), (second, Form::Two)] {
@@ -48,11 +48,11 @@ fn the_length_that_both_forms_have_is_told_by_the_first_halfword() {
 
 /// Each byte of contents and records, each bit of it changed: the library refuses exactly where a broken rule is reported.
 #[test]
-fn rules_are_told_exactly_where_the_library_refuses() {
+fn rules_are_reported_exactly_where_the_library_refuses() {
     for pak in [0, 2] {
         let file = state(Form::One, pak);
         let layout = Layout::of(Form::One, pak);
-        let mut told = 0;
+        let mut refused = 0;
         for at in 0..layout.body(WRAM).unwrap().offset {
             for bit in 0..8 {
                 let mut changed = file.clone();
@@ -62,18 +62,18 @@ fn rules_are_told_exactly_where_the_library_refuses() {
                 assert_eq!(fault.is_some(), refusal.is_some(), "byte {at}, bit {bit}");
                 let numbers = (fault.as_ref().map(Fault::refusal), refusal.map(|r| r.number()));
                 assert_eq!(numbers.0, numbers.1, "byte {at}, bit {bit}");
-                told += usize::from(fault.is_some());
+                refused += usize::from(fault.is_some());
             }
         }
         // contents; register 0, four that are even, three with 18 bits, the mode; then the drawing registers
         let contents = 8 * layout.bodies[0].offset;
-        assert_eq!(told, contents + 32 + 4 + 3 * 14 + 30 + 4 * 6 + 8 * 8 + 14);
+        assert_eq!(refused, contents + 32 + 4 + 3 * 14 + 30 + 4 * 6 + 8 * 8 + 14);
     }
 }
 
 /// The same of form 2: each byte before the memories, and of lines and timer, with the sums as they were and right.
 #[test]
-fn rules_of_form_2_are_told_exactly_where_the_library_refuses() {
+fn rules_of_form_2_are_reported_exactly_where_the_library_refuses() {
     for pak in [0, 2] {
         let file = state(Form::Two, pak);
         let layout = Layout::of(Form::Two, pak);

@@ -62,7 +62,7 @@ pub struct Half {
     pub what: String,
 }
 
-pub fn told(question: &Question, found: &Answers) -> Vec<CoveringReport> {
+pub fn reported(question: &Question, found: &Answers) -> Vec<CoveringReport> {
     let winner = found.winner();
     found
         .covering

@@ -98,7 +98,7 @@ pub fn explain(question: &Question) -> Result<Explanation, Failure> {
         library_value,
         agree: found.shade() == library_value && lists.same(),
         bkcol: found.bkcol,
-        covering: covering::told(question, &found),
+        covering: covering::reported(question, &found),
         bytes: lists,
         worlds: worlds(question, &found),
     })
@@ -112,7 +112,7 @@ fn library_list(question: &Question) -> Result<Vec<u32>, Failure> {
 }
 
 fn worlds(question: &Question, found: &Answers) -> Vec<WorldReport> {
-    let told = found.worlds.iter().map(|(number, fate)| {
+    let reports = found.worlds.iter().map(|(number, fate)| {
         let record = WorldRecord::read(question.vram, *number, question.eye);
         let objects = match fate {
             Fate::Objects { group, .. } => Some(Objects::of(question, *group)),
@@ -124,7 +124,7 @@ fn worlds(question: &Question, found: &Answers) -> Vec<WorldReport> {
         };
         WorldReport { world: *number, fate, record, objects }
     });
-    told.collect()
+    reports.collect()
 }
 
 fn fate_text(question: &Question, fate: &Fate, record: &WorldRecord) -> String {
