@@ -4,7 +4,7 @@
 use std::fs;
 use std::io::{stderr, Write};
 use std::sync::atomic::{AtomicBool, AtomicU8, Ordering};
-use std::sync::Arc;
+use std::sync::{Arc, OnceLock};
 use std::thread;
 use std::time::{Duration, Instant};
 
@@ -19,7 +19,8 @@ pub const STATUS: i32 = 130;
 /// How long a command may read its input after a signal before it is ended without an answer.
 const PATIENCE: Duration = Duration::from_millis(500);
 
-static ASKED: AtomicBool = AtomicBool::new(false);
+/// Set by the handler itself, so that no thread has to run first.
+static ASKED: OnceLock<Arc<AtomicBool>> = OnceLock::new();
 static PHASE: AtomicU8 = AtomicU8::new(STARTING);
 
 /// The arguments or the input are being read: it is not known yet what the command does with a signal.
@@ -36,15 +37,25 @@ pub fn install() {
     // `nohup` asks that SIGHUP stay without effect
     let taken = [SIGINT, SIGTERM, SIGHUP];
     let taken = taken.into_iter().filter(|&signal| signal != SIGHUP || !is_ignored(SIGHUP));
+    let taken: Vec<i32> = taken.collect();
+    let asked = ASKED.get_or_init(Arc::default);
+    for signal in &taken {
+        let _ = signal_hook::flag::register(*signal, Arc::clone(asked));
+    }
     let Ok(mut signals) = Signals::new(taken) else { return };
-    thread::spawn(move || signals.forever().for_each(|_| take()));
+    thread::spawn(move || {
+        let mut all = signals.forever();
+        if all.next().is_some() {
+            wait();
+        }
+        if all.next().is_some() {
+            end();
+        }
+    });
 }
 
 /// A signal has come. One that comes while the command starts waits for it to say what it does.
-fn take() {
-    if ASKED.swap(true, Ordering::SeqCst) {
-        end();
-    }
+fn wait() {
     let begun = Instant::now();
     while PHASE.load(Ordering::SeqCst) != WATCHED {
         if PHASE.load(Ordering::SeqCst) == AT_ONCE || begun.elapsed() > PATIENCE {
@@ -71,7 +82,7 @@ pub fn watch() {
 }
 
 pub fn asked() -> bool {
-    ASKED.load(Ordering::Relaxed)
+    ASKED.get().is_some_and(|asked| asked.load(Ordering::Relaxed))
 }
 
 /// Whether the one who started the process has the signal ignored.

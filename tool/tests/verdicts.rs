@@ -46,7 +46,8 @@ fn a_part_without_the_other_eye_is_invalid_unless_one_eye_is_asked_for() {
         (0, Some("pass     a: frame 0, left eye equal"))
     );
     let json = folder.vbmodel("judge lot --json");
-    assert!(json.text.starts_with("{\"name\": \"a\", \"verdict\": \"invalid\""), "{}", json.text);
+    let part = json.text.lines().nth(1).unwrap();
+    assert!(part.starts_with("{\"name\": \"a\", \"verdict\": \"invalid\""), "{}", json.text);
 }
 
 #[test]
@@ -141,8 +142,8 @@ fn an_unknown_file_in_the_lots_folder_makes_the_status_2() {
     let ran = folder.vbmodel("judge lot");
     let text = "pass     a: frame 0, left eye equal; right eye equal\n\
                 unknown files in the lot (remove or rename, or give --allow-extra): a\\nb.txt\n\
-                1 part: 1 pass, 0 fail, 1 unknown file\n";
-    assert_eq!((ran.status, ran.text.as_str()), (2, text));
+                1 part: 1 pass, 0 fail, 1 unknown file\nlot    lot, ";
+    assert!(ran.status == 2 && ran.text.starts_with(text), "{}", ran.text);
     assert_eq!(folder.vbmodel("judge lot --allow-extra").status, 0);
     let json = folder.vbmodel("judge lot --json").text;
     assert!(json.contains("\"unknown_files\": 1}, \"unknown\": [\"a\\\\nb.txt\"]"), "{json}");

@@ -43,7 +43,7 @@ impl Keys<'_> {
 
     /// What is wrong with a key.
     pub fn wrong(&self, key: &str, rule: impl std::fmt::Display) -> Failure {
-        let file = shown(&self.file);
+        let file = shown(self.file);
         Failure::bad(format!("{file}: line {}: {rule}", self.line(key)))
     }
 

@@ -55,7 +55,7 @@ impl Test {
         let frames = frames(keys, is_scene, trace, budget)?;
         let threshold = keys.number("threshold", 0..=u64::from(LARGEST_THRESHOLD))?.unwrap_or(0);
         Ok(Test {
-            place: format!("{}: line {}: test {name}", shown(&keys.file), keys.line("name")),
+            place: format!("{}: line {}: test {name}", shown(keys.file), keys.line("name")),
             name,
             source,
             budget,
