@@ -86,12 +86,11 @@ module _ (v : ℕ) (b : Between v) where
     pub read-half : size ≡ 2 → Reads m size v r
     read-half e = rw e (reads-start m v r p)
 
-    pub read-word : size ≡ 4 → v % size ≡ 0 → (y : ℕ) → Reads m 2 (v + 2) y → Reads m size v (r + 65536 * y)
+    pub read-word : size ≡ 4 → v % size ≡ 0 → (y : ℕ) → Reads m 2 (v - v % 4 + 2) y → Reads m size v (r + 65536 * y)
     read-word e z y q =
         let f : v % 4 ≡ 0 = rw e at z in
         let g : v - v % 2 ≡ v - v % 4 = omega arith in
-        let k : v + 2 ≡ v - v % 4 + 2 = omega arith in
-        rw e (reads-word m v r y (rw g at p) (rw k at q))
+        rw e (reads-word m v r y (rw g at p) q)
 
   -- writes
   module _ (m : Memory) (size x : ℕ) (z : v % size ≡ 0) where
@@ -120,3 +119,6 @@ pub between-next : (v : ℕ) → Between v → (size : ℕ) → size ≡ 4 → v
 between-next v b size e z =
     let f : v % 4 ≡ 0 = rw e at z in
     (record { low = omega (arith, b .low); high = omega (arith, b .high, f) }, omega arith)
+
+pub between-high : (v : ℕ) → Between v → Between (v - v % 4 + 2) × ((v - v % 4 + 2) % 2 ≡ 0)
+between-high v b = (record { low = omega (arith, b .low); high = omega (arith, b .high) }, omega arith)

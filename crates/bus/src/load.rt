@@ -80,8 +80,11 @@ pub fn byte(rom: &[u8], wram: &[u8], vram: &[u8], pak: &[u8], regs: &Device, add
     requires { ⌜ Lengths (length (now rom)) (length (now wram)) (length (now vram)) (length (now pak)) ⌝ }
     ensures { λ r. ⌜ Reads (entering rom wram vram pak regs) 1 address (r .value) ⌝ }
 {
-    Loaded {
-        value: load(rom, wram, vram, pak, regs, 1, address),
+    match direct(rom, wram, vram, 1, address) {
+        Found::Value(v) => Loaded { value: v },
+        Found::Elsewhere => Loaded {
+            value: elsewhere(pak, regs, 1, address),
+        },
     }
 }
 
@@ -90,8 +93,11 @@ pub fn half(rom: &[u8], wram: &[u8], vram: &[u8], pak: &[u8], regs: &Device, add
     requires { ⌜ Lengths (length (now rom)) (length (now wram)) (length (now vram)) (length (now pak)) ⌝ }
     ensures { λ r. ⌜ Reads (entering rom wram vram pak regs) 2 address (r .value) ⌝ }
 {
-    Loaded {
-        value: load(rom, wram, vram, pak, regs, 2, address),
+    match direct(rom, wram, vram, 2, address) {
+        Found::Value(v) => Loaded { value: v },
+        Found::Elsewhere => Loaded {
+            value: elsewhere(pak, regs, 2, address),
+        },
     }
 }
 
@@ -100,8 +106,11 @@ pub fn word(rom: &[u8], wram: &[u8], vram: &[u8], pak: &[u8], regs: &Device, add
     requires { ⌜ Lengths (length (now rom)) (length (now wram)) (length (now vram)) (length (now pak)) ⌝ }
     ensures { λ r. ⌜ Reads (entering rom wram vram pak regs) 4 address (r .value) ⌝ }
 {
-    Loaded {
-        value: load(rom, wram, vram, pak, regs, 4, address),
+    match direct(rom, wram, vram, 4, address) {
+        Found::Value(v) => Loaded { value: v },
+        Found::Elsewhere => Loaded {
+            value: elsewhere(pak, regs, 4, address),
+        },
     }
 }
 

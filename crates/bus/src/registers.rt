@@ -77,6 +77,7 @@ pub fn read(regs: &Device, size: u32, v: u32) -> u32
         ⌝ }
 {
     let low = half(regs, v - v % 2);
+    let high = half(regs, v - v % 4 + 2);
     if size == 1 {
         if v % 2 == 0 {
             return low % 256;
@@ -86,7 +87,7 @@ pub fn read(regs: &Device, size: u32, v: u32) -> u32
     if size == 2 {
         return low;
     }
-    low + 65536 * half(regs, v + 2)
+    low + 65536 * high
 }
 
 // The low 16 bits of a value written to the register that holds an address, where there is one.
