@@ -21,4 +21,3 @@ pub mod Kept
 pub mod Mapped
 pub mod LoadStore
 pub mod Fetches
-mod Stores

@@ -3,7 +3,6 @@
 // their arguments and refuse are those of the crate bus_calls.
 pub mod code;
 pub mod device;
-pub mod direct;
 pub mod load;
 pub mod map;
 pub mod number;

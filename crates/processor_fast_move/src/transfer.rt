@@ -195,7 +195,7 @@ pub fn store_byte(
 {
     let a = address(regs, f, s);
     let v = reg2(regs, f);
-    if !bus::direct::store(wram, vram, 1, a, v) {
+    if !bus::store::direct(wram, vram, 1, a, v) {
         return Fast::NotHere;
     }
     Fast::Done {
@@ -230,7 +230,7 @@ pub fn store_half(
 {
     let a = address(regs, f, s);
     let v = reg2(regs, f);
-    if !bus::direct::store(wram, vram, 2, a, v) {
+    if !bus::store::direct(wram, vram, 2, a, v) {
         return Fast::NotHere;
     }
     Fast::Done {
@@ -265,7 +265,7 @@ pub fn store_word(
 {
     let a = address(regs, f, s);
     let v = reg2(regs, f);
-    if !bus::direct::store(wram, vram, 4, a, v) {
+    if !bus::store::direct(wram, vram, 4, a, v) {
         return Fast::NotHere;
     }
     Fast::Done {

@@ -13,15 +13,15 @@ returns : tie.Need-returns
 returns c = (
   λ rom pak device base psw sys even aligned. (
     refl,
-    rw (not-true
-        (c .before .before .before .before .before .store .result) (c .if1 .taken)) at
-        (c .before .before .before .before .before .store .ensures rom pak device),
+    (rw (not-true
+        (c .before .before .before .before .before .direct .result) (c .if1 .taken)) at
+        (c .before .before .before .before .before .direct .ensures rom pak device)) .0,
   ),
   λ rom pak device base psw sys even aligned. (
     refl,
-    rw (not-true
-        (c .before .before .before .before .before .store .result) (c .if1 .taken)) at
-        (c .before .before .before .before .before .store .ensures rom pak device),
+    (rw (not-true
+        (c .before .before .before .before .before .direct .result) (c .if1 .taken)) at
+        (c .before .before .before .before .before .direct .ensures rom pak device)) .0,
   ),
 )
 
@@ -31,26 +31,26 @@ returns-2 c = (
   λ rom pak device base psw sys even aligned.
       let a = c .before .before .before .before .before .before .before .before .before .before .before .before .before .args in
       let e = rw (
-        not-false (c .before .before .before .before .before .before .store .result)
+        not-false (c .before .before .before .before .before .before .direct .result)
             (c .before .if1 .left),
         c .before .before .before .before .before .before .before .before .before .before
             .address .ensures,
         c .before .before .before .before .before .before .before .before .before .reg2 .ensures,
       )
-      at (c .before .before .before .before .before .before .store .ensures rom pak device) in
+      at (c .before .before .before .before .before .before .direct .ensures rom pak device) in
       rw (c .after-two .ensures)
       (store-does base (a .x) psw _ sys (a .flags) (memoryOf rom (now (a .wram)) (now (a .vram)) pak device) _ _ _
       (after-two base (a .x)) (two-even (a .x) aligned) _ e),
   λ rom pak device base psw sys even aligned.
       let a = c .before .before .before .before .before .before .before .before .before .before .before .before .before .args in
       let e = rw (
-        not-false (c .before .before .before .before .before .before .store .result)
+        not-false (c .before .before .before .before .before .before .direct .result)
             (c .before .if1 .left),
         c .before .before .before .before .before .before .before .before .before .before
             .address .ensures,
         c .before .before .before .before .before .before .before .before .before .reg2 .ensures,
       )
-      at (c .before .before .before .before .before .before .store .ensures rom pak device) in
+      at (c .before .before .before .before .before .before .direct .ensures rom pak device) in
       rw (c .after-two .ensures)
       (store-does base (a .x) psw _ sys (a .flags) (memoryOf rom (now (a .wram)) (now (a .vram)) pak device) _ _ _
       (after-two base (a .x)) (two-even (a .x) aligned) _ e),
