@@ -9,7 +9,7 @@ use crate::pak;
 use crate::registers;
 ghost use mathlib.Core.Path.{_≡_};
 ghost use mathlib.Core.List.{List};
-ghost use Prim.Native.Nat.{ℕ, _/_, _%_, _<_};
+ghost use Prim.Native.Nat.{ℕ};
 ghost use mathlib.Core.Bool.{true};
 ghost use lib.ListN.{length};
 ghost use Rattle.bus.specs.Refusal.{romOk, pakOk, vramBytes};
@@ -55,26 +55,6 @@ pub fn elsewhere(pak: &[u8], regs: &Device, size: u32, address: u32) -> u32
     }
 }
 
-pub fn load(
-    rom: &[u8],
-    wram: &[u8],
-    vram: &[u8],
-    pak: &[u8],
-    regs: &Device,
-    size: u32,
-    address: u32,
-) -> u32
-    requires { ⌜
-        Lengths (length (now rom)) (length (now wram)) (length (now vram)) (length (now pak)) × (sizeOk size ≡ true)
-        ⌝ }
-    ensures { λ r. ⌜ Reads (entering rom wram vram pak regs) size address r ⌝ }
-{
-    match direct(rom, wram, vram, size, address) {
-        Found::Value(v) => v,
-        Found::Elsewhere => elsewhere(pak, regs, size, address),
-    }
-}
-
 // A byte.
 pub fn byte(rom: &[u8], wram: &[u8], vram: &[u8], pak: &[u8], regs: &Device, address: u32) -> Loaded
     requires { ⌜ Lengths (length (now rom)) (length (now wram)) (length (now vram)) (length (now pak)) ⌝ }
@@ -112,27 +92,4 @@ pub fn word(rom: &[u8], wram: &[u8], vram: &[u8], pak: &[u8], regs: &Device, add
             value: elsewhere(pak, regs, 4, address),
         },
     }
-}
-
-// A halfword of WRAM, and one of ROM, where the address is in its region.
-pub fn wram_half(wram: &[u8], address: u32) -> u32
-    requires { ⌜ (length (now wram) ≡ 65536) × (address / 16777216 % 8 ≡ 5) ⌝ }
-    ensures { λ r. ⌜
-        ((rom vram pak regs : List ℕ) → Reads (memoryOf rom (now (wram .entry)) vram pak regs) 2 address r)
-        × (r < 65536)
-        ⌝ }
-{
-    let i = (address % 65536 - address % 2) as usize;
-    word::half_at(wram, i)
-}
-
-pub fn rom_half(rom: &[u8], address: u32) -> u32
-    requires { ⌜ (romOk (length (now rom)) ≡ true) × (address / 16777216 % 8 ≡ 7) ⌝ }
-    ensures { λ r. ⌜
-        ((wram vram pak regs : List ℕ) → Reads (memoryOf (now (rom .entry)) wram vram pak regs) 2 address r)
-        × (r < 65536)
-        ⌝ }
-{
-    let i = map::wrapped(address - address % 2, rom.len());
-    word::half_at(rom, i)
 }
