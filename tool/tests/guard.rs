@@ -159,11 +159,12 @@ fn sigterm_and_sighup_do_what_ctrl_c_does() {
 #[test]
 fn a_second_signal_leaves_no_temporary_file() {
     let folder = Folder::with_rom("guard-second", &[BRANCH_TO_ITSELF], &[]);
-    // stopped for a moment, it finds two signals at once
+    // after the first signal it writes to a pipe that nobody reads, so that it cannot end before the second one
     let child = folder.shell(
-        "\"$VB\" trace --rom a.rom --budget 0xFFFF_FFFF -o a.trace & pid=$!
+        "mkfifo pipe
+         \"$VB\" trace --rom a.rom --budget 0xFFFF_FFFF -o a.trace --save-wram pipe & pid=$!
          until ls .vbmodel-* >/dev/null 2>&1; do sleep 0.05; done
-         kill -STOP $pid; kill -TERM $pid; kill -INT $pid; kill -CONT $pid; wait $pid; echo $?",
+         kill -TERM $pid; sleep 0.5; kill -INT $pid; wait $pid; echo $?",
     );
     assert_eq!(child.text.trim(), "130");
     assert!(
