@@ -1,4 +1,4 @@
-//! Request lines and the timer from the command line: raised, lowered and said of ticks by hand or by a schedule.
+//! Request lines and the timer from the command line: lines raised and lowered, and ticks, by hand or by a schedule.
 
 mod common;
 
