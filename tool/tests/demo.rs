@@ -1,4 +1,4 @@
-//! `vbmodel demo` as a new user tries it, its pictures held against golden ones that the independent model made.
+//! `vbmodel demo` as a new user tries it, its pictures compared with those that the independent model made.
 
 mod common;
 

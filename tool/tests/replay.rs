@@ -343,7 +343,7 @@ fn w10_a_long_replay_on_a_terminal_shows_progress() {
     let folder = with_rom("replay-progress", &[LET_IN, ADD_1_R1, BACK]);
     assert_eq!(folder.vbmodel("trace --rom a.rom --budget 2_000_000 -o a.trace").status, 0);
     let many = ["a.trace"; 12].join(" ");
-    // the trace again and again differs at once, so the machine starts anew: one file after the other is one trace
+    // the trace again and again differs at once, so the machine starts again from reset: one file after the other is one trace
     let replay = "\"$VB\" replay --rom a.rom";
     let shown = folder.terminal(&format!("{replay} --partial a.trace; {replay} {many}"));
     let Some(text) = shown else { return };

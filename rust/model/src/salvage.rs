@@ -24,7 +24,7 @@ fn reset_body(kind: u16, length: usize) -> Vec<u8> {
     }
 }
 
-/// Writes a right form 2 file of what the file still holds. "Refusal 9 first: the
+/// Writes a valid form 2 file with every recoverable body. "Refusal 9 first: the
 /// output room isn't as long as the file; then 17: no form 2 layout has this
 /// length."
 pub fn salvage_state(file: &[u8], room: &mut [u8]) -> Result<Salvaged, Refusal> {

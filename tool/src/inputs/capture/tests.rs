@@ -124,7 +124,7 @@ fn every_depth_of_grey_is_read() {
 }
 
 #[test]
-fn wrong_sizes_and_colours_are_named() {
+fn sizes_and_colours_that_are_not_allowed_are_named() {
     let wide = pattern().side_by_side(&pattern(), 1);
     refused(&wide, "the PNG has 768 by 224 pixels");
     refused(
