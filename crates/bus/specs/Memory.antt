@@ -42,7 +42,7 @@ withPak m xs = memoryOf (m .rom) (m .wram) (m .vram) xs (m .regs)
 abbrev pub withRegs : Memory → List ℕ → Memory
 withRegs m xs = memoryOf (m .rom) (m .wram) (m .vram) (m .pak) xs
 
--- refusals 1 to 5, by the lengths of the memories and whether 5 has nothing against the state
+-- refusals 1 to 5, by the lengths of the memories and whether the state is valid (refusal 5)
 abbrev pub verdictWhen : ℕ → ℕ → ℕ → ℕ → Bool → Verdict
 verdictWhen rom wram vram pak stateOk =
     unless (romOk rom) RomLength

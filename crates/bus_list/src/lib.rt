@@ -52,7 +52,7 @@ fn sizes_ok(list: &[u8], n: usize) -> bool
     true
 }
 
-// Whether refusal 11 has nothing against a list.
+// Whether a list is valid (refusal 11).
 fn list_ok(list: &[u8]) -> bool
     ensures { λ r. ⌜ r ≡ listOk (now (list .entry)) ⌝ }
 {

@@ -74,7 +74,7 @@ pub fn write(h: TimerLines, offset: u32, value: u32) -> TimerLines
     h
 }
 
-// Whether refusal 5 has nothing against the lines and the timer.
+// Whether the lines and the timer are valid (refusal 5).
 pub fn ok(h: TimerLines) -> bool
     ensures { λ r. ⌜ r ≡ hardwareOk h ⌝ }
 {

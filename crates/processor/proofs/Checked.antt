@@ -1,4 +1,4 @@
--- What the public calls' definitions come to once refusals 1 to 5 have nothing against the call.
+-- What the public calls' definitions come to where none of refusals 1 to 5 holds.
 use Prim.Native.Nat.{ℕ}
 use mathlib.Core.List.{List}
 use mathlib.Core.Path.{_≡_, sym, ap, _∙_}

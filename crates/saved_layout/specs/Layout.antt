@@ -16,7 +16,7 @@ abbrev pub otherOf : Form → Form
 otherOf One = Two
 otherOf Two = One
 
--- a body's entry in the contents: its kind and its length in bytes
+-- a body: its kind and its length in bytes
 pub record Part : Type 0 where
   pub kind : ℕ
   pub size : ℕ
