@@ -1,4 +1,5 @@
--- Laws of tests and of the choices that are made by them. Assumes nothing.
+-- Laws of tests, and of `pick`, the choice by a test, which every layer cites: what holds of both sides (`pick-each`,
+-- `pick-cases`), a test that is known (`pick-true`, `pick-false`), and a choice that is a test itself. Assumes nothing.
 use Prim.Native.Nat.{ℕ, _<_, _≤_}
 use mathlib.Core.Path.{_≡_, refl, sym, ap, _∙_}
 use mathlib.Core.Bool.{Bool, true, false, not, cond, _&&_, _||_, false≢true}
@@ -18,6 +19,16 @@ bool-same true true f g = refl
 bool-same true false f g = absurd (f tt)
 bool-same false true f g = absurd (g tt)
 bool-same false false f g = refl
+
+pub test-same : (b c : Bool) → (b ≡ true → c ≡ true) → (c ≡ true → b ≡ true) → b ≡ c
+test-same true c f g = sym (f refl)
+test-same false true f g = g refl
+test-same false false f g = refl
+
+-- a test that cannot hold
+pub bool-refuted : (b : Bool) → (b ≡ true → ⊥) → b ≡ false
+bool-refuted true h = absurd (h refl)
+bool-refuted false h = refl
 
 pub or-neither : (a b : Bool) → (a || b) ≡ false → (a ≡ false) × (b ≡ false)
 or-neither false false e = (refl, refl)
@@ -53,6 +64,21 @@ pub not-of-false : (b : Bool) → b ≡ false → not b ≡ true
 not-of-false true e = sym e
 not-of-false false e = refl
 
+-- what holds of both sides of a choice holds of the choice
+pub pick-each : {A : Type 0} (P : A → Type 0) (b : Bool) (x y : A) → P x → P y → P (pick b x y)
+pick-each P true x y p q = p
+pick-each P false x y p q = q
+
+-- the same, each side under its test
+pub pick-cases : {A : Type 0} (P : A → Type 0) (b : Bool) (x y : A) → (b ≡ true → P x) → (b ≡ false → P y) → P (pick b x y)
+pick-cases P true x y p q = p refl
+pick-cases P false x y p q = q refl
+
+-- what is made of either side is made of the choice
+pub pick-map : {A B : Type 0} (f : A → B) (b : Bool) (x y : A) → pick b (f x) (f y) ≡ f (pick b x y)
+pick-map f true x y = refl
+pick-map f false x y = refl
+
 -- a choice whose test is known
 pub pick-true : {A : Type 0} (b : Bool) (x y : A) → b ≡ true → x ≡ pick b x y
 pick-true true x y e = refl
@@ -72,6 +98,15 @@ pub pick-both : (a b : Bool) → pick a b false ≡ true → (a ≡ true) × (b 
 pick-both true b e = (refl, e)
 pick-both false b e = absurd (false≢true e)
 
+-- the same where the choice computes to true
+pub pick-head : (a b : Bool) → T (pick a b false) → a ≡ true
+pick-head true b h = refl
+pick-head false b h = absurd h
+
+pub pick-tail : (a b : Bool) → T (pick a b false) → T b
+pick-tail true b h = h
+pick-tail false b h = absurd h
+
 pub pick-second : {A : Type 0} (t b : Bool) → pick t false b ≡ true → (t ≡ false → b ≡ true → A) → A
 pick-second true b e h = absurd (false≢true e)
 pick-second false b e h = h refl e
@@ -80,6 +115,10 @@ pick-second false b e h = h refl e
 pub pick-self : (b : Bool) → pick b true false ≡ b
 pick-self true = refl
 pick-self false = refl
+
+pub pick-opposite : (b : Bool) → pick b false true ≡ not b
+pick-opposite true = refl
+pick-opposite false = refl
 
 pub pick-not : {A : Type 0} (b : Bool) (x y : A) → pick (not b) x y ≡ pick b y x
 pick-not true x y = refl

@@ -1,6 +1,6 @@
 -- Little-endian numbers in a list of bytes (paper 01, "Addresses": "little-endian").
 -- A number's bytes stand lowest first; the same definitions serve a halfword and a word.
-use Prim.Native.Nat.{ℕ, _+_, _*_, _/_, _%_}
+use Prim.Native.Nat.{ℕ, zero, suc, _+_, _*_, _/_, _%_}
 use mathlib.Core.List.{List, [], _∷_}
 use lib.ListN.{getD, set}
 
@@ -8,6 +8,11 @@ use lib.ListN.{getD, set}
 abbrev pub littleEndian : List ℕ → ℕ
 littleEndian [] = 0
 littleEndian (b ∷ bs) = b + 256 * littleEndian bs
+
+-- the list with the n low bytes of v from byte i on, lowest first
+unfoldable pub putBytes : ℕ → List ℕ → ℕ → ℕ → List ℕ
+putBytes zero xs i v = xs
+putBytes (suc n) xs i v = putBytes n (set xs i (v % 256)) (i + 1) (v / 256)
 
 -- the halfword at byte i of a list
 abbrev pub halfAt : List ℕ → ℕ → ℕ
