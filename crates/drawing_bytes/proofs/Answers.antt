@@ -55,4 +55,4 @@ module _ (v regs : List ℕ) (eye x y : ℕ) (room : List ℕ) where
       pub list-done : eye < 2 → x < 384 → y < 224 → (n : ℕ) (after : List ℕ) → Listing 0 (pixelBytesBiased v regs eye x y) n room after
           → (Count n ≡ listedOf v regs eye x y) × (after ≡ roomOf v regs eye x y room)
       unfolding inImageOf
-      list-done a b c n after l = inside (simp (lt-ltb _ _ a, lt-ltb _ _ b, lt-ltb _ _ c)) n after (rw (← listed-formula v regs eye x y) l)
+      list-done a b c n after l = inside (simp (lt-ltb _ _ a, lt-ltb _ _ b, lt-ltb _ _ c)) n after (rw (← listed-formula v regs eye x y r) l)

@@ -1,6 +1,6 @@
 -- The objects: those that the reached object worlds draw are those of their groups (`draws-in-groups`), and what is left of
 -- the objects' bytes. Assumes nothing.
-use Prim.Native.Nat.{ℕ, zero, suc, _+_, _-_, _%_, _<_, _≤_}
+use Prim.Native.Nat.{ℕ, zero, suc, _+_, _-_, _%_, _<_}
 use native.Mathlib.Omega.{arith}
 use mathlib.Core.Bool.{Bool, true, false, _&&_, _||_, and-false}
 use mathlib.Core.List.{List, [], _++_}
@@ -14,8 +14,8 @@ use Rattle.drawing_pixel.specs.Object.{objectOf, groupCountOf}
 use Rattle.drawing_pixel.specs.inner.BiasedObject.{objectRowBiased, objectCoversBiased}
 use Rattle.drawing_pixel.specs.Pixel.{counterAfterOf, drawsObjectsOf, counterOf}
 use Rattle.drawing_laws.specs.Covers.{inGroupOf}
-use Rattle.drawing_laws.specs.PixelBytes.{halfBytesOf, amongOf}
-use Rattle.drawing_laws.specs.inner.SourceBytes.{worldDrawsBiased, worldsDrawBiased, objectBytesBiased, objectsBytesBiased}
+use Rattle.drawing_laws.specs.PixelBytes.{halfBytesOf}
+use Rattle.drawing_laws.specs.inner.SourceBytes.{amongOf, worldDrawsBiased, worldsDrawBiased, objectBytesBiased, objectsBytesBiased}
 use Rattle.drawing_laws.proofs.Groups.{in-group-among, among-in-group}
 use Rattle.drawing_laws.proofs.PixelSame.{counter-after-below}
 use Rattle.drawing_bytes.specs.inner.Groups.{reachedObjectWorldsOf, inGroupsOf, objectListOf}

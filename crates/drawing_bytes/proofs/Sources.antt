@@ -3,9 +3,9 @@ use Prim.Native.Nat.{ℕ, _+_, _-_, _*_, _/_, _%_, _<_, _≤_}
 use native.Mathlib.Omega.{arith}
 use native.Mathlib.Decide.{ℕ-discrete}
 use mathlib.Core.Bool.{true, false}
-use mathlib.Core.List.{List, [], _++_}
+use mathlib.Core.List.{List, [], _++_, flatMap}
 use mathlib.Core.Path.{_≡_, refl}
-use lib.ListN.{getD, length}
+use lib.ListN.{length}
 use Rattle.word.specs.LittleEndian.{halfAt}
 use Rattle.drawing_pixel.specs.Character.{rowAddressOf}
 use borrow.Author.Tests.{eq-eqb, ne-eqb}
@@ -90,7 +90,7 @@ module _ (w : List ℕ) (j n r₀ r₁ r₂ r₃ r₄ a₀ a₁ a₂ a₃ a₄ :
   affine-five : a₀ ≡ parameterAddressOf w (8 * j) → a₁ ≡ parameterAddressOf w (8 * j + 1) → a₂ ≡ parameterAddressOf w (8 * j + 2)
       → a₃ ≡ parameterAddressOf w (8 * j + 3) → a₄ ≡ parameterAddressOf w (8 * j + 4)
       → halfBytesOf a₀ ++ (halfBytesOf a₁ ++ (halfBytesOf a₂ ++ (halfBytesOf a₃ ++ halfBytesOf a₄))) ≡ affineBytesOf w j
-  unfolding affineBytesOf
+  unfolding affineBytesOf flatMap
   affine-five e₀ e₁ e₂ e₃ e₄ = let z : 8 * j + 0 ≡ 8 * j = omega arith in rw (e₀, e₁, e₂, e₃, e₄, z)
 
   pub affine-listing : a₀ ≡ parameterAddressOf w (8 * j) → a₁ ≡ parameterAddressOf w (8 * j + 1) → a₂ ≡ parameterAddressOf w (8 * j + 2)
@@ -105,7 +105,7 @@ module _ (w : List ℕ) (j n r₀ r₁ r₂ r₃ r₄ a₀ a₁ a₂ a₃ a₄ :
       (listing-more r₂ r₃ r₄ (halfBytesOf a₃) (halfBytesOf a₄) m₃ m₄ m₅ t u))))
 
 pub affine-length : (w : List ℕ) (j : ℕ) → length (affineBytesOf w j) ≡ 10
-unfolding affineBytesOf
+unfolding affineBytesOf flatMap
 affine-length w j = refl
 
 pub cell-listing : (vram w : List ℕ) (sx sy n r s at cell row : ℕ) (m₀ m₁ m₂ : List ℕ) → at ≡ cellAddressBiased w (sx / 8) (sy / 8)

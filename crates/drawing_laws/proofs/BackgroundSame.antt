@@ -1,7 +1,7 @@
 -- A background world makes the same of a pixel in two memories that hold the same at its listed bytes.
 -- Assumes nothing.
 use Prim.Native.Nat.{ℕ, _+_, _*_, _%_}
-use mathlib.Core.List.{List, _++_}
+use mathlib.Core.List.{List, _++_, flatMap}
 use mathlib.Core.Path.{_≡_, refl}
 use lib.Dec.{eqb}
 use Rattle.word.specs.LittleEndian.{halfAt}
@@ -43,7 +43,7 @@ module _ (first second : List ℕ) where
   affine-parameter-same w j k h = rw (parameter-same w (8 * j + k) h)
 
   affine-x-same : (w : List ℕ) (eye i j : ℕ) → Same (affineBytesOf w j) → affineXBiased second w eye i j ≡ affineXBiased first w eye i j
-  unfolding affineXBiased affineBytesOf
+  unfolding affineXBiased affineBytesOf flatMap
   affine-x-same w eye i j h =
       rw (
         affine-parameter-same w j 0 (h .0, (h .1 .0, tt)),
@@ -52,7 +52,7 @@ module _ (first second : List ℕ) where
       )
 
   affine-y-same : (w : List ℕ) (eye i j : ℕ) → Same (affineBytesOf w j) → affineYBiased second w eye i j ≡ affineYBiased first w eye i j
-  unfolding affineYBiased affineBytesOf
+  unfolding affineYBiased affineBytesOf flatMap
   affine-y-same w eye i j h =
       rw (
         affine-parameter-same w j 2 (h .1 .1 .1 .1 .0, (h .1 .1 .1 .1 .1 .0, tt)),

@@ -1,48 +1,22 @@
 -- An object that covers a pixel, as Covers says it, is drawn over it by the loop over worlds. Assumes nothing.
 use Prim.Native.Nat.{ℕ, zero, suc, _+_, _-_, _%_, _<_, _≤_}
-use mathlib.Core.Bool.{Bool, true, false, _||_, not, false≢true}
+use mathlib.Core.Bool.{Bool, true, false, _||_, false≢true}
 use mathlib.Core.List.{List}
 use mathlib.Core.Path.{_≡_, refl, sym, _∙_}
-use native.Mathlib.Nat.{add-zero}
 use native.Mathlib.Omega.{arith}
-use borrow.Author.Tests.{not-true}
 use Rattle.word.specs.Choose.{pick}
 use Rattle.bus.specs.Registers.{sptOf}
 use Rattle.drawing_pixel.specs.World.{worldOf, endOf}
 use Rattle.drawing_pixel.specs.Object.{objectOf, groupCountOf}
 use Rattle.drawing_pixel.specs.Pixel.{drawsObjectsOf, counterOf}
 use Rattle.drawing_pixel.proofs.Painting.{object-covered}
-use Rattle.drawing_laws.specs.Covers.{noEndOf, reachedOf, objectWorldsOf, groupOf, inGroupOf, drawsOverOf, someBelow, objectCoversPixelOf}
-use Rattle.drawing_laws.specs.PixelBytes.{amongOf}
-use Rattle.drawing_laws.specs.inner.SourceBytes.{worldDrawsBiased, worldsDrawBiased}
+use Rattle.drawing_laws.specs.Covers.{reachedOf, groupOf, inGroupOf, drawsOverOf, someBelow, objectCoversPixelOf}
+use Rattle.drawing_laws.specs.inner.SourceBytes.{amongOf, worldDrawsBiased, worldsDrawBiased}
 use Rattle.word.proofs.Choices.{and-left, and-right, and-both, or-left, or-right, or-cases}
-use Rattle.drawing_laws.proofs.Groups.{in-group-among, object-worlds-below, counter-step}
-use Rattle.drawing_laws.proofs.DrawnCovers.{no-end-more, group-is}
+use Rattle.drawing_laws.proofs.Below.{some-at}
+use Rattle.drawing_laws.proofs.Reached.{noEndOf, objectWorldsOf, no-end-more, end-stops, object-worlds-below, group-is}
+use Rattle.drawing_laws.proofs.Groups.{in-group-among, counter-step}
 use Rattle.drawing_laws.proofs.PixelSame.{Starts, counter-below}
-
--- none of the k worlds from world m on has END
-no-end-at : (vram : List ℕ) (m k i : ℕ) → noEndOf vram m k ≡ true → i < k → endOf (worldOf vram (m + i)) ≡ false
-unfolding noEndOf
-no-end-at vram m zero i h l = absurd (omega arith)
-no-end-at vram m (suc k) zero h l =
-    rw add-zero (not-true (endOf (worldOf vram m)) (and-left (not (endOf (worldOf vram m))) _ h))
-no-end-at vram m (suc k) (suc i) h l =
-    let later : suc m + i ≡ m + suc i = omega arith in
-    rw later at (no-end-at vram (suc m) k i (and-right (not (endOf (worldOf vram m))) _ h) (omega arith))
-
--- no world from END downwards is reached
-pub end-stops : (vram : List ℕ) (n m : ℕ) → n < 32 → m ≤ n → endOf (worldOf vram n) ≡ true → reachedOf vram m ≡ true → ⊥
-unfolding reachedOf
-end-stops vram n m b l e r =
-    let here : m + (n - m) ≡ n = omega arith in
-    false≢true (sym (rw here at (no-end-at vram m (32 - m) (n - m) r (omega arith))) ∙ e)
-
--- a test that holds of some number below n
-some-at : (n : ℕ) (f : ℕ → Bool) (A : Type 0) → someBelow n f ≡ true → ((m : ℕ) → m < n → f m ≡ true → A) → A
-unfolding someBelow
-some-at zero f A e h = absurd (false≢true e)
-some-at (suc n) f A e h =
-    or-cases (f n) _ e (h n (omega arith)) (λ g. some-at n f A g (λ m l. h m (omega arith)))
 
 module _ (vram regs : List ℕ) (starts : Starts regs) (eye x y j : ℕ) (b : j < 1024) where
   over-reached : (n : ℕ) → drawsOverOf vram regs eye x y j n ≡ true → reachedOf vram n ≡ true
@@ -86,7 +60,7 @@ module _ (vram regs : List ℕ) (starts : Starts regs) (eye x y j : ℕ) (b : j 
           ≡ true
       go true e later =
           absurd
-          (some-at (suc n) (drawsOverOf vram regs eye x y j) ⊥ d
+          (some-at (drawsOverOf vram regs eye x y j) (suc n) ⊥ d
           (λ m l g. end-stops vram n m (omega arith) (omega arith) e (over-reached m g)))
       go false e later =
           let few : objectWorldsOf vram (suc n) k ≤ k = object-worlds-below vram (suc n) k in

@@ -2,36 +2,18 @@
 use Prim.Native.Nat.{ℕ, zero, suc, _+_, _-_, _%_, _<_, _≤_}
 use mathlib.Core.Bool.{true, false, false≢true}
 use mathlib.Core.List.{List}
-use mathlib.Core.Path.{_≡_, refl, sym, ap, _∙_}
+use mathlib.Core.Path.{_≡_, refl, sym, _∙_}
 use native.Mathlib.Omega.{arith}
 use Rattle.bus.specs.Registers.{sptOf}
 use Rattle.drawing_pixel.specs.World.{worldOf, endOf}
 use Rattle.drawing_pixel.specs.Object.{objectOf, groupCountOf}
 use Rattle.drawing_pixel.specs.Pixel.{drawsObjectsOf, counterOf}
 use Rattle.drawing_pixel.proofs.Painting.{object-covered}
-use Rattle.drawing_laws.specs.Covers.{noEndOf, reachedOf, objectWorldsOf, groupOf, inGroupOf, drawsOverOf, someBelow, objectCoversPixelOf}
-use Rattle.drawing_laws.specs.PixelBytes.{amongOf}
-use Rattle.drawing_laws.specs.inner.SourceBytes.{worldDrawsBiased, worldsDrawBiased}
-use Rattle.word.proofs.Choices.{and-left, and-right, and-both, or-left, or-right, or-cases, pick-second, not-of-false}
-use Rattle.drawing_laws.proofs.Groups.{among-in-group, object-worlds-below, counter-step}
-
--- one world more without END
-pub no-end-more : (vram : List ℕ) (n k : ℕ) → endOf (worldOf vram n) ≡ false → noEndOf vram (suc n) k ≡ true → noEndOf vram n (suc k) ≡ true
-unfolding noEndOf
-no-end-more vram n k e h = and-both _ _ (not-of-false (endOf (worldOf vram n)) e) h
-
--- a world above which, and in which, there is no END is reached
-pub reached : (vram : List ℕ) (n k : ℕ) → suc n + k ≡ 32 → noEndOf vram n (suc k) ≡ true → reachedOf vram n ≡ true
-unfolding reachedOf
-reached vram n k q h =
-    let above : 32 - n ≡ suc k = omega arith in
-    ap (noEndOf vram n) above ∙ h
-
-pub group-is : (vram : List ℕ) (n k : ℕ) → suc n + k ≡ 32 → groupOf vram n ≡ (35 - objectWorldsOf vram (suc n) k) % 4
-unfolding groupOf
-group-is vram n k q =
-    let above : 31 - n ≡ k = omega arith in
-    ap (λ (m : ℕ). (35 - objectWorldsOf vram (suc n) m) % 4) above
+use Rattle.drawing_laws.specs.Covers.{reachedOf, groupOf, inGroupOf, drawsOverOf, someBelow, objectCoversPixelOf}
+use Rattle.drawing_laws.specs.inner.SourceBytes.{amongOf, worldDrawsBiased, worldsDrawBiased}
+use Rattle.word.proofs.Choices.{and-left, and-right, and-both, or-left, or-right, or-cases, pick-second}
+use Rattle.drawing_laws.proofs.Groups.{among-in-group, counter-step}
+use Rattle.drawing_laws.proofs.Reached.{noEndOf, objectWorldsOf, no-end-more, reached, object-worlds-below, group-is}
 
 module _ (vram regs : List ℕ) (eye x y j : ℕ) (b : j < 1024) where
   world-draws : (n counter : ℕ) → reachedOf vram n ≡ true → groupOf vram n ≡ counter

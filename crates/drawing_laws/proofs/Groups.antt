@@ -4,7 +4,7 @@
 use Prim.Native.Nat.{ℕ, zero, suc, _+_, _-_, _%_, _<_, _≤_}
 use mathlib.Core.Bool.{Bool, true, false, _||_, false≢true}
 use mathlib.Core.List.{List}
-use mathlib.Core.Path.{_≡_, refl, sym, ap, _∙_}
+use mathlib.Core.Path.{_≡_, refl, sym, _∙_}
 use native.Mathlib.Omega.{arith}
 use lib.Dec.{eqb}
 use borrow.Author.Tests.{eqb-true, eqb-false, ltb-true, lt-ltb}
@@ -16,10 +16,11 @@ use Rattle.drawing_pixel.specs.Pixel.{counterAfterOf, drawsObjectsOf, counterOf
 use Rattle.drawing_pixel.specs.ObjectFormulas.{drawnOf}
 use Rattle.drawing_pixel.proofs.ObjectFormulas.{group-end, group-no-earlier, group-zero-last}
 use Rattle.drawing_pixel.proofs.ObjectFormulas as Formulas
-use Rattle.drawing_laws.specs.Covers.{objectWorldsOf, groupOf, inGroupOf}
-use Rattle.drawing_laws.specs.Groups.{DrawnAt, GroupEnds, GroupEndsFirst, GroupEqual, GroupZeroCount, DrawnInGroup, InGroupDrawn, GroupFirst, GroupNext}
-use Rattle.drawing_laws.specs.PixelBytes.{amongOf}
+use Rattle.drawing_laws.specs.Covers.{groupOf, inGroupOf}
+use Rattle.drawing_laws.specs.Groups.{GroupEnds, GroupEndsFirst, GroupEqual, GroupZeroCount, DrawnInGroup, InGroupDrawn, GroupFirst, GroupNext}
+use Rattle.drawing_laws.specs.inner.SourceBytes.{amongOf}
 use Rattle.word.proofs.Choices.{or-cases}
+use Rattle.drawing_laws.proofs.Reached.{objectWorldsOf, object-worlds-below, group-is}
 
 among-below : (count j k : ℕ) → k < 1024 → amongOf count j k ≡ true → (j + 1024 - k) % 1024 < count
 unfolding amongOf objectAfterOf
@@ -51,15 +52,6 @@ pub among-in-group : (regs : List ℕ) (n k : ℕ) → k < 1024 → amongOf (gro
 unfolding inGroupOf
 among-in-group regs n k h e =
     lt-ltb ((sptOf regs n + 1024 - k) % 1024) (groupCountOf regs n) (among-below (groupCountOf regs n) (sptOf regs n) k h e)
-
-pub object-worlds-below : (vram : List ℕ) (n k : ℕ) → objectWorldsOf vram n k ≤ k
-unfolding objectWorldsOf
-object-worlds-below vram n zero = omega arith
-object-worlds-below vram n (suc k) = go (drawsObjectsOf (worldOf vram n)) (object-worlds-below vram (suc n) k)
-  where
-    go : (b : Bool) → objectWorldsOf vram (suc n) k ≤ k → pick b 1 0 + objectWorldsOf vram (suc n) k ≤ suc k
-    go true h = omega arith
-    go false h = omega arith
 
 counter-after : (c : ℕ) → c < 4 → counterAfterOf c ≡ (c + 3) % 4
 counter-after zero h = refl
@@ -119,13 +111,13 @@ in-group-drawn regs n k h l e =
     }
 
 pub group-first : GroupFirst
-unfolding groupOf objectWorldsOf
-group-first vram = refl
+unfolding objectWorldsOf
+group-first vram = group-is vram 31 0 refl
 
 pub group-next : GroupNext
-unfolding groupOf objectWorldsOf
+unfolding objectWorldsOf
 group-next vram n h =
-    let e : 31 - n ≡ suc (31 - suc n) = omega arith in
-    let below = object-worlds-below vram (suc (suc n)) (31 - suc n) in
-    ap (λ m. (35 - objectWorldsOf vram (suc n) m) % 4) e
-    ∙ sym (counter-step (worldOf vram (suc n)) _ (objectWorldsOf vram (suc (suc n)) (31 - suc n)) (omega arith) refl)
+    let above : objectWorldsOf vram (suc (suc n)) (30 - n) ≤ 30 - n = object-worlds-below vram (suc (suc n)) (30 - n) in
+    group-is vram n (suc (30 - n)) (omega arith)
+    ∙ sym (counter-step (worldOf vram (suc n)) (groupOf vram (suc n)) (objectWorldsOf vram (suc (suc n)) (30 - n)) (omega arith)
+    (group-is vram (suc n) (30 - n) (omega arith)))

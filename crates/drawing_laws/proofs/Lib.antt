@@ -1,12 +1,12 @@
--- `Answerable`, `Few`, `Lengths`, `CallDrawn`, `Images` and `ListedAddresses` prove the statements of specs/Demand3 and specs/Drawn;
+-- `Answerable`, `Lengths`, `CallDrawn`, `Images` and `ListedAddresses` prove the statements of specs/Demand3 and specs/Drawn;
 -- `ShortWorlds` those of specs/ShortWorlds.
 pub mod Answerable
-pub mod Few
 pub mod CallDrawn
 pub mod Images
 pub mod ListedAddresses
 pub mod ShortWorlds
 mod BackgroundSame
+mod Below
 mod CoversDrawn
 mod DrawnCovers
 mod Each
@@ -15,6 +15,7 @@ mod Halfwords
 mod ListedBytes
 mod ObjectsSame
 pub mod PixelSame
+mod Reached
 mod Registers
 pub mod StripBytes
 mod StripPixel

@@ -11,10 +11,8 @@ use Rattle.drawing_pixel.specs.Character.{characterAddressOf, flippedOf, rowAdd
 use Rattle.drawing_pixel.specs.World.{worldOf, overOf, scxOf, scyOf}
 use Rattle.drawing_pixel.specs.Background.{parameterAddressOf, mapNumberOf}
 use Rattle.drawing_pixel.specs.inner.BiasedCell.{insideBiased, mapCellAddressBiased, cellAddressBiased, sourceCellAddressBiased}
-use Rattle.drawing_laws.proofs.PixelBytes.{listed-formula}
 use Rattle.drawing_laws.specs.Demand3.{Each, ListedInVram}
-use Rattle.drawing_laws.specs.PixelBytes.{halfBytesOf}
-use Rattle.drawing_laws.specs.inner.SourceBytes.{pixelBytesBiased}
+use Rattle.drawing_laws.specs.PixelBytes.{halfBytesOf, pixelBytesOf}
 use Rattle.drawing_laws.proofs.ListedBytes.{listed-each}
 
 -- an address is clear of every image: past the images, or in the last quarter of its 0x8000 bytes
@@ -70,7 +68,7 @@ cell-clear w sx sy =
     pick-cell-from (overOf w && not (insideBiased w (sx / 8) (sy / 8))) (0x20000 + 2 * getD w 10 0)
     (mapCellAddressBiased w (sx / 8) (sy / 8)) (omega arith) (map-cell-from w (sx / 8) (sy / 8))
 
-pub listed-clear : (vram regs : List ℕ) (eye x y : ℕ) → Each Clear (pixelBytesBiased vram regs eye x y)
+pub listed-clear : (vram regs : List ℕ) (eye x y : ℕ) → Each Clear (pixelBytesOf vram regs eye x y)
 listed-clear vram regs eye x y =
     listed-each Clear vram parameter-clear (λ n sx sy. cell-clear (worldOf vram n) sx sy) row-clear regs eye x y
 
@@ -90,5 +88,4 @@ cell-in-vram vram n sx sy h =
 
 pub listed-in-vram : ListedInVram
 listed-in-vram vram regs eye x y h =
-    rw (← listed-formula vram regs eye x y)
-    (listed-each (λ a. a < 262144) vram parameter-in-vram (λ n sx sy. cell-in-vram vram n sx sy h) row-in-vram regs eye x y)
+    listed-each (λ a. a < 262144) vram parameter-in-vram (λ n sx sy. cell-in-vram vram n sx sy h) row-in-vram regs eye x y

@@ -1,44 +1,51 @@
 -- What holds of the bytes of every parameter, cell and character row holds of every listed byte. Assumes nothing.
-use Prim.Native.Nat.{ℕ, zero, suc, _+_, _*_, _%_, _<_}
-use mathlib.Core.Bool.{true, false≢true}
-use mathlib.Core.List.{List, []}
-use mathlib.Core.Path.{_≡_}
+use Prim.Native.Nat.{ℕ, _+_, _*_, _%_, _<_}
+use mathlib.Core.Bool.{true, not}
+use mathlib.Core.List.{List, [], flatMap}
+use mathlib.Core.Path.{_≡_, _∙_}
 use lib.ListN.{getD}
 use lib.Dec.{eqb}
 use native.Mathlib.Omega.{arith}
-use Rattle.word.specs.Choose.{pick}
 use Rattle.word.specs.LittleEndian.{halfAt}
-use Rattle.bus.specs.Registers.{sptOf}
 use Rattle.drawing_pixel.specs.Character.{rowAddressOf}
-use Rattle.drawing_pixel.specs.World.{worldOf, endOf, skippedOf, bgmOf}
+use Rattle.drawing_pixel.specs.World.{worldOf, bgmOf}
 use Rattle.drawing_pixel.specs.inner.BiasedWindow.{columnInBiased, rowInBiased, worldCoversBiased}
 use Rattle.drawing_pixel.specs.Background.{parameterAddressOf, biasIndexOf}
 use Rattle.drawing_pixel.specs.inner.BiasedSource.{sourceXBiased, sourceYBiased}
 use Rattle.drawing_pixel.specs.inner.BiasedCell.{sourceCellAddressBiased}
-use Rattle.drawing_pixel.specs.Object.{groupCountOf, objectOf}
+use Rattle.drawing_pixel.specs.Object.{objectOf}
+use Rattle.drawing_pixel.specs.Pixel.{drawsObjectsOf}
 use Rattle.drawing_pixel.specs.inner.BiasedObject.{objectRowBiased}
-use Rattle.drawing_pixel.specs.Pixel.{counterOf, drawsObjectsOf}
-use Rattle.drawing_laws.specs.Demand3.{Each}
-use Rattle.drawing_laws.specs.PixelBytes.{halfBytesOf, amongOf, affineBytesOf, parameterBytesOf}
-use Rattle.drawing_laws.specs.inner.SourceBytes.{cellBytesBiased, backgroundBytesBiased, worldBytesBiased, worldsBytesBiased}
-use Rattle.drawing_laws.specs.inner.SourceBytes.{worldDrawsBiased, worldsDrawBiased, objectBytesBiased, objectsBytesBiased}
-use Rattle.drawing_laws.specs.inner.SourceBytes.{pixelBytesBiased}
-use Rattle.drawing_laws.proofs.Each.{each-join, each-pick}
+use Rattle.drawing_pixel.proofs.Painting.{world-covers, object-covered, object-line}
 use Rattle.drawing_pixel.proofs.Windows.{object-covers-row}
-use Rattle.word.proofs.Choices.{and-right, or-cases, pick-second}
+use Rattle.word.proofs.Choices.{and-right}
+use Rattle.drawing_laws.specs.Covers.{reachedOf, groupOf, inGroupOf, backgroundCoversOf, drawsOverOf, objectCoversPixelOf, coveringWorldsOf, coveringObjectsOf}
+use Rattle.drawing_laws.specs.Demand3.{Each}
+use Rattle.drawing_laws.specs.PixelBytes.{halfBytesOf, affineBytesOf, parameterBytesOf, backgroundBytes, objectBytes, pixelBytesOf}
+use Rattle.drawing_laws.specs.inner.SourceBytes.{cellBytesBiased}
+use Rattle.drawing_laws.proofs.Each.{each-join, each-pick}
+use Rattle.drawing_laws.proofs.Below.{some-at, each-which}
+use Rattle.drawing_laws.proofs.PixelBytes.{covering-bytes}
 
--- an object that a world draws has a row there
-pub drawn-row : (vram regs : List ℕ) (eye x y n counter k : ℕ) → worldsDrawBiased vram regs eye x y n counter k ≡ true
+-- a world that covers the pixel has it in its window
+covers-window : (vram : List ℕ) (eye x y n : ℕ) → backgroundCoversOf vram eye x y n ≡ true
+    → worldCoversBiased (worldOf vram n) eye x y ≡ true
+unfolding backgroundCoversOf
+covers-window vram eye x y n e =
+    world-covers (worldOf vram n) eye x y
+    ∙ and-right (not (eqb (bgmOf (worldOf vram n)) 3)) _ (and-right (reachedOf vram n) _ e)
+
+-- an object that covers the pixel has a row there
+covers-line : (vram regs : List ℕ) (eye x y k : ℕ) → objectCoversPixelOf vram regs eye x y k ≡ true
     → objectRowBiased (objectOf vram k) y < 8
-unfolding worldsDrawBiased worldDrawsBiased
-drawn-row vram regs eye x y zero counter k e = absurd (false≢true e)
-drawn-row vram regs eye x y (suc n) counter k e =
-    pick-second (endOf (worldOf vram n)) _ e
-    (λ _ f.
-    or-cases (worldDrawsBiased vram regs (worldOf vram n) counter eye x y k) _ f
-    (λ d. object-covers-row (objectOf vram k) eye x y (and-right (amongOf (groupCountOf regs counter)
-    (sptOf regs counter) k) _ (and-right (drawsObjectsOf (worldOf vram n)) _ d)))
-    (drawn-row vram regs eye x y n (counterOf (worldOf vram n) counter) k))
+unfolding objectCoversPixelOf drawsOverOf
+covers-line vram regs eye x y k e =
+    some-at (drawsOverOf vram regs eye x y k) 32 _ e
+    (λ n l d.
+    object-covers-row (objectOf vram k) eye x y
+    (object-covered (objectOf vram k) eye x y
+    ∙ and-right (inGroupOf regs (groupOf vram n) k) _
+    (and-right (drawsObjectsOf (worldOf vram n)) _ (and-right (reachedOf vram n) _ d))))
 
 module _ (P : ℕ → Type 0) (vram : List ℕ)
     (parameter : (w : List ℕ) (k : ℕ) → Each P (halfBytesOf (parameterAddressOf w k)))
@@ -46,7 +53,7 @@ module _ (P : ℕ → Type 0) (vram : List ℕ)
     (row : (c r : ℕ) → r < 8 → Each P (halfBytesOf (rowAddressOf c r)))
   where
     affine-each : (w : List ℕ) (j : ℕ) → Each P (affineBytesOf w j)
-    unfolding affineBytesOf
+    unfolding affineBytesOf flatMap
     affine-each w j =
         let mx = parameter w (8 * j + 0) in
         let mp = parameter w (8 * j + 1) in
@@ -68,45 +75,23 @@ module _ (P : ℕ → Type 0) (vram : List ℕ)
         each-join P (halfBytesOf at) (halfBytesOf (rowAddressOf (halfAt vram at) (sy % 8))) (cell n sx sy)
         (row (halfAt vram at) (sy % 8) (omega arith))
 
-    background-each : (n eye x y : ℕ) → Each P (backgroundBytesBiased vram (worldOf vram n) eye x y)
-    unfolding backgroundBytesBiased
-    background-each n eye x y =
+    background-each : (n eye x y : ℕ) → backgroundCoversOf vram eye x y n ≡ true → Each P (backgroundBytes vram (worldOf vram n) eye x y)
+    background-each n eye x y e =
         let w = worldOf vram n in
         let i = columnInBiased w eye x in
         let j = rowInBiased w y in
-        each-pick P (worldCoversBiased w eye x y) _ []
-        (λ _.
-        each-join P (parameterBytesOf w eye j) (cellBytesBiased vram w (sourceXBiased vram w eye i j) (sourceYBiased vram w eye i j))
+        rw (← covering-bytes vram w eye x y (covers-window vram eye x y n e))
+        (each-join P (parameterBytesOf w eye j) (cellBytesBiased vram w (sourceXBiased vram w eye i j) (sourceYBiased vram w eye i j))
         (parameters-each w eye j) (cell-each n (sourceXBiased vram w eye i j) (sourceYBiased vram w eye i j)))
-        (λ _. tt)
 
-    world-each : (n eye x y : ℕ) → Each P (worldBytesBiased vram (worldOf vram n) eye x y)
-    unfolding worldBytesBiased
-    world-each n eye x y =
-        each-pick P (skippedOf (worldOf vram n)) [] _ (λ _. tt)
-        (λ _.
-        each-pick P (eqb (bgmOf (worldOf vram n)) 3) [] _ (λ _. tt) (λ _. background-each n eye x y))
+    object-each : (regs : List ℕ) (eye x y k : ℕ) → objectCoversPixelOf vram regs eye x y k ≡ true → Each P (objectBytes (objectOf vram k) y)
+    object-each regs eye x y k e =
+        rw (← object-line (objectOf vram k) y)
+        (row (getD (objectOf vram k) 3 0) (objectRowBiased (objectOf vram k) y) (covers-line vram regs eye x y k e))
 
-    worlds-each : (eye x y n : ℕ) → Each P (worldsBytesBiased vram eye x y n)
-    unfolding worldsBytesBiased
-    worlds-each eye x y zero = tt
-    worlds-each eye x y (suc n) =
-        each-pick P (endOf (worldOf vram n)) [] _ (λ _. tt)
-        (λ _.
-        each-join P (worldBytesBiased vram (worldOf vram n) eye x y) (worldsBytesBiased vram eye x y n) (world-each n eye x y)
-        (worlds-each eye x y n))
-
-    objects-each : (regs : List ℕ) (eye x y n : ℕ) → Each P (objectsBytesBiased vram regs eye x y n)
-    unfolding objectsBytesBiased objectBytesBiased
-    objects-each regs eye x y zero = tt
-    objects-each regs eye x y (suc k) =
-        each-join P (pick (worldsDrawBiased vram regs eye x y 32 3 k) (objectBytesBiased (objectOf vram k) y) [])
-        (objectsBytesBiased vram regs eye x y k)
-        (each-pick P (worldsDrawBiased vram regs eye x y 32 3 k) (objectBytesBiased (objectOf vram k) y) []
-        (λ e. row (getD (objectOf vram k) 3 0) (objectRowBiased (objectOf vram k) y) (drawn-row vram regs eye x y 32 3 k e)) (λ _. tt))
-        (objects-each regs eye x y k)
-
-    pub listed-each : (regs : List ℕ) (eye x y : ℕ) → Each P (pixelBytesBiased vram regs eye x y)
-    unfolding pixelBytesBiased
-    listed-each regs eye x y = each-join P (worldsBytesBiased vram eye x y 32) (objectsBytesBiased vram regs eye x y 1024)
-        (worlds-each eye x y 32) (objects-each regs eye x y 1024)
+    pub listed-each : (regs : List ℕ) (eye x y : ℕ) → Each P (pixelBytesOf vram regs eye x y)
+    unfolding pixelBytesOf coveringWorldsOf coveringObjectsOf
+    listed-each regs eye x y =
+        each-join P (flatMap (λ n. backgroundBytes vram (worldOf vram n) eye x y) (coveringWorldsOf vram eye x y)) _
+        (each-which (backgroundCoversOf vram eye x y) P _ 32 (λ n l e. background-each n eye x y e))
+        (each-which (objectCoversPixelOf vram regs eye x y) P _ 1024 (λ k l e. object-each regs eye x y k e))

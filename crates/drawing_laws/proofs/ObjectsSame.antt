@@ -12,8 +12,7 @@ use Rattle.bus.specs.Registers.{jpltOf}
 use Rattle.drawing_pixel.specs.Object.{objectOf, objectAfterOf}
 use Rattle.drawing_pixel.specs.inner.BiasedObject.{objectRowBiased, objectColumnBiased, objectCoversBiased, objectPixelBiased, objectsPixelBiased}
 use Rattle.drawing_laws.specs.Demand3.{Each, SameByte, SameTables}
-use Rattle.drawing_laws.specs.PixelBytes.{amongOf}
-use Rattle.drawing_laws.specs.inner.SourceBytes.{objectBytesBiased}
+use Rattle.drawing_laws.specs.inner.SourceBytes.{amongOf, objectBytesBiased}
 use Rattle.word.proofs.Choices.{pick-same, or-left, or-right}
 use Rattle.drawing_laws.proofs.Halfwords.{object-same}
 use Rattle.drawing_laws.proofs.BackgroundSame.{cell-pixel-same}

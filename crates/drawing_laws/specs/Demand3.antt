@@ -1,9 +1,9 @@
 -- Demand 3 (paper 01, "The bytes a pixel answers to"): the statements. Their proofs are `answerable`, `few`,
 -- `listed-length`, `pixel-outside-images` and `listed-in-vram` in proofs/. Memories are lists of 262,144 numbers; that
 -- they are bytes is assumed only where it is said.
-use Prim.Native.Nat.{ℕ, zero, suc, _+_, _*_, _/_, _≤_, _<_}
-use mathlib.Core.Bool.{Bool, true, false}
-use mathlib.Core.List.{List, [], _∷_}
+use Prim.Native.Nat.{ℕ, _+_, _*_, _/_, _≤_, _<_}
+use mathlib.Core.Bool.{true, false}
+use mathlib.Core.List.{List, [], _∷_, foldr}
 use mathlib.Core.Path.{_≡_}
 use lib.ListN.{length, getD}
 use lib.Dec.{eqb}
@@ -16,7 +16,7 @@ use Rattle.drawing_pixel.specs.Object.{objectTable}
 use Rattle.drawing_pixel.specs.Pixel.{pixelOf}
 use Rattle.drawing_pixel.specs.Strip.{storedPixelOf}
 use Rattle.drawing_laws.specs.Drawn.{Call, callVerdictOf, drawsStripOf, drawnBy, inImagesOf}
-use Rattle.drawing_laws.specs.Covers.{backgroundCoversOf, coveringWorldsOf, coveringObjectsOf}
+use Rattle.drawing_laws.specs.Covers.{coveringWorldsOf, coveringObjectsOf}
 use Rattle.drawing_laws.specs.PixelBytes.{pixelBytesOf}
 
 -- something holds of each number of a list
@@ -53,25 +53,20 @@ Answerable =
 abbrev pub Few : Type 0
 Few =
     (vram regs : List ℕ) (eye x y : ℕ)
-    → length (pixelBytesOf vram regs eye x y) ≤ 14 * coveringWorldsOf vram eye x y
-    + 2 * coveringObjectsOf vram regs eye x y
+    → length (pixelBytesOf vram regs eye x y) ≤ 14 * length (coveringWorldsOf vram eye x y)
+    + 2 * length (coveringObjectsOf vram regs eye x y)
 
 -- how many bytes a background world has: its cell and character row, and 2 parameter bytes for H-bias, 10 for affine
 abbrev pub worldBytesCountOf : List ℕ → ℕ
 worldBytesCountOf w = pick (eqb (bgmOf w) 0) 4 (pick (eqb (bgmOf w) 1) 6 14)
 
--- the sum of f over the numbers below n of which a test holds
-unfoldable pub sumBelow : ℕ → (ℕ → Bool) → (ℕ → ℕ) → ℕ
-sumBelow zero test f = 0
-sumBelow (suc n) test f = pick (test n) (f n) 0 + sumBelow n test f
-
 -- and exactly that long: 4 for each covering normal world, 6 for H-bias, 14 for affine, 2 for each covering object
 abbrev pub ListedLength : Type 0
 ListedLength =
-    (vram regs : List ℕ) (eye x y : ℕ) → drawingOk regs ≡ true
+    (vram regs : List ℕ) (eye x y : ℕ)
     → length (pixelBytesOf vram regs eye x y)
-    ≡ sumBelow 32 (backgroundCoversOf vram eye x y) (λ n. worldBytesCountOf (worldOf vram n))
-    + 2 * coveringObjectsOf vram regs eye x y
+    ≡ foldr (λ n sum. worldBytesCountOf (worldOf vram n) + sum) 0 (coveringWorldsOf vram eye x y)
+    + 2 * length (coveringObjectsOf vram regs eye x y)
 
 -- memories that agree outside a frame's images have the same pixels
 abbrev pub PixelOutsideImages : Type 0

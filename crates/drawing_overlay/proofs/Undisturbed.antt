@@ -1,21 +1,19 @@
 -- `undisturbed`: it is `answerable` of VRAM before the first drawing and VRAM before the second one. Between them only
 -- images and the probe's ranges changed; the tables and the listed bytes are in neither. Assumes nothing.
-use Prim.Native.Nat.{ℕ, _<_}
-use mathlib.Core.Bool.{false}
+use Prim.Native.Nat.{ℕ}
 use mathlib.Core.List.{List, [], _∷_}
-use mathlib.Core.Path.{_≡_, _∙_}
+use mathlib.Core.Path.{_∙_}
 use native.Mathlib.Omega.{arith}
 use Rattle.drawing_laws.specs.Demand3.{Each, SameByte, SameTables}
-use Rattle.drawing_laws.specs.Drawn.{Call, drawnBy, inImagesOf}
+use Rattle.drawing_laws.specs.Drawn.{Call, drawnBy}
 use Rattle.drawing_laws.specs.PixelBytes.{pixelBytesOf}
-use Rattle.drawing_laws.proofs.PixelBytes.{listed-formula}
 use Rattle.drawing_laws.proofs.Answerable.{answerable}
 use Rattle.drawing_laws.proofs.CallDrawn.{byte-kept}
 use Rattle.drawing_laws.proofs.Images.{clear-outside}
 use Rattle.drawing_laws.proofs.ListedAddresses.{Clear, listed-clear}
 use Rattle.bus_probe.specs.Kept.{Write, allWrittenOf}
 use Rattle.bus_probe.proofs.ProbeKept.{probe-kept}
-use Rattle.bus_probe.proofs.Ranges.{before-maps, past-maps}
+use Rattle.bus_probe.proofs.Ranges.{past-maps}
 use Rattle.drawing_overlay.specs.Undisturbed.{Outside, Undisturbed}
 
 each-both : (P Q R : ℕ → Type 0) → ((a : ℕ) → P a → Q a → R a) → (xs : List ℕ) → Each P xs → Each Q xs → Each R xs
@@ -47,4 +45,4 @@ undisturbed vram regs frame one other writes eye x y a b e c d g out =
     (same-tables vram regs frame one writes)
     (each-both Clear Outside (SameByte vram (second vram regs frame one writes))
     (λ i clear o. same-byte vram regs frame one writes i clear o)
-    (pixelBytesOf vram regs eye x y) (rw (← listed-formula vram regs eye x y) (listed-clear vram regs eye x y)) out)
+    (pixelBytesOf vram regs eye x y) (listed-clear vram regs eye x y) out)

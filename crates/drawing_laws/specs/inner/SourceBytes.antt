@@ -1,23 +1,24 @@
--- Inner: the bytes a pixel answers to, on numbers with a bias as the painters have them, and the statement that the
--- list is that of PixelBytes. Its proof is `listed-formula` in proofs/PixelBytes.
+-- Inner: the bytes a pixel answers to, on numbers with a bias as the painters have them and by the loop that makes the
+-- pixel (worlds 31 to 0, END, the skip rule, the object counter), and the statement that the list is that of PixelBytes.
+-- Its proof is `listed-formula` in proofs/PixelBytes.
 use Prim.Native.Nat.{ℕ, zero, suc, _%_}
-use mathlib.Core.Bool.{Bool, false, _&&_, _||_}
+use mathlib.Core.Bool.{Bool, true, false, _&&_, _||_}
 use mathlib.Core.List.{List, [], _++_}
 use mathlib.Core.Path.{_≡_}
 use lib.ListN.{getD}
 use lib.Dec.{eqb}
 use Rattle.word.specs.Choose.{pick}
 use Rattle.word.specs.LittleEndian.{halfAt}
-use Rattle.bus.specs.Registers.{sptOf}
+use Rattle.bus.specs.Registers.{sptOf, drawingOk}
 use Rattle.drawing_pixel.specs.Character.{rowAddressOf}
 use Rattle.drawing_pixel.specs.World.{worldOf, endOf, skippedOf, bgmOf}
 use Rattle.drawing_pixel.specs.inner.BiasedWindow.{columnInBiased, rowInBiased, worldCoversBiased}
 use Rattle.drawing_pixel.specs.inner.BiasedSource.{sourceXBiased, sourceYBiased}
 use Rattle.drawing_pixel.specs.inner.BiasedCell.{sourceCellAddressBiased}
-use Rattle.drawing_pixel.specs.Object.{objectOf, groupCountOf}
+use Rattle.drawing_pixel.specs.Object.{objectOf, objectAfterOf, groupCountOf}
 use Rattle.drawing_pixel.specs.inner.BiasedObject.{objectRowBiased, objectCoversBiased}
 use Rattle.drawing_pixel.specs.Pixel.{drawsObjectsOf, counterOf}
-use Rattle.drawing_laws.specs.PixelBytes.{halfBytesOf, parameterBytesOf, amongOf, pixelBytesOf}
+use Rattle.drawing_laws.specs.PixelBytes.{halfBytesOf, parameterBytesOf, pixelBytesOf}
 
 -- a source pixel's cell (the overplane's where that is used) and the character row that the cell leads to
 unfoldable pub cellBytesBiased : List ℕ → List ℕ → ℕ → ℕ → List ℕ
@@ -46,6 +47,11 @@ worldsBytesBiased vram eye x y zero = []
 worldsBytesBiased vram eye x y (suc n) =
     pick (endOf (worldOf vram n)) []
     (worldBytesBiased vram (worldOf vram n) eye x y ++ worldsBytesBiased vram eye x y n)
+
+-- whether object k is among `count` objects from object j downwards
+unfoldable pub amongOf : ℕ → ℕ → ℕ → Bool
+amongOf zero j k = false
+amongOf (suc count) j k = eqb j k || amongOf count (objectAfterOf j) k
 
 -- whether a world draws object k of group `counter` to the eye, the pixel in the object's square
 unfoldable pub worldDrawsBiased : (vram regs w : List ℕ) (counter eye x y k : ℕ) → Bool
@@ -78,4 +84,6 @@ pixelBytesBiased vram regs eye x y = worldsBytesBiased vram eye x y 32 ++ object
 
 -- the list is that over the integers
 abbrev pub ListedFormula : Type 0
-ListedFormula = (vram regs : List ℕ) (eye x y : ℕ) → pixelBytesBiased vram regs eye x y ≡ pixelBytesOf vram regs eye x y
+ListedFormula =
+    (vram regs : List ℕ) (eye x y : ℕ) → drawingOk regs ≡ true
+    → pixelBytesBiased vram regs eye x y ≡ pixelBytesOf vram regs eye x y
