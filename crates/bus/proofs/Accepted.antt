@@ -3,17 +3,16 @@
 use Prim.Native.Nat.{ℕ}
 use mathlib.Core.Bool.{Bool, true, false}
 use mathlib.Core.List.{List}
-use mathlib.Core.Path.{_≡_, refl, sym, ap, subst, _∙_}
+use mathlib.Core.Path.{_≡_, refl}
 use native.Mathlib.Omega.{arith}
 use borrow.Author.Tests.{eqb-true, eq-eqb}
-use lib.ListN.{length}
 use Rattle.refusal.specs.declared.Refusal.{Refusal}
 use Rattle.refusal.specs.declared.Verdict.{Verdict}
-use Rattle.refusal.specs.declared.Verdict.the-variants.{Accepted, Refused}
+use Rattle.refusal.specs.declared.Verdict.the-variants.{Accepted}
 use Rattle.refusal.specs.declared.Refusal.the-variants.{RomLength, WramLength, VramLength, PakLength, State}
 use Rattle.bus.specs.Refusal.{romOk, wramOk, vramOk, pakOk}
 use Rattle.refusal.specs.Number.{unless}
-use Rattle.bus.specs.Registers.{registersOk}
+use Rattle.bus.specs.TimerLines.{registersOk}
 use Rattle.bus.specs.Memory.{verdictAt, Lengths}
 
 -- a call that was accepted passed its first test and the later ones

@@ -3,13 +3,14 @@ use Prim.Native.Nat.{ℕ, zero, suc, _+_, _-_, _/_, _%_, _<_, _≤_}
 use mathlib.Core.Bool.{true}
 use mathlib.Core.Logic.{_⊎_, inl, inr}
 use mathlib.Core.Path.{_≡_, refl, sym, ap, _∙_}
+use native.Mathlib.Nat.{mod-le, mod-lt}
 use native.Mathlib.Omega.{arith}
 use lib.ListN.{length}
 use Rattle.word.specs.LittleEndian.{littleEndian}
 use Rattle.bus.specs.Place.{placeOf, regionOf}
 use Rattle.bus.specs.Memory.{Memory, Reads, byteOf, loadOf, bytesFrom, putByte, putRegister, putHalfword, putFrom, storeOf, alignedOf, sizeOk}
 use Rattle.bus.proofs.Places.{place-vip, region-step}
-use Rattle.bus.proofs.Sizes.{size-cases}
+use Rattle.bus.proofs.Sizes.{size-cases, size-range, in-word}
 
 twice-case : (size a : ℕ) → (size ≡ 1) ⊎ ((size ≡ 2) ⊎ (size ≡ 4)) → alignedOf size (alignedOf size a) ≡ alignedOf size a
 twice-case size a (inl e) = rw e (omega arith)
@@ -36,6 +37,14 @@ module _ (size a : ℕ) (ok : sizeOk size ≡ true) where
   pub aligned-store : (m : Memory) (v : ℕ) → storeOf m size (alignedOf size a) v ≡ storeOf m size a v
   unfolding storeOf
   aligned-store m v = rw twice
+
+-- and in the address's region
+pub region-aligned : (size a : ℕ) → sizeOk size ≡ true → regionOf (alignedOf size a) ≡ regionOf a
+region-aligned size a ok =
+    let near = in-word size a ok in
+    let some = size-range size ok .0 in
+    let e : a - a % size + a % size ≡ a = omega (arith, mod-le a size) in
+    sym (rw e at (region-step (alignedOf size a) (a % size) (omega (arith, near, mod-lt a some))))
 
 low-case : (size s : ℕ) → s % size ≡ 0 → (size ≡ 1) ⊎ ((size ≡ 2) ⊎ (size ≡ 4)) → s % 524288 % size ≡ 0
 low-case size s z (inl e) = rw e (omega arith)

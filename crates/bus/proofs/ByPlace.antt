@@ -8,12 +8,13 @@ use native.Mathlib.Omega.{arith}
 use lib.ListN.{length}
 use types.Run.{OneOf, miss}
 use denote.Enum.Declared.{tagOf}
+use Rattle.word.specs.LittleEndian.{putBytes}
 use Rattle.bus_timer.specs.Ports.{portByteOf, portWrittenOf}
 use Rattle.bus.proofs.Place.{the-type}
-use Rattle.bus.specs.Registers.{hardwareIn, withHardware}
-use Rattle.bus.specs.Place.{wramAt, vramAt, romAt, regionOf}
+use Rattle.bus.specs.TimerLines.{hardwareIn, withHardware}
+use Rattle.bus.specs.Place.{regionOf}
 use Rattle.bus.specs.Refusal.{romOk, vramBytes}
-use Rattle.bus.specs.Memory.{Memory, Reads, storeOf, withWram, withVram, withRegs, alignedOf, sizeOk, putBytes}
+use Rattle.bus.specs.Memory.{Memory, Reads, storeOf, withWram, withVram, withRegs, alignedOf, sizeOk}
 use Rattle.bus.specs.inner.Numbers.{numberAt}
 use Rattle.bus.specs.inner.Finds.{Stores}
 use Rattle.bus.specs.inner.LeadsTo.{LeadsTo, Between, Outside, OutsideRam}
@@ -21,10 +22,11 @@ use Rattle.bus.specs.declared.Place.{Place}
 use Rattle.bus.specs.declared.Place.the-variants.{Wram, Vram, Rom, Pak, Register, Port, Nothing}
 use Rattle.bus.proofs.Power.{rom-power, power-room}
 use Rattle.bus.proofs.Places.{region-step}
-use Rattle.bus.proofs.Sizes.{in-word, size-range, size-power}
+use Rattle.bus.proofs.Sizes.{in-word, size-range}
+use Rattle.bus.proofs.Numbers.{byte-power, byte-fits}
 use Rattle.bus.proofs.Aligned.{multiple, low-multiple, aligned-reads, aligned-store, vip-reads, vip-stored}
 use Rattle.bus.proofs.Accesses.{Quiet, Inert, nothing-read, nothing-stored}
-use Rattle.bus.proofs.PortAccess.{port-number, port-stored}
+use Rattle.bus.proofs.PortAccess.{port-byte, port-store, port-load, port-stores}
 use Rattle.bus.proofs.Spans.{wram-span, vram-span, rom-span, wram-number, vram-number, rom-number, wram-stored, vram-stored}
 
 -- what the code knows of the place that its own address led to
@@ -32,9 +34,6 @@ pub led : (s t : ℕ) (p q : Place) → s ≡ t → p ≡ q → LeadsTo s p → 
 led s t p q e f l = subst (λ (x : ℕ). LeadsTo x q) e (subst (LeadsTo s) f l)
 
 module _ (size a : ℕ) (ok : sizeOk size ≡ true) where
-  start : ℕ
-  start = alignedOf size a
-
   near : alignedOf size a % 4 + size ≤ 4
   near = in-word size a ok
 
@@ -85,7 +84,10 @@ module _ (size a : ℕ) (ok : sizeOk size ≡ true) where
 
     pub port-reads-at : (o r : ℕ) → LeadsTo (alignedOf size a) (Port o) → r ≡ portByteOf (hardwareIn (m .regs)) o → r < 256 → Reads m size a r
     port-reads-at o r (here, e) f small =
-        aligned-reads size a ok m r (port-number m size (alignedOf size a) r ok (multiple size a ok) here (rw e at f) small)
+        record {
+          means = (rw e at f) ∙ sym (port-load m size a ok here ∙ port-byte m (alignedOf size a) here);
+          fits = byte-fits size r (size-range size ok .0) small;
+        }
 
     pub pak-reads : (x r : ℕ) → LeadsTo (alignedOf size a) (Pak x) → Reads m size x r → Reads m size a r
     pak-reads x r (here, e) p = aligned-reads size a ok m r (rw e at p)
@@ -106,7 +108,7 @@ module _ (size a : ℕ) (ok : sizeOk size ≡ true) where
     pub port-puts : (o x : ℕ) → LeadsTo (alignedOf size a) (Port o)
         → withRegs m (withHardware (m .regs) (portWrittenOf (hardwareIn (m .regs)) o (x % 256))) ≡ storeOf m size a x
     port-puts o x (here, e) =
-        rw e (sym (port-stored m size (alignedOf size a) x ok (multiple size a ok) here)) ∙ aligned-store size a ok m x
+        rw e (sym (port-stores m size a ok here x ∙ port-store m (alignedOf size a) here x))
 
 -- each byte of an access stands in the region of its aligned address
 within : (size a : ℕ) → sizeOk size ≡ true → (j : ℕ) → j < size → regionOf (alignedOf size a + j) ≡ regionOf (alignedOf size a)
@@ -150,7 +152,7 @@ module _ (m : Memory) (size a : ℕ) (ok : sizeOk size ≡ true) where
   quiet-reads (Port x) l o h = absurd (miss (0 ∷ 1 ∷ 2 ∷ 6 ∷ []) 5 tt h)
   quiet-reads Nothing q o h =
       let all : Quiet (regionOf (alignedOf size a)) = (q .no-wram, (q .no-rom, (q .no-vip, (q .no-pak, q .no-port)))) in
-      record { means = sym (nothing-read m size a (λ j less. rw (within size a ok j less) all)); fits = size-power size ok }
+      record { means = sym (nothing-read m size a (λ j less. rw (within size a ok j less) all)); fits = byte-power size }
 
   pub quiet-puts : (v : ℕ) (p : Place) → LeadsTo (alignedOf size a) p → OutsideRam (alignedOf size a) → OneOf (0 ∷ 1 ∷ 2 ∷ 6 ∷ []) (tagOf the-type p)
       → m ≡ storeOf m size a v

@@ -11,8 +11,9 @@ use Rattle.word.specs.Choose.{pick}
 use Rattle.bus_timer.specs.Ports.{hardwareOk, controlBitsOf}
 use Rattle.bus_timer.proofs.Accepting.{Fits}
 use Rattle.bus_timer.specs.declared.TimerLines.{TimerLines}
-use Rattle.bus.specs.Registers.{withinFrom, drawingOk, deviceLength, linesPlace, registersFrom, drawingIn}
-use Rattle.bus.specs.Registers.{hardwareIn, hardwareHalfwordsOf, setFrom, withHardware, deviceOf, registersOk}
+use Rattle.bus.specs.Registers.{withinFrom, drawingOk, registersFrom, drawingIn}
+use Rattle.bus.specs.TimerLines.{deviceLength, linesPlace}
+use Rattle.bus.specs.TimerLines.{hardwareIn, hardwareHalfwordsOf, setFrom, withHardware, deviceOf, registersOk}
 
 -- the registers from k on, one by one
 from-tail : (x : ℕ) (d : List ℕ) (k n : ℕ) → registersFrom (x ∷ d) (suc k) n ≡ registersFrom d k n

@@ -1,17 +1,15 @@
 -- A place of a drawing register is that of one of the thirteen. Assumes nothing.
-use Prim.Native.Nat.{ℕ, zero, suc, _+_, _-_, _*_, _/_, _%_, _^_, _<_, _≤_}
-use mathlib.Core.Bool.{Bool, true, false}
+use Prim.Native.Nat.{ℕ, zero, suc, _-_, _%_, _^_, _<_}
 use mathlib.Core.List.{List, [], _∷_}
-use mathlib.Core.Path.{_≡_, refl, sym}
 use borrow.Author.Tests.{ltb-true}
 use lib.Dec.{ltb, eqb}
 use lib.ListN.{getD}
-use Rattle.word.specs.Choose.{pick, member, indexOf}
+use Rattle.word.specs.Choose.{member, indexOf}
 use Rattle.bus_timer.specs.Ports.{hardwareOffsetOf}
-use Rattle.bus_timer.proofs.Choices.{pick-each, pick-cases}
+use Rattle.word.proofs.Choices.{pick-each, pick-cases}
 use Rattle.bus.specs.Registers.{drawingAddresses, silentAddresses, versionAddress}
-use Rattle.bus.specs.Place.{Place, vramAt, wramAt, pakAt, romAt, drawingAt, versionAt, silent, unlisted}
-use Rattle.bus.specs.Place.{unmapped, hardwareAt, soundUnit, nothing, expansion, mirrorOf, vipPlace}
+use Rattle.bus.specs.Place.{Place, vramAt, wramAt, pakAt, romAt, drawingAt, versionAt, silent}
+use Rattle.bus.specs.Place.{unmapped, hardwareAt, mirrorOf, vipPlace}
 use Rattle.bus.specs.Place.{registerPlace, regionOf, placeOf}
 
 abbrev pub Proper : Place → Type 0
@@ -23,11 +21,7 @@ Proper (romAt i) = Unit {0}
 Proper (versionAt b) = Unit {0}
 Proper (hardwareAt o) = Unit {0}
 Proper silent = Unit {0}
-Proper unlisted = Unit {0}
 Proper unmapped = Unit {0}
-Proper soundUnit = Unit {0}
-Proper nothing = Unit {0}
-Proper expansion = Unit {0}
 
 register-proper : (v : ℕ) → Proper (registerPlace v)
 unfolding registerPlace
@@ -36,7 +30,7 @@ register-proper v =
     let k = indexOf h drawingAddresses in
     pick-cases Proper (ltb k 13) (drawingAt k (v % 2)) _ (λ e. ltb-true k 13 e)
     (λ _. pick-each Proper (eqb h versionAddress) (versionAt (v % 2)) _ tt
-    (pick-each Proper (member h silentAddresses) silent unlisted tt tt))
+    (pick-each Proper (member h silentAddresses) silent unmapped tt tt))
 
 vip-proper : (v : ℕ) → Proper (vipPlace v)
 unfolding vipPlace
@@ -62,12 +56,12 @@ place-proper romLength pakLength a =
     let b = a % 2 ^ 27 in
     each-entry Proper
     (vipPlace (b % 2 ^ 19)
-    ∷ soundUnit
+    ∷ silent
     ∷ hardwareAt (hardwareOffsetOf a)
-    ∷ nothing
-    ∷ expansion
+    ∷ silent
+    ∷ silent
     ∷ wramAt (b % 65536)
     ∷ pakAt (b % pakLength)
     ∷ romAt (b % romLength)
     ∷ [])
-    nothing tt (vip-proper (b % 2 ^ 19), (tt, (tt, (tt, (tt, (tt, (tt, (tt, tt)))))))) (regionOf a)
+    silent tt (vip-proper (b % 2 ^ 19), (tt, (tt, (tt, (tt, (tt, (tt, (tt, tt)))))))) (regionOf a)

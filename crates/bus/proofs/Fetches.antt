@@ -1,41 +1,29 @@
 -- Code in ROM or WRAM: the halfwords that a step fetches at an index are those of that memory. What is needed of a
 -- length follows from a test that each of them passes.
-use Prim.Native.Nat.{ℕ, zero, suc, _+_, _-_, _*_, _/_, _%_, _^_, _<_, _≤_}
-use mathlib.Core.Bool.{Bool, true, false, true≢false, false≢true}
-use mathlib.Core.List.{List, [], _∷_}
+use Prim.Native.Nat.{ℕ, _+_, _-_, _*_, _/_, _%_, _^_, _<_, _≤_}
+use mathlib.Core.Bool.{Bool, true, false, true≢false}
 use mathlib.Core.Path.{_≡_, refl, sym, ap, subst, _∙_}
-use native.Mathlib.Decide.{ℕ-discrete}
 use native.Mathlib.Nat.{mod-eq-of-lt, mod-le, mod-lt, add-zero, mul-assoc, mul-comm, div-add-mod', div-div-eq-div-mul}
 use native.Mathlib.Omega.{arith}
-use borrow.Author.Tests.{ne-eqb, eqb-true, leb-true}
+use borrow.Author.Tests.{eqb-true, leb-true}
 use lib.Arith.{digits-div, digits-mod}
 use lib.Dec.{eqb, leb}
 use lib.ListN.{length}
-use Rattle.word.specs.Choose.{pick, member}
+use Rattle.word.specs.Choose.{pick}
 use Rattle.word.specs.LittleEndian.{halfAt}
-use Rattle.bus.specs.Place.{romAt, wramAt, regionOf}
-use Rattle.bus.specs.Refusal.{romLengths, romOk}
+use Rattle.bus.specs.Place.{regionOf}
+use Rattle.bus.specs.Refusal.{powersFrom, romOk}
 use Rattle.bus.specs.Memory.{Memory, loadOf}
-use Rattle.bus.proofs.OneOf.{every}
-use Rattle.bus.proofs.Places.{region-code}
-use Rattle.bus.proofs.Spans.{span-half, rom-span-half, wram-span-half}
+use Rattle.word.proofs.Choices.{pick-both}
+use Rattle.word.proofs.Listed.{member-every}
+use Rattle.bus.proofs.Places.{region-code, region-half-start}
+use Rattle.bus.proofs.Spans.{rom-span, wram-span, rom-number, wram-number}
+use Rattle.bus.proofs.Numbers.{number-half}
 use Rattle.bus.specs.inner.Code.{Stands, Halves}
 
 -- what a length is tested for: it is even and parts 2 ^ 24, and its bounds
 abbrev parts : ℕ → Bool
 parts n = pick (eqb (16777216 % n) 0) (pick (eqb (n % 2) 0) (pick (leb 1024 n) (leb n 16777216) false) false) false
-
-both : (b t : Bool) → pick b t false ≡ true → (b ≡ true) × (t ≡ true)
-both true t h = (refl, h)
-both false t h = absurd (false≢true h)
-
-every-parts : (xs : List ℕ) (n : ℕ) → every parts xs ≡ true → member n xs ≡ true → parts n ≡ true
-every-parts [] n a h = absurd (false≢true h)
-every-parts (x ∷ xs) n a h =
-    elim (ℕ-discrete n x) [
-      | yes e ↦ ap parts e ∙ both (parts x) (every parts xs) a .0
-      | no ne ↦ every-parts xs n (both (parts x) (every parts xs) a .1) (simp (ne-eqb n x ne) at h)
-    ]
 
 sub-part : (a b c : ℕ) → b + c ≡ a → a - c ≡ b
 sub-part a b c e = omega arith
@@ -95,9 +83,9 @@ below a b e h = omega arith
 
 room-of : (n : ℕ) → parts n ≡ true → Room n
 room-of n t =
-    let a = both (eqb (16777216 % n) 0) _ t in
-    let b = both (eqb (n % 2) 0) _ (a .1) in
-    let d = both (leb 1024 n) (leb n 16777216) (b .1) in
+    let a = pick-both (eqb (16777216 % n) 0) _ t in
+    let b = pick-both (eqb (n % 2) 0) _ (a .1) in
+    let d = pick-both (leb 1024 n) (leb n 16777216) (b .1) in
     let least : 1024 ≤ n = leb-true 1024 n (d .0) in
     let pos : 0 < n = omega (arith, least) in
     let part : 16777216 % n ≡ 0 = eqb-true (16777216 % n) 0 (a .0) in
@@ -119,7 +107,7 @@ wram-room = room-of 65536 refl
 
 pub rom-room : (n : ℕ) → romOk n ≡ true → Room n
 unfolding romOk
-rom-room n e = room-of n (every-parts romLengths n refl e)
+rom-room n e = room-of n (member-every parts n (powersFrom 10 15) tt e)
 
 -- the region of an index is that of the start
 same-region : (n base x r : ℕ) → Room n → base % n ≡ 0 → x < n → regionOf base ≡ r → regionOf (base + x) ≡ r
@@ -133,12 +121,12 @@ module _ (m : Memory) (a i : ℕ) (even : a % 2 ≡ 0) where
   half-rom : regionOf a ≡ 7 → romOk (length (m .rom)) ≡ true → a % length (m .rom) ≡ i → loadOf m 2 a ≡ halfAt (m .rom) i
   half-rom here ok e =
       let start : (a - a % 2) % length (m .rom) ≡ i = ap (λ (k : ℕ). k % length (m .rom)) itself ∙ e in
-      span-half m a romAt i (rw start at (rom-span-half m a here ok))
+      rom-number m 2 a i (rw start at (rom-span m (a - a % 2) 2 (omega arith) (region-half-start a ∙ here) ok)) ∙ number-half (m .rom) i
 
   half-wram : regionOf a ≡ 5 → a % 65536 ≡ i → loadOf m 2 a ≡ halfAt (m .wram) i
   half-wram here e =
-      let z : a % 65536 - a % 2 ≡ i = omega arith in
-      span-half m a wramAt i (rw z at (wram-span-half m a here))
+      let start : (a - a % 2) % 65536 ≡ i = ap (λ (k : ℕ). k % 65536) itself ∙ e in
+      wram-number m 2 a i (rw start at (wram-span m (a - a % 2) 2 (omega arith) (region-half-start a ∙ here))) ∙ number-half (m .wram) i
 
 -- the addresses of an index and of the halfword after it
 module _ (n base x : ℕ) (room : Room n) (hb : base < 2 ^ 32) (z : base % n ≡ 0) (h : x + 3 < n) where

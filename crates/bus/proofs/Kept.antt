@@ -14,10 +14,11 @@ use Rattle.refusal.specs.declared.Verdict.the-variants.{Accepted}
 use Rattle.bus_timer.specs.Ports.{hardwareOk, portWrittenOf}
 use Rattle.bus_timer.specs.declared.TimerLines.{TimerLines}
 use Rattle.bus_timer.proofs.Accepting.{ok-fits, fits-ok, write-accepted}
-use Rattle.bus_timer.proofs.Choices.{pick-true}
-use Rattle.bus.specs.Registers.{widthOf, keptOf, withinFrom, drawingOk, hardwareIn, withHardware, registersOk}
-use Rattle.bus.specs.Place.{Place, vramAt, wramAt, pakAt, romAt, drawingAt, versionAt, silent, unlisted}
-use Rattle.bus.specs.Place.{unmapped, hardwareAt, soundUnit, nothing, expansion}
+use Rattle.word.proofs.Choices.{pick-both}
+use Rattle.bus.specs.Registers.{widthOf, keptOf, withinFrom, drawingOk}
+use Rattle.bus.specs.TimerLines.{hardwareIn, withHardware, registersOk}
+use Rattle.bus.specs.Place.{Place, vramAt, wramAt, pakAt, romAt, drawingAt, versionAt, silent}
+use Rattle.bus.specs.Place.{unmapped, hardwareAt}
 use Rattle.bus.specs.Memory.{Memory, Lengths, verdictOf, putPlace, putDrawing, placeIn, putByte, putRegister, putHalfword, putFrom, storeOf}
 use Rattle.bus.proofs.Accepted.{accepted-lengths, accepted-registers, lengths-accepted}
 use Rattle.bus.proofs.Devices.{drawing-ok-same, set-hardware, with-register, with-length, with-fits}
@@ -65,7 +66,7 @@ within-drawing d p = each-within d 0 13 (λ j h. let e : 0 + j ≡ j = omega ari
 -- what an accepted record's registers are: the drawing registers, the lines and the timer
 pub registers-both : (d : List ℕ) → registersOk d ≡ true → (drawingOk d ≡ true) × (hardwareOk (hardwareIn d) ≡ true)
 unfolding registersOk
-registers-both d h = pick-true (drawingOk d) (hardwareOk (hardwareIn d)) h
+registers-both d h = pick-both (drawingOk d) (hardwareOk (hardwareIn d)) h
 
 pub both-registers : (d : List ℕ) → drawingOk d ≡ true → hardwareOk (hardwareIn d) ≡ true → registersOk d ≡ true
 unfolding registersOk
@@ -177,11 +178,7 @@ place-shape m (hardwareAt o) b =
       still-within = written-within (m .regs) o b;
     }
 place-shape m silent b = same m
-place-shape m unlisted b = same m
 place-shape m unmapped b = same m
-place-shape m soundUnit b = same m
-place-shape m nothing b = same m
-place-shape m expansion b = same m
 
 drawing-shape : (m : Memory) (p : Place) (v : ℕ) → Proper p → Shape m (putDrawing m p v)
 drawing-shape m (vramAt i) v less = same m
@@ -200,11 +197,7 @@ drawing-shape m (drawingAt k x) v less =
 drawing-shape m (versionAt x) v less = same m
 drawing-shape m (hardwareAt o) v less = same m
 drawing-shape m silent v less = same m
-drawing-shape m unlisted v less = same m
 drawing-shape m unmapped v less = same m
-drawing-shape m soundUnit v less = same m
-drawing-shape m nothing v less = same m
-drawing-shape m expansion v less = same m
 
 pub byte-shape : (m : Memory) (a v : ℕ) → Shape m (putByte m a v)
 unfolding putByte

@@ -1,4 +1,3 @@
-mod OneOf
 pub mod Devices
 mod Indices
 mod Power
@@ -9,11 +8,12 @@ pub mod Places
 pub mod Halfwords
 pub mod Spans
 mod VipPlaces
+pub mod VramIndex
 mod PakRam
 pub mod PortAccess
 mod Accesses
 mod VipAccess
-mod Aligned
+pub mod Aligned
 mod ByPlace
 pub mod DrawingPlaces
 pub mod Accepted

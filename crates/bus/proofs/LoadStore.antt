@@ -1,24 +1,25 @@
 -- A load after a store: at another place nothing changed, at the same place the stored value is read. Assumes nothing.
-use Prim.Native.Nat.{ℕ, zero, suc, _+_, _-_, _/_, _%_, _^_, _<_}
+use Prim.Native.Nat.{ℕ, zero, suc, _+_, _/_, _%_, _^_, _<_, _≤_}
 use mathlib.Core.Logic.{_≢_}
 use mathlib.Core.Path.{_≡_, refl, ap, _∙_}
 use native.Mathlib.Omega.{arith}
 use lib.ListN.{length}
 use lib.Seq.{getD-set-same, getD-set-other}
-use Rattle.word.proofs.RoundTrip.{half-same, word-same}
-use Rattle.word.specs.LittleEndian.{putHalf, putWord}
+use Rattle.word.specs.LittleEndian.{putBytes}
 use Rattle.bus_timer.specs.Ports.{portByteOf, portWrittenOf}
 use Rattle.bus_timer.specs.declared.TimerLines.{TimerLines}
-use Rattle.bus.specs.Registers.{keptOf, hardwareIn}
-use Rattle.bus.specs.Place.{Place, vramAt, wramAt, pakAt, romAt, drawingAt, versionAt, silent, unlisted}
-use Rattle.bus.specs.Place.{unmapped, hardwareAt, soundUnit, nothing, expansion}
+use Rattle.bus.specs.Registers.{keptOf}
+use Rattle.bus.specs.TimerLines.{hardwareIn}
+use Rattle.bus.specs.Place.{Place, vramAt, wramAt, pakAt, romAt, drawingAt, versionAt, silent}
+use Rattle.bus.specs.Place.{unmapped, hardwareAt}
 use Rattle.bus.specs.Memory.{Memory, byteOf, loadOf, readPlace, placeIn, putPlace, putDrawing, putByte}
 use Rattle.bus.specs.Memory.{putRegister, putHalfword, alignedOf, putFrom, storeOf, withWram, withVram}
 use Rattle.bus.proofs.Devices.{set-hardware, with-register}
 use Rattle.bus.proofs.DrawingPlaces.{Proper, place-proper}
 use Rattle.bus.proofs.Kept.{Shape, byte-shape, register-shape, halfword-shape}
 use Rattle.bus.proofs.Halfwords.{byte-load, byte-store}
-use Rattle.bus.proofs.Spans.{Span, span-half, span-word, half-wram, half-vram, word-wram, word-vram}
+use Rattle.bus.proofs.Numbers.{number-put}
+use Rattle.bus.proofs.Spans.{Span, wram-number, vram-number, wram-stored, vram-stored}
 
 -- what a store to a place may change: its byte, its whole register, or the whole timer
 abbrev pub cellOf : Place → Place
@@ -30,11 +31,23 @@ cellOf (drawingAt k x) = drawingAt k 0
 cellOf (versionAt x) = versionAt x
 cellOf (hardwareAt o) = hardwareAt 0
 cellOf silent = silent
-cellOf unlisted = unlisted
 cellOf unmapped = unmapped
-cellOf soundUnit = soundUnit
-cellOf nothing = nothing
-cellOf expansion = expansion
+
+-- whether a store can change a place
+abbrev pub Taking : Place → Type 0
+Taking (vramAt i) = Unit {0}
+Taking (wramAt i) = Unit {0}
+Taking (pakAt i) = Unit {0}
+Taking (romAt i) = ⊥
+Taking (drawingAt k x) = Unit {0}
+Taking (versionAt x) = ⊥
+Taking (hardwareAt o) = Unit {0}
+Taking silent = ⊥
+Taking unmapped = ⊥
+
+-- a store to p changes nothing at q
+abbrev Beside : Place → Place → Type 0
+Beside q p = Taking p → cellOf q ≢ cellOf p
 
 -- a place of memory that a store changes: one within its memory
 abbrev pub Held : Memory → Place → Type 0
@@ -46,11 +59,7 @@ Held m (drawingAt k x) = ⊥
 Held m (versionAt x) = ⊥
 Held m (hardwareAt o) = ⊥
 Held m silent = ⊥
-Held m unlisted = ⊥
 Held m unmapped = ⊥
-Held m soundUnit = ⊥
-Held m nothing = ⊥
-Held m expansion = ⊥
 
 read-other-vram : (m : Memory) (i b : ℕ) (q : Place) → cellOf q ≢ vramAt i → readPlace (putPlace m (vramAt i) b) q ≡ readPlace m q
 read-other-vram m i b (vramAt j) ne = getD-set-other (m .vram) i j b 0 (λ e. ne (ap vramAt e))
@@ -61,11 +70,7 @@ read-other-vram m i b (drawingAt k x) ne = refl
 read-other-vram m i b (versionAt x) ne = refl
 read-other-vram m i b (hardwareAt o) ne = refl
 read-other-vram m i b silent ne = refl
-read-other-vram m i b unlisted ne = refl
 read-other-vram m i b unmapped ne = refl
-read-other-vram m i b soundUnit ne = refl
-read-other-vram m i b nothing ne = refl
-read-other-vram m i b expansion ne = refl
 
 read-other-wram : (m : Memory) (i b : ℕ) (q : Place) → cellOf q ≢ wramAt i → readPlace (putPlace m (wramAt i) b) q ≡ readPlace m q
 read-other-wram m i b (vramAt j) ne = refl
@@ -76,11 +81,7 @@ read-other-wram m i b (drawingAt k x) ne = refl
 read-other-wram m i b (versionAt x) ne = refl
 read-other-wram m i b (hardwareAt o) ne = refl
 read-other-wram m i b silent ne = refl
-read-other-wram m i b unlisted ne = refl
 read-other-wram m i b unmapped ne = refl
-read-other-wram m i b soundUnit ne = refl
-read-other-wram m i b nothing ne = refl
-read-other-wram m i b expansion ne = refl
 
 read-other-pak : (m : Memory) (i b : ℕ) (q : Place) → cellOf q ≢ pakAt i → readPlace (putPlace m (pakAt i) b) q ≡ readPlace m q
 read-other-pak m i b (vramAt j) ne = refl
@@ -91,11 +92,7 @@ read-other-pak m i b (drawingAt k x) ne = refl
 read-other-pak m i b (versionAt x) ne = refl
 read-other-pak m i b (hardwareAt o) ne = refl
 read-other-pak m i b silent ne = refl
-read-other-pak m i b unlisted ne = refl
 read-other-pak m i b unmapped ne = refl
-read-other-pak m i b soundUnit ne = refl
-read-other-pak m i b nothing ne = refl
-read-other-pak m i b expansion ne = refl
 
 -- a byte written to the timer leaves what is not the timer's
 read-other-hardware : (m : Memory) (o b : ℕ) (q : Place) → cellOf q ≢ hardwareAt 0 → Proper q
@@ -109,27 +106,19 @@ read-other-hardware m o b (drawingAt k x) ne less =
 read-other-hardware m o b (versionAt x) ne less = refl
 read-other-hardware m o b (hardwareAt p) ne less = absurd (ne refl)
 read-other-hardware m o b silent ne less = refl
-read-other-hardware m o b unlisted ne less = refl
 read-other-hardware m o b unmapped ne less = refl
-read-other-hardware m o b soundUnit ne less = refl
-read-other-hardware m o b nothing ne less = refl
-read-other-hardware m o b expansion ne less = refl
 
 -- a byte put elsewhere
-read-other : (m : Memory) (p q : Place) (b : ℕ) → Proper q → cellOf q ≢ cellOf p → readPlace (putPlace m p b) q ≡ readPlace m q
-read-other m (vramAt i) q b less ne = read-other-vram m i b q ne
-read-other m (wramAt i) q b less ne = read-other-wram m i b q ne
-read-other m (pakAt i) q b less ne = read-other-pak m i b q ne
+read-other : (m : Memory) (p q : Place) (b : ℕ) → Proper q → Beside q p → readPlace (putPlace m p b) q ≡ readPlace m q
+read-other m (vramAt i) q b less ne = read-other-vram m i b q (ne tt)
+read-other m (wramAt i) q b less ne = read-other-wram m i b q (ne tt)
+read-other m (pakAt i) q b less ne = read-other-pak m i b q (ne tt)
 read-other m (romAt i) q b less ne = refl
 read-other m (drawingAt k x) q b less ne = refl
 read-other m (versionAt x) q b less ne = refl
-read-other m (hardwareAt o) q b less ne = read-other-hardware m o b q ne less
+read-other m (hardwareAt o) q b less ne = read-other-hardware m o b q (ne tt) less
 read-other m silent q b less ne = refl
-read-other m unlisted q b less ne = refl
 read-other m unmapped q b less ne = refl
-read-other m soundUnit q b less ne = refl
-read-other m nothing q b less ne = refl
-read-other m expansion q b less ne = refl
 
 read-other-register : (m : Memory) (k v : ℕ) (q : Place) → k < 13 → cellOf q ≢ drawingAt k 0 → readPlace (putDrawing m (drawingAt k 0) v) q ≡ readPlace m q
 read-other-register m k v (vramAt j) less ne = refl
@@ -140,27 +129,19 @@ read-other-register m k v (drawingAt j x) less ne = rw (getD-set-other (m .regs)
 read-other-register m k v (versionAt x) less ne = refl
 read-other-register m k v (hardwareAt o) less ne = ap (λ (h : TimerLines). portByteOf h o) (set-hardware (m .regs) k (keptOf k v) less)
 read-other-register m k v silent less ne = refl
-read-other-register m k v unlisted less ne = refl
 read-other-register m k v unmapped less ne = refl
-read-other-register m k v soundUnit less ne = refl
-read-other-register m k v nothing less ne = refl
-read-other-register m k v expansion less ne = refl
 
 -- a register written elsewhere
-drawing-other : (m : Memory) (p q : Place) (v : ℕ) → Proper p → cellOf q ≢ cellOf p → readPlace (putDrawing m p v) q ≡ readPlace m q
+drawing-other : (m : Memory) (p q : Place) (v : ℕ) → Proper p → Beside q p → readPlace (putDrawing m p v) q ≡ readPlace m q
 drawing-other m (vramAt i) q v less ne = refl
 drawing-other m (wramAt i) q v less ne = refl
 drawing-other m (pakAt i) q v less ne = refl
 drawing-other m (romAt i) q v less ne = refl
-drawing-other m (drawingAt k x) q v less ne = read-other-register m k v q less ne
+drawing-other m (drawingAt k x) q v less ne = read-other-register m k v q less (ne tt)
 drawing-other m (versionAt x) q v less ne = refl
 drawing-other m (hardwareAt o) q v less ne = refl
 drawing-other m silent q v less ne = refl
-drawing-other m unlisted q v less ne = refl
 drawing-other m unmapped q v less ne = refl
-drawing-other m soundUnit q v less ne = refl
-drawing-other m nothing q v less ne = refl
-drawing-other m expansion q v less ne = refl
 
 -- a byte put there
 read-same : (m : Memory) (p : Place) (b : ℕ) → Held m p → readPlace (putPlace m p b) p ≡ b
@@ -172,19 +153,15 @@ read-same m (drawingAt k x) b h = absurd h
 read-same m (versionAt x) b h = absurd h
 read-same m (hardwareAt o) b h = absurd h
 read-same m silent b h = absurd h
-read-same m unlisted b h = absurd h
 read-same m unmapped b h = absurd h
-read-same m soundUnit b h = absurd h
-read-same m nothing b h = absurd h
-read-same m expansion b h = absurd h
 
 -- a store moves no address to another place
 shape-place : (m n : Memory) → Shape m n → (a : ℕ) → placeIn n a ≡ placeIn m a
 shape-place m n p a = rw (p .same-rom, p .same-pak)
 
--- two addresses that no store joins
+-- a store to address a changes nothing at address b
 abbrev pub Apart : Memory → ℕ → ℕ → Type 0
-Apart m b a = cellOf (placeIn m b) ≢ cellOf (placeIn m a)
+Apart m b a = Beside (placeIn m b) (placeIn m a)
 
 put-elsewhere : (m : Memory) (a b v : ℕ) → Apart m b a → byteOf (putByte m a v) b ≡ byteOf m b
 unfolding byteOf putByte
@@ -245,11 +222,7 @@ held-plain m n (drawingAt k x) v h = absurd h
 held-plain m n (versionAt x) v h = refl
 held-plain m n (hardwareAt o) v h = refl
 held-plain m n silent v h = refl
-held-plain m n unlisted v h = refl
 held-plain m n unmapped v h = refl
-held-plain m n soundUnit v h = refl
-held-plain m n nothing v h = refl
-held-plain m n expansion v h = refl
 
 -- a byte store is read back where memory holds it
 pub store-byte-same : (m : Memory) (a v : ℕ) → Held m (placeIn m a) → loadOf (storeOf m 1 a v) 1 a ≡ v % 256
@@ -259,20 +232,12 @@ store-byte-same m a v h =
     byte-load (storeOf m 1 a v) a
     ∙ rw (byte-store m a v, e, held-plain m (putByte m a v) (placeIn m a) (v % 65536) h, e) (read-same m (placeIn m a) (v % 256) h)
 
--- halfword and word stores are read back from WRAM and VRAM
-module _ (m : Memory) (a i v : ℕ) where
-  pub store-half-wram : Span m (a - a % 2) wramAt i 2 → i + 1 < length (m .wram) → loadOf (storeOf m 2 a v) 2 a ≡ v % 65536
-  store-half-wram p h =
-      rw (half-wram m a i v p) (span-half (withWram m (putHalf (m .wram) i v)) a wramAt i p ∙ half-same (m .wram) i v h)
+-- a store of any size is read back from WRAM and VRAM
+module _ (m : Memory) (size a i v : ℕ) where
+  pub store-wram-same : Span m (alignedOf size a) wramAt i size → i + size ≤ length (m .wram) → loadOf (storeOf m size a v) size a ≡ v % 256 ^ size
+  store-wram-same p h =
+      rw (wram-stored m size a i v p) (wram-number (withWram m (putBytes size (m .wram) i v)) size a i p ∙ number-put size (m .wram) i v h)
 
-  pub store-half-vram : Span m (a - a % 2) vramAt i 2 → i + 1 < length (m .vram) → loadOf (storeOf m 2 a v) 2 a ≡ v % 65536
-  store-half-vram p h =
-      rw (half-vram m a i v p) (span-half (withVram m (putHalf (m .vram) i v)) a vramAt i p ∙ half-same (m .vram) i v h)
-
-  pub store-word-wram : Span m (a - a % 4) wramAt i 4 → i + 3 < length (m .wram) → loadOf (storeOf m 4 a v) 4 a ≡ v % 4294967296
-  store-word-wram p h =
-      rw (word-wram m a i v p) (span-word (withWram m (putWord (m .wram) i v)) a wramAt i p ∙ word-same (m .wram) i v h)
-
-  pub store-word-vram : Span m (a - a % 4) vramAt i 4 → i + 3 < length (m .vram) → loadOf (storeOf m 4 a v) 4 a ≡ v % 4294967296
-  store-word-vram p h =
-      rw (word-vram m a i v p) (span-word (withVram m (putWord (m .vram) i v)) a vramAt i p ∙ word-same (m .vram) i v h)
+  pub store-vram-same : Span m (alignedOf size a) vramAt i size → i + size ≤ length (m .vram) → loadOf (storeOf m size a v) size a ≡ v % 256 ^ size
+  store-vram-same p h =
+      rw (vram-stored m size a i v p) (vram-number (withVram m (putBytes size (m .vram) i v)) size a i p ∙ number-put size (m .vram) i v h)

@@ -1,12 +1,12 @@
 -- What the byte at a mapped address reads, per region; and the character mirror by character. Assumes nothing.
-use Prim.Native.Nat.{ℕ, zero, suc, _+_, _-_, _*_, _/_, _%_, _^_, _<_, _≤_}
+use Prim.Native.Nat.{ℕ, _+_, _-_, _*_, _/_, _%_, _<_, _≤_}
 use mathlib.Core.Bool.{true}
-use mathlib.Core.Path.{_≡_, refl, sym, ap, subst, _∙_}
+use mathlib.Core.Path.{_≡_, sym, ap, _∙_}
 use native.Mathlib.Omega.{arith}
 use lib.ListN.{length, getD}
 use Rattle.bus.specs.Refusal.{romOk, pakOk}
-use Rattle.bus.specs.Place.{Place, vramAt, wramAt, romAt, mirrorOf, vipPlace, regionOf, placeOf}
-use Rattle.bus.specs.Memory.{Memory, byteOf, readPlace, placeIn}
+use Rattle.bus.specs.Place.{vramAt, mirrorOf, regionOf, placeOf}
+use Rattle.bus.specs.Memory.{Memory, byteOf}
 use Rattle.bus.proofs.Places.{place-wram, place-rom, place-vip}
 use Rattle.bus.proofs.Halfwords.{byte-load}
 use Rattle.bus.proofs.VipPlaces.{vip-low, vip-mirror}

@@ -32,11 +32,6 @@ region-step s j h =
     let e : s - s % 4 + (s % 4 + j) ≡ s + j = omega arith in
     rw e at (region-word s (s % 4 + j) h)
 
-pub region-byte : (a j : ℕ) → j < 1 → regionOf (a - a % 1 + j) ≡ regionOf a
-region-byte a j h =
-    let e : a - a % 1 + j ≡ a = omega arith in
-    rw e
-
 pub region-half-start : (a : ℕ) → regionOf (a - a % 2) ≡ regionOf a
 region-half-start a =
     let e : a - a % 2 + 0 ≡ a - a % 2 = omega arith in
@@ -46,11 +41,6 @@ pub region-word-start : (a : ℕ) → regionOf (a - a % 4) ≡ regionOf a
 region-word-start a =
     let e : a - a % 4 + 0 ≡ a - a % 4 = omega arith in
     rw e at (region-word a 0 (omega arith))
-
-pub region-next : (a : ℕ) → a % 2 ≡ 0 → regionOf (a + 1) ≡ regionOf a
-region-next a even =
-    let e : a - a % 2 + 1 ≡ a + 1 = omega arith in
-    rw e at (region-half a 1 (omega arith))
 
 pub region-bound : (a : ℕ) → regionOf a < 8
 unfolding regionOf

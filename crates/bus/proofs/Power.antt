@@ -1,18 +1,18 @@
 -- The accepted lengths are powers of two: a mask is the remainder, the remainder of an even address leaves room for
 -- the next byte, and 27 bits of an address are enough. Assumes nothing.
 use Prim.Native.Nat.{ℕ, zero, suc, _+_, _-_, _*_, _/_, _%_, _^_, _<_, _≤_}
-use mathlib.Core.Bool.{Bool, true, false, false≢true}
-use mathlib.Core.List.{List, [], _∷_}
-use mathlib.Core.Path.{_≡_, refl, sym, ap, subst, _∙_}
-use native.Mathlib.Nat.{mod-lt, lt-irrefl}
+use mathlib.Core.Bool.{true, false≢true}
+use mathlib.Core.Path.{_≡_, sym, ap, subst, _∙_}
+use native.Mathlib.Nat.{mod-lt}
 use native.Mathlib.Decide.{ℕ-discrete}
 use native.Mathlib.Omega.{arith}
 use borrow.Author.Tests.{ne-eqb}
 use lib.Bits.{bitAnd, and-mask}
 use lib.Pow.{pow-pos, pow-add, mod-mod-pow}
 use lib.Arith.{mod-mul}
-use Rattle.word.specs.Choose.{pick, member}
-use Rattle.bus.specs.Refusal.{romLengths, pakLengths, romOk, pakOk}
+use Rattle.word.proofs.Listed.{member-every}
+use Rattle.word.specs.Choose.{member}
+use Rattle.bus.specs.Refusal.{powersFrom, romOk, pakOk}
 
 -- n is 2 to the power of `above + least`, and at most 2 ^ 27
 pub record Power (least n : ℕ) : Type 0 where
@@ -21,139 +21,36 @@ pub record Power (least n : ℕ) : Type 0 where
   pub is : n ≡ 2 ^ (above + least)
   pub within : spare + (above + least) ≡ 27
 
-abbrev AllOf : (ℕ → Type 0) → List ℕ → Type 0
-AllOf P [] = Unit {0}
-AllOf P (x ∷ xs) = P x × AllOf P xs
+power : (least n : ℕ) → least ≤ n → n ≤ 27 → Power least (2 ^ n)
+power least n low high =
+    let e : n ≡ n - least + least = omega arith in
+    record { above = n - least; spare = 27 - n; is = ap (λ (k : ℕ). 2 ^ k) e; within = omega arith }
 
-at-member : (P : ℕ → Type 0) (n : ℕ) (xs : List ℕ) → AllOf P xs → member n xs ≡ true → P n
-at-member P n [] a h = absurd (false≢true h)
-at-member P n (x ∷ xs) a h =
-    elim (ℕ-discrete n x) [
-      | yes e ↦ subst P (sym e) (a .0)
-      | no ne ↦ at-member P n xs (a .1) (simp (ne-eqb n x ne) at h)
+-- one of the powers from 2 ^ k on
+among : (least n k count : ℕ) → least ≤ k → k + count ≤ 28 → member n (powersFrom k count) ≡ true → Power least n
+among least n k zero low high h = absurd (false≢true h)
+among least n k (suc count) low high h =
+    elim (ℕ-discrete n (2 ^ k)) [
+      | yes e ↦ subst (Power least) (sym e) (power least k low (omega arith))
+      | no ne ↦ among least n (suc k) count (omega arith) (omega arith) (simp (ne-eqb n (2 ^ k) ne) at h)
     ]
-
-power : (least above spare : ℕ) → spare + (above + least) ≡ 27 → Power least (2 ^ (above + least))
-power least above spare e = record { above = above; spare = spare; is = refl; within = e }
-
-rom-powers : AllOf (Power 2) romLengths
-rom-powers = (
-  power 2 8 17 refl,
-  (
-    power 2 9 16 refl,
-    (
-      power 2 10 15 refl,
-      (
-        power 2 11 14 refl,
-        (
-          power 2 12 13 refl,
-          (
-            power 2 13 12 refl,
-            (
-              power 2 14 11 refl,
-              (
-                power 2 15 10 refl,
-                (
-                  power 2 16 9 refl,
-                  (
-                    power 2 17 8 refl,
-                    (
-                      power 2 18 7 refl,
-                      (
-                        power 2 19 6 refl,
-                        (
-                          power 2 20 5 refl,
-                          (
-                            power 2 21 4 refl,
-                            (
-                              power 2 22 3 refl,
-                              tt,
-                            ),
-                          ),
-                        ),
-                      ),
-                    ),
-                  ),
-                ),
-              ),
-            ),
-          ),
-        ),
-      ),
-    ),
-  ),
-)
 
 -- a ROM's length
 pub rom-power : (n : ℕ) → romOk n ≡ true → Power 2 n
 unfolding romOk
-rom-power n h = at-member (Power 2) n romLengths rom-powers h
-
--- any power of two is one from 1 on
-lowered : (n : ℕ) → Power 2 n → Power 0 n
-lowered n p =
-    record {
-      above = p .above + 2;
-      spare = p .spare;
-      is = p .is ∙ ap (λ (k : ℕ). 2 ^ k) (omega arith);
-      within = omega arith;
-    }
-
-abbrev Filled : ℕ → Type 0
-Filled n = 0 < n → Power 0 n
-
-lowered-all : (xs : List ℕ) → AllOf (Power 2) xs → AllOf Filled xs
-lowered-all [] a = tt
-lowered-all (x ∷ xs) a = (λ h. lowered x (a .0), lowered-all xs (a .1))
-
-pak-powers : AllOf Filled pakLengths
-pak-powers = (
-  (λ h. absurd (lt-irrefl 0 h)),
-  (
-    (λ h. power 0 0 27 refl),
-    (
-      (λ h. power 0 1 26 refl),
-      (
-        (λ h. power 0 2 25 refl),
-        (
-          (λ h. power 0 3 24 refl),
-          (
-            (λ h. power 0 4 23 refl),
-            (
-              (λ h. power 0 5 22 refl),
-              (
-                (λ h. power 0 6 21 refl),
-                (
-                  (λ h. power 0 7 20 refl),
-                  (
-                    (λ h. power 0 8 19 refl),
-                    (
-                      (λ h. power 0 9 18 refl),
-                      lowered-all romLengths rom-powers,
-                    ),
-                  ),
-                ),
-              ),
-            ),
-          ),
-        ),
-      ),
-    ),
-  ),
-)
+rom-power n h = among 2 n 10 15 (omega arith) (omega arith) h
 
 -- the length of pak RAM that is not empty
 pub pak-power : (n : ℕ) → pakOk n ≡ true → 0 < n → Power 0 n
 unfolding pakOk
-pak-power n h filled = at-member Filled n pakLengths pak-powers h filled
+pak-power n h filled =
+    let ne : n ≡ 0 → ⊥ = λ e. omega arith in
+    among 0 n 0 25 (omega arith) (omega arith) (simp (ne-eqb n 0 ne) at h)
 
 -- a ROM may be as long as some pak RAM
 pub rom-as-pak : (n : ℕ) → romOk n ≡ true → pakOk n ≡ true
 unfolding romOk pakOk
-rom-as-pak n h =
-    at-member (λ (k : ℕ). pakOk k ≡ true) n romLengths
-    (refl, (refl, (refl, (refl, (refl, (refl, (refl, (refl, (refl, (refl, (refl, (refl, (refl, (refl, (refl, tt)))))))))))))))
-    h
+rom-as-pak n h = member-every pakOk n (powersFrom 10 15) tt h
 
 module _ (least n : ℕ) (p : Power least n) where
   pub power-pos : 0 < n

@@ -1,28 +1,25 @@
 -- The sizes of accesses, 1, 2 and 4, and how an access lies in the word of its address. Assumes nothing.
-use Prim.Native.Nat.{ℕ, _+_, _-_, _%_, _^_, _<_, _≤_}
-use mathlib.Core.Bool.{Bool, true, false, false≢true}
+use Prim.Native.Nat.{ℕ, _+_, _-_, _%_, _<_, _≤_}
+use mathlib.Core.Bool.{true, false}
 use mathlib.Core.Logic.{_⊎_, inl, inr}
-use mathlib.Core.Path.{_≡_, refl, sym, _∙_}
+use mathlib.Core.Path.{_≡_, refl}
 use native.Mathlib.Decide.{ℕ-discrete}
 use native.Mathlib.Omega.{arith}
 use borrow.Author.Tests.{eqb-true, ne-eqb}
 use lib.Bits.{bitAnd}
 use lib.Dec.{eqb}
 use Rattle.word.specs.Choose.{pick}
+use Rattle.word.proofs.Choices.{pick-both}
 use Rattle.bus.specs.Refusal.{pakOk}
 use Rattle.bus.specs.Memory.{sizeOk, alignedOf}
 use Rattle.bus.proofs.Power.{pak-power, power-mask}
-
-picked : (b : Bool) → pick b true false ≡ true → b ≡ true
-picked true h = refl
-picked false h = h
 
 module _ (size : ℕ) where
   -- what is left where it is neither 1 nor 2
   pub four-left : sizeOk size ≡ true → (size ≡ 1 → ⊥) → (size ≡ 2 → ⊥) → size ≡ 4
   four-left h a b =
       let t : pick (eqb size 4) true false ≡ true = simp (ne-eqb size 1 a, ne-eqb size 2 b) at h in
-      eqb-true size 4 (picked (eqb size 4) t)
+      eqb-true size 4 (pick-both (eqb size 4) true t .0)
 
   pub size-cases : sizeOk size ≡ true → (size ≡ 1) ⊎ ((size ≡ 2) ⊎ (size ≡ 4))
   size-cases h =
@@ -69,14 +66,6 @@ drop-case size a (inr (inr e)) = rw e (omega arith)
 pub mask-below : (size a : ℕ) → sizeOk size ≡ true → bitAnd a (size - 1) ≤ a
 mask-below size a h = rw (size-mask size a h) (drop-case size a (size-cases size h))
 
-power-case : (size : ℕ) → (size ≡ 1) ⊎ ((size ≡ 2) ⊎ (size ≡ 4)) → 0 < 256 ^ size
-power-case size (inl e) = rw e (omega arith)
-power-case size (inr (inl e)) = rw e (omega arith)
-power-case size (inr (inr e)) = rw e (omega arith)
-
-pub size-power : (size : ℕ) → sizeOk size ≡ true → 0 < 256 ^ size
-size-power size ok = power-case size (size-cases size ok)
-
 -- what a test against 4 tells
 below-case : (size : ℕ) → (size ≡ 1) ⊎ ((size ≡ 2) ⊎ (size ≡ 4)) → size < 4 → (size ≡ 1) ⊎ (size ≡ 2)
 below-case size (inl e) h = inl e
@@ -88,3 +77,18 @@ short-left size ok h = below-case size (size-cases size ok) h
 
 pub long-left : (size : ℕ) → sizeOk size ≡ true → 4 ≤ size → size ≡ 4
 long-left size ok h = four-left size ok (λ e. omega arith) (λ e. omega arith)
+
+-- an address that is a multiple of the size: its access begins there, and stays in its word
+pub aligned-itself : (size a : ℕ) → a % size ≡ 0 → alignedOf size a ≡ a
+aligned-itself size a z = rw z (omega arith)
+
+pub size-near : (size a : ℕ) → sizeOk size ≡ true → a % size ≡ 0 → a % 4 + size ≤ 4
+size-near size a ok z = rw (aligned-itself size a z) at (in-word size a ok)
+
+even-case : (size a : ℕ) → (size ≡ 1) ⊎ ((size ≡ 2) ⊎ (size ≡ 4)) → a % size ≡ 0 → 1 < size → a % 2 ≡ 0
+even-case size a (inl e) z h = absurd (omega arith)
+even-case size a (inr (inl e)) z h = rw e at z
+even-case size a (inr (inr e)) z h = let f : a % 4 ≡ 0 = rw e at z in omega arith
+
+pub size-even : (size a : ℕ) → sizeOk size ≡ true → a % size ≡ 0 → 1 < size → a % 2 ≡ 0
+size-even size a ok z h = even-case size a (size-cases size ok) z h

@@ -1,20 +1,21 @@
 -- Region 0: which of its bytes lie in VRAM, and what its registers read and take. Assumes nothing.
-use Prim.Native.Nat.{ℕ, zero, suc, _+_, _-_, _*_, _/_, _%_, _^_, _<_, _≤_}
+use Prim.Native.Nat.{ℕ, _+_, _-_, _*_, _/_, _%_, _^_, _<_, _≤_}
 use mathlib.Core.Bool.{Bool, true, false, true≢false}
-use mathlib.Core.List.{List, [], _∷_}
-use mathlib.Core.Path.{_≡_, refl, sym, ap, subst, _∙_}
+use mathlib.Core.Path.{_≡_, refl, sym, ap, _∙_}
 use native.Mathlib.Nat.{mod-lt}
-use native.Mathlib.Decide.{ℕ-discrete, decLt}
+use native.Mathlib.Decide.{decLt}
 use native.Mathlib.Omega.{arith}
 use borrow.Author.Tests.{lt-ltb, le-ltb, le-leb, lt-leb, ne-eqb, eq-eqb}
-use lib.Dec.{T, ltb, leb, eqb}
+use lib.Dec.{ltb, leb, eqb}
 use lib.ListN.{length, getD, set}
 use Rattle.word.specs.Choose.{pick, member, indexOf}
 use Rattle.bus.specs.Registers.{drawingAddresses, silentAddresses, versionAddress, keptOf}
-use Rattle.bus.specs.Place.{Place, vramAt, drawingAt, versionAt, silent, unlisted, unmapped, mirrorOf, vipPlace, registerPlace, regionOf, placeOf}
-use Rattle.bus.specs.Memory.{Memory, byteOf, loadOf, readPlace, putPlace, putDrawing, placeIn, putByte, putRegister, withRegs}
-use Rattle.bus.proofs.OneOf.{apart}
-use Rattle.bus.proofs.Places.{place-vip, region-next}
+use Rattle.bus.specs.Place.{Place, vramAt, drawingAt, versionAt, silent, unmapped, mirrorOf, vipPlace, registerPlace, regionOf}
+use Rattle.bus.specs.Memory.{Memory, byteOf, loadOf, readPlace, placeIn, putPlace, putDrawing, putByte, putRegister, withRegs}
+use Rattle.word.proofs.Choices.{pick-each}
+use Rattle.word.proofs.Listed.{index-apart}
+use Rattle.bus.specs.inner.LeadsTo.{Between}
+use Rattle.bus.proofs.Places.{place-vip}
 use Rattle.bus.proofs.Halfwords.{half-load-even}
 
 -- the low part of the VIP is VRAM
@@ -44,18 +45,16 @@ abbrev inRange : ℕ → Bool
 inRange x = pick (leb 385024 x) (ltb x 393216) false
 
 -- outside 0x5E000 to 0x5FFFF no address is a register's
-quiet-read : (m : Memory) (b : Bool) → readPlace m (pick b silent unlisted) ≡ 0
-quiet-read m true = refl
-quiet-read m false = refl
+quiet-read : (m : Memory) (b : Bool) → readPlace m (pick b silent unmapped) ≡ 0
+quiet-read m b = pick-each (λ (p : Place). readPlace m p ≡ 0) b silent unmapped refl refl
 
-quiet-write : (m : Memory) (v : ℕ) (b : Bool) → putDrawing m (pick b silent unlisted) v ≡ m
-quiet-write m v true = refl
-quiet-write m v false = refl
+quiet-write : (m : Memory) (v : ℕ) (b : Bool) → putDrawing m (pick b silent unmapped) v ≡ m
+quiet-write m v b = pick-each (λ (p : Place). putDrawing m p v ≡ m) b silent unmapped refl refl
 
-far : (v : ℕ) → inRange (v - v % 2) ≡ false → registerPlace v ≡ pick (member (v - v % 2) silentAddresses) silent unlisted
+far : (v : ℕ) → inRange (v - v % 2) ≡ false → registerPlace v ≡ pick (member (v - v % 2) silentAddresses) silent unmapped
 unfolding registerPlace
 far v out =
-    rw (apart inRange (v - v % 2) drawingAddresses tt out)
+    rw (index-apart inRange (v - v % 2) drawingAddresses tt out)
     (simp (ne-eqb (v - v % 2) versionAddress (λ e. true≢false (ap inRange (sym e) ∙ out))))
 
 below-range : (v : ℕ) → v < 385024 → inRange (v - v % 2) ≡ false
@@ -78,18 +77,14 @@ quiet-alike v out m x =
     let b = member (v - v % 2) silentAddresses in
     rw (far v out) (sym (quiet-read m b), (sym (quiet-write m x b), refl))
 
-no-byte : (m : Memory) (x k y z : ℕ) (b₁ b₂ b₃ : Bool) → putPlace m (pick b₁ (drawingAt k y) (pick b₂ (versionAt z) (pick b₃ silent unlisted))) x ≡ m
-no-byte m x k y z true b₂ b₃ = refl
-no-byte m x k y z false true b₃ = refl
-no-byte m x k y z false false true = refl
-no-byte m x k y z false false false = refl
-
 register-no-byte : (m : Memory) (v x : ℕ) → putPlace m (registerPlace v) x ≡ m
 unfolding registerPlace
 register-no-byte m v x =
     let h = v - v % 2 in
     let k = indexOf h drawingAddresses in
-    no-byte m x k (v % 2) (v % 2) (ltb k 13) (eqb h versionAddress) (member h silentAddresses)
+    let Dropped : Place → Type 0 = λ p. putPlace m p x ≡ m in
+    pick-each Dropped (ltb k 13) (drawingAt k (v % 2)) _ refl
+    (pick-each Dropped (eqb h versionAddress) (versionAt (v % 2)) _ refl (pick-each Dropped (member h silentAddresses) silent unmapped refl refl))
 
 pub vip-register : (v : ℕ) → 262144 ≤ v → v < 491520 → Alike (vipPlace v) (registerPlace v)
 unfolding vipPlace
@@ -112,7 +107,7 @@ vip-register v low high m x =
 module _ (h : ℕ) (even : h % 2 ≡ 0) where
   pub register-low : registerPlace h ≡ pick (ltb (indexOf h drawingAddresses) 13) (drawingAt
       (indexOf h drawingAddresses) 0) (pick (eqb h versionAddress) (versionAt 0) (pick
-      (member h silentAddresses) silent unlisted))
+      (member h silentAddresses) silent unmapped))
   unfolding registerPlace
   register-low =
       let e : h - h % 2 ≡ h = omega arith in
@@ -120,7 +115,7 @@ module _ (h : ℕ) (even : h % 2 ≡ 0) where
 
   pub register-high : registerPlace (h + 1) ≡ pick (ltb (indexOf h drawingAddresses) 13) (drawingAt
       (indexOf h drawingAddresses) 1) (pick (eqb h versionAddress) (versionAt 1) (pick
-      (member h silentAddresses) silent unlisted))
+      (member h silentAddresses) silent unmapped))
   unfolding registerPlace
   register-high =
       let e : h + 1 - (h + 1) % 2 ≡ h = omega arith in
@@ -141,51 +136,62 @@ module _ (h : ℕ) (even : h % 2 ≡ 0) where
       rw (register-low, register-high)
       (simp (le-ltb _ _ k, ne-eqb h versionAddress n, quiet-read m (member h silentAddresses)))
 
--- a halfword load at an even address between VRAM and the mirror
-pub register-load : (m : Memory) (a : ℕ) → regionOf a ≡ 0 → 262144 ≤ a % 524288 → a % 524288 < 491520 → a % 2 ≡ 0
-    → loadOf m 2 a ≡ readPlace m (registerPlace (a % 524288)) + 256 * readPlace m (registerPlace (a % 524288 + 1))
-unfolding byteOf
-register-load m a here low high even =
-    let near : regionOf (a + 1) ≡ 0 = region-next a even ∙ here in
-    let next : (a + 1) % 524288 ≡ a % 524288 + 1 = omega arith in
-    let high′ : a % 524288 + 1 < 491520 = omega arith in
-    let low′ : 262144 ≤ a % 524288 + 1 = omega arith in
-    half-load-even m a even
-    ∙ rw (
-      place-vip (length (m .rom)) (length (m .pak)) a here,
-      place-vip (length (m .rom)) (length (m .pak)) (a + 1) near,
-      next,
-      vip-register (a % 524288) low high m 0 .0,
-      vip-register (a % 524288 + 1) low′ high′ m 0 .0,
-    )
+read-fits : (m : Memory) (v : ℕ) → readPlace m (registerPlace v) < 256
+unfolding registerPlace
+read-fits m v =
+    let h = v - v % 2 in
+    let k = indexOf h drawingAddresses in
+    let Fits : Place → Type 0 = λ p. readPlace m p < 256 in
+    pick-each Fits (ltb k 13) (drawingAt k (v % 2)) _ (mod-lt (getD (m .regs) k 0 / 256 ^ (v % 2)) (omega arith))
+    (pick-each Fits (eqb h versionAddress) (versionAt (v % 2)) _ (mod-lt (2 / 256 ^ (v % 2)) (omega arith))
+    (pick-each Fits (member h silentAddresses) silent unmapped (omega arith) (omega arith)))
 
--- a register write at an address between VRAM and the mirror
-pub register-store : (m : Memory) (a v : ℕ) → regionOf a ≡ 0 → 262144 ≤ a % 524288 → a % 524288 < 491520 → putRegister m
-    a v ≡ putDrawing m (registerPlace (a % 524288)) (v % 65536)
-unfolding putRegister
-register-store m a v here low high =
-    rw (place-vip (length (m .rom)) (length (m .pak)) a here) (vip-register (a % 524288) low high m (v % 65536) .1 .0)
+-- an address between VRAM and the mirror
+module _ (m : Memory) (v : ℕ) (b : Between v) where
+  between-place : placeIn m v ≡ vipPlace v
+  unfolding regionOf
+  between-place =
+      let here : regionOf v ≡ 0 = omega (arith, b .high) in
+      let low : v % 524288 ≡ v = omega (arith, b .high) in
+      place-vip (length (m .rom)) (length (m .pak)) v here ∙ ap vipPlace low
 
-pub register-byte : (m : Memory) (a v : ℕ) → regionOf a ≡ 0 → 262144 ≤ a % 524288 → a % 524288 < 491520 → putByte m a v ≡ m
-unfolding putByte
-register-byte m a v here low high =
-    rw (place-vip (length (m .rom)) (length (m .pak)) a here) (vip-register (a % 524288) low high m (v % 256) .1 .1)
+  register-read : byteOf m v ≡ readPlace m (registerPlace v)
+  unfolding byteOf
+  register-read = rw between-place (vip-register v (b .low) (b .high) m 0 .0)
+
+  -- its byte is one
+  pub register-fits : byteOf m v < 256
+  register-fits = rw register-read (read-fits m v)
+
+  pub register-store : (x : ℕ) → putRegister m v x ≡ putDrawing m (registerPlace v) (x % 65536)
+  unfolding putRegister
+  register-store x = rw between-place (vip-register v (b .low) (b .high) m (x % 65536) .1 .0)
+
+  pub register-byte : (x : ℕ) → putByte m v x ≡ m
+  unfolding putByte
+  register-byte x = rw between-place (vip-register v (b .low) (b .high) m (x % 256) .1 .1)
+
+-- the halfword after an even address, still there
+pub between-next : (v : ℕ) → Between v → v % 2 ≡ 0 → Between (v + 1)
+between-next v b even = record { low = omega (arith, b .low); high = omega (arith, b .high) }
+
+pub register-load : (m : Memory) (v : ℕ) → Between v → v % 2 ≡ 0
+    → loadOf m 2 v ≡ readPlace m (registerPlace v) + 256 * readPlace m (registerPlace (v + 1))
+register-load m v b even =
+    half-load-even m v even ∙ rw (register-read m v b, register-read m (v + 1) (between-next v b even))
 
 pub write-drawing : (m : Memory) (u x : ℕ) → indexOf (u - u % 2) drawingAddresses < 13
     → putDrawing m (registerPlace u) x ≡ withRegs m (set (m .regs) (indexOf (u - u % 2) drawingAddresses) (keptOf (indexOf (u - u % 2) drawingAddresses) x))
 unfolding registerPlace
 write-drawing m u x k = simp (lt-ltb _ _ k)
 
-no-drawing : (m : Memory) (x z : ℕ) (b₂ b₃ : Bool) → putDrawing m (pick b₂ (versionAt z) (pick b₃ silent unlisted)) x ≡ m
-no-drawing m x z true b₃ = refl
-no-drawing m x z false true = refl
-no-drawing m x z false false = refl
-
 pub write-nothing : (m : Memory) (u x : ℕ) → 13 ≤ indexOf (u - u % 2) drawingAddresses → putDrawing m (registerPlace u) x ≡ m
 unfolding registerPlace
 write-nothing m u x k =
     let h = u - u % 2 in
-    simp (le-ltb _ _ k) (no-drawing m x (u % 2) (eqb h versionAddress) (member h silentAddresses))
+    let Kept : Place → Type 0 = λ p. putDrawing m p x ≡ m in
+    simp (le-ltb _ _ k)
+    (pick-each Kept (eqb h versionAddress) (versionAt (u % 2)) _ refl (pick-each Kept (member h silentAddresses) silent unmapped refl refl))
 
 kept-wide : (v : ℕ) (b₁ b₂ : Bool) → v % 65536 % 2 ^ pick b₁ 10 (pick b₂ 8 2) ≡ v % 2 ^ pick b₁ 10 (pick b₂ 8 2)
 kept-wide v true b₂ = omega arith
@@ -195,23 +201,3 @@ kept-wide v false false = omega arith
 -- a register keeps nothing above bit 15
 pub kept-low : (k v : ℕ) → keptOf k (v % 65536) ≡ keptOf k v
 kept-low k v = kept-wide v (ltb k 4) (ltb k 12)
-
-byte-low : (m : Memory) (k y z : ℕ) (b₁ b₂ b₃ : Bool) → readPlace m (pick b₁ (drawingAt k y) (pick b₂ (versionAt z) (pick b₃ silent unlisted))) < 256
-byte-low m k y z true b₂ b₃ = mod-lt (getD (m .regs) k 0 / 256 ^ y) (omega arith)
-byte-low m k y z false true b₃ = mod-lt (2 / 256 ^ z) (omega arith)
-byte-low m k y z false false true = omega arith
-byte-low m k y z false false false = omega arith
-
-register-fits : (m : Memory) (v : ℕ) → readPlace m (registerPlace v) < 256
-unfolding registerPlace
-register-fits m v =
-    let h = v - v % 2 in
-    let k = indexOf h drawingAddresses in
-    byte-low m k (v % 2) (v % 2) (ltb k 13) (eqb h versionAddress) (member h silentAddresses)
-
--- a byte between VRAM and the mirror is one
-pub between-fits : (m : Memory) (a : ℕ) → regionOf a ≡ 0 → 262144 ≤ a % 524288 → a % 524288 < 491520 → byteOf m a < 256
-unfolding byteOf
-between-fits m a here low high =
-    rw (place-vip (length (m .rom)) (length (m .pak)) a here, vip-register (a % 524288) low high m 0 .0)
-    (register-fits m (a % 524288))

@@ -1,5 +1,6 @@
 pub mod Refusal
 pub mod Registers
+pub mod TimerLines
 pub mod Place
 pub mod Memory
 pub mod Lent

@@ -9,9 +9,10 @@ use lib.ListN.{getD, set, length}
 use Rattle.word.specs.Choose.{member}
 use Rattle.word.specs.LittleEndian.{littleEndian}
 use Rattle.bus_timer.specs.Ports.{portByteOf, portWrittenOf}
-use Rattle.bus.specs.Registers.{version, keptOf, hardwareIn, withHardware, registersOk}
-use Rattle.bus.specs.Place.{Place, vramAt, wramAt, pakAt, romAt, drawingAt, versionAt, silent, unlisted, unmapped}
-use Rattle.bus.specs.Place.{hardwareAt, soundUnit, nothing, expansion, placeOf}
+use Rattle.bus.specs.Registers.{version, keptOf}
+use Rattle.bus.specs.TimerLines.{hardwareIn, withHardware, registersOk}
+use Rattle.bus.specs.Place.{Place, vramAt, wramAt, pakAt, romAt, drawingAt, versionAt, silent, unmapped}
+use Rattle.bus.specs.Place.{hardwareAt, placeOf}
 use Rattle.bus.specs.Refusal.{wramBytes, vramBytes, romOk, wramOk, vramOk, pakOk}
 use Rattle.refusal.specs.Number.{unless}
 use Rattle.refusal.specs.declared.Verdict.{Verdict}
@@ -77,11 +78,7 @@ readPlace m (drawingAt k b) = getD (m .regs) k 0 / 256 ^ b % 256
 readPlace m (versionAt b) = version / 256 ^ b % 256
 readPlace m (hardwareAt o) = portByteOf (hardwareIn (m .regs)) o
 readPlace m silent = 0
-readPlace m unlisted = 0
 readPlace m unmapped = 0
-readPlace m soundUnit = 0
-readPlace m nothing = 0
-readPlace m expansion = 0
 
 -- the byte at an address
 unfoldable pub byteOf : Memory → ℕ → ℕ
@@ -119,11 +116,7 @@ putPlace m (drawingAt k x) b = m
 putPlace m (versionAt x) b = m
 putPlace m (hardwareAt o) b = withRegs m (withHardware (m .regs) (portWrittenOf (hardwareIn (m .regs)) o b))
 putPlace m silent b = m
-putPlace m unlisted b = m
 putPlace m unmapped b = m
-putPlace m soundUnit b = m
-putPlace m nothing b = m
-putPlace m expansion b = m
 
 -- a value written to the drawing register of a place, which keeps its width; nothing elsewhere
 abbrev pub putDrawing : Memory → Place → ℕ → Memory
@@ -135,11 +128,7 @@ putDrawing m (drawingAt k x) v = withRegs m (set (m .regs) k (keptOf k v))
 putDrawing m (versionAt x) v = m
 putDrawing m (hardwareAt o) v = m
 putDrawing m silent v = m
-putDrawing m unlisted v = m
 putDrawing m unmapped v = m
-putDrawing m soundUnit v = m
-putDrawing m nothing v = m
-putDrawing m expansion v = m
 
 -- the low 8 bits of v stored at one address, where there is memory or a register of the timer
 unfoldable pub putByte : Memory → ℕ → ℕ → Memory
@@ -163,8 +152,3 @@ putFrom m a (suc (suc n)) v = putFrom (putHalfword m a v) (a + 2) n (v / 65536)
 -- what a store of `size` bytes leaves; v is the whole source register
 unfoldable pub storeOf : Memory → ℕ → ℕ → ℕ → Memory
 storeOf m size a v = putFrom m (alignedOf size a) size v
-
--- the low 8n bits of v put into the n bytes of a list from byte i on, lowest byte first
-unfoldable pub putBytes : ℕ → List ℕ → ℕ → ℕ → List ℕ
-putBytes zero xs i v = xs
-putBytes (suc n) xs i v = putBytes n (set xs i (v % 256)) (i + 1) (v / 256)

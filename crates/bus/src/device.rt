@@ -7,7 +7,8 @@ use crate::LINES_PLACE;
 use crate::RELOAD_PLACE;
 use bus_timer::TimerLines;
 ghost use mathlib.Core.Path.{_≡_};
-ghost use Rattle.bus.specs.Registers.{drawingIn, hardwareIn, withHardware, deviceOf};
+ghost use Rattle.bus.specs.Registers.{drawingIn};
+ghost use Rattle.bus.specs.TimerLines.{hardwareIn, withHardware, deviceOf};
 
 // The device registers of the drawing registers, the request lines and the timer.
 pub fn device_of(drawing: DrawingRegisters, hardware: TimerLines) -> Device

@@ -3,7 +3,8 @@ ghost use mathlib.Core.Path.{_≡_};
 ghost use mathlib.Core.Bool.{true};
 ghost use Prim.Native.Nat.{_+_, _^_, _<_, _≤_};
 ghost use lib.ListN.{length};
-ghost use Rattle.bus.specs.Memory.{putBytes, sizeOk};
+ghost use Rattle.word.specs.LittleEndian.{putBytes};
+ghost use Rattle.bus.specs.Memory.{sizeOk};
 ghost use Rattle.bus.specs.inner.Numbers.{numberAt};
 
 // The number of `size` bytes from byte i on.

@@ -8,7 +8,8 @@ use refusal::Verdict;
 ghost use mathlib.Core.Path.{_≡_};
 ghost use Prim.Native.Nat.{_^_};
 ghost use Rattle.bus.specs.Refusal.{romOk, pakOk};
-ghost use Rattle.bus.specs.Registers.{drawingOk, deviceOf, registersOk, widthOf};
+ghost use Rattle.bus.specs.Registers.{drawingOk, widthOf};
+ghost use Rattle.bus.specs.TimerLines.{deviceOf, registersOk};
 ghost use Rattle.bus.specs.Memory.{verdictWhen, verdictAt};
 
 // Whether a ROM may be n bytes long.

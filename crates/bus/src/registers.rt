@@ -7,7 +7,8 @@ ghost use mathlib.Core.List.{List};
 ghost use Prim.Native.Nat.{ℕ, _<_, _+_, _-_, _%_};
 ghost use Rattle.word.specs.Choose.{indexOf};
 ghost use Rattle.bus_timer.specs.Ports.{portByteOf, portWrittenOf};
-ghost use Rattle.bus.specs.Registers.{drawingAddresses, keptOf, hardwareIn, withHardware};
+ghost use Rattle.bus.specs.Registers.{drawingAddresses, keptOf};
+ghost use Rattle.bus.specs.TimerLines.{hardwareIn, withHardware};
 ghost use Rattle.bus.specs.Memory.{memoryOf, Reads, putRegister, storeOf, sizeOk};
 ghost use Rattle.bus.specs.inner.LeadsTo.{Between};
 

@@ -9,7 +9,8 @@ use Rattle.refusal.specs.declared.Refusal.{Refusal}
 use Rattle.refusal.specs.declared.Verdict.{Verdict}
 use Rattle.refusal.specs.declared.Verdict.the-variants.{Accepted, Refused}
 use Rattle.bus_timer.specs.declared.TimerLines.{TimerLines}
-use Rattle.bus.specs.Registers.{deviceLength, drawingIn, hardwareIn, deviceOf}
+use Rattle.bus.specs.Registers.{drawingIn}
+use Rattle.bus.specs.TimerLines.{deviceLength, hardwareIn, deviceOf}
 use Rattle.bus.specs.Memory.{Memory, Lengths, withRegs, verdictAt, verdictOf, Reads, storeOf, alignedOf}
 use Rattle.bus.specs.inner.Finds.{Stores}
 use Rattle.bus.specs.inner.LeadsTo.{OutsideRam}

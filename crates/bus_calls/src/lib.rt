@@ -19,7 +19,7 @@ ghost use Rattle.refusal.specs.declared.Verdict.the-variants.{Accepted};
 ghost use Rattle.bus.specs.Refusal.{vramBytes, pakOk};
 ghost use Rattle.bus.specs.Memory.{memoryOf, verdictOf, storeOf, Lengths, Reads, sizeOk};
 ghost use Rattle.bus.specs.Lent.{enteringWith, leavingWith};
-ghost use Rattle.bus.specs.Registers.{deviceOf};
+ghost use Rattle.bus.specs.TimerLines.{deviceOf};
 ghost use Rattle.bus_calls.specs.Access.{checkedLoadOf, checkedStoreOf};
 
 // What a load read: its value, and bit k of `undefined` set where byte k, counted from the aligned address, is

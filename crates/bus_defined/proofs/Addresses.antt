@@ -12,8 +12,8 @@ use lib.ListN.{length, getD}
 use Rattle.word.specs.Choose.{pick, member, indexOf}
 use Rattle.bus.specs.Registers.{drawingAddresses, silentAddresses, versionAddress}
 use Rattle.bus_timer.specs.Ports.{hardwareOffsetOf}
-use Rattle.bus.specs.Place.{Place, vramAt, wramAt, pakAt, romAt, drawingAt, versionAt, silent, unlisted, unmapped}
-use Rattle.bus.specs.Place.{hardwareAt, soundUnit, nothing, expansion, registerPlace, vipPlace, mirrorOf, regionOf}
+use Rattle.bus.specs.Place.{Place, vramAt, wramAt, pakAt, romAt, drawingAt, versionAt, silent, unmapped}
+use Rattle.bus.specs.Place.{hardwareAt, registerPlace, vipPlace, regionOf}
 use Rattle.bus.specs.Place.{placeOf}
 use Rattle.bus.specs.Memory.{Memory, byteOf, readPlace, placeIn}
 use Rattle.bus.specs.declared.Place.{Place as Found}
@@ -21,9 +21,10 @@ use Rattle.bus.specs.declared.Place.the-variants.{Wram, Vram, Rom, Pak, Registe
 use Rattle.bus.specs.inner.LeadsTo.{LeadsTo, InVram}
 use Rattle.bus.proofs.Led.{NoRegister}
 use Rattle.bus.proofs.Places.{region-code, region-half, place-vip}
-use Rattle.bus_defined.specs.Defined.{definedPlace, definedOf, undefinedOf, registerAddresses}
-use Rattle.bus_defined.specs.Addresses.{Unmapped, Unlisted, UndefinedAt, UndefinedExactly, UndefinedReadsZero, HalfMask}
-use Rattle.bus_defined.proofs.Lists.{member-apart, member-same, member-append, index-member}
+use Rattle.bus_defined.specs.Defined.{definedPlace, definedOf, registerAddresses}
+use Rattle.bus_defined.specs.Addresses.{Unmapped, Unlisted, UndefinedExactly, UndefinedReadsZero}
+use Rattle.word.proofs.Choices.{pick-head, pick-tail}
+use Rattle.word.proofs.Listed.{member-apart, member-same, member-append, index-member}
 
 -- an address without its bit 0, among the VIP's
 abbrev pub evenOf : ℕ → ℕ
@@ -45,7 +46,7 @@ listed-same h =
     ∙ member-same h (drawingAddresses ++ (versionAddress ∷ silentAddresses)) registerAddresses tt tt)
 
 register-kinds : (k y z : ℕ) (b₁ b₂ b₃ : Bool) → definedPlace (pick b₁ (drawingAt k y) (pick b₂ (versionAt z)
-    (pick b₃ silent unlisted))) ≡ pick b₁ true (pick b₂ true b₃)
+    (pick b₃ silent unmapped))) ≡ pick b₁ true (pick b₂ true b₃)
 register-kinds k y z true b₂ b₃ = refl
 register-kinds k y z false true b₃ = refl
 register-kinds k y z false false true = refl
@@ -138,30 +139,22 @@ abbrev allDefined : List Place → Bool
 allDefined [] = true
 allDefined (p ∷ ps) = pick (definedPlace p) (allDefined ps) false
 
-head-defined : (b t : Bool) → T (pick b t false) → b ≡ true
-head-defined true t h = refl
-head-defined false t h = absurd h
-
-tail-defined : (b t : Bool) → T (pick b t false) → T t
-tail-defined true t h = h
-tail-defined false t h = absurd h
-
-getD-defined : (ps : List Place) (k : ℕ) → T (allDefined ps) → definedPlace (getD ps k nothing) ≡ true
+getD-defined : (ps : List Place) (k : ℕ) → T (allDefined ps) → definedPlace (getD ps k silent) ≡ true
 getD-defined [] k all = refl
-getD-defined (p ∷ ps) zero all = head-defined (definedPlace p) (allDefined ps) all
-getD-defined (p ∷ ps) (suc k) all = getD-defined ps k (tail-defined (definedPlace p) (allDefined ps) all)
+getD-defined (p ∷ ps) zero all = pick-head (definedPlace p) (allDefined ps) all
+getD-defined (p ∷ ps) (suc k) all = getD-defined ps k (pick-tail (definedPlace p) (allDefined ps) all)
 
-rest-defined : (p : Place) (ps : List Place) (k : ℕ) → T (allDefined ps) → (k ≡ 0 → ⊥) → definedPlace (getD (p ∷ ps) k nothing) ≡ true
+rest-defined : (p : Place) (ps : List Place) (k : ℕ) → T (allDefined ps) → (k ≡ 0 → ⊥) → definedPlace (getD (p ∷ ps) k silent) ≡ true
 rest-defined p ps zero all n = absurd (n refl)
 rest-defined p ps (suc k) all n = getD-defined ps k all
 
 -- the places of regions 1 to 7
 abbrev elsewhere : Memory → ℕ → List Place
 elsewhere m a =
-    soundUnit
+    silent
     ∷ hardwareAt (hardwareOffsetOf a)
-    ∷ nothing
-    ∷ expansion
+    ∷ silent
+    ∷ silent
     ∷ wramAt (a % 2 ^ 27 % 65536)
     ∷ pakAt (a % 2 ^ 27 % length (m .pak))
     ∷ romAt (a % 2 ^ 27 % length (m .rom))
@@ -294,7 +287,6 @@ undefined-exactly m a = (
 -- an undefined place reads 0
 place-reads-zero : (m : Memory) (p : Place) → definedPlace p ≡ false → readPlace m p ≡ 0
 place-reads-zero m unmapped h = refl
-place-reads-zero m unlisted h = refl
 place-reads-zero m (vramAt i) h = absurd (true≢false h)
 place-reads-zero m (wramAt i) h = absurd (true≢false h)
 place-reads-zero m (pakAt i) h = absurd (true≢false h)
@@ -303,9 +295,6 @@ place-reads-zero m (drawingAt k b) h = absurd (true≢false h)
 place-reads-zero m (versionAt b) h = absurd (true≢false h)
 place-reads-zero m (hardwareAt o) h = absurd (true≢false h)
 place-reads-zero m silent h = refl
-place-reads-zero m soundUnit h = refl
-place-reads-zero m nothing h = refl
-place-reads-zero m expansion h = refl
 
 pub undefined-reads-zero : UndefinedReadsZero
 unfolding definedOf byteOf

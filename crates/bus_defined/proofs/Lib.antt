@@ -1,3 +1,2 @@
-mod Lists
 pub mod Addresses
 pub mod Masks

@@ -1,16 +1,16 @@
 -- Accesses in order: one access by what its words say, and in the middle of a list what is left, made from here, is what all of
 -- them leave from the start. Assumes nothing.
 use Prim.Native.Nat.{ℕ, suc, _+_, _-_, _<_, _≤_}
-use mathlib.Core.Bool.{Bool, true, false}
+use mathlib.Core.Bool.{true}
 use mathlib.Core.List.{List}
 use mathlib.Core.Path.{_≡_, refl, sym, _∙_}
 use native.Mathlib.Omega.{arith}
 use borrow.Author.Tests.{eq-eqb, ne-eqb}
 use lib.Dec.{eqb}
-use Rattle.word.specs.Choose.{pick}
-use Rattle.bus.specs.Memory.{Memory, loadOf, storeOf}
+use Rattle.word.proofs.Choices.{pick-each}
+use Rattle.bus.specs.Memory.{Memory, sizeOk, loadOf, storeOf}
 use Rattle.bus_defined.specs.Defined.{undefinedOf}
-use Rattle.bus_list.specs.List.{addressAt, sizeAt, writeAt, valueAt, answeredOf, Made, madeOf, accessOf, accessesOf, sizeOk}
+use Rattle.bus_list.specs.List.{addressAt, sizeAt, writeAt, valueAt, answeredOf, Made, madeOf, accessOf, accessesOf}
 use Rattle.bus_list.proofs.Sizes.{answer-size}
 
 module _ (k : ℕ) (m : Memory) (xs : List ℕ) where
@@ -28,16 +28,13 @@ module _ (k : ℕ) (m : Memory) (xs : List ℕ) where
       simp (ne-eqb (writeAt xs k) 0 (λ o. z (w ∙ o))) (rw (e, p, s, t))
 
 -- an access leaves every size as it is
-picked-size : (b : Bool) (m n : Memory) (xs : List ℕ) (k v u j : ℕ) → sizeAt (pick b (madeOf m (answeredOf xs k v u)) (madeOf n xs) .list) j ≡ sizeAt xs j
-picked-size true m n xs k v u j = answer-size xs k v u j
-picked-size false m n xs k v u j = refl
-
 access-size : (k : ℕ) (m : Memory) (xs : List ℕ) (j : ℕ) → sizeAt (accessOf k m xs .list) j ≡ sizeAt xs j
 unfolding accessOf
 access-size k m xs j =
     let a = addressAt xs k in
     let size = sizeAt xs k in
-    picked-size (eqb (writeAt xs k) 0) m (storeOf m size a (valueAt xs k)) xs k (loadOf m size a) (undefinedOf m size a) j
+    pick-each (λ (t : Made). sizeAt (t .list) j ≡ sizeAt xs j) (eqb (writeAt xs k) 0) _ (madeOf (storeOf m size a (valueAt xs k)) xs)
+    (answer-size xs k (loadOf m size a) (undefinedOf m size a) j) refl
 
 -- the first k of n accesses are made, and every size is right
 pub record Follows (n : ℕ) (m₀ : Memory) (xs₀ : List ℕ) (k : ℕ) (m : Memory) (xs : List ℕ) : Type 0 where

@@ -1,25 +1,19 @@
 -- `one-by-one` and `none-refused`: a store keeps an accepted machine accepted, so that no single call of an accepted list is
 -- refused, and each does what the list's access does. Assumes nothing.
 use Prim.Native.Nat.{ℕ, zero, suc, _+_}
-use mathlib.Core.Bool.{Bool, true, false}
 use mathlib.Core.List.{List}
 use mathlib.Core.Path.{_≡_, refl, sym, _∙_}
 use lib.Dec.{eqb}
-use Rattle.word.specs.Choose.{pick}
+use Rattle.word.proofs.Choices.{pick-each}
 use Rattle.refusal.specs.declared.Verdict.the-variants.{Accepted}
 use Rattle.bus.specs.Memory.{Memory, verdictOf, loadOf, storeOf}
 use Rattle.bus.proofs.Kept.{store-shape, shape-accepted}
 use Rattle.bus_defined.specs.Defined.{undefinedOf}
 use Rattle.bus_calls.specs.Access.{checkedLoadOf, checkedStoreOf}
-use Rattle.bus_list.specs.List.{countOf, addressAt, sizeAt, writeAt, valueAt, answeredOf, madeOf, accessOf, accessesOf}
+use Rattle.bus_list.specs.List.{countOf, addressAt, sizeAt, writeAt, valueAt, answeredOf, Made, madeOf, accessOf, accessesOf}
 use Rattle.bus_list.specs.Calls.{listVerdictOf}
 use Rattle.bus_list.specs.OneByOne.{singleOf, singlesOf, OneByOne, NoneRefused}
 use Rattle.bus_list.proofs.Tested.{bus-passed, list-left}
-
-picked-access : (b : Bool) (m n : Memory) (xs ys : List ℕ) → verdictOf m ≡ Accepted → verdictOf n ≡ Accepted → verdictOf
-    (pick b (madeOf m xs) (madeOf n ys) .memory) ≡ Accepted
-picked-access true m n xs ys p q = p
-picked-access false m n xs ys p q = q
 
 module _ (k : ℕ) (m : Memory) (xs : List ℕ) (h : verdictOf m ≡ Accepted) where
   access-kept : verdictOf (accessOf k m xs .memory) ≡ Accepted
@@ -28,7 +22,9 @@ module _ (k : ℕ) (m : Memory) (xs : List ℕ) (h : verdictOf m ≡ Accepted) w
       let a = addressAt xs k in
       let size = sizeAt xs k in
       let n = storeOf m size a (valueAt xs k) in
-      picked-access (eqb (writeAt xs k) 0) m n (answeredOf xs k (loadOf m size a) (undefinedOf m size a)) xs h
+      pick-each (λ (t : Made). verdictOf (t .memory) ≡ Accepted) (eqb (writeAt xs k) 0)
+      (madeOf m (answeredOf xs k (loadOf m size a) (undefinedOf m size a)))
+      (madeOf n xs) h
       (shape-accepted m n (store-shape m size a (valueAt xs k)) h)
 
   single-access : singleOf k m xs ≡ accessOf k m xs

@@ -1,8 +1,8 @@
 -- The sizes of a list's accesses: what the tests of them tell, and that no answer in the list changes one. Assumes nothing.
 use Prim.Native.Nat.{ℕ, zero, suc, _+_, _-_, _*_, _/_, _%_, _<_, _≤_}
-use mathlib.Core.Bool.{Bool, true, false, not, false≢true}
+use mathlib.Core.Bool.{Bool, true, false, not}
 use mathlib.Core.List.{List}
-use mathlib.Core.Path.{_≡_, refl, _∙_}
+use mathlib.Core.Path.{_≡_, sym, _∙_}
 use native.Mathlib.Decide.{ℕ-discrete}
 use native.Mathlib.Omega.{arith}
 use borrow.Author.Tests.{eqb-true, ne-eqb, le-leb, lt-leb, not-true, not-false}
@@ -11,16 +11,9 @@ use lib.ListN.{length, getD, set}
 use lib.Seq.{getD-set-other}
 use Rattle.word.specs.Choose.{pick}
 use Rattle.word.specs.LittleEndian.{putHalf, putWord}
-use Rattle.bus_list.specs.List.{countOf, sizeAt, answeredOf, sizeOk, sizesOk, listOk}
-
--- what passed a test that is picked
-picked : (b t : Bool) → pick b t false ≡ true → (b ≡ true) × (t ≡ true)
-picked true t h = (refl, h)
-picked false t h = absurd (false≢true h)
-
-kept : (b : Bool) → b ≡ pick b true false
-kept true = refl
-kept false = refl
+use Rattle.bus.specs.Memory.{sizeOk}
+use Rattle.word.proofs.Choices.{pick-both, pick-self}
+use Rattle.bus_list.specs.List.{countOf, sizeAt, answeredOf, sizesOk, listOk}
 
 module _ (size : ℕ) where
   pub one-ok : size ≡ 1 → true ≡ sizeOk size
@@ -30,12 +23,12 @@ module _ (size : ℕ) where
   two-ok e = rw e
 
   pub four-test : (size ≡ 1 → ⊥) → (size ≡ 2 → ⊥) → eqb size 4 ≡ sizeOk size
-  four-test a b = simp (ne-eqb size 1 a, ne-eqb size 2 b) (kept (eqb size 4))
+  four-test a b = simp (ne-eqb size 1 a, ne-eqb size 2 b) (sym (pick-self (eqb size 4)))
 
   pub four-left : sizeOk size ≡ true → (size ≡ 1 → ⊥) → (size ≡ 2 → ⊥) → size ≡ 4
   four-left h a b =
       let t : pick (eqb size 4) true false ≡ true = simp (ne-eqb size 1 a, ne-eqb size 2 b) at h in
-      eqb-true size 4 (picked (eqb size 4) true t .0)
+      eqb-true size 4 (pick-both (eqb size 4) true t .0)
 
 -- one size of those from access k on, and the rest
 pub sizes-start : (n : ℕ) (xs : List ℕ) → sizesOk n 0 xs ≡ sizesOk (n - 0) 0 xs
@@ -68,7 +61,7 @@ sizes-each : (n k : ℕ) (xs : List ℕ) → sizesOk n k xs ≡ true → (j : �
 unfolding sizesOk
 sizes-each zero k xs h j low high = absurd (omega arith)
 sizes-each (suc n) k xs h j low high =
-    let p = picked (sizeOk (sizeAt xs k)) (sizesOk n (k + 1) xs) h in
+    let p = pick-both (sizeOk (sizeAt xs k)) (sizesOk n (k + 1) xs) h in
     elim (ℕ-discrete j k) [
       | yes e ↦ rw e (p .0)
       | no ne ↦ sizes-each n (k + 1) xs (p .1) j (omega arith) (omega arith)
@@ -77,7 +70,7 @@ sizes-each (suc n) k xs h j low high =
 pub list-sizes : (xs : List ℕ) → listOk xs ≡ true → (j : ℕ) → j < length xs / 20 → sizeOk (sizeAt xs j) ≡ true
 unfolding listOk countOf
 list-sizes xs h j less =
-    sizes-each (length xs / 20) 0 xs (picked (leb (length xs / 20) 256) (sizesOk (length xs / 20) 0 xs) h .1) j (omega arith) (omega arith)
+    sizes-each (length xs / 20) 0 xs (pick-both (leb (length xs / 20) 256) (sizesOk (length xs / 20) 0 xs) h .1) j (omega arith) (omega arith)
 
 -- the test of a list, by the number of its accesses
 pub list-few : (xs : List ℕ) → length xs / 20 ≤ 256 → listOk xs ≡ sizesOk (length xs / 20) 0 xs

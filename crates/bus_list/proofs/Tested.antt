@@ -12,7 +12,8 @@ use Rattle.refusal.specs.declared.Refusal.the-variants.{AccessList}
 use Rattle.refusal.specs.declared.Verdict.{Verdict}
 use Rattle.refusal.specs.declared.Verdict.the-variants.{Accepted, Refused}
 use Rattle.bus_timer.specs.declared.TimerLines.{TimerLines}
-use Rattle.bus.specs.Registers.{deviceLength, drawingIn, hardwareIn, deviceOf}
+use Rattle.bus.specs.Registers.{drawingIn}
+use Rattle.bus.specs.TimerLines.{deviceLength, hardwareIn, deviceOf}
 use Rattle.bus.specs.Memory.{Memory, Lengths, withRegs, verdictAt, verdictOf}
 use Rattle.bus.proofs.Devices.{device-whole}
 use Rattle.bus.proofs.Accepted.{unless-passed, accepted-lengths}

@@ -4,12 +4,12 @@
 -- undefined.
 use Prim.Native.Nat.{ℕ, zero, suc, _+_, _*_, _/_}
 use mathlib.Core.Bool.{Bool, true, false}
-use mathlib.Core.List.{List, [], _∷_}
+use mathlib.Core.List.{List}
 use lib.Dec.{eqb, leb}
 use lib.ListN.{length}
-use Rattle.word.specs.Choose.{pick, member}
+use Rattle.word.specs.Choose.{pick}
 use Rattle.word.specs.LittleEndian.{wordAt, putWord}
-use Rattle.bus.specs.Memory.{Memory, loadOf, storeOf}
+use Rattle.bus.specs.Memory.{Memory, sizeOk, loadOf, storeOf}
 use Rattle.bus_defined.specs.Defined.{undefinedOf}
 
 -- how many accesses a list has; bytes that follow the last whole one are left as they are
@@ -56,11 +56,7 @@ accessesOf (suc n) k m xs =
     let t = accessOf k m xs in
     accessesOf n (k + 1) (t .memory) (t .list)
 
--- 1, 2 or 4
-abbrev pub sizeOk : ℕ → Bool
-sizeOk size = member size (1 ∷ 2 ∷ 4 ∷ [])
-
--- whether each of n accesses from access k on has such a size
+-- whether each of n accesses from access k on has a size of 1, 2 or 4
 unfoldable pub sizesOk : ℕ → ℕ → List ℕ → Bool
 sizesOk zero k xs = true
 sizesOk (suc n) k xs = pick (sizeOk (sizeAt xs k)) (sizesOk n (k + 1) xs) false

@@ -16,11 +16,11 @@ ghost use mathlib.Core.Path.{_≡_};
 ghost use mathlib.Core.Bool.{true};
 ghost use Prim.Native.Nat.{_+_, _*_, _<_, _≤_};
 ghost use lib.ListN.{length};
-ghost use Rattle.bus.specs.Registers.{deviceOf};
-ghost use Rattle.bus.specs.Memory.{Lengths, loadOf, storeOf};
+ghost use Rattle.bus.specs.TimerLines.{deviceOf};
+ghost use Rattle.bus.specs.Memory.{Lengths, sizeOk, loadOf, storeOf};
 ghost use Rattle.bus.specs.Lent.{entering, leaving, enteringWith, leavingWith};
 ghost use Rattle.bus_defined.specs.Defined.{undefinedOf};
-ghost use Rattle.bus_list.specs.List.{countOf, sizeAt, answeredOf, madeOf, accessOf, accessesOf, sizeOk};
+ghost use Rattle.bus_list.specs.List.{countOf, sizeAt, answeredOf, madeOf, accessOf, accessesOf};
 ghost use Rattle.bus_list.specs.List.{sizesOk, listOk};
 ghost use Rattle.bus_list.specs.Calls.{listVerdictAt, listVerdictOf, accessListOf};
 

@@ -6,15 +6,16 @@ use mathlib.Core.Logic.{⊎-elim}
 use mathlib.Core.Path.{_≡_, refl, sym, _∙_}
 use native.Mathlib.Omega.{arith}
 use lib.ListN.{length, getD}
+use Rattle.word.specs.LittleEndian.{putBytes}
 use Rattle.refusal.specs.declared.Verdict.{Verdict}
 use Rattle.refusal.specs.declared.Verdict.the-variants.{Accepted, Refused}
-use Rattle.bus_probe.specs.Probe.{inRangesOf, targetOf, probeVerdictOf, putBytes, probedOf}
+use Rattle.bus_probe.specs.Probe.{inRangesOf, targetOf, probeVerdictOf, probedOf}
 use Rattle.refusal.specs.Number.{whenAccepted}
 use Rattle.bus_probe.specs.Kept.{Width, byte, half, word, probeSizeOf, Write, probeWrittenOf, allWrittenOf, ProbeKept, ProbeLength}
 use Rattle.bus_probe.proofs.Ranges.{in-ranges, same-word}
-use Rattle.bus_probe.proofs.Targets.{follows}
+use Rattle.bus.proofs.VramIndex.{follows}
 use Rattle.bus_probe.proofs.Verdicts.{allowed}
-use Rattle.bus_probe.proofs.Bytes.{put-bytes-length, put-bytes-other}
+use Rattle.word.proofs.Bytes.{put-length, put-other}
 
 -- what storing keeps of VRAM where the write is accepted, a call keeps, refused or not
 kept-when : {A : Type 0} (f : List ℕ → A) (v : Verdict) (before after : List ℕ) → (v ≡ Accepted → f after ≡ f before)
@@ -51,7 +52,7 @@ module _ (vram : List ℕ) (w : Write) where
   unfolding target verdict stored probeVerdictOf
   stored-kept a out e =
       let ok = allowed _ _ _ _ _ e .target-ok in
-      put-bytes-other (probeSizeOf (w .width)) vram target (w .value) a
+      put-other (probeSizeOf (w .width)) vram target (w .value) a
       (λ l h.
       true≢false
       (sym (same-word target a (one-word (w .width) (w .address) target a (target-word _ _ _ _ ok) l h) ok) ∙ out))
@@ -63,7 +64,7 @@ module _ (vram : List ℕ) (w : Write) where
   written-length : length (probeWrittenOf vram w) ≡ length vram
   unfolding probedOf target verdict stored
   written-length =
-      kept-when length verdict vram stored (λ _. put-bytes-length (probeSizeOf (w .width)) vram target (w .value))
+      kept-when length verdict vram stored (λ _. put-length (probeSizeOf (w .width)) vram target (w .value))
 
 pub probe-kept : ProbeKept
 unfolding allWrittenOf

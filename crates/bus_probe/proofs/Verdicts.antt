@@ -7,13 +7,16 @@ use mathlib.Core.Path.{_≡_, refl, sym, ap, _∙_}
 use native.Mathlib.Omega.{arith}
 use lib.ListN.{length}
 use borrow.Author.Tests.{eqb-true}
+use Rattle.word.specs.LittleEndian.{putBytes}
 use Rattle.refusal.specs.Number.{unless}
 use Rattle.bus.specs.Refusal.{romOk, wramOk, vramOk, pakOk}
+use Rattle.bus.specs.Place.{placeOf, vramIndexOf}
+use Rattle.bus.specs.Memory.{alignedOf}
 use Rattle.refusal.specs.declared.Refusal.{Refusal}
 use Rattle.refusal.specs.declared.Verdict.{Verdict}
 use Rattle.refusal.specs.declared.Verdict.the-variants.{Accepted, Refused}
 use Rattle.bus.proofs.Accepted.{unless-passed}
-use Rattle.bus_probe.specs.Probe.{inRangesOf, targetOf, probeVerdictAt, putBytes, probeVerdictOf, probedOf}
+use Rattle.bus_probe.specs.Probe.{inRangesOf, targetOf, probeVerdictAt, probeVerdictOf, probedOf}
 use Rattle.bus_probe.proofs.Ranges.{in-ranges}
 
 -- an accepted write: VRAM has its length, and the target is in the ranges
@@ -36,6 +39,11 @@ pub room : (vram target : ℕ) → Allowed vram target → target + 3 < vram
 room vram target h =
     let w = h .vram-ok in
     ⊎-elim (λ c. omega arith) (λ c. omega arith) (in-ranges target (h .target-ok))
+
+-- the target that the code finds for the aligned address
+pub target-found : (size a rom pak s at : ℕ) → s ≡ alignedOf size a → at ≡ vramIndexOf (placeOf rom pak s) → at ≡ targetOf rom pak size a
+unfolding targetOf
+target-found size a rom pak s at e f = f ∙ ap (λ x. vramIndexOf (placeOf rom pak x)) e
 
 module _ (size : ℕ) (rom wram vram pak : List ℕ) (a at : ℕ) (found : Verdict)
     (t : at ≡ targetOf (length rom) (length pak) size a)

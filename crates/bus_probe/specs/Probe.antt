@@ -1,39 +1,23 @@
 -- The probe (paper 02, W9): where it may write, its refusals, and VRAM after a write of 1, 2 or 4 bytes. An address is
 -- one of the bus, aligned and led to its place as the bus does, so that every mirror counts. A refused write changes
 -- nothing.
-use Prim.Native.Nat.{ℕ, zero, suc, _+_, _/_, _%_}
+use Prim.Native.Nat.{ℕ}
 use mathlib.Core.Bool.{Bool, _&&_, _||_}
 use mathlib.Core.List.{List}
-use lib.ListN.{length, set}
+use lib.ListN.{length}
 use lib.Dec.{leb, ltb}
+use Rattle.word.specs.LittleEndian.{putBytes}
 use Rattle.refusal.specs.Number.{unless, whenAccepted}
 use Rattle.bus.specs.Refusal.{romOk, wramOk, vramOk, pakOk}
-use Rattle.bus.specs.Place.{Place, vramAt, wramAt, pakAt, romAt, drawingAt, versionAt, silent, unlisted, unmapped}
-use Rattle.bus.specs.Place.{hardwareAt, soundUnit, nothing, expansion, placeOf}
+use Rattle.bus.specs.Place.{placeOf, vramIndexOf}
 use Rattle.bus.specs.Memory.{alignedOf}
 use Rattle.refusal.specs.declared.Verdict.{Verdict}
-use Rattle.refusal.specs.declared.Verdict.the-variants.{Accepted, Refused}
+use Rattle.refusal.specs.declared.Verdict.the-variants.{Accepted}
 use Rattle.refusal.specs.declared.Refusal.the-variants.{RomLength, WramLength, VramLength, PakLength, ProbeTarget}
 
 -- whether byte i of VRAM is the probe's to write: characters 1,536 to 2,047, or background maps 12 and 13
 unfoldable pub inRangesOf : ℕ → Bool
 inRangesOf i = (leb 0x1E000 i && ltb i 0x20000) || (leb 0x38000 i && ltb i 0x3C000)
-
--- where a place lies in VRAM; 0x40000, past its end, for a place elsewhere
-abbrev pub vramIndexOf : Place → ℕ
-vramIndexOf (vramAt i) = i
-vramIndexOf (wramAt i) = 0x40000
-vramIndexOf (pakAt i) = 0x40000
-vramIndexOf (romAt i) = 0x40000
-vramIndexOf (drawingAt k b) = 0x40000
-vramIndexOf (versionAt b) = 0x40000
-vramIndexOf (hardwareAt o) = 0x40000
-vramIndexOf silent = 0x40000
-vramIndexOf unlisted = 0x40000
-vramIndexOf unmapped = 0x40000
-vramIndexOf soundUnit = 0x40000
-vramIndexOf nothing = 0x40000
-vramIndexOf expansion = 0x40000
 
 -- where a write of `size` bytes at an address begins in VRAM, with ROM and pak RAM of the lengths given
 unfoldable pub targetOf : ℕ → ℕ → ℕ → ℕ → ℕ
@@ -45,11 +29,6 @@ probeVerdictAt rom wram vram pak target =
     unless (romOk rom) RomLength
     (unless (wramOk wram) WramLength
     (unless (vramOk vram) VramLength (unless (pakOk pak) PakLength (unless (inRangesOf target) ProbeTarget Accepted))))
-
--- the low 8n bits of v put into the n bytes from byte i on, lowest byte first
-unfoldable pub putBytes : ℕ → List ℕ → ℕ → ℕ → List ℕ
-putBytes zero xs i v = xs
-putBytes (suc n) xs i v = putBytes n (set xs i (v % 256)) (i + 1) (v / 256)
 
 -- the verdict of a write of `size` bytes: ROM, WRAM, VRAM and pak RAM as lent, and the address
 unfoldable pub probeVerdictOf : ℕ → List ℕ → List ℕ → List ℕ → List ℕ → ℕ → Verdict

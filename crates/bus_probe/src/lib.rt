@@ -1,15 +1,18 @@
 // The probe: the bench's overlay painter writes a byte, a halfword or a word into the VRAM that the program draws
-// from, into characters 1,536 to 2,047 and background maps 12 and 13 alone. The four memories are lent, and VRAM alone
-// can change.
+// from, into characters 1,536 to 2,047 and background maps 12 and 13 alone. The four memories are borrowed, and VRAM
+// alone can change.
 use bus::Place;
 use bus::map;
+use bus::number;
 use bus::refusals;
 use refusal::Refusal;
 use refusal::Verdict;
 ghost use mathlib.Core.Path.{_≡_};
+ghost use mathlib.Core.Bool.{true};
 ghost use Prim.Native.Nat.{ℕ};
-ghost use Rattle.bus.specs.Place.{placeOf};
-ghost use Rattle.bus_probe.specs.Probe.{inRangesOf, vramIndexOf, probeVerdictAt};
+ghost use Rattle.bus.specs.Place.{placeOf, vramIndexOf};
+ghost use Rattle.bus.specs.Memory.{sizeOk};
+ghost use Rattle.bus_probe.specs.Probe.{inRangesOf, probeVerdictAt};
 ghost use Rattle.bus_probe.specs.Lent.{lentVerdictOf, vramOf};
 
 // Where an address leads in VRAM; 0x40000 where it leads elsewhere.
@@ -60,6 +63,31 @@ fn verdict(rom: usize, wram: usize, vram: usize, pak: usize, target: usize) -> V
     Verdict::Accepted
 }
 
+// Writes the `size` low bytes of a value at the aligned address.
+fn probe(
+    rom: &[u8],
+    wram: &[u8],
+    vram: &mut [u8],
+    pak: &[u8],
+    size: u32,
+    address: u32,
+    value: u32,
+) -> Verdict
+    requires { ⌜ sizeOk size ≡ true ⌝ }
+    ensures verdict { λ r. ⌜ r ≡ lentVerdictOf size rom wram vram pak address ⌝ }
+    ensures memory { λ _. ⌜ now (vram .exit) ≡ vramOf size rom wram vram pak address value ⌝ }
+{
+    let at = vram_index(map::aligned(size, address));
+    let verdict = verdict(rom.len(), wram.len(), vram.len(), pak.len(), at);
+    match verdict {
+        Verdict::Accepted => {
+            number::put_number(vram, size, at, value);
+            Verdict::Accepted
+        }
+        Verdict::Refused(refusal) => Verdict::Refused(refusal),
+    }
+}
+
 // Writes the low 8 bits of a value.
 pub fn probe_byte(
     rom: &[u8],
@@ -72,15 +100,7 @@ pub fn probe_byte(
     ensures verdict { λ r. ⌜ r ≡ lentVerdictOf 1 rom wram vram pak address ⌝ }
     ensures memory { λ _. ⌜ now (vram .exit) ≡ vramOf 1 rom wram vram pak address value ⌝ }
 {
-    let at = vram_index(address);
-    let verdict = verdict(rom.len(), wram.len(), vram.len(), pak.len(), at);
-    match verdict {
-        Verdict::Accepted => {
-            vram[at] = (value % 256) as u8;
-            Verdict::Accepted
-        }
-        Verdict::Refused(refusal) => Verdict::Refused(refusal),
-    }
+    probe(rom, wram, vram, pak, 1, address, value)
 }
 
 // Writes the low 16 bits of a value at the halfword that holds the address.
@@ -95,15 +115,7 @@ pub fn probe_half(
     ensures verdict { λ r. ⌜ r ≡ lentVerdictOf 2 rom wram vram pak address ⌝ }
     ensures memory { λ _. ⌜ now (vram .exit) ≡ vramOf 2 rom wram vram pak address value ⌝ }
 {
-    let at = vram_index(address - address % 2);
-    let verdict = verdict(rom.len(), wram.len(), vram.len(), pak.len(), at);
-    match verdict {
-        Verdict::Accepted => {
-            word::put_half(vram, at, value);
-            Verdict::Accepted
-        }
-        Verdict::Refused(refusal) => Verdict::Refused(refusal),
-    }
+    probe(rom, wram, vram, pak, 2, address, value)
 }
 
 // Writes a value at the word that holds the address.
@@ -118,13 +130,5 @@ pub fn probe_word(
     ensures verdict { λ r. ⌜ r ≡ lentVerdictOf 4 rom wram vram pak address ⌝ }
     ensures memory { λ _. ⌜ now (vram .exit) ≡ vramOf 4 rom wram vram pak address value ⌝ }
 {
-    let at = vram_index(address - address % 4);
-    let verdict = verdict(rom.len(), wram.len(), vram.len(), pak.len(), at);
-    match verdict {
-        Verdict::Accepted => {
-            word::put_word(vram, at, value);
-            Verdict::Accepted
-        }
-        Verdict::Refused(refusal) => Verdict::Refused(refusal),
-    }
+    probe(rom, wram, vram, pak, 4, address, value)
 }

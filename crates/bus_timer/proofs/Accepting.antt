@@ -1,21 +1,20 @@
 -- The statements of specs/Accepted: lines below 32 and control bits within 0x1B stay so when bit 1 is set or cleared, and
 -- what TCR keeps of a byte has no other bit. Assumes nothing.
 use Prim.Native.Nat.{ℕ, _+_, _-_, _*_, _/_, _%_, _^_, _<_}
-use mathlib.Core.Bool.{true, false}
-use mathlib.Core.Path.{_≡_, refl, sym, ap, _∙_}
+use mathlib.Core.Bool.{true}
+use mathlib.Core.Path.{_≡_, refl, sym, _∙_}
 use native.Mathlib.Omega.{arith}
 use borrow.Author.Tests.{lt-ltb, ltb-true, eq-eqb, eqb-true}
 use lib.Arith.{mod-mul}
 use lib.Dec.{eqb, ltb}
 use Rattle.word.specs.Bit.{bitAt, isSet, withoutBit, withBit}
-use Rattle.word.specs.Choose.{pick}
 use Rattle.bus_timer.specs.Record.{withCount}
 use Rattle.bus_timer.specs.Timer.{tEnb, timZInt, tClkSel, zStat, zStatClr, startOf, tickedCountOf, reachedZeroOf, countedOf, tickOf}
 use Rattle.bus_timer.specs.Ports.{tlr, thr, tcr, controlBitsOf, reloadWrittenOf, lowWrittenOf, highWrittenOf}
-use Rattle.bus_timer.specs.Ports.{controlWrittenOf, lineAfterControl, tcrWrittenOf, portWrittenOf, hardwareOk}
-use Rattle.bus_timer.specs.Accepted.{TickAccepted, WriteAccepted, Means, AcceptedMeans, MeansAccepted, Halfwords, TickHalfwords, WriteHalfwords}
+use Rattle.bus_timer.specs.Ports.{controlWrittenOf, tcrWrittenOf, portWrittenOf, hardwareOk}
+use Rattle.bus_timer.specs.Accepted.{TickAccepted, WriteAccepted, AcceptedMeans, MeansAccepted, TickHalfwords, WriteHalfwords}
 use Rattle.bus_timer.specs.declared.TimerLines.{TimerLines}
-use Rattle.bus_timer.proofs.Choices.{pick-each, pick-true}
+use Rattle.word.proofs.Choices.{pick-each, pick-both}
 use Rattle.bus_timer.proofs.Mask.{control-sum}
 use Rattle.bus_timer.proofs.LinesLeft.{tick-each, write-each}
 
@@ -27,7 +26,7 @@ pub record Fits (h : TimerLines) : Type 0 where
 pub ok-fits : (h : TimerLines) → hardwareOk h ≡ true → Fits h
 unfolding hardwareOk
 ok-fits h e =
-    let t = pick-true (ltb (h .lines) 32) (eqb (controlBitsOf (h .control)) (h .control)) e in
+    let t = pick-both (ltb (h .lines) 32) (eqb (controlBitsOf (h .control)) (h .control)) e in
     record { lines = ltb-true _ _ (t .0); control = eqb-true _ _ (t .1) }
 
 pub fits-ok : (h : TimerLines) → Fits h → hardwareOk h ≡ true

@@ -1,5 +1,4 @@
--- `Periods`, `TimerLines` and `Accepting` prove the statements of specs/.
-pub mod Choices
+-- `Periods`, `LinesLeft` and `Accepting` prove the statements of specs/.
 pub mod Mask
 mod Digits
 pub mod Periods

@@ -1,19 +1,18 @@
 -- `tick-lines`, `tick-keeps-line`, `write-lines` and `write-keeps-down`: the statements of specs/Lines. A tick and a write
 -- leave the lines, set bit 1 or clear it. Assumes nothing.
-use Prim.Native.Nat.{ℕ, zero, suc, _+_, _*_, _/_, _%_, _^_, _≤_, _<_}
-use mathlib.Core.Path.{_≡_, refl, sym, ap, _∙_}
+use Prim.Native.Nat.{ℕ, zero, suc, _+_, _/_, _^_, _≤_}
+use mathlib.Core.Path.{_≡_, refl}
 use native.Mathlib.Nat.{div-div-eq-div-mul}
 use native.Mathlib.Omega.{arith}
 use lib.Dec.{eqb}
 use lib.Pow.{pow-add}
 use Rattle.word.specs.Bit.{bitAt, isSet, withoutBit, withBit}
-use Rattle.word.specs.Choose.{pick}
 use Rattle.bus_timer.specs.Record.{withCount}
 use Rattle.bus_timer.specs.Timer.{timerLine, tEnb, timZInt, zStatClr, tickedCountOf, reachedZeroOf, countedOf, tickOf}
 use Rattle.bus_timer.specs.Ports.{tlr, thr, tcr, reloadWrittenOf, lowWrittenOf, highWrittenOf, lineAfterControl, tcrWrittenOf, portWrittenOf}
-use Rattle.bus_timer.specs.Lines.{hardwareLineOf, TickLines, TickKeepsLine, WriteLines, WriteKeepsDown}
+use Rattle.bus_timer.specs.Lines.{TickLines, TickKeepsLine, WriteLines, WriteKeepsDown}
 use Rattle.bus_timer.specs.declared.TimerLines.{TimerLines}
-use Rattle.bus_timer.proofs.Choices.{pick-each}
+use Rattle.word.proofs.Choices.{pick-each}
 use Rattle.bus_timer.proofs.Digits.{set-second, set-first, set-above, clear-second, clear-first, clear-above}
 
 -- numbers that agree but for bit 1

@@ -1,16 +1,15 @@
 -- `period` and `clock-selection`: the statements of specs/Period. By induction on the number of ticks: a tick of an
 -- enabled timer that counts down from n + 2 leaves one that counts down from n + 1, and one from 1 reaches zero.
 -- Assumes nothing.
-use Prim.Native.Nat.{ℕ, zero, suc, _+_, _-_, _*_, _/_, _%_, _<_}
-use mathlib.Core.Bool.{Bool, true, false}
-use mathlib.Core.Path.{_≡_, refl, sym, ap, _∙_}
+use Prim.Native.Nat.{ℕ, zero, suc, _-_, _<_}
+use mathlib.Core.Path.{_≡_, refl, ap, _∙_}
 use native.Mathlib.Omega.{arith}
-use borrow.Author.Tests.{eq-eqb, ne-eqb}
+use borrow.Author.Tests.{eq-eqb}
 use lib.Dec.{eqb, eqb·suc-zero}
 use Rattle.word.specs.Bit.{bitAt, isSet}
-use Rattle.word.specs.Choose.{pick}
+use Rattle.word.proofs.Choices.{pick-map}
 use Rattle.bus_timer.specs.Record.{withCount}
-use Rattle.bus_timer.specs.Timer.{timerLine, tEnb, zStat, timZInt, tClkSel, startOf, tickedCountOf, reachedZeroOf, countedOf, tickOf}
+use Rattle.bus_timer.specs.Timer.{tEnb, zStat, startOf, tickedCountOf, reachedZeroOf, countedOf, tickOf}
 use Rattle.bus_timer.specs.Period.{ticksOf, FirstZero, Period, withClock, ClockSelection}
 use Rattle.bus_timer.specs.declared.TimerLines.{TimerLines}
 use Rattle.bus_timer.proofs.Digits.{set-second, set-first, clock-first, clock-eighth, clock-set}
@@ -104,10 +103,6 @@ period zero h less e on clear = absurd (omega arith)
 period (suc n) h less e on clear = first n h e on clear
 
 -- T-Clk-Sel is none of the bits that a tick reads or sets
-clock-pick : (b : ℕ) (t : Bool) (x y : TimerLines) → pick t (withClock b x) (withClock b y) ≡ withClock b (pick t x y)
-clock-pick b true x y = refl
-clock-pick b false x y = refl
-
 module _ (b : ℕ) (h : TimerLines) (less : b < 2) where
   clock-zero : reachedZeroOf (withClock b h) ≡ withClock b (reachedZeroOf h)
   unfolding reachedZeroOf
@@ -117,13 +112,13 @@ module _ (b : ℕ) (h : TimerLines) (less : b < 2) where
   unfolding countedOf tickedCountOf startOf
   clock-counted =
       rw clock-zero
-      (clock-pick b (eqb (tickedCountOf h) 0) (reachedZeroOf h)
+      (pick-map (withClock b) (eqb (tickedCountOf h) 0) (reachedZeroOf h)
       (withCount h (tickedCountOf h)))
 
   clock-tick : tickOf (withClock b h) ≡ withClock b (tickOf h)
   unfolding tickOf
   clock-tick =
-      rw (clock-counted, clock-first (h .control) b less) (clock-pick b (isSet tEnb (h .control)) (countedOf h) h)
+      rw (clock-counted, clock-first (h .control) b less) (pick-map (withClock b) (isSet tEnb (h .control)) (countedOf h) h)
 
 pub clock-selection : ClockSelection
 clock-selection b h less = clock-tick b h less

@@ -1,6 +1,6 @@
 -- `stored-elsewhere`: the statement of specs/Writing about stores outside region 2. Only a byte put in region 2 reaches the
 -- lines and the timer, and an access does not leave its region. Assumes nothing.
-use Prim.Native.Nat.{ℕ, zero, suc, _+_, _-_, _*_, _/_, _%_, _^_, _<_}
+use Prim.Native.Nat.{ℕ, zero, suc, _+_, _-_, _/_, _%_, _^_}
 use mathlib.Core.List.{[], _∷_}
 use mathlib.Core.Path.{_≡_, refl, sym, _∙_}
 use native.Mathlib.Omega.{arith}
@@ -8,10 +8,10 @@ use lib.Dec.{ltb, eqb}
 use lib.ListN.{length, getD}
 use Rattle.word.specs.Choose.{member, indexOf}
 use Rattle.bus_timer.specs.Ports.{hardwareOffsetOf}
-use Rattle.bus_timer.proofs.Choices.{pick-each}
+use Rattle.word.proofs.Choices.{pick-each}
 use Rattle.bus.specs.Registers.{drawingAddresses, silentAddresses, versionAddress, keptOf}
-use Rattle.bus.specs.Place.{Place, vramAt, wramAt, pakAt, romAt, drawingAt, versionAt, silent, unlisted, unmapped}
-use Rattle.bus.specs.Place.{hardwareAt, soundUnit, nothing, expansion, registerPlace, mirrorOf, vipPlace, regionOf}
+use Rattle.bus.specs.Place.{Place, vramAt, wramAt, pakAt, romAt, drawingAt, versionAt, silent, unmapped}
+use Rattle.bus.specs.Place.{hardwareAt, registerPlace, mirrorOf, vipPlace, regionOf}
 use Rattle.bus.specs.Place.{placeOf}
 use Rattle.bus.specs.Memory.{Memory, putPlace, putDrawing, placeIn, putByte, putRegister, putHalfword, storeOf}
 use Rattle.bus.proofs.Devices.{set-hardware}
@@ -30,11 +30,7 @@ Off (romAt i) = Unit {0}
 Off (drawingAt k b) = Unit {0}
 Off (versionAt b) = Unit {0}
 Off silent = Unit {0}
-Off unlisted = Unit {0}
 Off unmapped = Unit {0}
-Off soundUnit = Unit {0}
-Off nothing = Unit {0}
-Off expansion = Unit {0}
 
 vip-off : (v : ℕ) → Off (vipPlace v)
 unfolding vipPlace registerPlace
@@ -46,7 +42,7 @@ vip-off v =
     (pick-each Off (ltb v 0x60000) (registerPlace v) _
     (pick-each Off (ltb k 13) (drawingAt k (v % 2)) _ tt
     (pick-each Off (eqb h versionAddress) (versionAt (v % 2)) _ tt
-    (pick-each Off (member h silentAddresses) silent unlisted tt tt)))
+    (pick-each Off (member h silentAddresses) silent unmapped tt tt)))
     (pick-each Off (ltb v 0x78000) unmapped (vramAt (mirrorOf (v - 0x78000))) tt tt)))
 
 place-off : (romLength pakLength a : ℕ) → (regionOf a ≡ 2 → ⊥) → Off (placeOf romLength pakLength a)
@@ -56,14 +52,14 @@ place-off romLength pakLength a other = go (regionOf a) other
     go : (r : ℕ) → (r ≡ 2 → ⊥)
         → Off
         (getD (vipPlace (a % 2 ^ 27 % 2 ^ 19)
-        ∷ soundUnit
+        ∷ silent
         ∷ hardwareAt (hardwareOffsetOf a)
-        ∷ nothing
-        ∷ expansion
+        ∷ silent
+        ∷ silent
         ∷ wramAt (a % 2 ^ 27 % 65536)
         ∷ pakAt (a % 2 ^ 27 % pakLength)
         ∷ romAt (a % 2 ^ 27 % romLength)
-        ∷ []) r nothing)
+        ∷ []) r silent)
     go zero n = vip-off (a % 2 ^ 27 % 2 ^ 19)
     go (suc zero) n = tt
     go (suc (suc zero)) n = n refl
@@ -83,11 +79,7 @@ place-timer m (drawingAt k x) b off = refl
 place-timer m (versionAt x) b off = refl
 place-timer m (hardwareAt o) b off = absurd off
 place-timer m silent b off = refl
-place-timer m unlisted b off = refl
 place-timer m unmapped b off = refl
-place-timer m soundUnit b off = refl
-place-timer m nothing b off = refl
-place-timer m expansion b off = refl
 
 drawing-timer : (m : Memory) (p : Place) (v : ℕ) → Proper p → timerIn (putDrawing m p v) ≡ timerIn m
 drawing-timer m (vramAt i) v less = refl
@@ -98,11 +90,7 @@ drawing-timer m (drawingAt k x) v less = set-hardware (m .regs) k (keptOf k v) l
 drawing-timer m (versionAt x) v less = refl
 drawing-timer m (hardwareAt o) v less = refl
 drawing-timer m silent v less = refl
-drawing-timer m unlisted v less = refl
 drawing-timer m unmapped v less = refl
-drawing-timer m soundUnit v less = refl
-drawing-timer m nothing v less = refl
-drawing-timer m expansion v less = refl
 
 -- a drawing register that is written
 pub register-timer : (m : Memory) (a v : ℕ) → timerIn (putRegister m a v) ≡ timerIn m

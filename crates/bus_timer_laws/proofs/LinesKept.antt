@@ -8,8 +8,8 @@ use Rattle.bus_timer.specs.Ports.{portWrittenOf}
 use Rattle.bus_timer.specs.Lines.{hardwareLineOf}
 use Rattle.bus_timer.specs.declared.TimerLines.{TimerLines}
 use Rattle.bus_timer.proofs.LinesLeft.{write-lines, write-keeps-down}
-use Rattle.bus.specs.Registers.{deviceLength}
-use Rattle.bus.specs.Place.{Place, vramAt, wramAt, pakAt, romAt, drawingAt, versionAt, silent, unlisted, unmapped, hardwareAt, soundUnit, nothing, expansion}
+use Rattle.bus.specs.TimerLines.{deviceLength}
+use Rattle.bus.specs.Place.{Place, vramAt, wramAt, pakAt, romAt, drawingAt, versionAt, silent, unmapped, hardwareAt}
 use Rattle.bus.specs.Memory.{Memory, putPlace, placeIn, putByte, putRegister, putHalfword, putFrom, storeOf}
 use Rattle.bus.proofs.Devices.{hardware-with}
 use Rattle.bus.proofs.Kept.{byte-shape, halfword-shape}
@@ -47,11 +47,7 @@ place-lowered m (versionAt x) b l = same (timerIn m)
 place-lowered m (hardwareAt o) b l =
     rw (hardware-with (m .regs) (portWrittenOf (timerIn m) o b) l) (written (timerIn m) o b)
 place-lowered m silent b l = same (timerIn m)
-place-lowered m unlisted b l = same (timerIn m)
 place-lowered m unmapped b l = same (timerIn m)
-place-lowered m soundUnit b l = same (timerIn m)
-place-lowered m nothing b l = same (timerIn m)
-place-lowered m expansion b l = same (timerIn m)
 
 byte-lowered : (m : Memory) (a v : ℕ) → length (m .regs) ≡ deviceLength → Lowered (timerIn m) (timerIn (putByte m a v))
 unfolding putByte

@@ -1,13 +1,13 @@
 -- `tlr-reads`, `thr-reads`, `tcr-reads`, `rest-reads`, `half-reads` and `word-reads`: the statements of specs/Reading.
 -- Assumes nothing.
-use Prim.Native.Nat.{ℕ}
-use mathlib.Core.Path.{_≡_, refl, sym, ap, _∙_}
+use mathlib.Core.Path.{refl, _∙_}
 use borrow.Author.Tests.{ne-eqb}
 use Rattle.bus_timer.specs.Ports.{tlr, thr, tcr, hardwareOffsetOf, portByteOf}
 use Rattle.bus_timer.proofs.Accepting.{ok-fits}
-use Rattle.bus.specs.Registers.{hardwareIn}
+use Rattle.bus.specs.TimerLines.{hardwareIn}
 use Rattle.bus.proofs.Kept.{registers-both}
-use Rattle.bus.proofs.PortAccess.{port-byte, port-half, port-word}
+use Rattle.bus.proofs.Aligned.{region-aligned}
+use Rattle.bus.proofs.PortAccess.{port-byte, port-load}
 use Rattle.bus_timer_laws.specs.Reading.{TlrReads, ThrReads, TcrReads, RestReads, HalfReads, WordReads}
 
 pub tlr-reads : TlrReads
@@ -32,7 +32,7 @@ rest-reads m a here low high control =
     ∙ simp (ne-eqb o tlr (λ e. low (here, e)), ne-eqb o thr (λ e. high (here, e)), ne-eqb o tcr (λ e. control (here, e)))
 
 pub half-reads : HalfReads
-half-reads m a here = port-half m a here
+half-reads m a here = port-load m 2 a refl (region-aligned 2 a refl ∙ here)
 
 pub word-reads : WordReads
-word-reads m a here = port-word m a here
+word-reads m a here = port-load m 4 a refl (region-aligned 4 a refl ∙ here)

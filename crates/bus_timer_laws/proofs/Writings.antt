@@ -1,15 +1,12 @@
 -- `tlr-stores`, `thr-stores`, `tcr-stores`, `rest-stores`, `half-stores`, `word-stores` and `timed-hardware`: the statements
 -- of specs/Writing. Assumes nothing.
-use Prim.Native.Nat.{ℕ, _%_}
-use mathlib.Core.Path.{_≡_, refl, sym, ap, _∙_}
+use mathlib.Core.Path.{refl, _∙_}
 use borrow.Author.Tests.{ne-eqb}
 use Rattle.bus_timer.specs.Ports.{tlr, thr, tcr, hardwareOffsetOf, portWrittenOf}
-use Rattle.bus_timer.specs.declared.TimerLines.{TimerLines}
-use Rattle.bus.specs.Registers.{hardwareIn}
-use Rattle.bus.specs.Memory.{withRegs}
 use Rattle.bus.proofs.Devices.{hardware-with, with-same}
-use Rattle.bus.proofs.PortAccess.{port-store, port-half-store, port-word-store}
-use Rattle.bus_timer_laws.specs.Writing.{timed, TlrStores, ThrStores, TcrStores, RestStores, HalfStores, WordStores, TimedHardware}
+use Rattle.bus.proofs.Aligned.{region-aligned}
+use Rattle.bus.proofs.PortAccess.{port-store, port-stores}
+use Rattle.bus_timer_laws.specs.Writing.{TlrStores, ThrStores, TcrStores, RestStores, HalfStores, WordStores, TimedHardware}
 
 pub tlr-stores : TlrStores
 unfolding portWrittenOf
@@ -31,10 +28,10 @@ rest-stores m a v here low high control =
     ∙ simp (ne-eqb o tlr (λ e. low (here, e)), ne-eqb o thr (λ e. high (here, e)), ne-eqb o tcr (λ e. control (here, e)), with-same (m .regs))
 
 pub half-stores : HalfStores
-half-stores m a v here = port-half-store m a v here
+half-stores m a v here = port-stores m 2 a refl (region-aligned 2 a refl ∙ here) v
 
 pub word-stores : WordStores
-word-stores m a v here = port-word-store m a v here
+word-stores m a v here = port-stores m 4 a refl (region-aligned 4 a refl ∙ here) v
 
 pub timed-hardware : TimedHardware
 timed-hardware m h l = hardware-with (m .regs) h l

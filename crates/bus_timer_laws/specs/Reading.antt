@@ -5,7 +5,7 @@ use mathlib.Core.Bool.{true}
 use mathlib.Core.Path.{_≡_}
 use Rattle.bus_timer.specs.Ports.{tlr, thr, tcr, hardwareOffsetOf}
 use Rattle.bus.specs.Place.{regionOf}
-use Rattle.bus.specs.Registers.{hardwareIn, registersOk}
+use Rattle.bus.specs.TimerLines.{hardwareIn, registersOk}
 use Rattle.bus.specs.Memory.{Memory, byteOf, alignedOf, loadOf}
 
 -- address a is the register at offset o of region 2, one of its 27-bit mirrors among them

@@ -9,7 +9,7 @@ use Rattle.bus_timer.specs.Ports.{tlr, thr, tcr, lowWrittenOf, highWrittenOf, r
 use Rattle.bus_timer.specs.Lines.{hardwareLineOf}
 use Rattle.bus_timer.specs.declared.TimerLines.{TimerLines}
 use Rattle.bus.specs.Place.{regionOf}
-use Rattle.bus.specs.Registers.{deviceLength, hardwareIn, withHardware}
+use Rattle.bus.specs.TimerLines.{deviceLength, hardwareIn, withHardware}
 use Rattle.bus.specs.Memory.{Memory, withRegs, alignedOf, storeOf}
 use Rattle.bus_timer_laws.specs.Reading.{At}
 

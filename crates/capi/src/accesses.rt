@@ -7,7 +7,7 @@ ghost use mathlib.Core.Path.{_≡_};
 ghost use Rattle.refusal.specs.Number.{verdictNumber};
 ghost use Rattle.bus.specs.Memory.{verdictOf, storeOf};
 ghost use Rattle.bus.specs.Lent.{enteringWith, leavingWith};
-ghost use Rattle.bus.specs.Registers.{deviceOf};
+ghost use Rattle.bus.specs.TimerLines.{deviceOf};
 ghost use Rattle.bus_calls.specs.Access.{checkedLoadOf, checkedStoreOf};
 ghost use Rattle.capi_bus.specs.TimerLines.{hardwareGiven};
 ghost use Rattle.capi_bus.specs.Answers.{loadOut};

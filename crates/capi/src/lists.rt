@@ -7,7 +7,7 @@ ghost use Rattle.bus_list.specs.List.{madeOf};
 ghost use Rattle.capi_bus.specs.TimerLines.{hardwareGiven};
 ghost use Rattle.capi_bus.specs.Lists.{listNumberAt, listLeftAt};
 ghost use Rattle.bus.specs.Lent.{enteringWith, leavingWith};
-ghost use Rattle.bus.specs.Registers.{deviceOf};
+ghost use Rattle.bus.specs.TimerLines.{deviceOf};
 
 #[no_mangle]
 pub extern "C" fn vb_access_list(

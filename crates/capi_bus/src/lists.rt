@@ -13,7 +13,7 @@ ghost use Rattle.bus_list.specs.List.{madeOf};
 ghost use Rattle.capi_bus.specs.TimerLines.{hardwareGiven};
 ghost use Rattle.capi_bus.specs.Lists.{listNumberAt, listLeftAt};
 ghost use Rattle.bus.specs.Lent.{enteringWith, leavingWith};
-ghost use Rattle.bus.specs.Registers.{deviceOf};
+ghost use Rattle.bus.specs.TimerLines.{deviceOf};
 
 pub fn access_list(
     rom: &[u8],

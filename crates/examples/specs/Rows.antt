@@ -6,7 +6,7 @@ use mathlib.Core.Path.{_≡_}
 use lib.ListN.{replicate}
 use Rattle.word.specs.Bit.{bitAt}
 use Rattle.word.specs.Choose.{pick}
-use Rattle.bus.specs.Registers.{deviceLength}
+use Rattle.bus.specs.TimerLines.{deviceLength}
 use Rattle.bus.specs.Place.{Place, wramAt, vramAt, romAt, placeOf}
 use Rattle.bus.specs.Memory.{Memory, memoryOf, alignedOf}
 use Rattle.processor_arithmetic.specs.Flag.{zFlag, sFlag, ovFlag, cyFlag}

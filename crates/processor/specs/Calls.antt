@@ -1,7 +1,7 @@
 -- What the public calls answer, for every input: refusals 1 to 5 first, which change nothing; then the step or the run.
 use Prim.Native.Nat.{ℕ}
 use lib.ListN.{replicate, set}
-use Rattle.bus.specs.Registers.{deviceLength}
+use Rattle.bus.specs.TimerLines.{deviceLength}
 use Rattle.bus.specs.Memory.{Memory}
 use Rattle.refusal.specs.declared.Verdict.{Verdict}
 use Rattle.refusal.specs.declared.Verdict.the-variants as verdict

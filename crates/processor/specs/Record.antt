@@ -4,7 +4,8 @@
 use Prim.Native.Nat.{ℕ}
 use mathlib.Core.List.{List, [], _∷_}
 use lib.ListN.{getD}
-use Rattle.bus.specs.Registers.{drawingIn, hardwareIn, deviceOf}
+use Rattle.bus.specs.Registers.{drawingIn}
+use Rattle.bus.specs.TimerLines.{hardwareIn, deviceOf}
 use Rattle.bus.specs.Memory.{Memory, withRegs}
 use Rattle.processor_machine.specs.State.{State, stateOf, eipcPlace, eipswPlace, fepcPlace, fepswPlace, ecrPlace}
 use Rattle.processor_machine.specs.State.{sr25Place, sr29Place, sr31Place}

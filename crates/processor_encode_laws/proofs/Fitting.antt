@@ -1,7 +1,7 @@
 -- What the test of the ranges says of each field, and when it holds. Assumes nothing.
 use Prim.Native.Nat.{ℕ, _%_, _<_}
 use mathlib.Core.Bool.{Bool, true, false, false≢true}
-use mathlib.Core.Path.{_≡_, refl}
+use mathlib.Core.Path.{_≡_}
 use native.Mathlib.Decide.{ℕ-discrete}
 use borrow.Author.Tests.{lt-ltb, ltb-true, eqb-true, eq-eqb, ne-eqb}
 use lib.Dec.{ltb, eqb}
@@ -9,11 +9,6 @@ use Rattle.word.specs.Choose.{pick}
 use Rattle.word.proofs.Choices.{pick-both}
 use Rattle.processor_encode.specs.Range.{within, signedIn, evenIn, systemFits}
 use Rattle.processor_encode.specs.declared.Fields.{Fields}
-
--- a choice by its test
-pub pick-case : {A : Type 0} (P : A → Type 0) (t : Bool) (a b : A) → (t ≡ true → P a) → (t ≡ false → P b) → P (pick t a b)
-pick-case P true a b p q = p refl
-pick-case P false a b p q = q refl
 
 -- each field is in its range
 pub record Within (x : Fields) (reg1 reg2 condition : ℕ) (immediate : Bool) : Type 0 where

@@ -19,7 +19,7 @@ use Rattle.processor_encode.specs.declared.Encoded.the-variants.{Refused}
 use Rattle.processor_encode.specs.declared.format.Format as format
 use Rattle.processor_encode_laws.specs.RoundTrip.{DecodesTo, DecodeEncode, EncodeDecode, FieldsExactly}
 use Rattle.processor_encode_laws.specs.Clearing.{ClearedDecodes}
-use Rattle.processor_encode_laws.proofs.Fitting.{pick-case}
+use Rattle.word.proofs.Choices.{pick-cases}
 use Rattle.processor_encode_laws.proofs.Encoding.{Facts, legal-row, absent-row, illegal-row, encoded-in}
 use Rattle.processor_encode_laws.proofs.Instructions.{instructionAt, instructionOf, fields-again}
 use Rattle.processor_encode_laws.proofs.Formats.{fieldsAt, read-operation, absent, otherOf, number-fits, instruction-fields, decode-row}
@@ -30,7 +30,7 @@ fields-decode : (x : Fields) → DecodesTo (instructionOf x) (encodedOf x)
 unfolding encodedOf
 fields-decode x =
     let t = formatOf (x .operation) in
-    pick-case (DecodesTo (instructionOf x)) (fitsOf t x) (halfwordsOf t x) (Refused Encoding)
+    pick-cases (DecodesTo (instructionOf x)) (fitsOf t x) (halfwordsOf t x) (Refused Encoding)
     (λ h. decodes-placed x t refl (number-fits (x .operation)) h) (λ h. tt)
 
 pub decode-encode : DecodeEncode
@@ -47,10 +47,10 @@ fields-exactly x h = record { instruction = instructionOf x; fields = instructio
 other-case : (P : Decoded → Type 0) → P NotModelled → P (Modelled Illegal) → (n : ℕ) → P (otherOf n)
 unfolding otherOf
 other-case P a b n =
-    pick-case P (ltb n 64) _ _
+    pick-cases P (ltb n 64) _ _
     (λ h.
-    pick-case P (eqb n 28) _ _ (λ h. a)
-    (λ h. pick-case P (eqb n 29) _ _ (λ h. a) (λ h. pick-case P (eqb n 31) _ _ (λ h. a) (λ h. pick-case P (eqb n 58) _ _ (λ h. a) (λ h. b)))))
+    pick-cases P (eqb n 28) _ _ (λ h. a)
+    (λ h. pick-cases P (eqb n 29) _ _ (λ h. a) (λ h. pick-cases P (eqb n 31) _ _ (λ h. a) (λ h. pick-cases P (eqb n 58) _ _ (λ h. a) (λ h. b)))))
     (λ h. b)
 
 module _ (f s : ℕ) (hf : f < 65536) (hs : s < 65536) where
@@ -79,7 +79,7 @@ module _ (f s : ℕ) (hf : f < 65536) (hs : s < 65536) where
       (ap encodedOf fields ∙ encoded-in x range ∙ rw o (placed-read n f s hf hs refl t refl (number-fits n) p))
 
   facts : Facts f s (decodeOf f s)
-  facts = rw (decode-row f s hf) (pick-case (Facts f s) (absent t f) _ _ absent-facts listed-facts)
+  facts = rw (decode-row f s hf) (pick-cases (Facts f s) (absent t f) _ _ absent-facts listed-facts)
 
 pub encode-decode : EncodeDecode
 encode-decode f s hf hs i e l = facts f s hf hs .legal i e l

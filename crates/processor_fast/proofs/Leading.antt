@@ -7,7 +7,7 @@ use native.Mathlib.Omega.{arith}
 use lib.ListN.{getD}
 use Rattle.word.specs.Choose.{pick}
 use Rattle.bus.specs.Memory.{Memory, memoryOf, loadOf}
-use Rattle.bus.specs.Registers.{linesPlace}
+use Rattle.bus.specs.TimerLines.{linesPlace}
 use Rattle.processor_decode.specs.Format.{twoOf}
 use Rattle.processor_decode.specs.Opcode.{decodeOf}
 use Rattle.processor_lazy_flags.specs.inner.Packed.{packedOf}

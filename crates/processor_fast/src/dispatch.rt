@@ -12,7 +12,7 @@ ghost use mathlib.Core.Path.{_≡_};
 ghost use Prim.Native.Nat.{_/_, _<_};
 ghost use Rattle.bus.specs.Memory.{Lengths};
 ghost use Rattle.bus.specs.Lent.{entering, leavingRam};
-ghost use Rattle.bus.specs.Registers.{linesPlace};
+ghost use Rattle.bus.specs.TimerLines.{linesPlace};
 ghost use Rattle.processor_fast.specs.inner.Turns.{Turns};
 
 // f is the halfword of code at index x, and w is a word of it and of the halfword after it, which counts only where the

@@ -15,7 +15,7 @@ use processor_machine::system;
 ghost use mathlib.Core.List.{List};
 ghost use Prim.Native.Nat.{ℕ};
 ghost use lib.ListN.{getD};
-ghost use Rattle.bus.specs.Registers.{linesPlace};
+ghost use Rattle.bus.specs.TimerLines.{linesPlace};
 ghost use Rattle.processor_decode.specs.Format as format;
 ghost use Rattle.processor_decode.specs.declared.Decoded as decoded;
 ghost use Rattle.processor_decode.specs.declared.Instruction as instruction;

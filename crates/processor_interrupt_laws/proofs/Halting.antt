@@ -38,7 +38,7 @@ use Rattle.processor_step.proofs.Choosing.{step-interrupt, step-instruction}
 use Rattle.processor.specs.Run.{Run, afterOf, afterStep, runOf}
 use Rattle.processor.specs.declared.After.{After}
 use Rattle.processor.specs.declared.After.the-variants.{Counted, Stopped}
-use Rattle.bus_timer.proofs.Choices.{pick-each, pick-cases}
+use Rattle.word.proofs.Choices.{pick-each, pick-cases}
 use Rattle.processor_interrupt_laws.specs.Interrupts.{RunHalted}
 
 -- modes that differ

@@ -4,7 +4,7 @@ use mathlib.Core.Path.{_≡_, refl, _∙_}
 use native.Mathlib.Omega.{arith}
 use lib.ListN.{length}
 use Rattle.bus_timer_laws.proofs.LinesKept.{lines-kept, line-never-rises}
-use Rattle.bus.specs.Registers.{deviceLength, hardwareIn}
+use Rattle.bus.specs.TimerLines.{deviceLength, hardwareIn}
 use Rattle.bus.specs.Memory.{Memory, storeOf}
 use Rattle.bus.proofs.Kept.{store-shape}
 use Rattle.processor_decode.specs.declared.Width.{Width}

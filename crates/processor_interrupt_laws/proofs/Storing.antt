@@ -9,7 +9,7 @@ use Rattle.word.specs.Choose.{pick}
 use Rattle.processor_arithmetic.specs.Flag.{epFlag, npFlag}
 use Rattle.processor_arithmetic.specs.Condition.{conditionOf}
 use Rattle.processor_arithmetic.specs.Quotient.{divideOf, divideUnsignedOf}
-use Rattle.bus_timer.proofs.Choices.{pick-each}
+use Rattle.word.proofs.Choices.{pick-each}
 use Rattle.bus.specs.Memory.{Memory}
 use Rattle.processor_decode.specs.Format.{twoOf}
 use Rattle.processor_decode.specs.Opcode.{decodeOf}

@@ -4,7 +4,7 @@
 use Prim.Native.Nat.{ℕ, _≤_}
 use mathlib.Core.Path.{_≡_}
 use lib.ListN.{length}
-use Rattle.bus.specs.Registers.{deviceLength}
+use Rattle.bus.specs.TimerLines.{deviceLength}
 use Rattle.bus.specs.Memory.{Memory}
 use Rattle.processor_machine.specs.State.{State}
 use Rattle.processor_interrupt.specs.Interrupt.{lineOf}

@@ -5,8 +5,8 @@ use mathlib.Core.Path.{sym, _∙_}
 use native.Mathlib.Omega.{arith}
 use lib.ListN.{length}
 use Rattle.bus_timer.proofs.Accepting as hardware
-use Rattle.bus_timer.proofs.Choices.{pick-cases}
-use Rattle.bus.specs.Registers.{hardwareIn}
+use Rattle.word.proofs.Choices.{pick-each, pick-cases}
+use Rattle.bus.specs.TimerLines.{hardwareIn}
 use Rattle.bus.specs.Memory.{Memory, loadOf}
 use Rattle.bus.proofs.Accepted.{accepted-registers, lengths-accepted}
 use Rattle.bus.proofs.Kept.{register-within, within-drawing, registers-both, both-registers}
@@ -26,7 +26,6 @@ use Rattle.processor.specs.Run.{Run, afterOf, afterStep, runOf}
 use Rattle.processor.specs.declared.After.{After}
 use Rattle.processor.specs.declared.After.the-variants.{Counted, Stopped}
 use Rattle.processor_laws.specs.Accepted.{Machine, StepAccepted, RunAccepted, RunCount, MachineAcceptedMeans, MachineMeansAccepted}
-use Rattle.processor_laws.proofs.Lists.{pick-each}
 use Rattle.processor_laws.proofs.Invariant.{Address, Good, told, tells, machine-good, good-machine}
 use Rattle.processor_laws.proofs.Stores.{load-half}
 use Rattle.processor_laws.proofs.Immediates.{Found, decoded-found}

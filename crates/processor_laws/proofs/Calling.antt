@@ -8,7 +8,8 @@ use lib.ListN.{length, getD, replicate}
 use Rattle.word.specs.Choose.{pick}
 use Rattle.bus_timer.specs.Record.{resetHardware}
 use Rattle.bus_timer.specs.Ports.{controlBitsOf, hardwareOk}
-use Rattle.bus.specs.Registers.{drawingOk, hardwareIn, deviceOf, registersOk}
+use Rattle.bus.specs.Registers.{drawingOk}
+use Rattle.bus.specs.TimerLines.{hardwareIn, deviceOf, registersOk}
 use Rattle.bus.proofs.Devices.{device-whole, device-length, device-ok}
 use Rattle.bus.specs.Memory.{Memory}
 use Rattle.bus.proofs.Accepted.{lengths-accepted}

@@ -5,6 +5,7 @@ use native.Mathlib.Omega.{arith}
 use lib.Dec.{ltb, eqb}
 use lib.ListN.{getD, set}
 use Rattle.word.specs.Bit.{bitAt, withBit}
+use Rattle.word.proofs.Choices.{pick-each}
 use Rattle.processor_arithmetic.specs.Flag.{regularOf, fovFlag, fzdFlag, fivFlag, froFlag, epFlag, npFlag}
 use Rattle.bus.specs.Memory.{Memory}
 use Rattle.processor_machine.specs.State.{State, Stepped, steppedOf}
@@ -13,7 +14,6 @@ use Rattle.processor_machine.specs.declared.Cause.{Cause}
 use Rattle.processor_machine.specs.declared.Cause.the-variants.{ZeroDivision, Illegal, Trap, FloatReserved, FloatInvalid, FloatZeroDivide, FloatOverflow}
 use Rattle.processor_machine.specs.declared.Answer.the-variants.{Interrupted}
 use Rattle.processor_interrupt.specs.Interrupt.{interruptCodeOf, interruptHandlerOf, interruptedOf}
-use Rattle.processor_laws.proofs.Lists.{pick-each}
 use Rattle.processor_laws.proofs.Invariant.{Format, Systems, Address, Good}
 use Rattle.processor_laws.proofs.Psw.{low-format, regular-format, duplexed-format, level-format}
 use Rattle.processor_laws.proofs.Registers.{set-systems, eipc-system, eipsw-system, fepc-system, fepsw-system, ecr-system}

@@ -8,6 +8,7 @@ use lib.Dec.{eqb}
 use lib.ListN.{getD}
 use lib.Ieee.{binary32, toBits}
 use Rattle.word.specs.Bit.{bitAt}
+use Rattle.word.proofs.Choices.{pick-each}
 use Rattle.processor_arithmetic.specs.declared.Outcome.{Outcome}
 use Rattle.processor_arithmetic.specs.declared.Pair.{Pair}
 use Rattle.processor_arithmetic.specs.Flag.{bitOf, setIdOf, clearIdOf, npFlag}
@@ -34,7 +35,6 @@ use Rattle.processor_execute.specs.Operation.{registerOf, immediateOf, longOf}
 use Rattle.processor_execute.specs.Transfer.{loadedOf, inputOf, storedOf}
 use Rattle.processor_execute.specs.Execute.{goesOn, givesOf, resultOf, pairOf, dividesOf, settlesOf, comparesOf, jumpsOf, plusOf, returnsOf, executeOf}
 use Rattle.processor_machine.specs.declared.Cause as cause
-use Rattle.processor_laws.proofs.Lists.{pick-each}
 use Rattle.processor_laws.proofs.Invariant.{Format, Generals, Address, Memories, Good}
 use Rattle.processor_laws.proofs.Psw.{order-format, number-format, conversion-format, set-id-format, clear-id-format}
 use Rattle.processor_laws.proofs.Floats.{Kept, number-word, floating-kept, nintendo-word}

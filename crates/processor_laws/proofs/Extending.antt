@@ -11,6 +11,7 @@ use lib.ListN.{getD, set}
 use lib.Seq.{getD-set-other}
 use lib.Ieee.{Float, binary32, toBits, ofInt}
 use Rattle.word.specs.Bit.{bitAt}
+use Rattle.word.proofs.Choices.{pick-each}
 use Rattle.processor_arithmetic.specs.Integer.{signed}
 use Rattle.processor_arithmetic.proofs.Places.{set-flag, set-flag-others}
 use Rattle.bus.specs.Memory.{Memory}
@@ -36,7 +37,7 @@ use Rattle.processor_execute.specs.Floating.{floatingOf, nintendoOf}
 use Rattle.processor_execute.specs.Execute.{goesOn, settlesOf, comparesOf, executeOf}
 use Rattle.processor_laws.specs.Trapping.{Outside}
 use Rattle.processor_laws.specs.Extended.{FlagsSaved, Decodes, Changes, Traps, floatingFlags, CmpfChanges, FloatingChanges, NintendoChanges}
-use Rattle.processor_laws.proofs.Lists.{each-at, pick-each}
+use Rattle.processor_laws.proofs.Lists.{each-at}
 use Rattle.processor_laws.proofs.Floats.{Kept, outcome-kept, converted-each}
 
 pub flags-saved : FlagsSaved

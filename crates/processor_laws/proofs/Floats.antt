@@ -11,6 +11,7 @@ use lib.Ieee.{Float, nan, inf, fin, binary32, fits, toBits, ofInt}
 use lib.Ieee.Bits.{toBits-lt}
 use lib.Ieee.Fits.{add-fits, sub-fits, mul-fits, div-fits, ofInt-fits}
 use Rattle.word.specs.Choose.{pick}
+use Rattle.word.proofs.Choices.{pick-each}
 use Rattle.processor_arithmetic.specs.Sign.{negativeOf}
 use Rattle.processor_arithmetic.specs.Integer.{signed, outside}
 use Rattle.processor_decode.specs.declared.FloatingOperation.{FloatingOperation}
@@ -24,7 +25,6 @@ use Rattle.processor_float.specs.declared.Operation.{Operation}
 use Rattle.processor_float.specs.declared.FloatOutcome.{FloatOutcome}
 use Rattle.processor_float.specs.declared.FloatOutcome.the-variants.{Number, Word, Reserved, Invalid, ZeroDivide, Overflow}
 use Rattle.processor_execute.specs.Floating.{floatingOf, nintendoOf}
-use Rattle.processor_laws.proofs.Lists.{pick-each}
 
 -- an outcome whose result is a word
 abbrev pub Kept : FloatOutcome → Type 0

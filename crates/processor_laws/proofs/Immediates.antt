@@ -5,6 +5,7 @@ use native.Mathlib.Omega.{arith}
 use lib.Dec.{eqb}
 use Rattle.word.specs.Extend.{extendOf}
 use Rattle.word.proofs.Extended.{extend-word}
+use Rattle.word.proofs.Choices.{pick-each}
 use Rattle.processor_decode.specs.Format.{lowOf, reg2Of, ldsr, stsr}
 use Rattle.processor_decode.specs.SubOpcode.{subRows, extendedOf}
 use Rattle.processor_decode.specs.Opcode.{shortRows, branchRows, longRows, decodeOf}
@@ -15,7 +16,7 @@ use Rattle.processor_decode.specs.declared.Instruction.the-variants.{Bcond, Jr,
 use Rattle.processor_decode.specs.declared.Instruction.the-variants.{Illegal, Cmpf, Floating, Nintendo}
 use Rattle.processor_decode.specs.declared.Decoded.{Decoded}
 use Rattle.processor_decode.specs.declared.Decoded.the-variants.{Modelled, NotModelled}
-use Rattle.processor_laws.proofs.Lists.{Each, each-append, each-at, pick-each}
+use Rattle.processor_laws.proofs.Lists.{Each, each-append, each-at}
 
 -- an instruction whose immediate, where it gives a result, is a word
 abbrev pub Fine : Instruction → Type 0

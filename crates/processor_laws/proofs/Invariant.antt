@@ -8,7 +8,7 @@ use borrow.Author.Tests.{eqb-true, eq-eqb, leb-true, le-leb}
 use lib.Dec.{eqb, leb}
 use lib.ListN.{length, getD}
 use Rattle.word.proofs.Choices.{pick-both}
-use Rattle.bus.specs.Registers.{deviceLength}
+use Rattle.bus.specs.TimerLines.{deviceLength}
 use Rattle.bus.specs.Memory.{Memory, verdictOf}
 use Rattle.refusal.specs.Number.{unless, thenOf}
 use Rattle.refusal.specs.declared.Refusal as refusal

@@ -1,14 +1,11 @@
--- What holds of each number of a list still does after one is set, and what holds of both choices holds of the one
--- chosen. Assumes nothing.
+-- What holds of each number of a list still does after one is set. Assumes nothing.
 use Prim.Native.Nat.{ℕ, zero, suc}
-use mathlib.Core.Bool.{Bool, true, false}
 use mathlib.Core.List.{List, [], _∷_, _++_}
 use native.Mathlib.Decide.{ℕ-discrete, decLt}
 use native.Mathlib.Omega.{arith}
 use lib.Dec.{eqb}
 use lib.ListN.{length, getD, set}
 use lib.Seq.{getD-set-same, getD-set-other, set-out}
-use Rattle.word.specs.Choose.{pick}
 use Rattle.processor_machine.specs.System.{rowOf}
 
 pub set-each : (P : ℕ → ℕ → Type 0) (l : List ℕ) (k v : ℕ) → ((j : ℕ) → P j (getD l j 0)) → P k v → (j : ℕ) → P j (getD (set l k v) j 0)
@@ -20,10 +17,6 @@ set-each P l k v all new j =
         | no outside ↦ rw (set-out l k v (omega arith)) (all j)
       ]
     ]
-
-pub pick-each : {A : Type 0} (P : A → Type 0) (c : Bool) (a b : A) → P a → P b → P (pick c a b)
-pick-each P true a b p q = p
-pick-each P false a b p q = q
 
 -- something holds of each entry of a list
 abbrev pub Each : {A : Type 0} → (A → Type 0) → List A → Type 0

@@ -5,6 +5,7 @@ use mathlib.Core.Path.{_≡_, refl, sym, ap}
 use native.Mathlib.Omega.{arith}
 use lib.Dec.{eqb}
 use Rattle.word.specs.Bit.{bitAt}
+use Rattle.word.proofs.Choices.{pick-each}
 use Rattle.processor_arithmetic.specs.Flag.{epFlag, npFlag}
 use Rattle.processor_arithmetic.specs.Condition.{conditionOf}
 use Rattle.processor_arithmetic.specs.Quotient.{divideOf, divideUnsignedOf}
@@ -40,7 +41,6 @@ use Rattle.processor.specs.Run.{Run, afterOf, afterStep, runOf}
 use Rattle.processor.specs.declared.After.{After}
 use Rattle.processor.specs.declared.After.the-variants.{Counted, Stopped}
 use Rattle.processor_laws.specs.Steps.{stepsOf, RunSteps, Counts, RunCounted, stepEndOf, Ends, RunEnds}
-use Rattle.processor_laws.proofs.Lists.{pick-each}
 
 -- what a step leaves as it was, by its answer
 abbrev pub Leaves : Answer → Stepped → State → Memory → Type 0

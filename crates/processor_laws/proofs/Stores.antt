@@ -6,18 +6,19 @@ use native.Mathlib.Omega.{arith}
 use lib.Dec.{eqb}
 use lib.ListN.{set}
 use Rattle.word.proofs.Extended.{extend-word}
+use Rattle.word.proofs.Choices.{pick-each}
 use Rattle.bus_timer.specs.Ports.{tlr, thr, tcr, controlBitsOf, portByteOf}
 use Rattle.bus_timer.specs.declared.TimerLines.{TimerLines}
 use Rattle.bus_timer.proofs.Mask.{control-sum}
-use Rattle.bus.specs.Registers.{hardwareIn}
-use Rattle.bus.specs.Place.{Place, vramAt, wramAt, pakAt, romAt, drawingAt, versionAt, silent, unlisted, unmapped, hardwareAt, soundUnit, nothing, expansion}
+use Rattle.bus.specs.TimerLines.{hardwareIn}
+use Rattle.bus.specs.Place.{Place, vramAt, wramAt, pakAt, romAt, drawingAt, versionAt, silent, unmapped, hardwareAt}
 use Rattle.bus.specs.Memory.{Memory, readPlace, byteOf, loadOf, putPlace, putDrawing, placeIn, putByte, putRegister, putHalfword, putFrom, storeOf}
 use Rattle.bus.proofs.Kept.{store-shape, shape-accepted}
 use Rattle.processor_decode.specs.declared.Width.{Width}
 use Rattle.processor_decode.specs.declared.Width.the-variants.{Byte, Half, Word}
 use Rattle.processor_execute.specs.Transfer.{sizeOf, loadedOf, inputOf, storedOf}
 use Rattle.processor_laws.specs.Accepted.{Below}
-use Rattle.processor_laws.proofs.Lists.{set-each, pick-each}
+use Rattle.processor_laws.proofs.Lists.{set-each}
 use Rattle.processor_laws.proofs.Invariant.{Bytes, Memories}
 
 set-below : (l : List ℕ) (k v : ℕ) → Below 256 l → v < 256 → Below 256 (set l k v)
@@ -35,11 +36,7 @@ place-bytes m (drawingAt k x) b hb h = h
 place-bytes m (versionAt x) b hb h = h
 place-bytes m (hardwareAt o) b hb h = record { rom = h .rom; wram = h .wram; vram = h .vram; pak = h .pak }
 place-bytes m silent b hb h = h
-place-bytes m unlisted b hb h = h
 place-bytes m unmapped b hb h = h
-place-bytes m soundUnit b hb h = h
-place-bytes m nothing b hb h = h
-place-bytes m expansion b hb h = h
 
 drawing-bytes : (m : Memory) (p : Place) (v : ℕ) → Bytes m → Bytes (putDrawing m p v)
 drawing-bytes m (vramAt i) v h = h
@@ -50,11 +47,7 @@ drawing-bytes m (drawingAt k x) v h = record { rom = h .rom; wram = h .wram; vra
 drawing-bytes m (versionAt x) v h = h
 drawing-bytes m (hardwareAt o) v h = h
 drawing-bytes m silent v h = h
-drawing-bytes m unlisted v h = h
 drawing-bytes m unmapped v h = h
-drawing-bytes m soundUnit v h = h
-drawing-bytes m nothing v h = h
-drawing-bytes m expansion v h = h
 
 byte-bytes : (m : Memory) (a v : ℕ) → Bytes m → Bytes (putByte m a v)
 unfolding putByte
@@ -110,11 +103,7 @@ read-byte m (drawingAt k b) h = omega arith
 read-byte m (versionAt b) h = omega arith
 read-byte m (hardwareAt o) h = port-small (hardwareIn (m .regs)) o
 read-byte m silent h = omega arith
-read-byte m unlisted h = omega arith
 read-byte m unmapped h = omega arith
-read-byte m soundUnit h = omega arith
-read-byte m nothing h = omega arith
-read-byte m expansion h = omega arith
 
 module _ (m : Memory) (h : Bytes m) where
   byte-small : (a : ℕ) → byteOf m a < 256

@@ -10,6 +10,7 @@ use lib.Dec.{eqb}
 use lib.ListN.{length, getD, set, length-set}
 use lib.Seq.{getD-set-same, getD-set-other, set-out}
 use Rattle.word.specs.Bit.{bitAt}
+use Rattle.word.proofs.Choices.{pick-each}
 use Rattle.processor_arithmetic.specs.Flag.{epFlag, npFlag}
 use Rattle.processor_arithmetic.proofs.Entering.{regular-entry, duplexed-entry}
 use Rattle.bus.specs.Memory.{Memory}
@@ -18,7 +19,6 @@ use Rattle.processor_machine.specs.Exception.{codeOf, handlerOf, restoreOf, sav
 use Rattle.processor_machine.specs.declared.Cause.{Cause}
 use Rattle.processor_machine.specs.declared.Answer.the-variants.{Trapped}
 use Rattle.processor_laws.specs.Trapping.{Entered, Leaves, TrapLeaves}
-use Rattle.processor_laws.proofs.Lists.{pick-each}
 use Rattle.processor_laws.proofs.Exceptions.{code-small}
 
 -- ---- the stored system registers with three of them set

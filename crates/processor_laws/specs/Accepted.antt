@@ -7,7 +7,8 @@ use mathlib.Core.Path.{_≡_}
 use lib.Bits.{bitAnd}
 use lib.ListN.{length, getD}
 use Rattle.bus_timer.specs.Accepted as hardware
-use Rattle.bus.specs.Registers.{deviceLength, widthOf, hardwareIn}
+use Rattle.bus.specs.Registers.{widthOf}
+use Rattle.bus.specs.TimerLines.{deviceLength, hardwareIn}
 use Rattle.bus.specs.Memory.{Memory, Lengths}
 use Rattle.refusal.specs.declared.Verdict.the-variants.{Accepted}
 use Rattle.processor_machine.specs.State.{State}

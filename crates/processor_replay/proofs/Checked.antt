@@ -10,7 +10,7 @@ use Rattle.refusal.specs.Number.{unless, thenOf}
 use Rattle.refusal.specs.declared.Refusal.the-variants.{State, TraceLength}
 use Rattle.refusal.specs.declared.Verdict.{Verdict}
 use Rattle.refusal.specs.declared.Verdict.the-variants as verdict
-use Rattle.bus.specs.Registers.{deviceOf}
+use Rattle.bus.specs.TimerLines.{deviceOf}
 use Rattle.bus.specs.Memory.{Memory, Lengths, withRegs, verdictAt}
 use Rattle.bus.proofs.Accepted.{accepted-lengths}
 use Rattle.processor_machine.specs.State.{stateOf}

@@ -5,7 +5,7 @@ use Prim.Native.Nat.{ℕ, _+_, _%_, _^_}
 use mathlib.Core.Bool.{Bool}
 use Rattle.word.specs.Choose.{pick}
 use lib.ListN.{getD}
-use Rattle.bus.specs.Registers.{linesPlace}
+use Rattle.bus.specs.TimerLines.{linesPlace}
 use Rattle.bus.specs.Memory.{Memory, loadOf}
 use Rattle.refusal.specs.declared.Refusal as refusal
 use Rattle.processor_decode.specs.Format.{twoOf}

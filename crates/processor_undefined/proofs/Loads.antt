@@ -1,19 +1,19 @@
 -- Which opcodes load: the decoder's row of each. Assumes nothing.
-use Prim.Native.Nat.{ℕ, zero, suc, _/_, _%_, _<_}
+use Prim.Native.Nat.{ℕ, zero, suc, _/_, _<_}
 use mathlib.Core.Bool.{Bool, true, false}
 use mathlib.Core.List.{List, [], _∷_, _++_}
-use mathlib.Core.Path.{_≡_, refl, ap, _∙_}
+use mathlib.Core.Path.{_≡_, refl}
 use native.Mathlib.Decide.{ℕ-discrete}
-use native.Mathlib.Omega.{arith}
 use borrow.Author.Tests.{ne-eqb, eqb-true}
 use lib.Dec.{T, eqb}
 use lib.ListN.{getD}
 use Rattle.word.specs.Choose.{pick, member}
+use Rattle.word.proofs.Choices.{pick-head, pick-tail}
+use Rattle.word.proofs.Listed.{everyBelow, below-test}
 use Rattle.bus.specs.Memory.{Memory}
 use Rattle.processor_decode.specs.Format.{lowOf, reg2Of, load, input, ldsr, stsr}
 use Rattle.processor_decode.specs.Opcode.{decodeOf, shortRows, branchRows, longRows}
 use Rattle.processor_decode.specs.SubOpcode.{subRows, extendedOf}
-use Rattle.processor_decode.specs.declared.Width.{Width}
 use Rattle.processor_decode.specs.declared.Width.the-variants.{Byte, Half, Word}
 use Rattle.processor_decode.specs.declared.Instruction.the-variants.{Ldsr, Stsr, Illegal}
 use Rattle.processor_decode.specs.declared.Decoded.{Decoded}
@@ -61,27 +61,6 @@ module _ (f s : ℕ) where
   unfolding decodeOf shortRows branchRows longRows
   row-62 e = rw e
 
--- whether a test holds of every number below n
-abbrev everyBelow : (ℕ → Bool) → ℕ → Bool
-everyBelow f zero = true
-everyBelow f (suc n) = pick (f n) (everyBelow f n) false
-
-first : (b t : Bool) → T (pick b t false) → b ≡ true
-first true t h = refl
-first false t h = absurd h
-
-later : (b t : Bool) → T (pick b t false) → T t
-later true t h = h
-later false t h = absurd h
-
-below-test : (f : ℕ → Bool) (n q : ℕ) → T (everyBelow f n) → q < n → f q ≡ true
-below-test f zero q all h = absurd (omega arith)
-below-test f (suc n) q all h =
-    elim (ℕ-discrete q n) [
-      | yes e ↦ ap f e ∙ first (f n) (everyBelow f n) all
-      | no ne ↦ below-test f n q (later (f n) (everyBelow f n) all) (omega arith)
-    ]
-
 -- the rows that load, and those that are not an instruction by themselves
 abbrev apart : List ℕ
 apart = 28 ∷ 29 ∷ 48 ∷ 49 ∷ 51 ∷ 56 ∷ 57 ∷ 59 ∷ 62 ∷ []
@@ -94,8 +73,8 @@ noneLoads (x ∷ xs) t m = pick (eqb (decodedLoadOf x t m) 0) (noneLoads xs t m)
 row-quiet : (xs : List Decoded) (k : ℕ) (d : Decoded) (t : State) (m : Memory) → T
     (noneLoads xs t m) → decodedLoadOf d t m ≡ 0 → decodedLoadOf (getD xs k d) t m ≡ 0
 row-quiet [] k d t m h e = e
-row-quiet (x ∷ xs) zero d t m h e = eqb-true _ 0 (first (eqb (decodedLoadOf x t m) 0) (noneLoads xs t m) h)
-row-quiet (x ∷ xs) (suc k) d t m h e = row-quiet xs k d t m (later (eqb (decodedLoadOf x t m) 0) (noneLoads xs t m) h) e
+row-quiet (x ∷ xs) zero d t m h e = eqb-true _ 0 (pick-head (eqb (decodedLoadOf x t m) 0) (noneLoads xs t m) h)
+row-quiet (x ∷ xs) (suc k) d t m h e = row-quiet xs k d t m (pick-tail (eqb (decodedLoadOf x t m) 0) (noneLoads xs t m) h) e
 
 extended-quiet : (f s : ℕ) (t : State) (m : Memory) → decodedLoadOf (extendedOf f s) t m ≡ 0
 unfolding extendedOf subRows

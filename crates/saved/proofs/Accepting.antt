@@ -10,7 +10,8 @@ use Rattle.refusal.specs.declared.Refusal as refusal
 use Rattle.refusal.specs.declared.Verdict.{Verdict}
 use Rattle.refusal.specs.declared.Verdict.the-variants.{Accepted, Refused}
 use Rattle.bus_timer.specs.Ports.{hardwareOk}
-use Rattle.bus.specs.Registers.{drawingOk, deviceOf, registersOk}
+use Rattle.bus.specs.Registers.{drawingOk}
+use Rattle.bus.specs.TimerLines.{deviceOf, registersOk}
 use Rattle.bus.specs.Memory.{Memory, verdictAt, Lengths}
 use Rattle.bus.proofs.Devices.{device-ok}
 use Rattle.bus.proofs.Accepted.{accepted-lengths, accepted-registers, lengths-accepted, unless-passed}

@@ -1,15 +1,16 @@
 -- The form of a file and its pak RAM's length; `fits-exactly`. Assumes nothing.
-use Prim.Native.Nat.{ℕ, zero, suc, _+_, _-_, _*_, _<_, _≤_}
+use Prim.Native.Nat.{ℕ, zero, suc, _-_, _≤_}
 use native.Mathlib.Omega.{arith}
 use mathlib.Core.Bool.{Bool, true, false}
-use mathlib.Core.List.{List, [], _∷_}
+use mathlib.Core.List.{List, _∷_}
 use mathlib.Core.Path.{_≡_, refl, sym, ap, _∙_}
-use borrow.Author.Tests.{eqb-true, eq-eqb, ne-eqb}
-use lib.Dec.{eqb, T, leb, leb→le}
+use borrow.Author.Tests.{eqb-true, eq-eqb, ne-eqb, leb-true}
+use lib.Dec.{eqb, leb}
 use lib.ListN.{getD}
-use Rattle.word.specs.Choose.{pick, member}
+use Rattle.word.specs.Choose.{pick}
 use Rattle.word.specs.LittleEndian.{halfAt}
-use Rattle.bus.specs.Refusal.{pakLengths, pakOk}
+use Rattle.word.proofs.Listed.{member-every}
+use Rattle.bus.specs.Refusal.{powersFrom, pakOk}
 use Rattle.saved_layout.specs.Layout.{fileLengthOf}
 use Rattle.saved_layout.specs.declared.Form.{Form}
 use Rattle.saved_layout.specs.declared.Form.the-variants.{One, Two}
@@ -25,92 +26,10 @@ module _ (file : List ℕ) where
   unfolding formOf
   form-one n = simp (ne-eqb (halfAt file 0) 0 n)
 
--- a pak RAM length is one of a list whose numbers are small
-abbrev AllSmall : List ℕ → Type 0
-AllSmall [] = Unit
-AllSmall (x ∷ xs) = T (leb x 16777216) × AllSmall xs
-
-member-small : (n : ℕ) (xs : List ℕ) → AllSmall xs → member n xs ≡ true → n ≤ 16777216
-member-small n [] s e = let z : _≡_ {A = ℕ} 0 1 = cc in absurd (omega arith)
-member-small n (x ∷ xs) s e = step (member-small n xs (s .1)) (eqb n x) refl
-  where
-    step : (member n xs ≡ true → n ≤ 16777216) → (t : Bool) → eqb n x ≡ t → n ≤ 16777216
-    step rest true p = let f = eqb-true n x p in let g = leb→le x 16777216 (s .0) in omega arith
-    step rest false p = rest (rw p at e)
-
+-- no length of pak RAM is above 2 ^ 24
 pub pak-small : (n : ℕ) → pakOk n ≡ true → n ≤ 16777216
 unfolding pakOk
-pak-small n e =
-    member-small n pakLengths (
-      tt,
-      (
-        tt,
-        (
-          tt,
-          (
-            tt,
-            (
-              tt,
-              (
-                tt,
-                (
-                  tt,
-                  (
-                    tt,
-                    (
-                      tt,
-                      (
-                        tt,
-                        (
-                          tt,
-                          (
-                            tt,
-                            (
-                              tt,
-                              (
-                                tt,
-                                (
-                                  tt,
-                                  (
-                                    tt,
-                                    (
-                                      tt,
-                                      (
-                                        tt,
-                                        (
-                                          tt,
-                                          (
-                                            tt,
-                                            (
-                                              tt,
-                                              (
-                                                tt,
-                                                (
-                                                  tt,
-                                                  (tt, (tt, (tt, tt))),
-                                                ),
-                                              ),
-                                            ),
-                                          ),
-                                        ),
-                                      ),
-                                    ),
-                                  ),
-                                ),
-                              ),
-                            ),
-                          ),
-                        ),
-                      ),
-                    ),
-                  ),
-                ),
-              ),
-            ),
-          ),
-        ),
-      ),
-    ) e
+pak-small n e = leb-true n 16777216 (member-every (λ x. leb x 16777216) n (0 ∷ powersFrom 0 25) tt e)
 
 -- how much longer than its pak RAM a file is
 pub besides-one : besidesPakOf One ≡ 327930

@@ -3,7 +3,7 @@ use Prim.Native.Nat.{ℕ}
 use mathlib.Core.Bool.{false}
 use mathlib.Core.List.{List}
 use mathlib.Core.Path.{_≡_, refl, ap, _∙_}
-use Rattle.bus.specs.Registers.{hardwareIn}
+use Rattle.bus.specs.TimerLines.{hardwareIn}
 use Rattle.processor.specs.Calls.{resetOf}
 use Rattle.saved_bytes.specs.Numbers.{bytesOf}
 use Rattle.saved_layout.specs.File.{Bodies, SizedBodies}

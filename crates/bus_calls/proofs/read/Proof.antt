@@ -4,7 +4,7 @@ use mathlib.Core.List.{[]}
 use mathlib.Core.Path.{subst}
 use denote.Ref.{now}
 use Rattle.bus.specs.Memory.{memoryOf}
-use Rattle.bus.specs.Registers.{deviceOf}
+use Rattle.bus.specs.TimerLines.{deviceOf}
 use Rattle.bus.specs.inner.Finds.{Finds}
 use Rattle.bus_calls.proofs.Verdicts.{load-lent}
 use Rattle.bus_calls.proofs.read.Statement.{statement}

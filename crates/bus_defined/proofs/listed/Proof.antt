@@ -1,7 +1,7 @@
 -- `bus_defined::listed` meets its contract: the arm lists the addresses that 000 prints. Assumes nothing.
 use mathlib.Core.Path.{sym}
 use Rattle.bus_defined.specs.Defined.{registerAddresses}
-use Rattle.bus_defined.proofs.Lists.{arm-member, rest-member}
+use Rattle.word.proofs.Listed.{arm-member, rest-member}
 use Rattle.bus_defined.proofs.listed.Statement.{statement}
 use Rattle.bus_defined.proofs.listed.Tie as tie
 

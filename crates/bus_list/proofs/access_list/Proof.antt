@@ -3,7 +3,7 @@
 use borrow.Author.Needs.{needs}
 use mathlib.Core.Path.{sym, _∙_}
 use denote.Ref.{now}
-use Rattle.bus.specs.Registers.{deviceOf}
+use Rattle.bus.specs.TimerLines.{deviceOf}
 use Rattle.bus.specs.Memory.{memoryOf}
 use Rattle.bus.proofs.Devices.{device-length}
 use Rattle.bus_list.proofs.Tested.{passed-lengths, passed-list, list-lent, list-kept}

@@ -5,7 +5,7 @@ use Rattle.bus.specs.inner.LeadsTo.{LeadsTo}
 use Rattle.bus.proofs.Led.{no-vram}
 use Rattle.bus_probe.proofs.vram_index.Statement.{statement}
 use Rattle.bus_probe.proofs.vram_index.Tie as tie
-use Rattle.bus_probe.proofs.Targets.{led-vram, led-elsewhere}
+use Rattle.bus.proofs.VramIndex.{led-vram, led-elsewhere}
 
 returns : tie.Need-returns
 returns c rom pak =

@@ -1,7 +1,7 @@
 -- `bus::device::device_of` meets its contract: the thirteen registers one by one, and the four behind them.
 -- Assumes nothing.
 use mathlib.Core.Path.{refl}
-use Rattle.bus.specs.Registers.{deviceOf}
+use Rattle.bus.specs.TimerLines.{deviceOf}
 use borrow.Author.Needs.{needs}
 use Rattle.bus.proofs.device.device_of.Statement.{statement}
 use Rattle.bus.proofs.device.device_of.Tie as tie

@@ -1,6 +1,6 @@
 -- `bus::device::hardware_in` meets its contract: the four at their places. Assumes nothing.
 use mathlib.Core.Path.{refl}
-use Rattle.bus.specs.Registers.{hardwareIn}
+use Rattle.bus.specs.TimerLines.{hardwareIn}
 use borrow.Author.Needs.{needs}
 use Rattle.bus.proofs.device.hardware_in.Statement.{statement}
 use Rattle.bus.proofs.device.hardware_in.Tie as tie

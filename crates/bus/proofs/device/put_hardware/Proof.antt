@@ -1,6 +1,6 @@
 -- `bus::device::put_hardware` meets its contract: the four at their places. Assumes nothing.
 use mathlib.Core.Path.{refl}
-use Rattle.bus.specs.Registers.{withHardware}
+use Rattle.bus.specs.TimerLines.{withHardware}
 use borrow.Author.Needs.{needs}
 use Rattle.bus.proofs.device.put_hardware.Statement.{statement}
 use Rattle.bus.proofs.device.put_hardware.Tie as tie

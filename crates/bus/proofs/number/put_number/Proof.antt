@@ -3,7 +3,7 @@ use borrow.Author.Needs.{needs}
 use mathlib.Core.Path.{_≡_, sym, _∙_}
 use native.Mathlib.Omega.{arith}
 use Rattle.bus.proofs.Sizes.{four-left}
-use Rattle.bus.proofs.Numbers.{put-byte, put-half, put-word}
+use Rattle.word.proofs.Bytes.{put-byte, put-half, put-word}
 use Rattle.bus.proofs.number.put_number.Statement.{statement}
 use Rattle.bus.proofs.number.put_number.Tie as tie
 

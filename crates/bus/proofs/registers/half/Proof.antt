@@ -9,8 +9,7 @@ use denote.Ref.{now}
 use Rattle.word.specs.Choose.{indexOf}
 use Rattle.bus.specs.Registers.{drawingAddresses}
 use Rattle.bus.specs.Memory.{memoryOf}
-use Rattle.bus.proofs.VipPlaces.{read-drawing, read-version, read-quiet}
-use Rattle.bus.proofs.VipAccess.{vip-load}
+use Rattle.bus.proofs.VipPlaces.{register-load, read-drawing, read-version, read-quiet}
 use Rattle.bus.proofs.registers.half.Statement.{statement}
 use Rattle.bus.proofs.registers.half.Tie as tie
 
@@ -24,7 +23,7 @@ returns c =
     let m = memoryOf rom wram vram pak (now (a .regs)) in
     let w : c .wide .result ≡ getD (now (a .regs)) (indexOf (a .v) drawingAddresses) 0 = c .wide .ensures .0 ∙ rw i in
     record {
-      means = w ∙ sym (vip-load (a .v) (b .pre .0) m (b .pre .1) ∙ read-drawing (a .v) (b .pre .1) m k (omega (arith, w, c .wide .ensures .1)));
+      means = w ∙ sym (register-load m (a .v) (b .pre .0) (b .pre .1) ∙ read-drawing (a .v) (b .pre .1) m k (omega (arith, w, c .wide .ensures .1)));
       fits = c .wide .ensures .1;
     }
 
@@ -36,7 +35,7 @@ returns-2 c =
     λ rom wram vram pak.
     let m = memoryOf rom wram vram pak (now (a .regs)) in
     record {
-      means = sym (vip-load (a .v) (b .pre .0) m (b .pre .1) ∙ read-version (a .v) (b .pre .1) m k (c .if2 .taken));
+      means = sym (register-load m (a .v) (b .pre .0) (b .pre .1) ∙ read-version (a .v) (b .pre .1) m k (c .if2 .taken));
       fits = omega arith;
     }
 
@@ -48,7 +47,7 @@ returns-3 c =
     λ rom wram vram pak.
     let m = memoryOf rom wram vram pak (now (a .regs)) in
     record {
-      means = sym (vip-load (a .v) (b .pre .0) m (b .pre .1) ∙ read-quiet (a .v) (b .pre .1) m k (c .if2 .left));
+      means = sym (register-load m (a .v) (b .pre .0) (b .pre .1) ∙ read-quiet (a .v) (b .pre .1) m k (c .if2 .left));
       fits = omega arith;
     }
 

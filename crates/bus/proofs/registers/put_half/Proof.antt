@@ -8,8 +8,7 @@ use denote.Ref.{now}
 use Rattle.word.specs.Choose.{indexOf}
 use Rattle.bus.specs.Registers.{drawingAddresses}
 use Rattle.bus.specs.Memory.{memoryOf}
-use Rattle.bus.proofs.VipPlaces.{write-drawing, write-nothing, kept-low}
-use Rattle.bus.proofs.VipAccess.{vip-store}
+use Rattle.bus.proofs.VipPlaces.{register-store, write-drawing, write-nothing, kept-low}
 use Rattle.bus.proofs.registers.put_half.Statement.{statement}
 use Rattle.bus.proofs.registers.put_half.Tie as tie
 
@@ -23,7 +22,7 @@ returns c =
     λ rom wram vram pak.
     let m = memoryOf rom wram vram pak (now (a .regs)) in
     rw (c .kept .ensures, i)
-    (sym (vip-store v (b .pre) m (a .value)
+    (sym (register-store m v (b .pre) (a .value)
     ∙ write-drawing m v (a .value % 65536) k
     ∙ rw (kept-low (indexOf (v - v % 2) drawingAddresses) (a .value))))
 
@@ -35,7 +34,7 @@ returns-2 c =
     let k : 13 ≤ indexOf (v - v % 2) drawingAddresses = rw (c .before .index .ensures) at (c .if1 .left) in
     λ rom wram vram pak.
     let m = memoryOf rom wram vram pak (now (a .regs)) in
-    sym (vip-store v (b .pre) m (a .value) ∙ write-nothing m v (a .value % 65536) k)
+    sym (register-store m v (b .pre) (a .value) ∙ write-nothing m v (a .value % 65536) k)
 
 pub put-half-spec : {M : Type 1} → statement M
 put-half-spec =

@@ -2,7 +2,7 @@
 use borrow.Author.Needs.{needs}
 use mathlib.Core.Path.{_∙_}
 use denote.Ref.{now}
-use Rattle.bus.specs.Registers.{deviceOf}
+use Rattle.bus.specs.TimerLines.{deviceOf}
 use Rattle.bus.specs.Memory.{memoryOf}
 use Rattle.capi_bus.specs.TimerLines.{hardwareGiven}
 use Rattle.capi_bus.proofs.Listing.{list-misused, list-done}

@@ -1,5 +1,5 @@
 -- `processor::calls::reset`: the definition's own values.
-use Rattle.bus.specs.Registers.{hardwareIn}
+use Rattle.bus.specs.TimerLines.{hardwareIn}
 use borrow.Author.Needs.{needs}
 use Rattle.processor.specs.Calls.{resetOf}
 use Rattle.processor.proofs.calls.reset.Statement.{statement}

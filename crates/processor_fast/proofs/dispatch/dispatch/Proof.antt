@@ -4,7 +4,7 @@ use native.Mathlib.Omega.{arith}
 use borrow.Author.Needs.{needs}
 use denote.Ref.{now}
 use lib.ListN.{getD}
-use Rattle.bus.specs.Registers.{linesPlace}
+use Rattle.bus.specs.TimerLines.{linesPlace}
 use Rattle.bus.specs.Memory.{memoryOf}
 use Rattle.processor_decode.specs.Opcode.{decodeOf, shortRows, branchRows, longRows}
 use Rattle.processor_fast.proofs.Turning.{turned}

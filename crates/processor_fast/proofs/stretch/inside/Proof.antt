@@ -6,7 +6,7 @@ use borrow.Author.Needs.{needs}
 use denote.Ref.{now}
 use lib.ListN.{length, getD}
 use Rattle.bus.specs.Memory.{memoryOf}
-use Rattle.bus.specs.Registers.{linesPlace}
+use Rattle.bus.specs.TimerLines.{linesPlace}
 use Rattle.processor_machine.specs.State.{stateOf}
 use Rattle.processor_machine.specs.declared.Mode.the-variants.{Running}
 use Rattle.processor_fast_compute.specs.inner.Fast.{machineOf}

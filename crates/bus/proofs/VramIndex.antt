@@ -1,28 +1,28 @@
--- Where an address leads in VRAM, by its region and the 19 bits that the VIP keeps. Assumes nothing.
-use Prim.Native.Nat.{ℕ, zero, suc, _+_, _-_, _*_, _/_, _%_, _^_, _<_, _≤_}
-use mathlib.Core.Bool.{Bool, true, false}
-use mathlib.Core.List.{List, [], _∷_}
+-- Where an address leads in VRAM (`vramIndexOf`), by its region and the 19 bits that the VIP keeps. Assumes nothing.
+use Prim.Native.Nat.{ℕ, zero, suc, _+_, _-_, _/_, _%_, _<_, _≤_}
+use mathlib.Core.List.{[], _∷_}
 use mathlib.Core.Path.{_≡_, refl, sym, ap, _∙_}
 use native.Mathlib.Decide.{ℕ-discrete, decLt}
 use native.Mathlib.Omega.{arith}
 use lib.ListN.{getD}
 use lib.Dec.{ltb, eqb}
 use borrow.Author.Tests.{lt-ltb, le-ltb}
-use Rattle.word.specs.Choose.{pick, member, indexOf}
+use Rattle.word.specs.Choose.{member, indexOf}
 use Rattle.bus.specs.Registers.{drawingAddresses, silentAddresses, versionAddress}
-use Rattle.bus.specs.Place.{Place, vramAt, wramAt, pakAt, romAt, drawingAt, versionAt, silent, unlisted, unmapped}
-use Rattle.bus.specs.Place.{hardwareAt, soundUnit, nothing, expansion, registerPlace, mirrorOf, vipPlace, regionOf}
-use Rattle.bus.specs.Place.{placeOf}
+use Rattle.bus.specs.Place.{Place, vramAt, wramAt, pakAt, romAt, drawingAt, versionAt, silent, unmapped}
+use Rattle.bus.specs.Place.{hardwareAt, registerPlace, mirrorOf, vipPlace, regionOf}
+use Rattle.bus.specs.Place.{placeOf, vramIndexOf}
 use Rattle.bus.specs.declared.Place.{Place as Found}
 use Rattle.bus.specs.declared.Place.the-variants.{Wram, Vram, Rom, Pak, Register, Port, Nothing}
 use Rattle.bus.specs.inner.LeadsTo.{LeadsTo}
+use Rattle.word.proofs.Choices.{pick-each}
 use Rattle.bus.proofs.Led.{NoVram}
+use Rattle.bus.proofs.VipPlaces.{mirror-step}
 use Rattle.bus.proofs.Places.{region-code, place-vip}
-use Rattle.bus_probe.specs.Probe.{vramIndexOf, targetOf}
 
 -- regions 1 to 7 do not lead to VRAM
 no-vram : (p : Place) (o i j k r : ℕ) → (r ≡ 0 → ⊥)
-    → vramIndexOf (getD (p ∷ soundUnit ∷ hardwareAt o ∷ nothing ∷ expansion ∷ wramAt i ∷ pakAt j ∷ romAt k ∷ []) r nothing)
+    → vramIndexOf (getD (p ∷ silent ∷ hardwareAt o ∷ silent ∷ silent ∷ wramAt i ∷ pakAt j ∷ romAt k ∷ []) r silent)
     ≡ 0x40000
 no-vram p o i j k zero n = absurd (n refl)
 no-vram p o i j k (suc zero) n = refl
@@ -34,19 +34,14 @@ no-vram p o i j k (suc (suc (suc (suc (suc (suc zero)))))) n = refl
 no-vram p o i j k (suc (suc (suc (suc (suc (suc (suc zero))))))) n = refl
 no-vram p o i j k (suc (suc (suc (suc (suc (suc (suc (suc r)))))))) n = refl
 
-no-register : (k x y : ℕ) (b₁ b₂ b₃ : Bool)
-    → vramIndexOf (pick b₁ (drawingAt k x) (pick b₂ (versionAt y) (pick b₃ silent unlisted))) ≡ 0x40000
-no-register k x y true b₂ b₃ = refl
-no-register k x y false true b₃ = refl
-no-register k x y false false true = refl
-no-register k x y false false false = refl
-
 register-elsewhere : (v : ℕ) → vramIndexOf (registerPlace v) ≡ 0x40000
 unfolding registerPlace
 register-elsewhere v =
     let h = v - v % 2 in
     let k = indexOf h drawingAddresses in
-    no-register k (v % 2) (v % 2) (ltb k 13) (eqb h versionAddress) (member h silentAddresses)
+    let Other : Place → Type 0 = λ p. vramIndexOf p ≡ 0x40000 in
+    pick-each Other (ltb k 13) (drawingAt k (v % 2)) _ refl
+    (pick-each Other (eqb h versionAddress) (versionAt (v % 2)) _ refl (pick-each Other (member h silentAddresses) silent unmapped refl refl))
 
 module _ (rom pak a : ℕ) where
   pub elsewhere : (a / 16777216 % 8 ≡ 0 → ⊥) → vramIndexOf (placeOf rom pak a) ≡ 0x40000
@@ -63,12 +58,9 @@ module _ (rom pak a : ℕ) where
   between e l h =
       rw (place-vip rom pak a (sym (region-code a) ∙ e))
       (simp (le-ltb (a % 524288) 0x40000 l, lt-ltb (a % 524288) 0x78000 h)
-      (go (ltb (a % 524288) 0x5E000) (ltb (a % 524288) 0x60000)))
-    where
-      go : (p q : Bool) → vramIndexOf (pick p unmapped (pick q (registerPlace (a % 524288)) unmapped)) ≡ 0x40000
-      go true q = refl
-      go false true = register-elsewhere (a % 524288)
-      go false false = refl
+      (pick-each (λ (p : Place). vramIndexOf p ≡ 0x40000) (ltb (a % 524288) 0x5E000) unmapped _ refl
+      (pick-each (λ (p : Place). vramIndexOf p ≡ 0x40000) (ltb (a % 524288) 0x60000) (registerPlace (a % 524288)) unmapped
+      (register-elsewhere (a % 524288)) refl)))
 
   pub mirrored : a / 16777216 % 8 ≡ 0 → 0x78000 ≤ a % 524288
       → vramIndexOf (placeOf rom pak a) ≡ mirrorOf (a % 524288 - 0x78000)
@@ -101,22 +93,6 @@ module _ (rom pak a : ℕ) where
   led-elsewhere (Port o) n (here, e) = outside (λ z. omega arith)
   led-elsewhere Nothing n e = outside (e .no-vip)
 
--- the target from what the code finds for the aligned address
-module _ (rom pak a at : ℕ) where
-  pub target-byte : at ≡ vramIndexOf (placeOf rom pak a) → at ≡ targetOf rom pak 1 a
-  unfolding targetOf
-  target-byte e =
-      let f : a - a % 1 ≡ a = omega arith in
-      rw f e
-
-  pub target-half : at ≡ vramIndexOf (placeOf rom pak (a - a % 2)) → at ≡ targetOf rom pak 2 a
-  unfolding targetOf
-  target-half e = e
-
-  pub target-word : at ≡ vramIndexOf (placeOf rom pak (a - a % 4)) → at ≡ targetOf rom pak 4 a
-  unfolding targetOf
-  target-word e = e
-
 -- a place that has an index in VRAM is that byte of VRAM
 pub index-place : (p : Place) → vramIndexOf p < 0x40000 → p ≡ vramAt (vramIndexOf p)
 index-place (vramAt i) h = refl
@@ -127,18 +103,7 @@ index-place (drawingAt k b) h = absurd (omega arith)
 index-place (versionAt b) h = absurd (omega arith)
 index-place (hardwareAt o) h = absurd (omega arith)
 index-place silent h = absurd (omega arith)
-index-place unlisted h = absurd (omega arith)
 index-place unmapped h = absurd (omega arith)
-index-place soundUnit h = absurd (omega arith)
-index-place nothing h = absurd (omega arith)
-index-place expansion h = absurd (omega arith)
-
-mirror-next : (k j : ℕ) → k % 4 + j < 4 → mirrorOf (k + j) ≡ mirrorOf k + j
-unfolding mirrorOf
-mirror-next k j h =
-    let e : (k + j) / 0x2000 ≡ k / 0x2000 = omega arith in
-    let f : (k + j) % 0x2000 ≡ k % 0x2000 + j = omega arith in
-    rw (e, f) (omega arith)
 
 mirror-word : (k : ℕ) → mirrorOf k % 4 ≡ k % 4
 unfolding mirrorOf
@@ -184,7 +149,7 @@ follows rom pak s j h i =
         record {
           next =
               mirrored rom pak (s + j) (next-region e) (rw next-index (omega arith))
-              ∙ rw (next-index, k) (mirror-next (s % 524288 - 0x78000) j (omega arith))
+              ∙ rw (next-index, k) (mirror-step (s % 524288 - 0x78000) j (omega arith))
               ∙ ap (λ n. n + j) (sym (mirrored rom pak s e l));
           in-word = rw (mirrored rom pak s e l, mirror-word (s % 524288 - 0x78000)) (omega arith);
         }
