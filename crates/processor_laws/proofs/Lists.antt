@@ -6,6 +6,7 @@ use native.Mathlib.Omega.{arith}
 use lib.Dec.{eqb}
 use lib.ListN.{length, getD, set}
 use lib.Seq.{getD-set-same, getD-set-other, set-out}
+use Rattle.word.proofs.Choices.{pick-each}
 use Rattle.processor_machine.specs.System.{rowOf}
 
 pub set-each : (P : ℕ → ℕ → Type 0) (l : List ℕ) (k v : ℕ) → ((j : ℕ) → P j (getD l j 0)) → P k v → (j : ℕ) → P j (getD (set l k v) j 0)
