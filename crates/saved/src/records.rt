@@ -12,6 +12,7 @@ use saved_layout::places::DRAWING_BYTES;
 use saved_layout::places::HARDWARE_BYTES;
 use saved_layout::places::PAK_AT;
 use saved_layout::places::PROCESSOR_BYTES;
+use saved_layout::places::REST_AT;
 ghost use mathlib.Core.Path.{_≡_};
 ghost use Prim.Native.Nat.{_≤_};
 ghost use lib.ListN.{length, replicate};
@@ -82,7 +83,7 @@ fn processor(body: &[u8], hardware: TimerLines) -> Processor
     let mut regs = [0u32; 32];
     let mut rest = [0u32; 11];
     numbers::take_words(body, 0, &mut regs);
-    numbers::take_words(body, 128, &mut rest);
+    numbers::take_words(body, REST_AT, &mut rest);
     processor_of(regs, rest, hardware)
 }
 

@@ -9,6 +9,7 @@ use saved_layout::places;
 use saved_layout::places::DRAWING_AT;
 use saved_layout::places::HARDWARE_BYTES;
 use saved_layout::places::PAK_AT;
+use saved_layout::places::REST_AT;
 use saved_layout::places::WRAM_AT;
 ghost use mathlib.Core.Path.{_≡_};
 ghost use Prim.Native.Nat.{_+_, _≤_};
@@ -27,7 +28,7 @@ pub fn processor_ok(body: &[u8]) -> bool
     let mut regs = [0u32; 32];
     let mut rest = [0u32; 11];
     numbers::take_words(body, 0, &mut regs);
-    numbers::take_words(body, 128, &mut rest);
+    numbers::take_words(body, REST_AT, &mut rest);
     if 2 < rest[10] {
         return false;
     }

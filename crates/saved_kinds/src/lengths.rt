@@ -27,20 +27,11 @@ pub fn form_of(file: &[u8]) -> Form
 pub fn pak_length(form: Form, length: usize) -> usize
     ensures { λ r. ⌜ r ≡ pakLengthOf form length ⌝ }
 {
-    match form {
-        Form::One => {
-            if length <= 327930 {
-                return 0;
-            }
-            length - 327930
-        }
-        Form::Two => {
-            if length <= 327976 {
-                return 0;
-            }
-            length - 327976
-        }
+    let besides = places::file_length(form, 1) - 1;
+    if length <= besides {
+        return 0;
     }
+    length - besides
 }
 
 // Whether some length of pak RAM makes files of `length` bytes in a form.

@@ -22,7 +22,7 @@ use Rattle.saved_layout.specs.File.{hardwareBytesIn, bodiesIn, contentsI
 use Rattle.saved_layout.specs.declared.Form.{Form}
 use Rattle.saved_layout.specs.declared.Form.the-variants.{One, Two}
 use Rattle.saved_layout.proofs.Positions.{first-small, second, third, fourth, fifth, last-place, length-is}
-use Rattle.saved_layout.proofs.Positions.{contents-end, one-empty, one-some, two-empty, two-some}
+use Rattle.saved_layout.proofs.Positions.{contents-end}
 
 -- the contents are halfwords: each entry is, whatever its kind
 append-under : (n : ℕ) (xs ys : List ℕ) → Under n xs → Under n ys → Under n (xs ++ ys)
@@ -92,8 +92,12 @@ contents-under form p s h small =
 
 -- form 1 has no sums
 pub plain-contents : (p : ℕ) (s t : List ℕ) → contentsOf One p s ≡ contentsOf One p t
-plain-contents zero s t = sym (one-empty s) ∙ one-empty t
-plain-contents (suc p) s t = sym (one-some (suc p) (omega arith) s) ∙ one-some (suc p) (omega arith) t
+unfolding contentsOf
+plain-contents p s t = rw (plain-entries (contentsEndOf One (length (partsOf One p))) (partsOf One p))
+  where
+    plain-entries : (at : ℕ) (parts : List Part) → entriesFrom One at parts s ≡ entriesFrom One at parts t
+    plain-entries at [] = refl
+    plain-entries at (part ∷ parts) = rw (plain-entries (at + part .size) parts)
 
 sum-small : (xs : List ℕ) → bodySumOf xs < 2 ^ 32
 unfolding bodySumOf

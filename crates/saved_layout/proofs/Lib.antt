@@ -2,5 +2,6 @@
 -- reverse, `Written` what the functions leave, and `NoGaps` that bodies follow one another.
 pub mod Positions
 pub mod Files
+pub mod Laid
 pub mod Written
 pub mod NoGaps

@@ -8,8 +8,7 @@ use lib.Seq.{take-length}
 use Rattle.saved_layout.specs.Layout.{Part, partsOf, contentsEndOf, endFrom, bodyPlaceOf, fileLengthOf}
 use Rattle.saved_layout.specs.Gaps.{partSizeAt, NoGaps, LengthsDiffer}
 use Rattle.saved_layout.specs.declared.Form.{Form}
-use Rattle.saved_layout.specs.declared.Form.the-variants.{One, Two}
-use Rattle.saved_layout.proofs.Positions.{first-one-empty, first-one-some, first-two-empty, first-two-some, length-is, contents-end}
+use Rattle.saved_layout.proofs.Positions.{first-some, length-is, contents-end}
 
 follows : (at : ℕ) (parts : List Part) (i : ℕ) → i < length parts → endFrom at (take (suc i) parts) ≡ endFrom at (take i parts) + partSizeAt parts i
 follows at [] i h = absurd (omega arith)
@@ -26,13 +25,8 @@ no-gaps form pak =
     }
 
 pub lengths-differ : (form : Form) → LengthsDiffer form
-lengths-differ One zero zero e = refl
-lengths-differ One zero (suc q) e = absurd (omega (arith, length-is One 0, length-is One (suc q), first-one-empty, first-one-some (suc q) (omega arith)))
-lengths-differ One (suc p) zero e = absurd (omega (arith, length-is One 0, length-is One (suc p), first-one-empty, first-one-some (suc p) (omega arith)))
-lengths-differ One (suc p) (suc q) e =
-    omega (arith, length-is One (suc p), length-is One (suc q), first-one-some (suc p) (omega arith), first-one-some (suc q) (omega arith))
-lengths-differ Two zero zero e = refl
-lengths-differ Two zero (suc q) e = absurd (omega (arith, length-is Two 0, length-is Two (suc q), first-two-empty, first-two-some (suc q) (omega arith)))
-lengths-differ Two (suc p) zero e = absurd (omega (arith, length-is Two 0, length-is Two (suc p), first-two-empty, first-two-some (suc p) (omega arith)))
-lengths-differ Two (suc p) (suc q) e =
-    omega (arith, length-is Two (suc p), length-is Two (suc q), first-two-some (suc p) (omega arith), first-two-some (suc q) (omega arith))
+lengths-differ form zero zero e = refl
+lengths-differ form zero (suc q) e = absurd (omega (arith, length-is form 0, length-is form (suc q), first-some form (suc q) (omega arith)))
+lengths-differ form (suc p) zero e = absurd (omega (arith, length-is form 0, length-is form (suc p), first-some form (suc p) (omega arith)))
+lengths-differ form (suc p) (suc q) e =
+    omega (arith, length-is form (suc p), length-is form (suc q), first-some form (suc p) (omega arith), first-some form (suc q) (omega arith))

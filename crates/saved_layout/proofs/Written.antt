@@ -15,7 +15,7 @@ use Rattle.saved_layout.specs.File.{Bodies, bodiesOf, sumsOf, lastOf, jo
 use Rattle.saved_layout.specs.declared.Form.{Form}
 use Rattle.saved_layout.specs.declared.Form.the-variants.{One, Two}
 use Rattle.saved_layout.proofs.Positions.{second, third, fourth, fifth, last-place, length-is, contents-end}
-use Rattle.saved_layout.proofs.Files.{sealed}
+use Rattle.saved_layout.proofs.Files.{sealed, plain-contents}
 
 -- the bytes of two lists of words
 pub bytes-append : (a b : List ℕ) → bytesOf (halvesOf (a ++ b)) ≡ bytesOf (halvesOf a) ++ bytesOf (halvesOf b)
@@ -179,18 +179,24 @@ pub list-same : {a1 a2 b1 b2 c1 c2 d1 d2 e1 e2 f1 f2 : ℕ} → a1 ≡ a2 → b1
 list-same p q r s t u = rw (p, q, r, s, t, u)
 
 -- halfwords that are the contents
-module _ (form : Form) (p : ℕ) (file xs sums : List ℕ) (same : xs ≡ contentsOf form p sums) where
+module _ (form : Form) (p : ℕ) (file xs : List ℕ) (same : xs ≡ contentsIn form p file) where
   pub contents-fit : 2 * length xs ≡ bodyPlaceOf form p 0
-  contents-fit = ap (λ (ys : List ℕ). 2 * length ys) same ∙ contents-end form p sums
+  unfolding contentsIn
+  contents-fit = ap (λ (ys : List ℕ). 2 * length ys) same ∙ contents-end form p (sumsOf (bodiesIn form p file))
 
-  module _ (right : contentsOf form p sums ≡ contentsIn form p file) where
-    pub contents-put : (d : List ℕ) → putAt d 0 (bytesOf xs) ≡ putAt d 0 (bytesOf (contentsIn form p file))
-    contents-put d = ap (λ (ys : List ℕ). putAt d 0 (bytesOf ys)) (same ∙ right)
+  pub contents-put : (d : List ℕ) → putAt d 0 (bytesOf xs) ≡ putAt d 0 (bytesOf (contentsIn form p file))
+  contents-put d = ap (λ (ys : List ℕ). putAt d 0 (bytesOf ys)) same
 
-    pub contents-same : sameOf (halvesFrom file 0 (length xs)) xs ≡ contentsOk form p file
-    unfolding contentsOk
-    contents-same = ap (λ (ys : List ℕ). sameOf (halvesFrom file 0 (length ys)) ys) (same ∙ right)
+  pub contents-same : sameOf (halvesFrom file 0 (length xs)) xs ≡ contentsOk form p file
+  unfolding contentsOk
+  contents-same = ap (λ (ys : List ℕ). sameOf (halvesFrom file 0 (length ys)) ys) same
 
-pub contents-of : (form : Form) (p : ℕ) (file sums : List ℕ) → sums ≡ sumsOf (bodiesIn form p file) → contentsOf form p sums ≡ contentsIn form p file
+-- the sums that form 1 does not store, and those that form 2 does
+pub contents-plain : (form : Form) (p : ℕ) (file sums : List ℕ) → form ≡ One → contentsOf form p sums ≡ contentsIn form p file
 unfolding contentsIn
-contents-of form p file sums e = ap (contentsOf form p) e
+contents-plain form p file sums e = rw e (plain-contents p sums (sumsOf (bodiesIn One p file)))
+
+pub contents-summed : (form : Form) (p : ℕ) (file sums : List ℕ) → form ≡ Two → sums ≡ sumsOf (bodiesIn Two p file)
+    → contentsOf form p sums ≡ contentsIn form p file
+unfolding contentsIn
+contents-summed form p file sums e f = rw (e, f)

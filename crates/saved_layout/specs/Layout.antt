@@ -16,7 +16,7 @@ abbrev pub otherOf : Form → Form
 otherOf One = Two
 otherOf Two = One
 
--- a body: its kind and its length in bytes
+-- what the contents say of a body, its place and its sum aside: its kind and its length in bytes
 pub record Part : Type 0 where
   pub kind : ℕ
   pub size : ℕ
@@ -45,7 +45,8 @@ abbrev pub lastPartsOf : Form → List Part
 lastPartsOf One = []
 lastPartsOf Two = partOf 6 hardwareBytes ∷ []
 
--- the bodies of a form: 1 processor, 2 drawing, 3 WRAM, 4 VRAM, 5 pak RAM, "left out when empty", and 6
+-- the bodies of a file, by its form and its pak RAM's length: kinds 1 processor, 2 drawing, 3 WRAM, 4 VRAM, 5 pak RAM,
+-- "left out when empty", and 6
 abbrev pub partsOf : Form → ℕ → List Part
 partsOf form pak =
     partOf 1 processorBytes

@@ -1,3 +1,4 @@
 pub mod Layout
 pub mod File
 pub mod Gaps
+pub mod inner

@@ -4,6 +4,7 @@ use crate::contents;
 use crate::places;
 use crate::places::DRAWING_AT;
 use crate::places::PAK_AT;
+use crate::places::REST_AT;
 use crate::places::VRAM_AT;
 use crate::places::WRAM_AT;
 use saved_bytes::numbers;
@@ -27,7 +28,7 @@ fn put_records(room: &mut [u8], at: usize, regs: &[u32; 32], rest: &[u32; 11], h
         ⌝ }
 {
     numbers::put_words(room, at, regs);
-    numbers::put_words(room, at + 128, rest);
+    numbers::put_words(room, at + REST_AT, rest);
     numbers::put_halves(room, at + DRAWING_AT, halves);
 }
 

@@ -3,200 +3,119 @@
 use crate::Form;
 use crate::places;
 use crate::places::DRAWING_AT;
+use crate::places::DRAWING_BYTES;
+use crate::places::ENTRY_TWO_BYTES;
+use crate::places::FIRST_ENTRY_TWO;
 use crate::places::HARDWARE_BYTES;
 use crate::places::PAK_AT;
+use crate::places::PROCESSOR_BYTES;
 use crate::places::VRAM_AT;
+use crate::places::VRAM_BYTES;
 use crate::places::WRAM_AT;
+use crate::places::WRAM_BYTES;
 use saved_bytes::numbers;
 use saved_bytes::parts;
-ghost use mathlib.Core.List.{List};
+ghost use mathlib.Core.List.{[], _∷_, _++_};
 ghost use mathlib.Core.Path.{_≡_};
-ghost use Prim.Native.Nat.{ℕ, _/_, _%_, _<_, _≤_};
-ghost use lib.ListN.{length};
-ghost use Rattle.saved_bytes.specs.Numbers.{bytesOf};
+ghost use Prim.Native.Nat.{_+_, _<_, _≤_};
+ghost use lib.ListN.{length, take};
+ghost use Rattle.saved_bytes.specs.Numbers.{bytesOf, halvesOf};
 ghost use Rattle.saved_bytes.specs.inner.Put.{putAt};
-ghost use Rattle.saved_layout.specs.declared.Form.the-variants.{One, Two};
-ghost use Rattle.saved_layout.specs.Layout.{contentsOf, fileLengthOf};
+ghost use Rattle.saved_layout.specs.declared.Form.the-variants.{Two};
+ghost use Rattle.saved_layout.specs.Layout.{leadingOf, contentsOf, fileLengthOf};
 ghost use Rattle.saved_layout.specs.File.{sumsOf, bodiesIn, contentsIn, contentsOk};
+ghost use Rattle.saved_layout.specs.inner.Laid.{laidEntryOf};
 
-// The two halfwords of a word.
-fn low(word: u32) -> u16
-    ensures { λ r. ⌜ r ≡ word % 65536 ⌝ }
+// The most halfwords that contents have: in form 2, with six entries.
+const MOST_HALVES: usize = (FIRST_ENTRY_TWO + 6 * ENTRY_TWO_BYTES) / 2;
+
+// A word from halfword `at` on.
+fn put_word(table: &mut [u16; MOST_HALVES], at: usize, word: u32)
+    requires { ⌜ (length (now table) ≡ 45) × (at ≤ 43) ⌝ }
+    ensures { λ _. ⌜ take (at + 2) (now (table .exit)) ≡ take at (now (table .entry)) ++ halvesOf (word ∷ []) ⌝ }
+    ensures { λ _. ⌜ length (now (table .exit)) ≡ 45 ⌝ }
 {
-    (word % 65536) as u16
+    table[at] = (word % 65536) as u16;
+    table[at + 1] = (word / 65536) as u16;
 }
 
-fn high(word: u32) -> u16
-    ensures { λ r. ⌜ r ≡ word / 65536 ⌝ }
+// Form 2 begins with halfwords 0 and 2. Then comes the count of bodies. Gives where the first entry starts.
+fn put_leading(form: Form, count: u16, table: &mut [u16; MOST_HALVES]) -> usize
+    requires { ⌜ length (now table) ≡ 45 ⌝ }
+    ensures { λ r. ⌜ take r (now (table .exit)) ≡ leadingOf form ++ (count ∷ []) ⌝ }
+    ensures { λ r. ⌜ (r ≤ 3) × (length (now (table .exit)) ≡ 45) ⌝ }
 {
-    (word / 65536) as u16
+    match form {
+        Form::One => {
+            table[0] = count;
+            1
+        }
+        Form::Two => {
+            table[0] = 0;
+            table[1] = 2;
+            table[2] = count;
+            3
+        }
+    }
 }
 
-// Form 1 where pak RAM is empty: four bodies, from byte 42 on.
-fn without_pak() -> [u16; 21]
-    ensures { λ r. ⌜ ((sums : List ℕ) → r ≡ contentsOf One 0 sums) ⌝ }
+// The entry of a body that starts at byte `offset`, from halfword `at` on, and none where the body is empty. Gives where
+// the next entry starts.
+fn put_entry(
+    form: Form,
+    table: &mut [u16; MOST_HALVES],
+    at: usize,
+    kind: u16,
+    offset: usize,
+    size: usize,
+    sum: u32,
+) -> usize
+    requires { ⌜ (length (now table) ≡ 45) × (at ≤ 38) ⌝ }
+    requires { ⌜ (offset < 4294967296) × (size < 4294967296) ⌝ }
+    ensures { λ r. ⌜
+        take r (now (table .exit)) ≡ take at (now (table .entry)) ++ laidEntryOf form kind offset size sum
+        ⌝ }
+    ensures { λ r. ⌜ (r ≤ at + 7) × (length (now (table .exit)) ≡ 45) ⌝ }
 {
-    [
-        4,
-        1,
-        42,
-        0,
-        172,
-        0,
-        2,
-        214,
-        0,
-        26,
-        0,
-        3,
-        240,
-        0,
-        0,
-        1,
-        4,
-        240,
-        1,
-        0,
-        4,
-    ]
+    if size == 0 {
+        return at;
+    }
+    table[at] = kind;
+    put_word(table, at + 1, offset as u32);
+    put_word(table, at + 3, size as u32);
+    match form {
+        Form::One => at + 5,
+        Form::Two => {
+            put_word(table, at + 5, sum);
+            at + 7
+        }
+    }
 }
 
-// Form 1 where it is not: five bodies, from byte 52 on.
-fn with_pak(pak: usize) -> [u16; 26]
-    requires { ⌜ (0 < pak) × (pak ≤ 16777216) ⌝ }
-    ensures { λ r. ⌜ ((sums : List ℕ) → r ≡ contentsOf One pak sums) ⌝ }
+// The contents by the sums of kinds 1 to 6. Gives how many halfwords they have.
+fn lay(form: Form, pak: usize, sums: [u32; 6], table: &mut [u16; MOST_HALVES]) -> usize
+    requires { ⌜ (length (now table) ≡ 45) × (pak ≤ 16777216) ⌝ }
+    ensures { λ r. ⌜ take r (now (table .exit)) ≡ contentsOf form pak sums ⌝ }
+    ensures { λ r. ⌜ (r ≤ 45) × (length (now (table .exit)) ≡ 45) ⌝ }
 {
-    let size = pak as u32;
-    [
-        5,
-        1,
-        52,
-        0,
-        172,
-        0,
+    let count = places::count(form, pak);
+    let first = places::first(form, pak);
+    let last = places::last_bytes(form);
+    let one = put_leading(form, count as u16, table);
+    let two = put_entry(form, table, one, 1, first, PROCESSOR_BYTES, sums[0]);
+    let three = put_entry(
+        form,
+        table,
+        two,
         2,
-        224,
-        0,
-        26,
-        0,
-        3,
-        250,
-        0,
-        0,
-        1,
-        4,
-        250,
-        1,
-        0,
-        4,
-        5,
-        250,
-        5,
-        low(size),
-        high(size),
-    ]
-}
-
-// Form 2 where pak RAM is empty: five bodies, from byte 76 on. The sums are those of kinds 1 to 6.
-fn summed_without_pak(sums: [u32; 6]) -> [u16; 38]
-    ensures { λ r. ⌜ r ≡ contentsOf Two 0 sums ⌝ }
-{
-    [
-        0,
-        2,
-        5,
-        1,
-        76,
-        0,
-        172,
-        0,
-        low(sums[0]),
-        high(sums[0]),
-        2,
-        248,
-        0,
-        26,
-        0,
-        low(sums[1]),
-        high(sums[1]),
-        3,
-        274,
-        0,
-        0,
-        1,
-        low(sums[2]),
-        high(sums[2]),
-        4,
-        274,
-        1,
-        0,
-        4,
-        low(sums[3]),
-        high(sums[3]),
-        6,
-        274,
-        5,
-        8,
-        0,
-        low(sums[5]),
-        high(sums[5]),
-    ]
-}
-
-// Form 2 where it is not: six bodies, from byte 90 on.
-fn summed_with_pak(pak: usize, sums: [u32; 6]) -> [u16; 45]
-    requires { ⌜ (0 < pak) × (pak ≤ 16777216) ⌝ }
-    ensures { λ r. ⌜ r ≡ contentsOf Two pak sums ⌝ }
-{
-    let size = pak as u32;
-    let last = 327968 + size;
-    [
-        0,
-        2,
-        6,
-        1,
-        90,
-        0,
-        172,
-        0,
-        low(sums[0]),
-        high(sums[0]),
-        2,
-        262,
-        0,
-        26,
-        0,
-        low(sums[1]),
-        high(sums[1]),
-        3,
-        288,
-        0,
-        0,
-        1,
-        low(sums[2]),
-        high(sums[2]),
-        4,
-        288,
-        1,
-        0,
-        4,
-        low(sums[3]),
-        high(sums[3]),
-        5,
-        288,
-        5,
-        low(size),
-        high(size),
-        low(sums[4]),
-        high(sums[4]),
-        6,
-        low(last),
-        high(last),
-        8,
-        0,
-        low(sums[5]),
-        high(sums[5]),
-    ]
+        first + DRAWING_AT,
+        DRAWING_BYTES,
+        sums[1],
+    );
+    let four = put_entry(form, table, three, 3, first + WRAM_AT, WRAM_BYTES, sums[2]);
+    let five = put_entry(form, table, four, 4, first + VRAM_AT, VRAM_BYTES, sums[3]);
+    let six = put_entry(form, table, five, 5, first + PAK_AT, pak, sums[4]);
+    put_entry(form, table, six, 6, first + PAK_AT + pak, last, sums[5])
 }
 
 // The sums of the bodies of a file, or of a buffer that holds them, in form 2.
@@ -221,37 +140,15 @@ pub fn sums(file: &[u8], pak: usize) -> [u32; 6]
     ]
 }
 
-// The contents of form 1 into a buffer.
-fn put_plain(room: &mut [u8], pak: usize)
-    requires { ⌜ (length (now room) ≡ fileLengthOf One pak) × (pak ≤ 16777216) ⌝ }
-    ensures { λ _. ⌜
-        now (room .exit) ≡ putAt (now (room .entry)) 0 (bytesOf (contentsIn One pak (now (room .entry))))
-        ⌝ }
+// The sums that a form stores: form 1 stores none.
+fn stored_sums(form: Form, file: &[u8], pak: usize) -> [u32; 6]
+    requires { ⌜ (length (now file) ≡ fileLengthOf form pak) × (pak ≤ 16777216) ⌝ }
+    ensures { λ r. ⌜ contentsOf form pak r ≡ contentsIn form pak (now (file .entry)) ⌝ }
 {
-    if pak == 0 {
-        let contents = without_pak();
-        numbers::put_halves(room, 0, &contents);
-        return;
+    match form {
+        Form::One => [0u32; 6],
+        Form::Two => sums(file, pak),
     }
-    let contents = with_pak(pak);
-    numbers::put_halves(room, 0, &contents);
-}
-
-// The contents of form 2 into a buffer whose bodies stand at their places.
-fn put_summed(room: &mut [u8], pak: usize)
-    requires { ⌜ (length (now room) ≡ fileLengthOf Two pak) × (pak ≤ 16777216) ⌝ }
-    ensures { λ _. ⌜
-        now (room .exit) ≡ putAt (now (room .entry)) 0 (bytesOf (contentsIn Two pak (now (room .entry))))
-        ⌝ }
-{
-    let six = sums(room, pak);
-    if pak == 0 {
-        let contents = summed_without_pak(six);
-        numbers::put_halves(room, 0, &contents);
-        return;
-    }
-    let contents = summed_with_pak(pak, six);
-    numbers::put_halves(room, 0, &contents);
 }
 
 // The contents into a buffer whose bodies stand at their places.
@@ -261,37 +158,10 @@ pub fn put(form: Form, room: &mut [u8], pak: usize)
         now (room .exit) ≡ putAt (now (room .entry)) 0 (bytesOf (contentsIn form pak (now (room .entry))))
         ⌝ }
 {
-    match form {
-        Form::One => put_plain(room, pak),
-        Form::Two => put_summed(room, pak),
-    }
-}
-
-// Whether a file begins with the contents of form 1.
-fn plain_ok(file: &[u8], pak: usize) -> bool
-    requires { ⌜ (length (now file) ≡ fileLengthOf One pak) × (pak ≤ 16777216) ⌝ }
-    ensures { λ r. ⌜ r ≡ contentsOk One pak (now (file .entry)) ⌝ }
-{
-    if pak == 0 {
-        let contents = without_pak();
-        return numbers::same_halves(file, &contents);
-    }
-    let contents = with_pak(pak);
-    numbers::same_halves(file, &contents)
-}
-
-// Whether a file begins with the contents of form 2, the sums of its bodies among them.
-fn summed_ok(file: &[u8], pak: usize) -> bool
-    requires { ⌜ (length (now file) ≡ fileLengthOf Two pak) × (pak ≤ 16777216) ⌝ }
-    ensures { λ r. ⌜ r ≡ contentsOk Two pak (now (file .entry)) ⌝ }
-{
-    let six = sums(file, pak);
-    if pak == 0 {
-        let contents = summed_without_pak(six);
-        return numbers::same_halves(file, &contents);
-    }
-    let contents = summed_with_pak(pak, six);
-    numbers::same_halves(file, &contents)
+    let sums = stored_sums(form, room, pak);
+    let mut table = [0u16; MOST_HALVES];
+    let count = lay(form, pak, sums, &mut table);
+    numbers::put_halves(room, 0, &table[..count]);
 }
 
 // Whether a file of the due length begins with the contents.
@@ -299,8 +169,8 @@ pub fn ok(form: Form, file: &[u8], pak: usize) -> bool
     requires { ⌜ (length (now file) ≡ fileLengthOf form pak) × (pak ≤ 16777216) ⌝ }
     ensures { λ r. ⌜ r ≡ contentsOk form pak (now (file .entry)) ⌝ }
 {
-    match form {
-        Form::One => plain_ok(file, pak),
-        Form::Two => summed_ok(file, pak),
-    }
+    let sums = stored_sums(form, file, pak);
+    let mut table = [0u16; MOST_HALVES];
+    let count = lay(form, pak, sums, &mut table);
+    numbers::same_halves(file, &table[..count])
 }

@@ -2,7 +2,9 @@
 use crate::Form;
 ghost use mathlib.Core.Path.{_≡_};
 ghost use Prim.Native.Nat.{_≤_};
-ghost use Rattle.saved_layout.specs.Layout.{otherOf, bodyPlaceOf, fileLengthOf};
+ghost use lib.ListN.{length};
+ghost use Rattle.saved_layout.specs.Layout.{otherOf, partsOf, bodyPlaceOf, fileLengthOf};
+ghost use Rattle.saved_layout.specs.inner.Laid.{lastBytesOf};
 
 // The lengths of the bodies but pak RAM's.
 pub const PROCESSOR_BYTES: usize = 172;
@@ -15,6 +17,9 @@ pub const VRAM_BYTES: usize = 262144;
 
 pub const HARDWARE_BYTES: usize = 8;
 
+// Where PC and the system registers start in the processor's body, behind the 32 general registers.
+pub const REST_AT: usize = 128;
+
 // How far behind the first body the others start. Kind 6, the lines and the timer, follows pak RAM.
 pub const DRAWING_AT: usize = PROCESSOR_BYTES;
 
@@ -23,6 +28,16 @@ pub const WRAM_AT: usize = DRAWING_AT + DRAWING_BYTES;
 pub const VRAM_AT: usize = WRAM_AT + WRAM_BYTES;
 
 pub const PAK_AT: usize = VRAM_AT + VRAM_BYTES;
+
+// Where the first entry of the contents starts, behind the count, and how long an entry is. Form 2 has two halfwords
+// before the count, and in each entry a sum behind kind, offset and length.
+pub const FIRST_ENTRY_ONE: usize = 2;
+
+pub const ENTRY_ONE_BYTES: usize = 10;
+
+pub const FIRST_ENTRY_TWO: usize = 6;
+
+pub const ENTRY_TWO_BYTES: usize = 14;
 
 // The form that a file is moved to.
 pub fn other(form: Form) -> Form
@@ -34,23 +49,44 @@ pub fn other(form: Form) -> Form
     }
 }
 
-// Where the first body starts.
-pub fn first(form: Form, pak: usize) -> usize
-    ensures { λ r. ⌜ (r ≡ bodyPlaceOf form pak 0) × (r ≤ 90) ⌝ }
+// How many bodies a file has: pak RAM is left out when empty, kind 6 in form 1.
+pub fn count(form: Form, pak: usize) -> usize
+    ensures { λ r. ⌜ (r ≡ length (partsOf form pak)) × (r ≤ 6) ⌝ }
 {
     match form {
         Form::One => {
             if pak == 0 {
-                return 42;
+                return 4;
             }
-            52
+            5
         }
         Form::Two => {
             if pak == 0 {
-                return 76;
+                return 5;
             }
-            90
+            6
         }
+    }
+}
+
+// The length of kind 6.
+pub fn last_bytes(form: Form) -> usize
+    ensures { λ r. ⌜ (r ≡ lastBytesOf form) × (r ≤ 8) ⌝ }
+{
+    match form {
+        Form::One => 0,
+        Form::Two => HARDWARE_BYTES,
+    }
+}
+
+// Where the first body starts.
+pub fn first(form: Form, pak: usize) -> usize
+    ensures { λ r. ⌜ (r ≡ bodyPlaceOf form pak 0) × (r ≤ 90) ⌝ }
+{
+    let bodies = count(form, pak);
+    match form {
+        Form::One => FIRST_ENTRY_ONE + ENTRY_ONE_BYTES * bodies,
+        Form::Two => FIRST_ENTRY_TWO + ENTRY_TWO_BYTES * bodies,
     }
 }
 
@@ -59,8 +95,5 @@ pub fn file_length(form: Form, pak: usize) -> usize
     requires { ⌜ pak ≤ 16777216 ⌝ }
     ensures { λ r. ⌜ r ≡ fileLengthOf form pak ⌝ }
 {
-    match form {
-        Form::One => first(Form::One, pak) + PAK_AT + pak,
-        Form::Two => first(Form::Two, pak) + PAK_AT + pak + HARDWARE_BYTES,
-    }
+    first(form, pak) + PAK_AT + pak + last_bytes(form)
 }

@@ -21,7 +21,7 @@ use Rattle.saved_layout.specs.Layout.{otherOf, contentsOf, fileLengthOf}
 use Rattle.saved_layout.specs.File.{Bodies, sumsOf, joinedOf, fileOf, bodiesIn, contentsOk, hardwareReset, SizedBodies, HeldBy}
 use Rattle.saved_layout.specs.declared.Form.{Form}
 use Rattle.saved_layout.specs.declared.Form.the-variants.{One, Two}
-use Rattle.saved_layout.proofs.Positions.{one-empty, one-some, two-empty, two-some}
+use Rattle.saved_layout.proofs.Positions.{count-some}
 use Rattle.saved_layout.proofs.Files.{file-length, file-held, contents-back, file-again, length-pak-in, sized-in, held-one}
 use Rattle.saved_kinds.specs.Fits.{formOf, pakLengthOf, fitsOk}
 use Rattle.saved_kinds.specs.Kinds.{bodiesOk, fileOk}
@@ -32,14 +32,13 @@ use Rattle.saved_move.proofs.Verdicts.{lengths-yes, fit, accepted, no-r
 
 -- the first halfword gives the form of a file that was written
 one-first : (p : ℕ) (s rest : List ℕ) → halfAt (bytesOf (contentsOf One p s) ++ rest) 0 ≡ 0 → ⊥
-unfolding bytesOf
-one-first zero s rest = rw (← one-empty s) (λ e. absurd (omega arith))
-one-first (suc p) s rest = rw (← one-some (suc p) (omega arith) s) (λ e. absurd (omega arith))
+unfolding bytesOf contentsOf
+one-first zero s rest e = absurd (omega arith)
+one-first (suc p) s rest e = absurd (omega (arith, count-some One (suc p) (omega arith)))
 
 two-first : (p : ℕ) (s rest : List ℕ) → halfAt (bytesOf (contentsOf Two p s) ++ rest) 0 ≡ 0
-unfolding bytesOf
-two-first zero s rest = rw (← two-empty s) refl
-two-first (suc p) s rest = rw (← two-some (suc p) (omega arith) s) refl
+unfolding bytesOf contentsOf
+two-first p s rest = refl
 
 pub form-back : (form : Form) (b : Bodies) → formOf (fileOf form b) ≡ form
 unfolding formOf fileOf

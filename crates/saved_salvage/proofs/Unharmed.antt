@@ -26,7 +26,6 @@ use Rattle.saved_bytes.proofs.Reading.{same-self}
 use Rattle.saved_layout.specs.Layout.{contentsOf, fileLengthOf}
 use Rattle.saved_layout.specs.File.{Bodies, sumsOf, joinedOf, fileOf, bodiesIn, contentsOk, SizedBodies, HeldBy}
 use Rattle.saved_layout.specs.declared.Form.the-variants.{Two}
-use Rattle.saved_layout.proofs.Positions.{two-empty, two-some}
 use Rattle.saved_layout.proofs.Files.{sums-small, file-length, file-held, contents-back, file-again, length-pak-in, sized-in}
 use Rattle.saved_kinds.specs.Fits.{pakLengthOf, fitsOk}
 use Rattle.saved_kinds.specs.Kinds.{generalFrom, restFrom, wordsOk, processorBodyOk, drawingFrom, drawingBodyOk, hardwareFrom, hardwareBodyOk, bodiesOk, fileOk}
@@ -157,18 +156,17 @@ module _ (s rest : List ℕ) (small : (k : ℕ) → getD s k 0 < 2 ^ 32) where
       × ((wordAt (bytesOf (contentsOf Two 0 s) ++ rest) 30 ≡ getD s 1 0)
       × ((wordAt (bytesOf (contentsOf Two 0 s) ++ rest) 44 ≡ getD s 2 0)
       × ((wordAt (bytesOf (contentsOf Two 0 s) ++ rest) 58 ≡ getD s 3 0) × (wordAt (bytesOf (contentsOf Two 0 s) ++ rest) 72 ≡ getD s 5 0))))
-  unfolding bytesOf
-  stored-empty =
-      rw (← two-empty s) (
-        word-joined (getD s 0 0) (small 0),
-        (
-          word-joined (getD s 1 0) (small 1),
-          (
-            word-joined (getD s 2 0) (small 2),
-            (word-joined (getD s 3 0) (small 3), word-joined (getD s 5 0) (small 5)),
-          ),
-        ),
-      )
+  unfolding bytesOf contentsOf halvesOf
+  stored-empty = (
+    word-joined (getD s 0 0) (small 0),
+    (
+      word-joined (getD s 1 0) (small 1),
+      (
+        word-joined (getD s 2 0) (small 2),
+        (word-joined (getD s 3 0) (small 3), word-joined (getD s 5 0) (small 5)),
+      ),
+    ),
+  )
 
   stored-some : (p : ℕ) → 0 < p
       → (wordAt (bytesOf (contentsOf Two p s) ++ rest) 16 ≡ getD s 0 0)
@@ -176,9 +174,10 @@ module _ (s rest : List ℕ) (small : (k : ℕ) → getD s k 0 < 2 ^ 32) where
       × ((wordAt (bytesOf (contentsOf Two p s) ++ rest) 44 ≡ getD s 2 0)
       × ((wordAt (bytesOf (contentsOf Two p s) ++ rest) 58 ≡ getD s 3 0)
       × ((wordAt (bytesOf (contentsOf Two p s) ++ rest) 72 ≡ getD s 4 0) × (wordAt (bytesOf (contentsOf Two p s) ++ rest) 86 ≡ getD s 5 0)))))
-  unfolding bytesOf
-  stored-some p some =
-      rw (← two-some p some s) (
+  unfolding bytesOf contentsOf halvesOf
+  stored-some zero some = absurd (omega arith)
+  stored-some (suc p) some =
+      simp (eqb·suc-zero p) (
         word-joined (getD s 0 0) (small 0),
         (
           word-joined (getD s 1 0) (small 1),
@@ -186,11 +185,7 @@ module _ (s rest : List ℕ) (small : (k : ℕ) → getD s k 0 < 2 ^ 32) where
             word-joined (getD s 2 0) (small 2),
             (
               word-joined (getD s 3 0) (small 3),
-              (
-                word-joined (getD s 4 0) (small 4),
-                word-joined (getD s 5 0)
-                    (small 5),
-              ),
+              (word-joined (getD s 4 0) (small 4), word-joined (getD s 5 0) (small 5)),
             ),
           ),
         ),

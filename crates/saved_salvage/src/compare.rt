@@ -1,14 +1,14 @@
 // Whether a byte before the first body differs in the output, sums of replaced bodies aside.
 use crate::Kept;
-use crate::entries::BYTES_BEFORE_SUM;
 use crate::entries::ENTRY_1;
 use crate::entries::ENTRY_2;
 use crate::entries::ENTRY_3;
 use crate::entries::ENTRY_4;
 use crate::entries::ENTRY_5;
 use crate::entries::ENTRY_6;
-use crate::entries::ENTRY_BYTES;
 use saved_bytes::parts;
+use saved_layout::places::ENTRY_ONE_BYTES;
+use saved_layout::places::ENTRY_TWO_BYTES;
 ghost use mathlib.Core.Path.{_≡_};
 ghost use Prim.Native.Nat.{_+_, _≤_};
 ghost use lib.ListN.{length};
@@ -31,9 +31,9 @@ fn entry_differs(file: &[u8], room: &[u8], at: usize, kept: bool) -> bool
     ensures { λ r. ⌜ r ≡ entryDiffers at kept (now (file .entry)) (now (room .entry)) ⌝ }
 {
     if kept {
-        return part_differs(file, room, at, ENTRY_BYTES);
+        return part_differs(file, room, at, ENTRY_TWO_BYTES);
     }
-    part_differs(file, room, at, BYTES_BEFORE_SUM)
+    part_differs(file, room, at, ENTRY_ONE_BYTES)
 }
 
 pub fn contents_differ(file: &[u8], room: &[u8], pak: usize, kept: Kept) -> bool

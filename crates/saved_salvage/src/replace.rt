@@ -10,6 +10,7 @@ use saved_layout::places::DRAWING_BYTES;
 use saved_layout::places::HARDWARE_BYTES;
 use saved_layout::places::PAK_AT;
 use saved_layout::places::PROCESSOR_BYTES;
+use saved_layout::places::REST_AT;
 use saved_layout::places::VRAM_AT;
 use saved_layout::places::VRAM_BYTES;
 use saved_layout::places::WRAM_AT;
@@ -42,7 +43,7 @@ fn put_processor(file: &[u8], room: &mut [u8], at: usize, kept: bool)
     let regs = p.regs;
     let rest = words::rest(p);
     numbers::put_words(room, at, &regs);
-    numbers::put_words(room, at + 128, &rest);
+    numbers::put_words(room, at + REST_AT, &rest);
 }
 
 // Another kind of `size` bytes, whose reset values are zeros.

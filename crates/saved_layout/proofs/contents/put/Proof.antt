@@ -1,29 +1,43 @@
 -- `saved_layout::contents::put` meets its contract. Assumes nothing.
+use native.Mathlib.Omega.{arith}
+use mathlib.Core.Path.{_∙_}
+use lib.ListN.{length, length-take}
+use Rattle.saved_layout.proofs.Positions.{length-is}
+use Rattle.saved_layout.proofs.Written.{contents-fit, contents-put}
 use borrow.Author.Needs.{needs}
 use Rattle.saved_layout.proofs.contents.put.Statement.{statement}
 use Rattle.saved_layout.proofs.contents.put.Tie as tie
 
-put-plain-requires : tie.Need-put-plain-requires
-put-plain-requires c κs = rw ((c .before .enum-told .given .1)) at ((c .before .before .before .before .pre))
+slice-aggregate-put-halves : tie.Need-slice-aggregate-put-halves
+slice-aggregate-put-halves c = simp length-take (omega arith)
 
-put-summed-requires : tie.Need-put-summed-requires
-put-summed-requires c κs = rw ((c .before .enum-told2 .given .1)) at ((c .before .before .before .before .pre))
+put-halves-requires : tie.Need-put-halves-requires
+put-halves-requires c κs =
+    let c4 = c .before .before .before .before in
+    let a = c4 .before .before .before .args in
+    omega (
+      arith,
+      length-is (a .form) (a .pak),
+      contents-fit (a .form) (a .pak) (a .room .now) _ (c .before .before .lay .ensures .0 ∙ c4 .stored-sums .ensures),
+    )
 
 returns : tie.Need-returns
-returns c = rw ((c .before .before .before .before .enum-told .given .1)) ((c .before .before .put-plain .ensures))
-
-returns-2 : tie.Need-returns-2
-returns-2 c = rw ((c .before .before .before .before .enum-told2 .given .1)) ((c .before .before .put-summed .ensures))
+returns c =
+    let c2 = c .before .before in
+    let c5 = c2 .before .before .before in
+    let c7 = c5 .before .before in
+    let a = c7 .before .before .before .args in
+    c2 .put-halves .ensures
+    ∙ contents-put (a .form) (a .pak) (a .room .now) _ (c5 .lay .ensures .0 ∙ c7 .stored-sums .ensures) _
 
 pub put-spec : {M : Type 1} → statement M
 put-spec =
     tie.close
     (tie.spec
+    (λ c κs. search needs)
+    (λ c κs. search needs)
     (λ c. search needs)
-    put-plain-requires
+    slice-aggregate-put-halves
+    put-halves-requires
     (λ c. search needs)
-    put-summed-requires
-    (λ c. search needs)
-    returns
-    (λ c. search needs)
-    returns-2)
+    returns)
