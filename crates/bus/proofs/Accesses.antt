@@ -9,6 +9,7 @@ use Rattle.bus.specs.Memory.{Memory, byteOf, loadOf, putByte, putRegiste
 use Rattle.bus.specs.inner.LeadsTo.{Between}
 use Rattle.bus.proofs.Places.{region-code}
 use Rattle.bus.proofs.Places.{byte-nothing, register-elsewhere, put-nothing}
+use Rattle.bus.proofs.Steps.{from-steps}
 use Rattle.bus.proofs.VipPlaces.{register-byte, between-next}
 
 -- the region that the code's test found
@@ -48,24 +49,10 @@ nothing-read m size a q =
 abbrev pub Idle : ℕ → Type 0
 Idle s = (m : Memory) (v : ℕ) → (putByte m s v ≡ m) × (putRegister m s v ≡ m)
 
-idle-halfword : (m : Memory) (s v : ℕ) → Idle s → Idle (s + 1) → putHalfword m s v ≡ m
-unfolding putHalfword
-idle-halfword m s v first second = first _ v .1 ∙ rw (first m v .0) (second m (v / 256) .0)
-
 -- bytes that all take nothing
 pub idle-puts : (m : Memory) (s n v : ℕ) → ((j : ℕ) → j < n → Idle (s + j)) → putFrom m s n v ≡ m
-idle-puts m s zero v q = refl
-idle-puts m s (suc zero) v q =
-    let e : s + 0 ≡ s = omega arith in
-    let p : Idle s = rw e at (q 0 (omega arith)) in
-    p _ v .1 ∙ p m v .0
-idle-puts m s (suc (suc n)) v q =
-    let e : s + 0 ≡ s = omega arith in
-    let next : (j : ℕ) → j < n → Idle (s + 2 + j) =
-    λ j less.
-    let f : s + (2 + j) ≡ s + 2 + j = omega arith in
-    rw f at (q (2 + j) (omega arith)) in
-    rw (idle-halfword m s v (rw e at (q 0 (omega arith))) (q 1 (omega arith))) (idle-puts m (s + 2) n (v / 65536) next)
+idle-puts =
+    from-steps (λ before after. after ≡ before) (λ m. refl) (λ m n o p q. q ∙ p) Idle (λ m a v q. q m v .0) (λ m a v q. q m v .1)
 
 -- a region that takes nothing
 abbrev pub Inert : ℕ → Type 0

@@ -38,13 +38,19 @@ module _ (size a : ℕ) (ok : sizeOk size ≡ true) where
   unfolding storeOf
   aligned-store m v = rw twice
 
--- and in the address's region
+-- the aligned address is in the region of the address
 pub region-aligned : (size a : ℕ) → sizeOk size ≡ true → regionOf (alignedOf size a) ≡ regionOf a
 region-aligned size a ok =
     let near = in-word size a ok in
     let some = size-range size ok .0 in
     let e : a - a % size + a % size ≡ a = omega (arith, mod-le a size) in
     sym (rw e at (region-step (alignedOf size a) (a % size) (omega (arith, near, mod-lt a some))))
+
+-- each byte of an access stands in the region of its aligned address
+pub region-within : (size a : ℕ) → sizeOk size ≡ true → (j : ℕ) → j < size → regionOf (alignedOf size a + j) ≡ regionOf (alignedOf size a)
+region-within size a ok j h =
+    let n = in-word size a ok in
+    region-step (alignedOf size a) j (omega (arith, n))
 
 low-case : (size s : ℕ) → s % size ≡ 0 → (size ≡ 1) ⊎ ((size ≡ 2) ⊎ (size ≡ 4)) → s % 524288 % size ≡ 0
 low-case size s z (inl e) = rw e (omega arith)

@@ -21,10 +21,9 @@ use Rattle.bus.specs.inner.LeadsTo.{LeadsTo, Between, Outside, OutsideRa
 use Rattle.bus.specs.declared.Place.{Place}
 use Rattle.bus.specs.declared.Place.the-variants.{Wram, Vram, Rom, Pak, Register, Port, Nothing}
 use Rattle.bus.proofs.Power.{rom-power, power-room}
-use Rattle.bus.proofs.Places.{region-step}
 use Rattle.bus.proofs.Sizes.{in-word, size-range}
 use Rattle.bus.proofs.Numbers.{byte-power, byte-fits}
-use Rattle.bus.proofs.Aligned.{multiple, low-multiple, aligned-reads, aligned-store, vip-reads, vip-stored}
+use Rattle.bus.proofs.Aligned.{multiple, low-multiple, region-within, aligned-reads, aligned-store, vip-reads, vip-stored}
 use Rattle.bus.proofs.Accesses.{Quiet, Inert, nothing-read, nothing-stored}
 use Rattle.bus.proofs.PortAccess.{port-byte, port-store, port-load, port-stores}
 use Rattle.bus.proofs.Spans.{wram-span, vram-span, rom-span, wram-number, vram-number, rom-number, wram-stored, vram-stored}
@@ -110,12 +109,6 @@ module _ (size a : ℕ) (ok : sizeOk size ≡ true) where
     port-puts o x (here, e) =
         rw e (sym (port-stores m size a ok here x ∙ port-store m (alignedOf size a) here x))
 
--- each byte of an access stands in the region of its aligned address
-within : (size a : ℕ) → sizeOk size ≡ true → (j : ℕ) → j < size → regionOf (alignedOf size a + j) ≡ regionOf (alignedOf size a)
-within size a ok j h =
-    let n = in-word size a ok in
-    region-step (alignedOf size a) j (omega (arith, n))
-
 -- what is left where neither ROM, WRAM nor VRAM matched
 pub outside-left : (s : ℕ) (p : Place) → LeadsTo s p → OneOf (3 ∷ 4 ∷ 5 ∷ 6 ∷ []) (tagOf the-type p) → Outside s
 outside-left s (Wram i) l h = absurd (miss (3 ∷ 4 ∷ 5 ∷ 6 ∷ []) 0 tt h)
@@ -152,7 +145,7 @@ module _ (m : Memory) (size a : ℕ) (ok : sizeOk size ≡ true) where
   quiet-reads (Port x) l o h = absurd (miss (0 ∷ 1 ∷ 2 ∷ 6 ∷ []) 5 tt h)
   quiet-reads Nothing q o h =
       let all : Quiet (regionOf (alignedOf size a)) = (q .no-wram, (q .no-rom, (q .no-vip, (q .no-pak, q .no-port)))) in
-      record { means = sym (nothing-read m size a (λ j less. rw (within size a ok j less) all)); fits = byte-power size }
+      record { means = sym (nothing-read m size a (λ j less. rw (region-within size a ok j less) all)); fits = byte-power size }
 
   pub quiet-puts : (v : ℕ) (p : Place) → LeadsTo (alignedOf size a) p → OutsideRam (alignedOf size a) → OneOf (0 ∷ 1 ∷ 2 ∷ 6 ∷ []) (tagOf the-type p)
       → m ≡ storeOf m size a v
@@ -160,13 +153,13 @@ module _ (m : Memory) (size a : ℕ) (ok : sizeOk size ≡ true) where
   quiet-puts v (Vram i) (here, e) o h = absurd (e .not-between (o .no-vram here))
   quiet-puts v (Rom x) (here, e) o h =
       let all : Inert (regionOf (alignedOf size a)) = (o .no-wram, (λ z. omega arith, (λ z. omega arith, λ z. omega arith))) in
-      sym (nothing-stored m size a v (λ j less. rw (within size a ok j less) all))
+      sym (nothing-stored m size a v (λ j less. rw (region-within size a ok j less) all))
   quiet-puts v (Pak x) l o h = absurd (miss (0 ∷ 1 ∷ 2 ∷ 6 ∷ []) 3 tt h)
   quiet-puts v (Register w) l o h = absurd (miss (0 ∷ 1 ∷ 2 ∷ 6 ∷ []) 4 tt h)
   quiet-puts v (Port x) l o h = absurd (miss (0 ∷ 1 ∷ 2 ∷ 6 ∷ []) 5 tt h)
   quiet-puts v Nothing q o h =
       let all : Inert (regionOf (alignedOf size a)) = (q .no-wram, (q .no-vip, (q .no-pak, q .no-port))) in
-      sym (nothing-stored m size a v (λ j less. rw (within size a ok j less) all))
+      sym (nothing-stored m size a v (λ j less. rw (region-within size a ok j less) all))
 
 -- what the fast path of a store tells
 pub stored-all : (m : Memory) (size a v : ℕ) (r : Bool) (after : Memory) → r ≡ true → Stores m size a v r after → after ≡ storeOf m size a v

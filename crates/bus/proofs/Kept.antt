@@ -1,5 +1,5 @@
 -- A store keeps every length and every register width, so an accepted machine stays accepted. Assumes nothing.
-use Prim.Native.Nat.{ℕ, zero, suc, _+_, _-_, _/_, _%_, _^_, _<_}
+use Prim.Native.Nat.{ℕ, zero, suc, _+_, _-_, _^_, _<_}
 use mathlib.Core.Bool.{true, false≢true}
 use mathlib.Core.List.{List}
 use mathlib.Core.Path.{_≡_, refl, _∙_}
@@ -19,10 +19,11 @@ use Rattle.bus.specs.Registers.{widthOf, keptOf, withinFrom, drawingOk}
 use Rattle.bus.specs.TimerLines.{hardwareIn, withHardware, registersOk}
 use Rattle.bus.specs.Place.{Place, vramAt, wramAt, pakAt, romAt, drawingAt, versionAt, silent}
 use Rattle.bus.specs.Place.{unmapped, hardwareAt}
-use Rattle.bus.specs.Memory.{Memory, Lengths, verdictOf, putPlace, putDrawing, placeIn, putByte, putRegister, putHalfword, putFrom, storeOf}
+use Rattle.bus.specs.Memory.{Memory, Lengths, verdictOf, putPlace, putDrawing, putByte, putRegister, storeOf}
+use Rattle.bus.proofs.Steps.{byte-step, register-step, store-steps}
 use Rattle.bus.proofs.Accepted.{accepted-lengths, accepted-registers, lengths-accepted}
 use Rattle.bus.proofs.Devices.{drawing-ok-same, set-hardware, with-register, with-length, with-fits}
-use Rattle.bus.proofs.DrawingPlaces.{Proper, place-proper}
+use Rattle.bus.proofs.DrawingPlaces.{Proper}
 
 -- drawingOk, register by register
 within-each : (d : List ℕ) (k n : ℕ) → withinFrom d k n ≡ true → (j : ℕ) → j < n → getD d (k + j) 0 < 2 ^ widthOf (k + j)
@@ -115,7 +116,7 @@ pub record Shape (m n : Memory) : Type 0 where
   pub same-regs : length (n .regs) ≡ length (m .regs)
   pub still-within : registersOk (m .regs) ≡ true → registersOk (n .regs) ≡ true
 
-same : (m : Memory) → Shape m m
+pub same : (m : Memory) → Shape m m
 same m =
     record {
       same-rom = refl;
@@ -126,7 +127,7 @@ same m =
       still-within = λ h. h;
     }
 
-both : (m n o : Memory) → Shape m n → Shape n o → Shape m o
+pub both : (m n o : Memory) → Shape m n → Shape n o → Shape m o
 both m n o p q =
     record {
       same-rom = q .same-rom ∙ p .same-rom;
@@ -199,34 +200,17 @@ drawing-shape m (hardwareAt o) v less = same m
 drawing-shape m silent v less = same m
 drawing-shape m unmapped v less = same m
 
+put-shape : (m : Memory) (p : Place) (b : ℕ) → b < 256 → Shape m (putPlace m p b)
+put-shape m p b small = place-shape m p b
+
 pub byte-shape : (m : Memory) (a v : ℕ) → Shape m (putByte m a v)
-unfolding putByte
-byte-shape m a v = place-shape m (placeIn m a) (v % 256)
+byte-shape = byte-step Shape same both put-shape drawing-shape
 
 pub register-shape : (m : Memory) (a v : ℕ) → Shape m (putRegister m a v)
-unfolding putRegister
-register-shape m a v =
-    drawing-shape m (placeIn m a) (v % 65536) (place-proper (length (m .rom)) (length (m .pak)) a)
-
-pub halfword-shape : (m : Memory) (a v : ℕ) → Shape m (putHalfword m a v)
-unfolding putHalfword
-halfword-shape m a v =
-    let n = putByte m a v in
-    let o = putByte n (a + 1) (v / 256) in
-    both m o (putRegister o a v) (both m n o (byte-shape m a v) (byte-shape n (a + 1) (v / 256))) (register-shape o a v)
-
--- a store of any size
-from-shape : (m : Memory) (a size v : ℕ) → Shape m (putFrom m a size v)
-from-shape m a zero v = same m
-from-shape m a (suc zero) v =
-    both m (putByte m a v) (putRegister (putByte m a v) a v) (byte-shape m a v) (register-shape (putByte m a v) a v)
-from-shape m a (suc (suc n)) v =
-    let h = putHalfword m a v in
-    both m h (putFrom h (a + 2) n (v / 65536)) (halfword-shape m a v) (from-shape h (a + 2) n (v / 65536))
+register-shape = register-step Shape same both put-shape drawing-shape
 
 pub store-shape : (m : Memory) (size a v : ℕ) → Shape m (storeOf m size a v)
-unfolding storeOf
-store-shape m size a v = from-shape m (a - a % size) size v
+store-shape = store-steps Shape same both put-shape drawing-shape
 
 -- accepted lengths stay accepted, and so does an accepted machine
 pub shape-lengths : (m n : Memory) → Shape m n → Lengths (length (m .rom)) (length (m .wram)) (length (m .vram)) (length (m .pak))

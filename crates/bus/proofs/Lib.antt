@@ -14,8 +14,10 @@ pub mod PortAccess
 mod Accesses
 mod VipAccess
 pub mod Aligned
-mod ByPlace
+pub mod ByPlace
 pub mod DrawingPlaces
+pub mod Steps
+pub mod Bytes
 pub mod Accepted
 pub mod Kept
 pub mod Mapped

@@ -1,8 +1,7 @@
 -- A load after a store: at another place nothing changed, at the same place the stored value is read. Assumes nothing.
-use Prim.Native.Nat.{ℕ, zero, suc, _+_, _/_, _%_, _^_, _<_, _≤_}
+use Prim.Native.Nat.{ℕ, _+_, _/_, _%_, _^_, _<_, _≤_}
 use mathlib.Core.Logic.{_≢_}
 use mathlib.Core.Path.{_≡_, refl, ap, _∙_}
-use native.Mathlib.Omega.{arith}
 use lib.ListN.{length}
 use lib.Seq.{getD-set-same, getD-set-other}
 use Rattle.word.specs.LittleEndian.{putBytes}
@@ -13,10 +12,11 @@ use Rattle.bus.specs.TimerLines.{hardwareIn}
 use Rattle.bus.specs.Place.{Place, vramAt, wramAt, pakAt, romAt, drawingAt, versionAt, silent}
 use Rattle.bus.specs.Place.{unmapped, hardwareAt}
 use Rattle.bus.specs.Memory.{Memory, byteOf, loadOf, readPlace, placeIn, putPlace, putDrawing, putByte}
-use Rattle.bus.specs.Memory.{putRegister, putHalfword, alignedOf, putFrom, storeOf, withWram, withVram}
+use Rattle.bus.specs.Memory.{putRegister, alignedOf, storeOf, withWram, withVram}
 use Rattle.bus.proofs.Devices.{set-hardware, with-register}
 use Rattle.bus.proofs.DrawingPlaces.{Proper, place-proper}
-use Rattle.bus.proofs.Kept.{Shape, byte-shape, register-shape, halfword-shape}
+use Rattle.bus.proofs.Kept.{Shape, same, both, byte-shape, register-shape}
+use Rattle.bus.proofs.Steps.{store-steps-at}
 use Rattle.bus.proofs.Halfwords.{byte-load, byte-store}
 use Rattle.bus.proofs.Numbers.{number-put}
 use Rattle.bus.proofs.Spans.{Span, wram-number, vram-number, wram-stored, vram-stored}
@@ -175,42 +175,25 @@ write-elsewhere m a b v ne =
     rw (shape-place m (putRegister m a v) (register-shape m a v) b) (drawing-other m (placeIn m a) (placeIn m b)
     (v % 65536) (place-proper (length (m .rom)) (length (m .pak)) a) ne)
 
-moved : (m n : Memory) → Shape m n → (b a : ℕ) → Apart m b a → Apart n b a
-moved m n p b a ne = rw (shape-place m n p b, shape-place m n p a) ne
-
-halfword-elsewhere : (m : Memory) (a b v : ℕ) → Apart m b a → Apart m b (a + 1) → byteOf (putHalfword m a v) b ≡ byteOf m b
-unfolding putHalfword
-halfword-elsewhere m a b v ne next =
-    let n = putByte m a v in
-    let o = putByte n (a + 1) (v / 256) in
-    let mn = byte-shape m a v in
-    let no = byte-shape n (a + 1) (v / 256) in
-    write-elsewhere o a b v (moved n o no b a (moved m n mn b a ne))
-    ∙ put-elsewhere n (a + 1) b (v / 256) (moved m n mn b (a + 1) next)
-    ∙ put-elsewhere m a b v ne
-
-from-elsewhere : (m : Memory) (a b size v : ℕ) → ((j : ℕ) → j < size → Apart m b (a + j)) → byteOf (putFrom m a size v) b ≡ byteOf m b
-from-elsewhere m a b zero v ne = refl
-from-elsewhere m a b (suc zero) v ne =
-    let e : a + 0 ≡ a = omega arith in
-    let first : Apart m b a = rw e at (ne 0 (omega arith)) in
-    write-elsewhere (putByte m a v) a b v (moved m (putByte m a v) (byte-shape m a v) b a first)
-    ∙ put-elsewhere m a b v first
-from-elsewhere m a b (suc (suc n)) v ne =
-    let h = putHalfword m a v in
-    let e : a + 0 ≡ a = omega arith in
-    let rest : (j : ℕ) → j < n → Apart h b (a + 2 + j) =
-    λ j less.
-    let f : a + (2 + j) ≡ a + 2 + j = omega arith in
-    moved m h (halfword-shape m a v) b (a + 2 + j) (rw f at (ne (2 + j) (omega arith))) in
-    from-elsewhere h (a + 2) b n (v / 65536) rest
-    ∙ halfword-elsewhere m a b v (rw e at (ne 0 (omega arith))) (ne 1 (omega arith))
-
 -- a store of any size leaves every byte that is apart from those it names
-pub store-elsewhere : (m : Memory) (size a b v : ℕ) → ((j : ℕ) → j < size → Apart m b (alignedOf size a + j))
-    → byteOf (storeOf m size a v) b ≡ byteOf m b
-unfolding storeOf
-store-elsewhere m size a b v ne = from-elsewhere m (alignedOf size a) b size v ne
+module _ (first : Memory) (b : ℕ) where
+  -- a step's places are those of the store's start
+  record Leaves (m n : Memory) : Type 0 where
+    shape : Shape m n
+    byte : Shape first m → byteOf n b ≡ byteOf m b
+
+  moved : (m : Memory) (a : ℕ) → Shape first m → Apart first b a → Apart m b a
+  moved m a p ne = rw (shape-place first m p b, shape-place first m p a) ne
+
+  pub store-elsewhere : (size a v : ℕ) → ((j : ℕ) → j < size → Apart first b (alignedOf size a + j))
+      → byteOf (storeOf first size a v) b ≡ byteOf first b
+  store-elsewhere size a v ne =
+      store-steps-at Leaves (λ m. record { shape = same m; byte = λ p. refl })
+      (λ m n o p q. record { shape = both m n o (p .shape) (q .shape); byte = λ s. q .byte (both first m n s (p .shape)) ∙ p .byte s })
+      (Apart first b)
+      (λ m a v q. record { shape = byte-shape m a v; byte = λ p. put-elsewhere m a b v (moved m a p q) })
+      (λ m a v q. record { shape = register-shape m a v; byte = λ p. write-elsewhere m a b v (moved m a p q) })
+      first size a v ne .byte (same first)
 
 -- a place of memory is no register
 held-plain : (m n : Memory) (p : Place) (v : ℕ) → Held m p → putDrawing n p v ≡ n

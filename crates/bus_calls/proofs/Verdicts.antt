@@ -1,7 +1,6 @@
 -- From the verdict that a call found to its answer, for a load and a store of any size: refused or done; and what an
 -- access does that is lent a copy of the device registers. Assumes nothing.
 use Prim.Native.Nat.{ℕ}
-use mathlib.Core.Bool.{Bool, true, false, true≢false, false≢true}
 use mathlib.Core.List.{List}
 use mathlib.Core.Path.{_≡_, sym, ap, subst, _∙_}
 use lib.ListN.{length}
@@ -11,9 +10,7 @@ use Rattle.refusal.specs.declared.Verdict.the-variants.{Accepted, Refused}
 use Rattle.bus_timer.specs.declared.TimerLines.{TimerLines}
 use Rattle.bus.specs.Registers.{drawingIn}
 use Rattle.bus.specs.TimerLines.{deviceLength, hardwareIn, deviceOf}
-use Rattle.bus.specs.Memory.{Memory, Lengths, withRegs, verdictAt, verdictOf, Reads, storeOf, alignedOf}
-use Rattle.bus.specs.inner.Finds.{Stores}
-use Rattle.bus.specs.inner.LeadsTo.{OutsideRam}
+use Rattle.bus.specs.Memory.{Memory, Lengths, withRegs, verdictAt, verdictOf, Reads, storeOf}
 use Rattle.bus.proofs.Devices.{device-whole}
 use Rattle.bus.proofs.Kept.{store-shape}
 use Rattle.bus.proofs.Accepted.{accepted-lengths}
@@ -62,13 +59,3 @@ module _ (m : Memory) (size a : ℕ) (lent : List ℕ) (same : lent ≡ m .regs)
       let whole : length (left .regs) ≡ deviceLength = ap (λ (n : Memory). length (n .regs)) after ∙ (store-shape m size a v .same-regs ∙ l) in
       let parts : deviceOf drawn timer ≡ left .regs = rw (d, t) (device-whole (left .regs) whole) in
       ap (withRegs left) parts ∙ after
-
--- what the fast path of a store tells
-pub stored-all : (m : Memory) (size a v : ℕ) (r : Bool) (after : Memory) → r ≡ true → Stores m size a v r after → after ≡ storeOf m size a v
-stored-all m size a v true after e p = p
-stored-all m size a v false after e p = absurd (false≢true e)
-
-pub stored-not : (m : Memory) (size a v : ℕ) (r : Bool) (after : Memory) → r ≡ false → Stores m size a v r after
-    → (after ≡ m) × OutsideRam (alignedOf size a)
-stored-not m size a v true after e p = absurd (true≢false e)
-stored-not m size a v false after e p = p

@@ -5,11 +5,10 @@ use mathlib.Core.List.{List}
 use mathlib.Core.Path.{_≡_, sym, _∙_}
 use native.Mathlib.Decide.{ℕ-discrete}
 use native.Mathlib.Omega.{arith}
-use borrow.Author.Tests.{eqb-true, ne-eqb, le-leb, lt-leb, not-true, not-false}
+use borrow.Author.Tests.{ne-eqb, le-leb, lt-leb, not-true, not-false}
 use lib.Dec.{eqb, leb}
 use lib.ListN.{length, getD, set}
 use lib.Seq.{getD-set-other}
-use Rattle.word.specs.Choose.{pick}
 use Rattle.word.specs.LittleEndian.{putHalf, putWord}
 use Rattle.bus.specs.Memory.{sizeOk}
 use Rattle.word.proofs.Choices.{pick-both, pick-self}
@@ -24,11 +23,6 @@ module _ (size : ℕ) where
 
   pub four-test : (size ≡ 1 → ⊥) → (size ≡ 2 → ⊥) → eqb size 4 ≡ sizeOk size
   four-test a b = simp (ne-eqb size 1 a, ne-eqb size 2 b) (sym (pick-self (eqb size 4)))
-
-  pub four-left : sizeOk size ≡ true → (size ≡ 1 → ⊥) → (size ≡ 2 → ⊥) → size ≡ 4
-  four-left h a b =
-      let t : pick (eqb size 4) true false ≡ true = simp (ne-eqb size 1 a, ne-eqb size 2 b) at h in
-      eqb-true size 4 (pick-both (eqb size 4) true t .0)
 
 -- one size of those from access k on, and the rest
 pub sizes-start : (n : ℕ) (xs : List ℕ) → sizesOk n 0 xs ≡ sizesOk (n - 0) 0 xs

@@ -1,4 +1,4 @@
-// A list of accesses made in one call (paper 02, W7). It is lent as bytes, 20 an access: five little-endian words,
+// A list of accesses made in one call (paper 02, W7). The caller gives it as bytes, 20 an access: five little-endian words,
 // address, size, write, value and undefined. Refusals are tested once, before any access.
 use bus::Device;
 use bus::Drawing;
@@ -17,7 +17,7 @@ ghost use mathlib.Core.Bool.{true};
 ghost use Prim.Native.Nat.{_+_, _*_, _<_, _≤_};
 ghost use lib.ListN.{length};
 ghost use Rattle.bus.specs.TimerLines.{deviceOf};
-ghost use Rattle.bus.specs.Memory.{Lengths, sizeOk, loadOf, storeOf};
+ghost use Rattle.bus.specs.Memory.{Lengths, sizeOk, loadOf};
 ghost use Rattle.bus.specs.Lent.{entering, leaving, enteringWith, leavingWith};
 ghost use Rattle.bus_defined.specs.Defined.{undefinedOf};
 ghost use Rattle.bus_list.specs.List.{countOf, sizeAt, answeredOf, madeOf, accessOf, accessesOf};
@@ -122,35 +122,6 @@ fn read(
     Reading { value, undefined }
 }
 
-// A write of 1, 2 or 4 bytes; `value` is the whole source register.
-fn write(
-    rom: &[u8],
-    wram: &mut [u8],
-    vram: &mut [u8],
-    pak: &mut [u8],
-    device: &mut Device,
-    size: u32,
-    address: u32,
-    value: u32,
-)
-    requires { ⌜
-        Lengths (length (now rom)) (length (now wram)) (length (now vram)) (length (now pak)) × (sizeOk size ≡ true)
-        ⌝ }
-    ensures { λ r. ⌜
-        leaving rom wram vram pak device ≡ storeOf (entering rom wram vram pak device) size address value
-        ⌝ }
-{
-    if size == 1 {
-        store::byte(rom, wram, vram, pak, device, address, value);
-        return;
-    }
-    if size == 2 {
-        store::half(rom, wram, vram, pak, device, address, value);
-        return;
-    }
-    store::word(rom, wram, vram, pak, device, address, value);
-}
-
 // What a read gave, into the last two words of access k.
 fn put_answer(list: &mut [u8], k: usize, value: u32, undefined: u32)
     requires { ⌜ 20 * k + 19 < length (now list) ⌝ }
@@ -189,7 +160,7 @@ fn access(
         return;
     }
     let value = word::word_at(list, i + 12);
-    write(rom, wram, vram, pak, device, size, address, value);
+    store::store(rom, wram, vram, pak, device, size, address, value);
 }
 
 // Every access of an accepted list, in order.

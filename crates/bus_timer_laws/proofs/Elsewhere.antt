@@ -1,6 +1,7 @@
 -- `stored-elsewhere`: the statement of specs/Writing about stores outside region 2. Only a byte put in region 2 reaches the
 -- lines and the timer, and an access does not leave its region. Assumes nothing.
-use Prim.Native.Nat.{ℕ, zero, suc, _+_, _-_, _/_, _%_, _^_}
+use Prim.Native.Nat.{ℕ, zero, suc, _-_, _%_, _^_}
+use mathlib.Core.Bool.{true}
 use mathlib.Core.List.{[], _∷_}
 use mathlib.Core.Path.{_≡_, refl, sym, _∙_}
 use native.Mathlib.Omega.{arith}
@@ -13,11 +14,11 @@ use Rattle.bus.specs.Registers.{drawingAddresses, silentAddresses, versionAddre
 use Rattle.bus.specs.Place.{Place, vramAt, wramAt, pakAt, romAt, drawingAt, versionAt, silent, unmapped}
 use Rattle.bus.specs.Place.{hardwareAt, registerPlace, mirrorOf, vipPlace, regionOf}
 use Rattle.bus.specs.Place.{placeOf}
-use Rattle.bus.specs.Memory.{Memory, putPlace, putDrawing, placeIn, putByte, putRegister, putHalfword, storeOf}
+use Rattle.bus.specs.Memory.{Memory, putPlace, putDrawing, placeIn, putByte, putRegister, sizeOk, storeOf}
 use Rattle.bus.proofs.Devices.{set-hardware}
 use Rattle.bus.proofs.DrawingPlaces.{Proper, place-proper}
-use Rattle.bus.proofs.Places.{region-half, region-half-start, region-word, region-word-start}
-use Rattle.bus.proofs.Halfwords.{byte-store, word-store}
+use Rattle.bus.proofs.Aligned.{region-aligned, region-within}
+use Rattle.bus.proofs.Steps.{store-steps-at}
 use Rattle.bus_timer_laws.specs.Writing.{timerIn, StoredElsewhere}
 
 -- a place outside region 2
@@ -101,26 +102,14 @@ byte-timer : (m : Memory) (a v : ℕ) → (regionOf a ≡ 2 → ⊥) → timerIn
 unfolding putByte
 byte-timer m a v other = place-timer m (placeIn m a) (v % 256) (place-off (length (m .rom)) (length (m .pak)) a other)
 
-halfword-timer : (m : Memory) (a v : ℕ) → (regionOf a ≡ 2 → ⊥) → (regionOf (a + 1) ≡ 2 → ⊥) → timerIn (putHalfword m a v) ≡ timerIn m
-unfolding putHalfword
-halfword-timer m a v first second =
-    register-timer (putByte (putByte m a v) (a + 1) (v / 256)) a v
-    ∙ byte-timer (putByte m a v) (a + 1) (v / 256) second
-    ∙ byte-timer m a v first
-
-half-timer : (m : Memory) (a v : ℕ) → (regionOf a ≡ 2 → ⊥) → timerIn (storeOf m 2 a v) ≡ timerIn m
-unfolding storeOf
-half-timer m a v other =
-    halfword-timer m (a - a % 2) v (λ e. other (sym (region-half-start a) ∙ e))
-    (λ e. other (sym (region-half a 1 (omega arith)) ∙ e))
+pub stored-at : (m : Memory) (size a v : ℕ) → sizeOk size ≡ true → (regionOf a ≡ 2 → ⊥) → timerIn (storeOf m size a v) ≡ timerIn m
+stored-at m size a v ok other =
+    store-steps-at (λ before after. timerIn after ≡ timerIn before) (λ m. refl) (λ m n o p q. q ∙ p) (λ b. regionOf b ≡ 2 → ⊥)
+    (λ m b w off. byte-timer m b w off) (λ m b w off. register-timer m b w) m size a v
+    (λ j h e. other (sym (region-aligned size a ok) ∙ (sym (region-within size a ok j h) ∙ e)))
 
 pub stored-elsewhere : StoredElsewhere
-stored-elsewhere m zero a v less other =
-    rw (byte-store m a v) (register-timer (putByte m a v) a v ∙ byte-timer m a v other)
-stored-elsewhere m (suc zero) a v less other = half-timer m a v other
-stored-elsewhere m (suc (suc zero)) a v less other =
-    let low = storeOf m 2 (a - a % 4) v in
-    rw (word-store m a v)
-    (half-timer low (a - a % 4 + 2) (v / 65536) (λ e. other (sym (region-word a 2 (omega arith)) ∙ e))
-    ∙ half-timer m (a - a % 4) v (λ e. other (sym (region-word-start a) ∙ e)))
+stored-elsewhere m zero a v less other = stored-at m 1 a v refl other
+stored-elsewhere m (suc zero) a v less other = stored-at m 2 a v refl other
+stored-elsewhere m (suc (suc zero)) a v less other = stored-at m 4 a v refl other
 stored-elsewhere m (suc (suc (suc k))) a v less other = absurd (omega arith)

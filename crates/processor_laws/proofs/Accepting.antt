@@ -10,6 +10,7 @@ use Rattle.bus.specs.TimerLines.{hardwareIn}
 use Rattle.bus.specs.Memory.{Memory, loadOf}
 use Rattle.bus.proofs.Accepted.{accepted-registers, lengths-accepted}
 use Rattle.bus.proofs.Kept.{register-within, within-drawing, registers-both, both-registers}
+use Rattle.bus.proofs.Bytes.{load-fits}
 use Rattle.processor_decode.specs.Format.{twoOf}
 use Rattle.processor_decode.specs.Opcode.{decodeOf}
 use Rattle.processor_decode.specs.declared.Decoded.{Decoded}
@@ -27,7 +28,6 @@ use Rattle.processor.specs.declared.After.{After}
 use Rattle.processor.specs.declared.After.the-variants.{Counted, Stopped}
 use Rattle.processor_laws.specs.Accepted.{Machine, StepAccepted, RunAccepted, RunCount, MachineAcceptedMeans, MachineMeansAccepted}
 use Rattle.processor_laws.proofs.Invariant.{Address, Good, told, tells, machine-good, good-machine}
-use Rattle.processor_laws.proofs.Stores.{load-half}
 use Rattle.processor_laws.proofs.Immediates.{Found, decoded-found}
 use Rattle.processor_laws.proofs.Exceptions.{Left, interrupt-left}
 use Rattle.processor_laws.proofs.Executes.{execute-left}
@@ -43,7 +43,7 @@ module _ (s : State) (m : Memory) (g : Good s m) where
   unfolding secondOf
   second-half two pc =
       let none : 0 < 65536 = omega arith in
-      pick-each (λ (x : ℕ). x < 65536) two (loadOf m 2 ((pc + 2) % 2 ^ 32)) 0 (load-half m (g .memories .bytes) ((pc + 2) % 2 ^ 32)) none
+      pick-each (λ (x : ℕ). x < 65536) two (loadOf m 2 ((pc + 2) % 2 ^ 32)) 0 (load-fits m (g .memories .bytes) 2 ((pc + 2) % 2 ^ 32)) none
 
   perform-left : (d : Decoded) (next : ℕ) → Found d → Address next → Left (performOf d next s m)
   perform-left (Modelled i) next f hn = execute-left s m g next hn i f

@@ -1,6 +1,6 @@
 -- An accepted machine of the right sizes, part by part: general registers, system registers, PC, PSW and memory.
 use Prim.Native.Nat.{ℕ, _%_, _^_, _≤_, _<_}
-use mathlib.Core.Bool.{Bool, true, false}
+use mathlib.Core.Bool.{true}
 use mathlib.Core.List.{List}
 use mathlib.Core.Path.{_≡_, refl}
 use native.Mathlib.Omega.{arith}
@@ -9,6 +9,7 @@ use lib.Dec.{eqb, leb}
 use lib.ListN.{length, getD}
 use Rattle.word.proofs.Choices.{pick-both}
 use Rattle.bus.specs.TimerLines.{deviceLength}
+use Rattle.bus.proofs.Bytes.{Bytes}
 use Rattle.bus.specs.Memory.{Memory, verdictOf}
 use Rattle.refusal.specs.Number.{unless, thenOf}
 use Rattle.refusal.specs.declared.Refusal as refusal
@@ -18,8 +19,8 @@ use Rattle.bus.proofs.Accepted.{unless-passed}
 use Rattle.processor_machine.specs.State.{State}
 use Rattle.processor_machine.specs.System.{pswBitsOf}
 use Rattle.processor_machine.proofs.PswMask.{psw-bits-kept}
-use Rattle.processor.specs.Acceptance.{both, isEven, isFormat, evenOk, formatsOk, stateOk, acceptanceAt, acceptanceOf}
-use Rattle.processor_laws.specs.Accepted.{Below, Machine}
+use Rattle.processor.specs.Acceptance.{isEven, isFormat, evenOk, formatsOk, stateOk, acceptanceAt, acceptanceOf}
+use Rattle.processor_laws.specs.Accepted.{Machine}
 
 -- general register k may hold v
 abbrev pub General : ℕ → ℕ → Type 0
@@ -51,12 +52,6 @@ pub record Systems (sys : List ℕ) : Type 0 where
 pub record Address (pc : ℕ) : Type 0 where
   pub word : pc < 2 ^ 32
   pub even : pc % 2 ≡ 0
-
-pub record Bytes (m : Memory) : Type 0 where
-  pub rom : Below 256 (m .rom)
-  pub wram : Below 256 (m .wram)
-  pub vram : Below 256 (m .vram)
-  pub pak : Below 256 (m .pak)
 
 pub record Memories (m : Memory) : Type 0 where
   pub bytes : Bytes m

@@ -1,23 +1,10 @@
--- What holds of each number of a list still does after one is set. Assumes nothing.
+-- What holds of each entry of a list. Assumes nothing.
 use Prim.Native.Nat.{ℕ, zero, suc}
 use mathlib.Core.List.{List, [], _∷_, _++_}
-use native.Mathlib.Decide.{ℕ-discrete, decLt}
-use native.Mathlib.Omega.{arith}
 use lib.Dec.{eqb}
-use lib.ListN.{length, getD, set}
-use lib.Seq.{getD-set-same, getD-set-other, set-out}
+use lib.ListN.{getD}
 use Rattle.word.proofs.Choices.{pick-each}
 use Rattle.processor_machine.specs.System.{rowOf}
-
-pub set-each : (P : ℕ → ℕ → Type 0) (l : List ℕ) (k v : ℕ) → ((j : ℕ) → P j (getD l j 0)) → P k v → (j : ℕ) → P j (getD (set l k v) j 0)
-set-each P l k v all new j =
-    elim (ℕ-discrete j k) [
-      | no ne ↦ rw (getD-set-other l k j v 0 ne) (all j)
-      | yes e ↦ elim (decLt k (length l)) [
-        | yes inside ↦ rw (e, getD-set-same l k v 0 inside) new
-        | no outside ↦ rw (set-out l k v (omega arith)) (all j)
-      ]
-    ]
 
 -- something holds of each entry of a list
 abbrev pub Each : {A : Type 0} → (A → Type 0) → List A → Type 0

@@ -7,11 +7,12 @@ use native.Mathlib.Omega.{arith}
 use borrow.Author.Tests.{eq-eqb, ne-eqb}
 use lib.IntN.{natAbs}
 use lib.ListN.{getD, set, length-set}
+use Rattle.bus.proofs.Bytes.{set-each}
 use Rattle.processor_arithmetic.specs.Integer.{signed}
 use Rattle.processor_arithmetic.proofs.Reading.{magnitude-small, magnitude-absolute}
 use Rattle.processor_machine.specs.State.{putOf}
 use Rattle.processor_machine.specs.System.{pswBitsOf, systemOf, Status, statusOf, writtenOf}
-use Rattle.processor_laws.proofs.Lists.{set-each, each-row}
+use Rattle.processor_laws.proofs.Lists.{each-row}
 use Rattle.processor_laws.proofs.Invariant.{General, Format, System, Generals, Systems, format-word}
 use Rattle.processor_laws.proofs.Psw.{kept-format}
 

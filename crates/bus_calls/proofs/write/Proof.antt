@@ -4,7 +4,8 @@ use mathlib.Core.List.{[]}
 use mathlib.Core.Path.{refl, ap, _∙_}
 use Rattle.bus.specs.Memory.{Memory, storeOf}
 use Rattle.bus.proofs.Devices.{device-length}
-use Rattle.bus_calls.proofs.Verdicts.{store-lent, stored-all, stored-not}
+use Rattle.bus.proofs.ByPlace.{stored-all, stored-not}
+use Rattle.bus_calls.proofs.Verdicts.{store-lent}
 use Rattle.bus_calls.proofs.write.Statement.{statement}
 use Rattle.bus_calls.proofs.write.Tie as tie
 

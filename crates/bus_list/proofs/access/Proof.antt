@@ -23,8 +23,8 @@ returns c = access-reads _ _ _ _ _ (c .before .before .before .before .before .b
     (c .before .before .before .before .read .ensures .0) (c .before .before .before .before .read .ensures .1) _
     (c .before .before .put-answer .ensures)
 
-write-requires : tie.Need-write-requires
-write-requires c κs = (
+store-requires : tie.Need-store-requires
+store-requires c κs = (
   c .before .before .before .before .before .before .before .before .before .before .before .before
       .before .before .before .before .before .before .pre .0,
   rw
@@ -41,7 +41,7 @@ returns-2 c = access-writes _ _ _ _ _ (c .before .before .before .before .before
     (c .before .before .before .before .before .before .before .before .before .before .before .before .before .before
     .word-at3 .ensures) (c .before .before .before .before .before .before .before .before .before .before .before
     .before .before .if1 .left) _ (c .before .before .before .before .before .before .before .before .before .before
-    .before .word-at4 .ensures) _ (c .before .before .before .before .before .before .write .ensures)
+    .before .word-at4 .ensures) _ (c .before .before .before .before .before .before .store .ensures)
 
 pub access-spec : {M : Type 1} → statement M
 access-spec =
@@ -62,7 +62,7 @@ access-spec =
     returns
     (λ c. search needs)
     (λ c κs. search needs)
-    write-requires
+    store-requires
     (λ c. search needs)
     (λ c. search needs)
     (λ c. search needs)

@@ -1,6 +1,6 @@
 -- `bus_list::read`: the load and the mask of its size. Assumes nothing.
 use borrow.Author.Needs.{needs}
-use Rattle.bus_list.proofs.Sizes.{four-left}
+use Rattle.bus.proofs.Sizes.{four-left}
 use Rattle.bus_list.proofs.read.Statement.{statement}
 use Rattle.bus_list.proofs.read.Tie as tie
 
