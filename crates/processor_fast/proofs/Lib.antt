@@ -1,4 +1,5 @@
 mod Acceptance
 mod Leading
+mod Rows
 mod Turning
 mod Written

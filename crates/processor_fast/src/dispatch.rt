@@ -1,4 +1,6 @@
 // One instruction, by its opcode, where it is one of the common ones or of those on the system registers.
+use crate::Cursor;
+use crate::Fetched;
 use crate::system;
 use bus::Device;
 use processor_fast_compute::Fast;
@@ -15,8 +17,8 @@ ghost use Rattle.bus.specs.Lent.{entering, leavingRam};
 ghost use Rattle.bus.specs.TimerLines.{linesPlace};
 ghost use Rattle.processor_fast.specs.inner.Turns.{Turns};
 
-// f is the halfword of code at index x, and w is a word of it and of the halfword after it, which counts only where the
-// first asks for it. That is taken out of w where it is used: the loop's head stays short (docs/SPEED.md).
+// The instruction at the cursor. Its second halfword is taken out of the word where it is used: the loop's head stays
+// short (docs/SPEED.md).
 pub fn dispatch(
     rom: &[u8],
     wram: &mut [u8],
@@ -25,22 +27,24 @@ pub fn dispatch(
     device: &Device,
     regs: &mut [u32; 32],
     sys: &mut [u32; 8],
-    base: u32,
-    f: u32,
-    w: u32,
-    x: u32,
+    at: Cursor,
+    code: Fetched,
     psw: u32,
     flags: Flags,
 ) -> Fast
     requires { ⌜
-        Lengths (length (now rom)) (length (now wram)) (length (now vram)) (length (now pak)) × (f < 65536)
+        Lengths (length (now rom)) (length (now wram)) (length (now vram)) (length (now pak)) × (code .first < 65536)
         ⌝ }
     ensures { λ r. ⌜
-        Turns (getD (now (device .entry)) linesPlace 0) base f (w / 65536) r x psw flags
+        Turns (getD (now (device .entry)) linesPlace 0) (at .base) (code .first) (code .word / 65536) r (at .x) psw flags
         (now (regs .entry)) (now (sys .entry)) (entering rom wram vram pak device)
         (now (regs .exit)) (now (sys .exit)) (leavingRam rom wram vram pak device)
         ⌝ }
 {
+    let base = at.base;
+    let x = at.x;
+    let f = code.first;
+    let w = code.word;
     match f / 1024 {
         0 => arithmetic::mov(regs, f, x, flags),
         1 => arithmetic::add(regs, f, x, flags),
@@ -74,14 +78,14 @@ pub fn dispatch(
         29 => system::stsr(regs, sys, f, x, psw, flags),
         30 => system::sei(x, psw, flags),
         31 => Fast::NotHere,
-        32 => branch::overflow_carry(f, x, flags),
-        33 => branch::zero_not_higher(f, x, flags),
-        34 => branch::negative_always(f, x, flags),
-        35 => branch::less(f, x, flags),
-        36 => branch::no_overflow_no_carry(f, x, flags),
-        37 => branch::not_zero_higher(f, x, flags),
-        38 => branch::positive_never(f, x, flags),
-        39 => branch::greater(f, x, flags),
+        32 => branch::conditional(0, f, x, flags),
+        33 => branch::conditional(1, f, x, flags),
+        34 => branch::conditional(2, f, x, flags),
+        35 => branch::conditional(3, f, x, flags),
+        36 => branch::conditional(4, f, x, flags),
+        37 => branch::conditional(5, f, x, flags),
+        38 => branch::conditional(6, f, x, flags),
+        39 => branch::conditional(7, f, x, flags),
         40 => arithmetic::movea(regs, f, w / 65536, x, flags),
         41 => arithmetic::addi(regs, f, w / 65536, x, flags),
         42 => branch::jr(f, w / 65536, x, flags),

@@ -5,16 +5,28 @@ mod dispatch;
 pub mod stretch;
 mod system;
 
-// What a stretch leaves beside the lent registers and memories: how many instructions ended, PC and PSW.
+// What a stretch leaves besides the borrowed registers and memories: how many instructions ended, PC and PSW.
 pub struct Progress {
     pub count: u64,
     pub pc: u32,
     pub psw: u32,
 }
 
-// What the common instructions leave of a budget beside the lent registers and memories, with PC and PSW.
+// What the common instructions leave of a budget, PC and PSW.
 pub struct Rest {
     pub left: u64,
     pub pc: u32,
     pub psw: u32,
+}
+
+// Index x of code that stands from the address `base` on.
+pub struct Cursor {
+    pub base: u32,
+    pub x: u32,
+}
+
+// The halfword there, and the word that it and the next halfword make. An instruction of one halfword ignores the next.
+pub struct Fetched {
+    pub first: u32,
+    pub word: u32,
 }

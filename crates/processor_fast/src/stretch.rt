@@ -1,4 +1,6 @@
 // At most `budget` of the instructions that the dispatch does.
+use crate::Cursor;
+use crate::Fetched;
 use crate::Progress;
 use crate::Rest;
 use crate::dispatch::dispatch;
@@ -67,10 +69,11 @@ fn inside(
             device,
             regs,
             sys,
-            base,
-            w % 65536,
-            w,
-            x,
+            Cursor { base, x },
+            Fetched {
+                first: w % 65536,
+                word: w,
+            },
             high,
             flags,
         ) {

@@ -1,6 +1,6 @@
--- Relative jumps and branches: the index of the target is that of the target's address, and the conditions in pairs.
+-- Relative jumps and branches: the index of the target is that of the target's address.
 use Prim.Native.Nat.{ℕ, _+_, _-_, _*_, _/_, _%_, _^_, _<_, _≤_}
-use mathlib.Core.Bool.{Bool, true, false, not, Bool·not-not}
+use mathlib.Core.Bool.{Bool, true, false}
 use mathlib.Core.List.{List}
 use mathlib.Core.Path.{_≡_, refl, sym, ap, _∙_}
 use native.Mathlib.Decide.{decLt}
@@ -65,44 +65,6 @@ pair-first f k e h l = omega arith
 
 pub pair-second : (f k : ℕ) → f / 1024 ≡ 32 + k → (f / 512 % 2 ≡ 0 → ⊥) → k < 8 → f / 512 % 16 ≡ 2 * k + 1
 pair-second f k e h l = omega arith
-
--- a condition and its opposite
-module _ (p : ℕ) where
-  pub not-higher : not (conditionOf 11 p) ≡ conditionOf 3 p
-  unfolding conditionOf
-  not-higher = Bool·not-not _
-
-  pub not-greater : not (conditionOf 15 p) ≡ conditionOf 7 p
-  unfolding conditionOf
-  not-greater = Bool·not-not _
-
-  pub not-overflow : not (conditionOf 0 p) ≡ conditionOf 8 p
-  unfolding conditionOf
-  not-overflow = refl
-
-  pub not-carry : not (conditionOf 1 p) ≡ conditionOf 9 p
-  unfolding conditionOf
-  not-carry = refl
-
-  pub not-zero : not (conditionOf 2 p) ≡ conditionOf 10 p
-  unfolding conditionOf
-  not-zero = refl
-
-  pub not-negative : not (conditionOf 4 p) ≡ conditionOf 12 p
-  unfolding conditionOf
-  not-negative = refl
-
-  pub not-less : not (conditionOf 6 p) ≡ conditionOf 14 p
-  unfolding conditionOf
-  not-less = refl
-
-  pub always : true ≡ conditionOf 5 p
-  unfolding conditionOf
-  always = refl
-
-  pub never : false ≡ conditionOf 13 p
-  unfolding conditionOf
-  never = refl
 
 -- a jump to an address
 pub address-jump : (t base to : ℕ) → t < 2 ^ 32 → base < 2 ^ 32 → (to + base) % 2 ^ 32 ≡ t → addressOf base to ≡ t

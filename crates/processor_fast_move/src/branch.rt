@@ -1,4 +1,4 @@
-// Bcond, two conditions to a function as the opcodes pair them, and the jumps.
+// Bcond and the jumps.
 use processor_fast_compute::Fast;
 use processor_fast_compute::field::after_one;
 use processor_fast_compute::field::after_two;
@@ -42,92 +42,15 @@ fn branch(taken: bool, f: u32, x: u32, flags: Flags) -> Fast
     }
 }
 
-// V and C.
-pub fn overflow_carry(f: u32, x: u32, flags: Flags) -> Fast
-    requires { ⌜ f / 1024 ≡ 32 ⌝ }
+// Bcond of opcode 32 + k: conditions 2 k and 2 k + 1, by bit 9. With a constant k the compiler leaves only their tests.
+pub fn conditional(k: u32, f: u32, x: u32, flags: Flags) -> Fast
+    requires { ⌜ (k < 8) × (f / 1024 ≡ 32 + k) ⌝ }
     ensures { λ r. ⌜ ((regs : List ℕ) → Computes false (format.branch f) r x flags regs regs) ⌝ }
 {
     if f / 512 % 2 == 0 {
-        return branch(condition::overflowed(flags), f, x, flags);
+        return branch(condition::holds(2 * k, flags), f, x, flags);
     }
-    branch(condition::carry(flags), f, x, flags)
-}
-
-// Z and NH.
-pub fn zero_not_higher(f: u32, x: u32, flags: Flags) -> Fast
-    requires { ⌜ f / 1024 ≡ 33 ⌝ }
-    ensures { λ r. ⌜ ((regs : List ℕ) → Computes false (format.branch f) r x flags regs regs) ⌝ }
-{
-    if f / 512 % 2 == 0 {
-        return branch(condition::zero(flags), f, x, flags);
-    }
-    branch(!condition::higher(flags), f, x, flags)
-}
-
-// N and T.
-pub fn negative_always(f: u32, x: u32, flags: Flags) -> Fast
-    requires { ⌜ f / 1024 ≡ 34 ⌝ }
-    ensures { λ r. ⌜ ((regs : List ℕ) → Computes false (format.branch f) r x flags regs regs) ⌝ }
-{
-    if f / 512 % 2 == 0 {
-        return branch(condition::negative(flags), f, x, flags);
-    }
-    branch(true, f, x, flags)
-}
-
-// LT and LE.
-pub fn less(f: u32, x: u32, flags: Flags) -> Fast
-    requires { ⌜ f / 1024 ≡ 35 ⌝ }
-    ensures { λ r. ⌜ ((regs : List ℕ) → Computes false (format.branch f) r x flags regs regs) ⌝ }
-{
-    if f / 512 % 2 == 0 {
-        return branch(condition::less(flags), f, x, flags);
-    }
-    branch(!condition::greater(flags), f, x, flags)
-}
-
-// NV and NC.
-pub fn no_overflow_no_carry(f: u32, x: u32, flags: Flags) -> Fast
-    requires { ⌜ f / 1024 ≡ 36 ⌝ }
-    ensures { λ r. ⌜ ((regs : List ℕ) → Computes false (format.branch f) r x flags regs regs) ⌝ }
-{
-    if f / 512 % 2 == 0 {
-        return branch(!condition::overflowed(flags), f, x, flags);
-    }
-    branch(!condition::carry(flags), f, x, flags)
-}
-
-// NZ and H.
-pub fn not_zero_higher(f: u32, x: u32, flags: Flags) -> Fast
-    requires { ⌜ f / 1024 ≡ 37 ⌝ }
-    ensures { λ r. ⌜ ((regs : List ℕ) → Computes false (format.branch f) r x flags regs regs) ⌝ }
-{
-    if f / 512 % 2 == 0 {
-        return branch(!condition::zero(flags), f, x, flags);
-    }
-    branch(condition::higher(flags), f, x, flags)
-}
-
-// P and F.
-pub fn positive_never(f: u32, x: u32, flags: Flags) -> Fast
-    requires { ⌜ f / 1024 ≡ 38 ⌝ }
-    ensures { λ r. ⌜ ((regs : List ℕ) → Computes false (format.branch f) r x flags regs regs) ⌝ }
-{
-    if f / 512 % 2 == 0 {
-        return branch(!condition::negative(flags), f, x, flags);
-    }
-    branch(false, f, x, flags)
-}
-
-// GE and GT.
-pub fn greater(f: u32, x: u32, flags: Flags) -> Fast
-    requires { ⌜ f / 1024 ≡ 39 ⌝ }
-    ensures { λ r. ⌜ ((regs : List ℕ) → Computes false (format.branch f) r x flags regs regs) ⌝ }
-{
-    if f / 512 % 2 == 0 {
-        return branch(!condition::less(flags), f, x, flags);
-    }
-    branch(condition::greater(flags), f, x, flags)
+    branch(condition::holds(2 * k + 1, flags), f, x, flags)
 }
 
 pub fn jmp(regs: &[u32; 32], base: u32, f: u32, x: u32, flags: Flags) -> Fast

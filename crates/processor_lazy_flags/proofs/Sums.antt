@@ -7,7 +7,7 @@ use borrow.Author.Tests.{lt-ltb, le-ltb, lt-leb, le-leb}
 use lib.Bits.{bitAnd, bitXor}
 use lib.Dec.{ltb, leb}
 use lib.IntN.{_+ℤ_, _-ℤ_}
-use Rattle.processor_arithmetic.specs.Flag.{bitOf}
+use Rattle.processor_arithmetic.specs.Flag.{bitOf, zeroOf}
 use Rattle.processor_arithmetic.specs.Integer.{signed, outside}
 use Rattle.processor_arithmetic.proofs.Overflow.{sum-overflow-signs, difference-sum-outside}
 use Rattle.processor_lazy_flags.specs.inner.Packed.{packedValueOf, carryOf, overflowOf, Holds}
@@ -56,6 +56,15 @@ module _ (a b : ℕ) (r : Flags) (ha : a < 2 ^ 32) (hb : b < 2 ^ 32) where
       let o : (a + (2 ^ 32 - (a + (2 ^ 32 - b)) % 2 ^ 32)) % 2 ^ 32 ≡ b = omega arith in
       record { value = omega arith; carry = rw (s, p, borrow-less a b ha hb); overflow = rw (s, p, o) (difference-sum-outside a b ha hb) }
 
+-- S and Z of PSW, not both set, on top of a word
+pub value-flags : (p : ℕ) → p < 4 → (p ≡ 3 → ⊥)
+    → (bitXor p 1 * 1073741824 / 2 ^ 31 * 2 + zeroOf (bitXor p 1 * 1073741824) ≡ p) × (bitXor p 1 * 1073741824 < 2 ^ 32)
+value-flags zero h n = (refl, omega arith)
+value-flags (suc zero) h n = (refl, omega arith)
+value-flags (suc (suc zero)) h n = (refl, omega arith)
+value-flags (suc (suc (suc zero))) h n = absurd (n refl)
+value-flags (suc (suc (suc (suc p)))) h n = absurd (omega arith)
+
 -- OV of an addition of known numbers
 known : (p q s ov : ℕ) → p < 2 ^ 32 → q < 2 ^ 32 → s ≡ (p + q) % 2 ^ 32 → bitAnd (bitXor p s) (bitXor q s) / 2 ^ 31 ≡ ov
     → bitOf (outside (signed p +ℤ signed q)) ≡ ov
@@ -68,6 +77,28 @@ carried-holds r zero h v e =
 carried-holds r (suc zero) h v e =
     record { value = omega arith; carry = rw e; overflow = rw e (known 1 4294967295 0 0 (omega arith) (omega arith) refl refl) }
 carried-holds r (suc (suc cy)) h v e = absurd (omega arith)
+
+-- CY of other flags alone: the high word of the sum less the part, at 64 bits
+pub cleared-holds : (r g : Flags) (d : ℕ) → r .value < 2 ^ 32 → g .addition < 2 ^ 64 → d < 2 ^ 64
+    → (d + g .addition % 2 ^ 32) % 2 ^ 64 ≡ g .addition / 2 ^ 32 → r .addition ≡ d / 2 ^ 32 → Holds r (r .value) (carryOf g) 0
+cleared-holds r g d v a b e k =
+    elim (decLt (g .addition / 2 ^ 32) (g .addition % 2 ^ 32)) [
+      | yes l ↦
+          let n : r .addition ≡ 4294967295 = omega arith in
+          record {
+            value = omega arith;
+            carry = rw (n, lt-ltb (g .addition / 2 ^ 32) (g .addition % 2 ^ 32) l);
+            overflow = rw n (known 4294967295 1 0 0 (omega arith) (omega arith) refl refl);
+          }
+      | no l ↦
+          let n : r .addition ≡ 0 = omega arith in
+          let m : g .addition % 2 ^ 32 ≤ g .addition / 2 ^ 32 = omega arith in
+          record {
+            value = omega arith;
+            carry = rw (n, le-ltb (g .addition / 2 ^ 32) (g .addition % 2 ^ 32) m);
+            overflow = rw n (known 0 0 0 0 (omega arith) (omega arith) refl refl);
+          }
+    ]
 
 -- CY and OV: both parts have CY for their top bit, the sum has the carry into it
 pub made-holds : (r : Flags) (cy ov : ℕ) → cy < 2 → ov < 2 → r .value < 2 ^ 32

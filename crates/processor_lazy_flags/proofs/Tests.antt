@@ -1,6 +1,6 @@
 -- The flags that are kept, read back from PSW, and the tests of them that the conditions make.
 use Prim.Native.Nat.{ℕ, zero, suc, _+_, _*_, _/_, _%_, _^_, _<_, _≤_}
-use mathlib.Core.Bool.{Bool, true, false, not}
+use mathlib.Core.Bool.{Bool, true, false, not, Bool·not-not}
 use mathlib.Core.Path.{_≡_, refl, sym, ap, ap₂, _∙_}
 use native.Mathlib.Decide.{decLt}
 use native.Mathlib.Omega.{arith}
@@ -81,8 +81,50 @@ top-differ x y hx hy =
     let h : y / 2 ^ 31 % 2 ≡ y / 2 ^ 31 = omega arith in
     top-bit (bitXor x y) (xor-lt 32 x y hx hy) ∙ rw (e, f, h) (digits (x / 2 ^ 31) (y / 2 ^ 31) p q)
 
--- H and GT from the conditions that they are made of
+-- a number that is none of the first n reaches n
+abbrev pub Apart : ℕ → ℕ → Type 0
+Apart zero i = Unit {0}
+Apart (suc n) i = Apart n i × (i ≡ n → ⊥)
+
+pub past : (n i : ℕ) → Apart n i → n ≤ i
+past zero i a = omega arith
+past (suc n) i a =
+    let e : n ≤ i = past n i (a .0) in
+    let f : i ≡ n → ⊥ = a .1 in
+    omega arith
+
+-- a condition's number counts by its low four bits
+pub same-condition : (k cond p : ℕ) → cond % 16 ≡ k → conditionOf k p ≡ conditionOf cond p
+unfolding conditionOf
+same-condition k cond p e =
+    let h : k % 16 ≡ cond % 16 = omega arith in
+    rw h
+
+-- a condition and its opposite, eight numbers on; H and GT from the conditions that they are made of
 module _ (p : ℕ) where
+  pub opposite : (k : ℕ) → k < 8 → not (conditionOf k p) ≡ conditionOf (8 + k) p
+  unfolding conditionOf
+  opposite zero h = refl
+  opposite (suc zero) h = refl
+  opposite (suc (suc zero)) h = refl
+  opposite (suc (suc (suc zero))) h = refl
+  opposite (suc (suc (suc (suc zero)))) h = refl
+  opposite (suc (suc (suc (suc (suc zero))))) h = refl
+  opposite (suc (suc (suc (suc (suc (suc zero)))))) h = refl
+  opposite (suc (suc (suc (suc (suc (suc (suc zero))))))) h = refl
+  opposite (suc (suc (suc (suc (suc (suc (suc (suc k)))))))) h = absurd (omega arith)
+
+  pub opposite-back : (k : ℕ) → k < 8 → not (conditionOf (8 + k) p) ≡ conditionOf k p
+  opposite-back k h = ap not (sym (opposite k h)) ∙ Bool·not-not _
+
+  pub always : true ≡ conditionOf 5 p
+  unfolding conditionOf
+  always = refl
+
+  pub never : false ≡ conditionOf 13 p
+  unfolding conditionOf
+  never = refl
+
   pub higher-carry : conditionOf 1 p ≡ true → false ≡ conditionOf 11 p
   unfolding conditionOf
   higher-carry e = rw e

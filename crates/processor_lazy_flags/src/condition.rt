@@ -1,7 +1,6 @@
 // The conditions of Bcond and SETF, by their numbers.
 use crate::Flags;
 use crate::status::overflow;
-use crate::status::packed;
 ghost use mathlib.Core.Path.{_≡_};
 ghost use Prim.Native.Nat.{ℕ};
 ghost use Rattle.processor_arithmetic.specs.Condition.{conditionOf};
@@ -65,5 +64,22 @@ pub fn greater(flags: Flags) -> bool
 pub fn holds(cond: u32, flags: Flags) -> bool
     ensures { λ r. ⌜ ((psw : ℕ) → r ≡ conditionOf cond (packedOf psw flags)) ⌝ }
 {
-    processor_arithmetic::condition::holds(cond, packed(0, flags))
+    match cond % 16 {
+        0 => overflowed(flags),
+        1 => carry(flags),
+        2 => zero(flags),
+        3 => !higher(flags),
+        4 => negative(flags),
+        5 => true,
+        6 => less(flags),
+        7 => !greater(flags),
+        8 => !overflowed(flags),
+        9 => !carry(flags),
+        10 => !zero(flags),
+        11 => higher(flags),
+        12 => !negative(flags),
+        13 => false,
+        14 => !less(flags),
+        _ => greater(flags),
+    }
 }

@@ -2,6 +2,7 @@
 use crate::Flags;
 use crate::Pair;
 use crate::status::carry;
+use crate::status::cleared;
 use crate::status::made;
 ghost use mathlib.Core.Path.{_≡_};
 ghost use Prim.Native.Nat.{ℕ, _+_, _*_, _^_, _<_};
@@ -18,11 +19,15 @@ fn overflow(high: u32, low: u32) -> u32
     1
 }
 
-// The two words of a 64-bit product.
+// The two words of a 64-bit product. One below 2 ^ 31 does not overflow.
 fn words(w: u64, flags: Flags) -> Pair
     ensures { λ r. ⌜ ((psw : ℕ) → GivesPair psw r (wordsOf w (packedOf psw flags))) ⌝ }
 {
     let low = (w % 4294967296) as u32;
+    if w < 2147483648 {
+        let flags = cleared(low, flags);
+        return Pair { r30: 0, flags };
+    }
     let r30 = (w / 4294967296) as u32;
     let ov = overflow(r30, low);
     let flags = made(low, carry(flags), ov);

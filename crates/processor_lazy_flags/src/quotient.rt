@@ -1,8 +1,8 @@
 // DIV and DIVU, for a divisor that is not zero.
 use crate::Flags;
 use crate::Pair;
-use crate::status::carried;
 use crate::status::carry;
+use crate::status::cleared;
 use crate::status::made;
 use crate::status::packed;
 ghost use mathlib.Core.Path.{_≡_};
@@ -15,7 +15,7 @@ pub fn divu(a: u32, b: u32, flags: Flags) -> Pair
     ensures { λ r. ⌜ ((psw : ℕ) → GivesPair psw r (divideUnsignedOf a b (packedOf psw flags))) ⌝ }
 {
     let r30 = a % b;
-    let flags = carried(a / b, carry(flags));
+    let flags = cleared(a / b, flags);
     Pair { r30, flags }
 }
 

@@ -36,6 +36,22 @@ pub fn made(value: u32, cy: u32, ov: u32) -> Flags
     }
 }
 
+// A value with the CY of these flags, and OV clear. At 64 bits the sum less the part borrows where CY is set, and the
+// high word of the difference is then 0xFFFFFFFF, else 0. 0xFFFFFFFF and 1 have the sum 0: they carry and, as -1 and 1,
+// do not overflow.
+pub fn cleared(value: u32, flags: Flags) -> Flags
+    ensures { λ r. ⌜ Holds r value (carryOf flags) 0 ⌝ }
+{
+    let difference = std::num::wrapping_sub_u64(
+        flags.addition / 4294967296,
+        flags.addition % 4294967296,
+    );
+    Flags {
+        addition: difference / 4294967296,
+        value,
+    }
+}
+
 // CY: the wrapped sum is less than either part.
 pub fn carry(flags: Flags) -> u32
     ensures { λ r. ⌜ (r ≡ carryOf flags) × (r < 2) ⌝ }
@@ -61,15 +77,12 @@ pub fn packed(psw: u32, flags: Flags) -> u32
     processor_arithmetic::flag::flags(psw, carry(flags), ov, flags.value)
 }
 
-// A value with the S and Z of PSW, which are not both set.
+// A value with the S and Z of PSW, which are not both set: PSW's two bits, with Z inverted, on top.
 fn value(psw: u32) -> u32
     requires { ⌜ (psw % 4 ≡ 3 → ⊥) ⌝ }
     ensures { λ r. ⌜ (r / 2 ^ 31 * 2 + zeroOf r ≡ psw % 4) × (r < 2 ^ 32) ⌝ }
 {
-    if 0 < psw % 2 {
-        return 0;
-    }
-    psw / 2 % 2 * 2147483648 + 1
+    (psw % 4 ^ 1) * 1073741824
 }
 
 // The flags of PSW, where S and Z are not both set.
@@ -77,5 +90,10 @@ pub fn unpacked(psw: u32) -> Flags
     requires { ⌜ (psw % 4 ≡ 3 → ⊥) ⌝ }
     ensures { λ r. ⌜ packedOf psw r ≡ psw ⌝ }
 {
-    made(value(psw), psw / 8 % 2, psw / 4 % 2)
+    let value = value(psw);
+    let cy = psw / 8 % 2;
+    if psw / 4 % 2 == 0 {
+        return carried(value, cy);
+    }
+    made(value, cy, 1)
 }

@@ -6,7 +6,7 @@ use Rattle.processor_lazy_flags.proofs.bitwise.value.Statement.{stateme
 use Rattle.processor_lazy_flags.proofs.bitwise.value.Tie as tie
 
 returns : tie.Need-returns
-returns c = λ psw. gives-kept psw (c .before .before .args .flags) _ _ _ (rw (c .before .carry .ensures .0) at (c .carried .ensures))
+returns c = λ psw. gives-kept psw (c .before .args .flags) _ _ _ (c .cleared .ensures)
 
 pub value-spec : {M : Type 1} → statement M
-value-spec = tie.close (tie.spec (λ c κs. search needs) (λ c κs. search needs) returns)
+value-spec = tie.close (tie.spec (λ c κs. search needs) returns)

@@ -9,7 +9,7 @@ use Rattle.processor_lazy_flags.proofs.quotient.divu.Tie as tie
 returns : tie.Need-returns
 unfolding divideUnsignedOf
 returns c = λ psw.
-    gives-pair psw (c .before .before .args .flags) _ _ _ _ refl (rw (c .before .carry .ensures .0) at (c .carried .ensures))
+    gives-pair psw (c .before .args .flags) _ _ _ _ refl (c .cleared .ensures)
 
 pub divu-spec : {M : Type 1} → statement M
-divu-spec = tie.close (tie.spec (λ c. search needs) (λ c. search needs) (λ c κs. search needs) (λ c κs. search needs) returns)
+divu-spec = tie.close (tie.spec (λ c. search needs) (λ c. search needs) (λ c κs. search needs) returns)

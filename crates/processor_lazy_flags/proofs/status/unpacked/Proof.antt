@@ -10,8 +10,14 @@ use Rattle.processor_lazy_flags.proofs.status.unpacked.Tie as tie
 returns : tie.Need-returns
 unfolding packedOf flagsOf
 returns c =
+    let h = c .carried .ensures in
+    rw (h .value, h .carry, h .overflow) (omega (arith, c .before .before .value .ensures .0))
+
+returns-2 : tie.Need-returns-2
+unfolding packedOf flagsOf
+returns-2 c =
     let h = c .made .ensures in
-    rw (h .value, h .carry, h .overflow) (omega (arith, c .before .value .ensures .0))
+    rw (h .value, h .carry, h .overflow) (omega (arith, c .before .before .value .ensures .0))
 
 pub unpacked-spec : {M : Type 1} → statement M
-unpacked-spec = tie.close (tie.spec (λ c κs. search needs) (λ c κs. search needs) returns)
+unpacked-spec = tie.close (tie.spec (λ c κs. search needs) (λ c κs. search needs) returns (λ c κs. search needs) returns-2)

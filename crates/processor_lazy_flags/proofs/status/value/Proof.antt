@@ -1,18 +1,13 @@
--- `processor_lazy_flags::status::value`: S and Z by cases.
-use Prim.Native.Nat.{_+_, _-_, _*_, _/_, _%_, _^_, _<_}
-use mathlib.Core.Path.{_≡_, refl, sym, ap, _∙_}
+-- `processor_lazy_flags::status::value`: by the two bits.
+use Prim.Native.Nat.{_%_}
 use native.Mathlib.Omega.{arith}
-use borrow.Author.Tests.{ne-eqb}
-use Rattle.processor_arithmetic.specs.Flag.{zeroOf}
-use borrow.Author.Needs.{needs}
+use lib.Bits.{xor-lt}
+use Rattle.processor_lazy_flags.proofs.Sums.{value-flags}
 use Rattle.processor_lazy_flags.proofs.status.value.Statement.{statement}
 use Rattle.processor_lazy_flags.proofs.status.value.Tie as tie
 
-returns-2 : tie.Need-returns-2
-returns-2 c =
-    let p = c .before .args .psw in
-    let n : p / 2 % 2 * 2147483648 + 1 ≡ 0 → ⊥ = λ e. omega arith in
-    (rw (ne-eqb (p / 2 % 2 * 2147483648 + 1) 0 n) (omega arith), omega arith)
+returns : tie.Need-returns
+returns c = value-flags (c .args .psw % 4) (omega arith) (c .pre)
 
 pub value-spec : {M : Type 1} → statement M
-value-spec = tie.close (tie.spec (λ c. search needs) (λ c. search needs) (λ c. search needs) returns-2)
+value-spec = tie.close (tie.spec (λ c. record { fits = omega (arith, xor-lt 2 (c .args .psw % 4) 1 (omega arith) (omega arith)) }) returns)

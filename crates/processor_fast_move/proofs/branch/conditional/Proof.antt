@@ -1,12 +1,10 @@
--- `processor_fast_move::branch::overflow_carry`: the two conditions of its opcode.
-use mathlib.Core.Path.{_≡_, refl, sym, ap, _∙_}
-use mathlib.Core.Bool.{not}
+-- `processor_fast_move::branch::conditional`: the two conditions of its opcode.
+use Prim.Native.Nat.{_<_}
 use native.Mathlib.Omega.{arith}
-use Rattle.processor_lazy_flags.specs.inner.Packed.{packedOf}
 use Rattle.processor_fast_move.proofs.Branches.{branch-does, pair-first, pair-second}
 use borrow.Author.Needs.{needs}
-use Rattle.processor_fast_move.proofs.branch.overflow_carry.Statement.{statement}
-use Rattle.processor_fast_move.proofs.branch.overflow_carry.Tie as tie
+use Rattle.processor_fast_move.proofs.branch.conditional.Statement.{statement}
+use Rattle.processor_fast_move.proofs.branch.conditional.Tie as tie
 
 returns : tie.Need-returns
 returns c = λ regs m base psw sys even aligned.
@@ -14,7 +12,7 @@ returns c = λ regs m base psw sys even aligned.
     let a = b .args in
     rw (c .branch .ensures)
     (branch-does base (a .x) psw (a .f) _ regs sys (a .flags) m _ even aligned
-    (pair-first (a .f) 0 (b .pre) (c .before .before .if1 .taken) (omega arith)) (c .before .overflowed .ensures psw))
+    (pair-first (a .f) (a .k) (b .pre .1) (c .before .before .if1 .taken) (b .pre .0)) (c .before .holds .ensures psw))
 
 returns-2 : tie.Need-returns-2
 returns-2 c = λ regs m base psw sys even aligned.
@@ -22,15 +20,18 @@ returns-2 c = λ regs m base psw sys even aligned.
     let a = b .args in
     rw (c .branch2 .ensures)
     (branch-does base (a .x) psw (a .f) _ regs sys (a .flags) m _ even aligned
-    (pair-second (a .f) 0 (b .pre) (c .before .before .if1 .left) (omega arith)) (c .before .carry .ensures psw))
+    (pair-second (a .f) (a .k) (b .pre .1) (c .before .before .if1 .left) (b .pre .0)) (c .before .holds2 .ensures psw))
 
-pub overflow-carry-spec : {M : Type 1} → statement M
-overflow-carry-spec =
+pub conditional-spec : {M : Type 1} → statement M
+conditional-spec =
     tie.close
     (tie.spec
+    (λ c. search needs)
     (λ c κs. search needs)
     (λ c κs. search needs)
     returns
+    (λ c. search needs)
+    (λ c. search needs)
     (λ c κs. search needs)
     (λ c κs. search needs)
     returns-2)
