@@ -8,7 +8,7 @@ ghost use Rattle.bus.specs.Lent.{enteringWith, leavingWith};
 ghost use Rattle.refusal.specs.Number.{verdictNumber};
 ghost use Rattle.saved_layout.specs.declared.Form.the-variants.{One, Two};
 ghost use Rattle.saved_move.specs.Move.{moveVerdictOf, movedOf};
-ghost use Rattle.saved_salvage.specs.Salvage.{salvageOf, salvagedRoomOf};
+ghost use Rattle.saved_salvage.specs.Salvage.{salvageOf, salvagedOutputOf};
 ghost use Rattle.capi_saved.specs.States.{writeNumberAt, writtenAt, restoredGives, readAt, salvagedAt};
 
 #[no_mangle]
@@ -79,8 +79,8 @@ pub extern "C" fn vb_move_state(file: &[u8], room: &mut [u8]) -> u32
 
 #[no_mangle]
 pub extern "C" fn vb_salvage_state(file: &[u8], room: &mut [u8]) -> VbSalvaged
-    ensures told { λ r. ⌜ r ≡ salvagedAt (salvageOf (now (file .entry)) (now (room .entry))) ⌝ }
-    ensures room { λ _. ⌜ now (room .exit) ≡ salvagedRoomOf (now (file .entry)) (now (room .entry)) ⌝ }
+    ensures reported { λ r. ⌜ r ≡ salvagedAt (salvageOf (now (file .entry)) (now (room .entry))) ⌝ }
+    ensures room { λ _. ⌜ now (room .exit) ≡ salvagedOutputOf (now (file .entry)) (now (room .entry)) ⌝ }
 {
     capi_saved::states::salvage_state(file, room)
 }

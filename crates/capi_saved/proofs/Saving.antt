@@ -7,7 +7,7 @@ use Rattle.refusal.specs.declared.Verdict.{Verdict}
 use Rattle.bus.specs.Memory.{Memory}
 use Rattle.processor.specs.declared.Processor.{Processor}
 use Rattle.saved_layout.specs.declared.Form.{Form}
-use Rattle.saved.specs.Calls.{writeVerdictOf, writtenRoomOf, Restored, readBackOf}
+use Rattle.saved.specs.Calls.{writeVerdictOf, writtenOutputOf, Restored, readBackOf}
 use Rattle.capi_processor.specs.inner.Misuse.{misuseAt}
 use Rattle.capi_processor.specs.Record.{processorIn}
 use Rattle.capi_processor.specs.declared.record.VbProcessor.{VbProcessor}
@@ -25,7 +25,7 @@ module _ (p : VbProcessor) (m : Memory) (n : ℕ) (e : n ≡ misuseAt p m) (file
 
   module _ (q : Processor) (given : q ≡ processorIn p) (h : n ≡ 0) where
     pub write-done : (form : Form) (v : Verdict) (after : List ℕ) → v ≡ writeVerdictOf form q m file
-        → after ≡ writtenRoomOf form q m file
+        → after ≡ writtenOutputOf form q m file
         → (verdictNumber v ≡ writeNumberAt form p m file) × (after ≡ writtenAt form p m file)
     unfolding writeNumberAt writtenAt
     write-done form v after f g = (

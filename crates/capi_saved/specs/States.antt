@@ -8,7 +8,7 @@ use Rattle.word.specs.Choose.{pick}
 use Rattle.refusal.specs.Number.{verdictNumber}
 use Rattle.bus.specs.Memory.{Memory}
 use Rattle.saved_layout.specs.declared.Form.{Form}
-use Rattle.saved.specs.Calls.{writeVerdictOf, writtenRoomOf, Restored, readBackOf}
+use Rattle.saved.specs.Calls.{writeVerdictOf, writtenOutputOf, Restored, readBackOf}
 use Rattle.capi_processor.specs.Record.{processorIn, processorOut, unlessMisused}
 use Rattle.saved_salvage.specs.declared.Salvaged.{Salvaged}
 use Rattle.capi_saved.specs.declared.states.VbSalvaged.{VbSalvaged}
@@ -16,11 +16,11 @@ use Rattle.capi_processor.specs.declared.record.VbProcessor.{VbProcessor}
 
 -- what vb_write_state (form 1) and vb_write_state_2 (form 2) answer, and the output buffer afterwards
 unfoldable pub writeNumberAt : Form → VbProcessor → Memory → List ℕ → ℕ
-writeNumberAt form p m room =
-    unlessMisused p m (λ (n : ℕ). n) (verdictNumber (writeVerdictOf form (processorIn p) m room))
+writeNumberAt form p m output =
+    unlessMisused p m (λ (n : ℕ). n) (verdictNumber (writeVerdictOf form (processorIn p) m output))
 
 unfoldable pub writtenAt : Form → VbProcessor → Memory → List ℕ → List ℕ
-writtenAt form p m room = unlessMisused p m (λ (n : ℕ). room) (writtenRoomOf form (processorIn p) m room)
+writtenAt form p m output = unlessMisused p m (λ (n : ℕ). output) (writtenOutputOf form (processorIn p) m output)
 
 -- what vb_read_state gives
 pub record RestoredAtBoundary : Type 0 where

@@ -11,7 +11,7 @@ ghost use Rattle.bus.specs.Lent.{enteringWith, leavingWith};
 ghost use Rattle.refusal.specs.Number.{verdictNumber};
 ghost use Rattle.saved_layout.specs.declared.Form.the-variants.{One, Two};
 ghost use Rattle.saved_move.specs.Move.{moveVerdictOf, movedOf};
-ghost use Rattle.saved_salvage.specs.Salvage.{salvageOf, salvagedRoomOf};
+ghost use Rattle.saved_salvage.specs.Salvage.{salvageOf, salvagedOutputOf};
 ghost use Rattle.capi_saved.specs.States.{writeNumberAt, writtenAt, restoredGives, readAt, salvagedAt};
 
 #[repr(C)]
@@ -36,13 +36,13 @@ pub fn write_state(
     pak: &[u8],
     processor: VbProcessor,
     drawing: VbDrawing,
-    room: &mut [u8],
+    output: &mut [u8],
 ) -> u32
     ensures refusal { λ r. ⌜
-        r ≡ writeNumberAt One processor (enteringWith rom wram vram pak (drawing .regs)) (now (room .entry))
+        r ≡ writeNumberAt One processor (enteringWith rom wram vram pak (drawing .regs)) (now (output .entry))
         ⌝ }
-    ensures room { λ _. ⌜
-        now (room .exit) ≡ writtenAt One processor (enteringWith rom wram vram pak (drawing .regs)) (now (room .entry))
+    ensures output { λ _. ⌜
+        now (output .exit) ≡ writtenAt One processor (enteringWith rom wram vram pak (drawing .regs)) (now (output .entry))
         ⌝ }
 {
     let misused = misuse(rom, wram, vram, pak, processor, drawing);
@@ -51,7 +51,7 @@ pub fn write_state(
     }
     let regs = drawing.regs;
     let p = processor_in(processor);
-    refusal::verdict_number(saved::write(rom, wram, vram, pak, p, Drawing { regs }, room))
+    refusal::verdict_number(saved::write(rom, wram, vram, pak, p, Drawing { regs }, output))
 }
 
 pub fn write_state_2(
@@ -61,13 +61,13 @@ pub fn write_state_2(
     pak: &[u8],
     processor: VbProcessor,
     drawing: VbDrawing,
-    room: &mut [u8],
+    output: &mut [u8],
 ) -> u32
     ensures refusal { λ r. ⌜
-        r ≡ writeNumberAt Two processor (enteringWith rom wram vram pak (drawing .regs)) (now (room .entry))
+        r ≡ writeNumberAt Two processor (enteringWith rom wram vram pak (drawing .regs)) (now (output .entry))
         ⌝ }
-    ensures room { λ _. ⌜
-        now (room .exit) ≡ writtenAt Two processor (enteringWith rom wram vram pak (drawing .regs)) (now (room .entry))
+    ensures output { λ _. ⌜
+        now (output .exit) ≡ writtenAt Two processor (enteringWith rom wram vram pak (drawing .regs)) (now (output .entry))
         ⌝ }
 {
     let misused = misuse(rom, wram, vram, pak, processor, drawing);
@@ -76,7 +76,7 @@ pub fn write_state_2(
     }
     let regs = drawing.regs;
     let p = processor_in(processor);
-    refusal::verdict_number(saved::write_2(rom, wram, vram, pak, p, Drawing { regs }, room))
+    refusal::verdict_number(saved::write_2(rom, wram, vram, pak, p, Drawing { regs }, output))
 }
 
 pub fn read_state(
@@ -114,22 +114,22 @@ pub fn read_state(
     }
 }
 
-pub fn move_state(file: &[u8], room: &mut [u8]) -> u32
-    ensures refusal { λ r. ⌜ r ≡ verdictNumber (moveVerdictOf (now (file .entry)) (now (room .entry))) ⌝ }
-    ensures room { λ _. ⌜ now (room .exit) ≡ movedOf (now (file .entry)) (now (room .entry)) ⌝ }
+pub fn move_state(file: &[u8], output: &mut [u8]) -> u32
+    ensures refusal { λ r. ⌜ r ≡ verdictNumber (moveVerdictOf (now (file .entry)) (now (output .entry))) ⌝ }
+    ensures output { λ _. ⌜ now (output .exit) ≡ movedOf (now (file .entry)) (now (output .entry)) ⌝ }
 {
-    refusal::verdict_number(saved_move::move_state(file, room))
+    refusal::verdict_number(saved_move::move_state(file, output))
 }
 
 // What a salvage reported, as the boundary has it.
-fn salvaged(told: Salvaged) -> VbSalvaged
-    ensures { λ r. ⌜ r ≡ salvagedAt told ⌝ }
+fn salvaged(report: Salvaged) -> VbSalvaged
+    ensures { λ r. ⌜ r ≡ salvagedAt report ⌝ }
 {
-    let verdict = told.verdict;
-    let list = told.list;
+    let verdict = report.verdict;
+    let list = report.list;
     let kinds = list.kinds;
     let refusal = refusal::verdict_number(verdict);
-    if told.differ {
+    if report.differ {
         return VbSalvaged {
             refusal,
             replaced: list.count,
@@ -145,9 +145,9 @@ fn salvaged(told: Salvaged) -> VbSalvaged
     }
 }
 
-pub fn salvage_state(file: &[u8], room: &mut [u8]) -> VbSalvaged
-    ensures told { λ r. ⌜ r ≡ salvagedAt (salvageOf (now (file .entry)) (now (room .entry))) ⌝ }
-    ensures room { λ _. ⌜ now (room .exit) ≡ salvagedRoomOf (now (file .entry)) (now (room .entry)) ⌝ }
+pub fn salvage_state(file: &[u8], output: &mut [u8]) -> VbSalvaged
+    ensures reported { λ r. ⌜ r ≡ salvagedAt (salvageOf (now (file .entry)) (now (output .entry))) ⌝ }
+    ensures output { λ _. ⌜ now (output .exit) ≡ salvagedOutputOf (now (file .entry)) (now (output .entry)) ⌝ }
 {
-    salvaged(saved_salvage::salvage_state(file, room))
+    salvaged(saved_salvage::salvage_state(file, output))
 }

@@ -5,6 +5,7 @@ use mathlib.Core.Bool.{Bool, true, false}
 use mathlib.Core.List.{List}
 use mathlib.Core.Path.{_≡_, refl, sym, ap, _∙_}
 use lib.ListN.{length}
+use Rattle.word.proofs.Choices.{pick-both}
 use Rattle.refusal.specs.Number.{unless, thenOf}
 use Rattle.refusal.specs.declared.Refusal as refusal
 use Rattle.refusal.specs.declared.Verdict.{Verdict}
@@ -23,12 +24,6 @@ use Rattle.saved_kinds.proofs.Sizes.{pak-small}
 then-accepted : (v later : Verdict) → thenOf v later ≡ Accepted → (v ≡ Accepted) × (later ≡ Accepted)
 then-accepted Accepted later e = (refl, e)
 then-accepted (Refused n) later e =
-    let z : _≡_ {A = ℕ} 0 1 = cc in
-    absurd (omega arith)
-
-pub both-true : (a b : Bool) → both a b ≡ true → (a ≡ true) × (b ≡ true)
-both-true true b e = (refl, e)
-both-true false b e =
     let z : _≡_ {A = ℕ} 0 1 = cc in
     absurd (omega arith)
 
@@ -52,7 +47,7 @@ module _ (p : Processor) (m : Memory) where
   passed e =
       let t = tests e in
       let r = accepted-registers (length (m .rom)) (length (m .wram)) (length (m .vram)) (length (m .pak)) (deviceOf (m .regs) (p .hardware)) (t .0) in
-      let d = both-true (drawingOk (m .regs)) (hardwareOk (p .hardware)) (sym (device-ok (m .regs) (p .hardware)) ∙ r) in
+      let d = pick-both (drawingOk (m .regs)) (hardwareOk (p .hardware)) (sym (device-ok (m .regs) (p .hardware)) ∙ r) in
       record {
         lengths = accepted-lengths (length (m .rom)) (length (m .wram)) (length (m .vram)) (length (m .pak)) (deviceOf (m .regs) (p .hardware)) (t .0);
         state = unless-passed (stateOk (p .regs) (systemIn p) (p .pc) (p .psw)) refusal.the-variants.State Accepted (t .1) .0;

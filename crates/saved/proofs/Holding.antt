@@ -8,6 +8,7 @@ use borrow.Author.Tests.{eq-eqb, ne-eqb}
 use lib.Dec.{eqb}
 use lib.ListN.{length, getD, replicate}
 use Rattle.word.specs.Choose.{pick}
+use Rattle.word.proofs.Choices.{pick-self}
 use Rattle.saved_bytes.specs.Numbers.{sameOf}
 use Rattle.saved_layout.specs.declared.Form.the-variants.{One, Two}
 use Rattle.saved.specs.Calls.{formHolds}
@@ -34,15 +35,11 @@ holds-2 (a ∷ []) e f n = simp (eq-eqb a 0 e)
 holds-2 (a ∷ b ∷ []) e f n = simp (eq-eqb a 0 e, eq-eqb b 0 f)
 holds-2 (a ∷ b ∷ c ∷ xs) e f n = simp (eq-eqb a 0 e, eq-eqb b 0 f, ne-eqb c 0 n)
 
-last-one : (t : Bool) → t ≡ pick t true false
-last-one true = refl
-last-one false = refl
-
 pub holds-3 : (xs : List ℕ) → length xs ≡ 4 → getD xs 0 0 ≡ 0 → getD xs 1 0 ≡ 0 → getD xs 2 0 ≡ 0 → eqb (getD xs 3 0) 0 ≡ formHolds One xs
 unfolding formHolds
 holds-3 [] l e f g = absurd (omega arith)
 holds-3 (a ∷ []) l e f g = absurd (omega arith)
 holds-3 (a ∷ b ∷ []) l e f g = absurd (omega arith)
 holds-3 (a ∷ b ∷ c ∷ []) l e f g = absurd (omega arith)
-holds-3 (a ∷ b ∷ c ∷ d ∷ []) l e f g = simp (eq-eqb a 0 e, eq-eqb b 0 f, eq-eqb c 0 g) (last-one (eqb d 0))
+holds-3 (a ∷ b ∷ c ∷ d ∷ []) l e f g = simp (eq-eqb a 0 e, eq-eqb b 0 f, eq-eqb c 0 g) (sym (pick-self (eqb d 0)))
 holds-3 (a ∷ b ∷ c ∷ d ∷ x ∷ xs) l e f g = absurd (omega arith)

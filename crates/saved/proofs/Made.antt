@@ -10,6 +10,7 @@ use borrow.Author.Tests.{le-leb, leb-true}
 use lib.Dec.{leb}
 use lib.ListN.{length, getD, take, drop, replicate, List·getD-eq-default}
 use Rattle.word.specs.LittleEndian.{halfAt, wordAt}
+use Rattle.word.proofs.Choices.{pick-both}
 use Rattle.refusal.specs.declared.Verdict.the-variants.{Accepted}
 use Rattle.bus_timer.specs.declared.TimerLines.{TimerLines}
 use Rattle.bus.specs.Registers.{drawingOk}
@@ -33,7 +34,7 @@ use Rattle.saved.specs.Body.{linesOf, machineBodiesOf, restoredProcessor
 use Rattle.saved_kinds.specs.Words.{restOf, recordWordsOf, modeNumber}
 use Rattle.saved.specs.Calls.{stateFileOf, heldBodiesOf, heldProcessorOf, heldMemoryOf, formHolds, restoredOf, readBackOf}
 use Rattle.saved.specs.Exactly.{Savable, ReadWritten, Exactly, WrittenExactly}
-use Rattle.saved.proofs.Accepting.{Passed, passed, accepts, small, both-true}
+use Rattle.saved.proofs.Accepting.{Passed, passed, accepts, small}
 use Rattle.saved.proofs.Back.{mode-small, general-back, rest-back, drawing-back, lines-back, processor-in-back}
 use Rattle.saved.proofs.Back.{memory-in-back, machine-sized, machine-held, bodies-again, words-held, lines-are}
 use Rattle.saved.proofs.Back.{part-bytes, zero-bytes}
@@ -86,13 +87,13 @@ module _ (form : Form) (p : Processor) (m : Memory) (s : Savable form p m) where
   unfolding stateFileOf
   bodies-back = rw (← pak-same) (file-held (machineBodiesOf p m) sized form held)
 
-  contents-right : contentsOk form (length (m .pak)) (stateFileOf form p m) ≡ true
+  contents-valid : contentsOk form (length (m .pak)) (stateFileOf form p m) ≡ true
   unfolding stateFileOf
-  contents-right = rw (← pak-same) (contents-back (machineBodiesOf p m) sized form (rw pak-same few))
+  contents-valid = rw (← pak-same) (contents-back (machineBodiesOf p m) sized form (rw pak-same few))
 
   ok : fileOk form (length (m .pak)) (stateFileOf form p m) ≡ true
   unfolding fileOk
-  ok = rw (contents-right, bodies-back) made
+  ok = rw (contents-valid, bodies-back) made
 
   module _ (n : Memory) (same : length (n .pak) ≡ length (m .pak)) where
     held-bodies : heldBodiesOf n (stateFileOf form p m) ≡ machineBodiesOf p m
@@ -165,15 +166,15 @@ module _ (form : Form) (p : ℕ) (file : List ℕ) (whole : length file ≡ file
   module _ (ok : fileOk form p file ≡ true) where
     tests : (contentsOk form p file ≡ true) × (bodiesOk (bodiesIn form p file) ≡ true)
     unfolding fileOk
-    tests = both-true (contentsOk form p file) (bodiesOk (bodiesIn form p file)) ok
+    tests = pick-both (contentsOk form p file) (bodiesOk (bodiesIn form p file)) ok
 
     three : ((processorBodyOk (bodiesIn form p file .processor) ≡ true) × (drawingBodyOk (bodiesIn form p file .drawing) ≡ true))
         × (hardwareBodyOk (bodiesIn form p file .hardware) ≡ true)
     unfolding bodiesOk
     three =
-        let a = both-true (both (processorBodyOk (bodiesIn form p file .processor)) (drawingBodyOk
+        let a = pick-both (both (processorBodyOk (bodiesIn form p file .processor)) (drawingBodyOk
         (bodiesIn form p file .drawing))) (hardwareBodyOk (bodiesIn form p file .hardware)) (tests .1) in
-        (both-true (processorBodyOk (bodiesIn form p file .processor)) (drawingBodyOk (bodiesIn form p file .drawing)) (a .0), a .1)
+        (pick-both (processorBodyOk (bodiesIn form p file .processor)) (drawingBodyOk (bodiesIn form p file .drawing)) (a .0), a .1)
 
     words-ok : (getD (restFrom (bodiesIn form p file .processor)) 10 0 ≤ 2)
         × (stateOk (generalFrom (bodiesIn form p file .processor)) (systemFrom (restFrom
@@ -182,7 +183,7 @@ module _ (form : Form) (p : ℕ) (file : List ℕ) (whole : length file ≡ file
     unfolding processorBodyOk wordsOk
     words-ok =
         let rest = restFrom (bodiesIn form p file .processor) in
-        let a = both-true (leb (getD (restFrom (bodiesIn form p file .processor)) 10 0) 2) _ (three .0 .0) in
+        let a = pick-both (leb (getD (restFrom (bodiesIn form p file .processor)) 10 0) 2) _ (three .0 .0) in
         (leb-true (getD (restFrom (bodiesIn form p file .processor)) 10 0) 2 (a .0), a .1)
 
     -- its records as bodies again, and the file that is written of them

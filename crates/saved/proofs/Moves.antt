@@ -33,10 +33,10 @@ module _ (file : List ℕ) (n : Memory) (e : length (n .pak) ≡ pakLengthOf (fo
 
 pub move-writes : MoveWrites
 unfolding stateFileOf heldProcessorOf heldMemoryOf heldBodiesOf
-move-writes file room n bytes accepted e =
-    let a = all-passed file room accepted in
-    let f = fit-in file (lengths-passed file room accepted .0) in
-    left file room accepted
+move-writes file output n bytes accepted e =
+    let a = all-passed file output accepted in
+    let f = fit-in file (lengths-passed file output accepted .0) in
+    left file output accepted
     ∙ ap (fileOf (otherOf (formOf file)))
     (sym (held-same file n e)
     ∙ sym (bodies-are (formOf file) (length (n .pak)) file (due file n e (sym (f .1))) bytes (ok-same file n e (a .1 .0)) (n .rom)))

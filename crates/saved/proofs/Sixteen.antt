@@ -1,8 +1,9 @@
 -- `sixteen-agrees`: the halfwords are all 0 exactly where their bytes are. Assumes nothing.
 use Prim.Native.Nat.{ℕ, _<_}
-use mathlib.Core.Bool.{Bool, true, false}
+use mathlib.Core.Bool.{true}
 use mathlib.Core.Path.{_≡_, refl, sym, ap, _∙_}
 use lib.ListN.{getD, replicate}
+use Rattle.word.proofs.Choices.{test-same}
 use Rattle.bus_timer.specs.declared.TimerLines.{TimerLines}
 use Rattle.saved_bytes.specs.Numbers.{bytesOf}
 use Rattle.saved_bytes.proofs.Reading.{same-equal, same-self}
@@ -14,11 +15,6 @@ use Rattle.saved.specs.Body.{linesOf}
 use Rattle.saved.specs.Calls.{formHolds}
 use Rattle.saved.specs.Exactly.{SixteenAgrees}
 use Rattle.saved.proofs.Back.{lines-back, zeros-bytes}
-
-both-true : (a b : Bool) → (a ≡ true → b ≡ true) → (b ≡ true → a ≡ true) → a ≡ b
-both-true true b f g = sym (f refl)
-both-true false true f g = g refl
-both-true false false f g = refl
 
 module _ (h : TimerLines) (halves : (k : ℕ) → getD (linesOf h) k 0 < 65536) where
   body-held : formHolds One (linesOf h) ≡ true → holdsBodyOk One (bytesOf (linesOf h)) ≡ true
@@ -34,5 +30,5 @@ module _ (h : TimerLines) (halves : (k : ℕ) → getD (linesOf h) k 0 < 65536) 
 
 pub sixteen-agrees : SixteenAgrees
 unfolding formHolds
-sixteen-agrees One h halves = both-true _ _ (body-held h halves) (lines-held h halves)
+sixteen-agrees One h halves = test-same _ _ (body-held h halves) (lines-held h halves)
 sixteen-agrees Two h halves = refl

@@ -21,28 +21,28 @@ use Rattle.saved_kinds.specs.Kinds.{drawingFrom, fileOk}
 use Rattle.saved.specs.Body.{linesOf, machineBodiesOf, processorInBodies, memoryIn}
 use Rattle.saved_kinds.specs.Words.{restOf, recordWordsOf}
 use Rattle.saved.specs.Calls.{stateFileOf, heldBodiesOf, heldProcessorOf, heldMemoryOf, formHolds}
-use Rattle.saved.specs.Calls.{writeVerdictOf, writtenRoomOf, readVerdictOf, restoredOf, readBackOf}
+use Rattle.saved.specs.Calls.{writeVerdictOf, writtenOutputOf, readVerdictOf, restoredOf, readBackOf}
 
-module _ (form : Form) (p : Processor) (m : Memory) (room : List ℕ) where
+module _ (form : Form) (p : Processor) (m : Memory) (output : List ℕ) where
   pub write-refused : (n : refusal.Refusal) → acceptanceIn p m ≡ Refused n
-      → (Refused n ≡ writeVerdictOf form p m room) × (room ≡ writtenRoomOf form p m room)
-  unfolding writtenRoomOf writeVerdictOf
+      → (Refused n ≡ writeVerdictOf form p m output) × (output ≡ writtenOutputOf form p m output)
+  unfolding writtenOutputOf writeVerdictOf
   write-refused n e = (simp e, simp e)
 
   module _ (e : acceptanceIn p m ≡ Accepted) where
-    pub write-length : (length room ≡ fileLengthOf form (length (m .pak)) → ⊥)
-        → (Refused FileLength ≡ writeVerdictOf form p m room) × (room ≡ writtenRoomOf form p m room)
-    unfolding writtenRoomOf writeVerdictOf
+    pub write-length : (length output ≡ fileLengthOf form (length (m .pak)) → ⊥)
+        → (Refused FileLength ≡ writeVerdictOf form p m output) × (output ≡ writtenOutputOf form p m output)
+    unfolding writtenOutputOf writeVerdictOf
     write-length n = (simp (e, ne-eqb _ _ n), simp (e, ne-eqb _ _ n))
 
-    pub write-reset : length room ≡ fileLengthOf form (length (m .pak)) → formHolds form (linesOf (p .hardware)) ≡ false
-        → (Refused NotAtReset ≡ writeVerdictOf form p m room) × (room ≡ writtenRoomOf form p m room)
-    unfolding writtenRoomOf writeVerdictOf
+    pub write-reset : length output ≡ fileLengthOf form (length (m .pak)) → formHolds form (linesOf (p .hardware)) ≡ false
+        → (Refused NotAtReset ≡ writeVerdictOf form p m output) × (output ≡ writtenOutputOf form p m output)
+    unfolding writtenOutputOf writeVerdictOf
     write-reset l h = (simp (e, eq-eqb _ _ l, h), simp (e, eq-eqb _ _ l, h))
 
-    pub write-accepted : length room ≡ fileLengthOf form (length (m .pak)) → formHolds form (linesOf (p .hardware)) ≡ true
-        → (Accepted ≡ writeVerdictOf form p m room) × (stateFileOf form p m ≡ writtenRoomOf form p m room)
-    unfolding writtenRoomOf writeVerdictOf
+    pub write-accepted : length output ≡ fileLengthOf form (length (m .pak)) → formHolds form (linesOf (p .hardware)) ≡ true
+        → (Accepted ≡ writeVerdictOf form p m output) × (stateFileOf form p m ≡ writtenOutputOf form p m output)
+    unfolding writtenOutputOf writeVerdictOf
     write-accepted l h = (simp (e, eq-eqb _ _ l, h), simp (e, eq-eqb _ _ l, h))
 
 pub file-of-records : (form : Form) (p : Processor) (m : Memory) (rest lines : List ℕ) → rest ≡ restOf p → lines ≡ linesOf (p .hardware)
@@ -51,9 +51,9 @@ unfolding stateFileOf machineBodiesOf recordWordsOf
 file-of-records form p m rest lines e f = rw (e, f)
 
 -- ROM is not stored
-pub file-beside : (form : Form) (p : Processor) (m : Memory) → stateFileOf form p (memoryOf [] (m .wram) (m .vram) (m .pak) (m .regs)) ≡ stateFileOf form p m
+pub file-without-rom : (form : Form) (p : Processor) (m : Memory) → stateFileOf form p (memoryOf [] (m .wram) (m .vram) (m .pak) (m .regs)) ≡ stateFileOf form p m
 unfolding stateFileOf machineBodiesOf
-file-beside form p m = refl
+file-without-rom form p m = refl
 
 module _ (p : Processor) (m : Memory) (file : List ℕ) where
   pub read-refused : (n : refusal.Refusal) → acceptanceIn p m ≡ Refused n → restoredOf (Refused n) p m ≡ readBackOf p m file

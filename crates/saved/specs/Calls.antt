@@ -51,12 +51,12 @@ holdsOk form h = formHolds form (linesOf h)
 
 -- a writing call's verdict: 1 to 5, 9, 16; and the output buffer ("room") afterwards
 unfoldable pub writeVerdictOf : Form → Processor → Memory → List ℕ → Verdict
-writeVerdictOf form p m room =
+writeVerdictOf form p m output =
     thenOf (acceptanceIn p m)
-    (unless (lengthOk form m room) FileLength (unless (holdsOk form (p .hardware)) NotAtReset Accepted))
+    (unless (lengthOk form m output) FileLength (unless (holdsOk form (p .hardware)) NotAtReset Accepted))
 
-unfoldable pub writtenRoomOf : Form → Processor → Memory → List ℕ → List ℕ
-writtenRoomOf form p m room = whenAccepted (writeVerdictOf form p m room) room (stateFileOf form p m)
+unfoldable pub writtenOutputOf : Form → Processor → Memory → List ℕ → List ℕ
+writtenOutputOf form p m output = whenAccepted (writeVerdictOf form p m output) output (stateFileOf form p m)
 
 -- the reading call's verdict: 1 to 5, 9 by the file's form, 10
 unfoldable pub readVerdictOf : Processor → Memory → List ℕ → Verdict

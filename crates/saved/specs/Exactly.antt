@@ -64,9 +64,9 @@ WrittenExactly =
 -- of the machine that reading gives with a memory whose pak RAM has the length that follows from the file's
 abbrev pub MoveWrites : Type 0
 MoveWrites =
-    (file room : List ℕ) (n : Memory) → ((k : ℕ) → getD file k 0 < 256) → moveVerdictOf file room ≡ Accepted
+    (file output : List ℕ) (n : Memory) → ((k : ℕ) → getD file k 0 < 256) → moveVerdictOf file output ≡ Accepted
     → length (n .pak) ≡ pakLengthOf (formOf file) (length file)
-    → movedOf file room ≡ stateFileOf (otherOf (formOf file)) (heldProcessorOf n file) (heldMemoryOf n file)
+    → movedOf file output ≡ stateFileOf (otherOf (formOf file)) (heldProcessorOf n file) (heldMemoryOf n file)
 
 -- 16 of a writer is 16 of a move: a form holds lines and timer exactly where it holds their body
 abbrev pub SixteenAgrees : Type 0

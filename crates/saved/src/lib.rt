@@ -19,7 +19,7 @@ ghost use Rattle.bus.specs.Memory.{memoryOf};
 ghost use Rattle.bus.specs.Lent.{enteringWith, leavingWith};
 ghost use Rattle.saved_layout.specs.Layout.{fileLengthOf};
 ghost use Rattle.saved_layout.specs.declared.Form.the-variants.{One, Two};
-ghost use Rattle.saved.specs.Calls.{stateFileOf, writeVerdictOf, writtenRoomOf, restoredOf, readBackOf};
+ghost use Rattle.saved.specs.Calls.{stateFileOf, writeVerdictOf, writtenOutputOf, restoredOf, readBackOf};
 
 // Whether a read was refused, and both records afterwards.
 pub struct Restored {
@@ -36,12 +36,12 @@ fn put(
     pak: &[u8],
     processor: Processor,
     drawing: Drawing,
-    room: &mut [u8],
+    output: &mut [u8],
 )
     requires { ⌜ (length (now wram) ≡ 65536) × ((length (now vram) ≡ vramBytes) × (length (now pak) ≤ 16777216)) ⌝ }
-    requires { ⌜ length (now room) ≡ fileLengthOf form (length (now pak)) ⌝ }
+    requires { ⌜ length (now output) ≡ fileLengthOf form (length (now pak)) ⌝ }
     ensures { λ _. ⌜
-        now (room .exit) ≡ stateFileOf form processor
+        now (output .exit) ≡ stateFileOf form processor
         (memoryOf [] (now (wram .entry)) (now (vram .entry)) (now (pak .entry)) (drawing .regs))
         ⌝ }
 {
@@ -49,7 +49,7 @@ fn put(
     let rest = saved_kinds::words::rest(processor);
     let halves = drawing.regs;
     let lines = records::lines(processor.hardware);
-    saved_layout::bodies::write(form, room, &regs, &rest, &halves, wram, vram, pak, &lines);
+    saved_layout::bodies::write(form, output, &regs, &rest, &halves, wram, vram, pak, &lines);
 }
 
 // A machine into the output buffer.
@@ -61,26 +61,26 @@ fn write_form(
     pak: &[u8],
     processor: Processor,
     drawing: Drawing,
-    room: &mut [u8],
+    output: &mut [u8],
 ) -> Verdict
     ensures verdict { λ v. ⌜
-        v ≡ writeVerdictOf form processor (enteringWith rom wram vram pak (drawing .regs)) (now (room .entry))
+        v ≡ writeVerdictOf form processor (enteringWith rom wram vram pak (drawing .regs)) (now (output .entry))
         ⌝ }
-    ensures room { λ _. ⌜
-        now (room .exit)
-        ≡ writtenRoomOf form processor (enteringWith rom wram vram pak (drawing .regs)) (now (room .entry))
+    ensures output { λ _. ⌜
+        now (output .exit)
+        ≡ writtenOutputOf form processor (enteringWith rom wram vram pak (drawing .regs)) (now (output .entry))
         ⌝ }
 {
     match processor::calls::verdict(rom, wram, vram, pak, processor, drawing) {
         Verdict::Refused(n) => Verdict::Refused(n),
         Verdict::Accepted => {
-            if room.len() != places::file_length(form, pak.len()) {
+            if output.len() != places::file_length(form, pak.len()) {
                 return Verdict::Refused(Refusal::FileLength);
             }
             if !records::holds(form, records::lines(processor.hardware)) {
                 return Verdict::Refused(Refusal::NotAtReset);
             }
-            put(form, wram, vram, pak, processor, drawing, room);
+            put(form, wram, vram, pak, processor, drawing, output);
             Verdict::Accepted
         }
     }
@@ -94,17 +94,17 @@ pub fn write(
     pak: &[u8],
     processor: Processor,
     drawing: Drawing,
-    room: &mut [u8],
+    output: &mut [u8],
 ) -> Verdict
     ensures verdict { λ v. ⌜
-        v ≡ writeVerdictOf One processor (enteringWith rom wram vram pak (drawing .regs)) (now (room .entry))
+        v ≡ writeVerdictOf One processor (enteringWith rom wram vram pak (drawing .regs)) (now (output .entry))
         ⌝ }
-    ensures room { λ _. ⌜
-        now (room .exit)
-        ≡ writtenRoomOf One processor (enteringWith rom wram vram pak (drawing .regs)) (now (room .entry))
+    ensures output { λ _. ⌜
+        now (output .exit)
+        ≡ writtenOutputOf One processor (enteringWith rom wram vram pak (drawing .regs)) (now (output .entry))
         ⌝ }
 {
-    write_form(Form::One, rom, wram, vram, pak, processor, drawing, room)
+    write_form(Form::One, rom, wram, vram, pak, processor, drawing, output)
 }
 
 // A machine into the output buffer, in form 2.
@@ -115,17 +115,17 @@ pub fn write_2(
     pak: &[u8],
     processor: Processor,
     drawing: Drawing,
-    room: &mut [u8],
+    output: &mut [u8],
 ) -> Verdict
     ensures verdict { λ v. ⌜
-        v ≡ writeVerdictOf Two processor (enteringWith rom wram vram pak (drawing .regs)) (now (room .entry))
+        v ≡ writeVerdictOf Two processor (enteringWith rom wram vram pak (drawing .regs)) (now (output .entry))
         ⌝ }
-    ensures room { λ _. ⌜
-        now (room .exit)
-        ≡ writtenRoomOf Two processor (enteringWith rom wram vram pak (drawing .regs)) (now (room .entry))
+    ensures output { λ _. ⌜
+        now (output .exit)
+        ≡ writtenOutputOf Two processor (enteringWith rom wram vram pak (drawing .regs)) (now (output .entry))
         ⌝ }
 {
-    write_form(Form::Two, rom, wram, vram, pak, processor, drawing, room)
+    write_form(Form::Two, rom, wram, vram, pak, processor, drawing, output)
 }
 
 // A machine from a file of either form: WRAM, VRAM, pak RAM and both records. The whole file is tested before a byte is

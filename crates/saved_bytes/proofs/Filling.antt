@@ -1,5 +1,5 @@
--- The loops over halfwords and words: those put so far are pasted into the buffer, those taken so far stand in the array, those
--- compared so far are the same. Assumes nothing.
+-- The loops over halfwords and words: those put so far are pasted into the buffer, those taken so far stand in the array.
+-- Assumes nothing.
 use Prim.Native.Nat.{ℕ, zero, suc, _+_, _-_, _*_, _/_, _%_, _<_, _≤_}
 use native.Mathlib.Omega.{arith}
 use native.Mathlib.Decide.{ℕ-discrete}
@@ -17,7 +17,7 @@ use Rattle.saved_bytes.proofs.LittleEndian.{half-high, length-halves-fr
 use Rattle.saved_bytes.proofs.LittleEndian.{getD-words-from}
 
 -- one halfword more is put: a number whose two low bytes are the halfword's
-module _ (d : List ℕ) (at : ℕ) (hs : List ℕ) (k v : ℕ) (room : at + 2 * k + 1 < length d) (few : k < length hs) where
+module _ (d : List ℕ) (at : ℕ) (hs : List ℕ) (k v : ℕ) (output : at + 2 * k + 1 < length d) (few : k < length hs) where
   pub put-more : v % 256 ≡ getD hs k 0 % 256 → v / 256 % 256 ≡ getD hs k 0 / 256 % 256
       → putHalf (paste d at (bytesOf hs) (2 * k)) (at + 2 * k) v ≡ paste d at (bytesOf hs) (2 * (k + 1))
   put-more p q =
@@ -30,7 +30,7 @@ module _ (d : List ℕ) (at : ℕ) (hs : List ℕ) (k v : ℕ) (room : at + 2 * 
       ∙ paste-suc d at (bytesOf hs) (2 * k + 1) 0 (omega arith) (omega (arith, length-bytes hs)))
 
 -- one word more
-module _ (d : List ℕ) (at : ℕ) (ws : List ℕ) (k v : ℕ) (room : at + 4 * k + 3 < length d) (few : k < length ws) where
+module _ (d : List ℕ) (at : ℕ) (ws : List ℕ) (k v : ℕ) (output : at + 4 * k + 3 < length d) (few : k < length ws) where
   low-bytes : (w h : ℕ) → h ≡ w % 65536 → (w % 256 ≡ h % 256) × (w / 256 % 256 ≡ h / 256 % 256)
   low-bytes w h e = (omega arith, omega arith)
 
@@ -47,16 +47,16 @@ module _ (d : List ℕ) (at : ℕ) (ws : List ℕ) (k v : ℕ) (room : at + 4 * 
       (ap (λ (n : ℕ). n % 256) (sym f)) (ap (λ (n : ℕ). n / 256 % 256) (sym f)))
 
 -- the first n bytes of s stand in the buffer from `at` on
-pub record Pasted (d : List ℕ) (at : ℕ) (s : List ℕ) (n : ℕ) (room : List ℕ) : Type 0 where
-  pub size : length room ≡ length d
-  pub same : room ≡ paste d at s n
+pub record Pasted (d : List ℕ) (at : ℕ) (s : List ℕ) (n : ℕ) (output : List ℕ) : Type 0 where
+  pub size : length output ≡ length d
+  pub same : output ≡ paste d at s n
 
 pub pasted-none : (d : List ℕ) (at : ℕ) (s : List ℕ) → Pasted d at s 0 d
 pasted-none d at s = record { size = refl; same = paste-zero d at s }
 
-module _ (d : List ℕ) (at : ℕ) (room after : List ℕ) (k v : ℕ) where
-  pub pasted-half : (hs : List ℕ) → Pasted d at (bytesOf hs) (2 * k) room → at + 2 * length hs ≤ length d → k < length hs
-      → after ≡ putHalf room (at + 2 * k) v → v ≡ getD hs k 0 → Pasted d at (bytesOf hs) (2 * (k + 1)) after
+module _ (d : List ℕ) (at : ℕ) (output after : List ℕ) (k v : ℕ) where
+  pub pasted-half : (hs : List ℕ) → Pasted d at (bytesOf hs) (2 * k) output → at + 2 * length hs ≤ length d → k < length hs
+      → after ≡ putHalf output (at + 2 * k) v → v ≡ getD hs k 0 → Pasted d at (bytesOf hs) (2 * (k + 1)) after
   pasted-half hs s r few e f =
       record {
         size = ap length e ∙ simp length-set (s .size);
@@ -65,8 +65,8 @@ module _ (d : List ℕ) (at : ℕ) (room after : List ℕ) (k v : ℕ) where
             ∙ put-more d at hs k v (omega arith) few (ap (λ (n : ℕ). n % 256) f) (ap (λ (n : ℕ). n / 256 % 256) f));
       }
 
-  pub pasted-word : (ws : List ℕ) → Pasted d at (bytesOf (halvesOf ws)) (4 * k) room → at + 4 * length ws ≤ length d → k < length ws
-      → after ≡ putWord room (at + 4 * k) v → v ≡ getD ws k 0 → Pasted d at (bytesOf (halvesOf ws)) (4 * (k + 1)) after
+  pub pasted-word : (ws : List ℕ) → Pasted d at (bytesOf (halvesOf ws)) (4 * k) output → at + 4 * length ws ≤ length d → k < length ws
+      → after ≡ putWord output (at + 4 * k) v → v ≡ getD ws k 0 → Pasted d at (bytesOf (halvesOf ws)) (4 * (k + 1)) after
   pasted-word ws s r few e f =
       record {
         size = ap length e ∙ simp length-set (s .size);
@@ -104,36 +104,3 @@ pub filled-words : (file : List ℕ) (at n : ℕ) (xs : List ℕ) → Filled (λ
 filled-words file at n xs s =
     ext-getD 0 xs (wordsFrom file at n) (s .whole ∙ sym (length-words-from file at n))
     (λ k h. let l : k < n = omega (arith, s .whole) in s .each k l ∙ sym (getD-words-from file at n k l))
-
--- what is left to compare decides
-abbrev pub Left : List ℕ → List ℕ → ℕ → Type 0
-Left file hs k = sameOf (halvesFrom file 0 (length hs)) hs ≡ sameOf (halvesFrom file (2 * k) (length hs - k)) (drop k hs)
-
-pub left-all : (file hs : List ℕ) → Left file hs 0
-left-all file hs =
-    let e : length hs - 0 ≡ length hs = omega arith in
-    rw e refl
-
-module _ (file hs : List ℕ) (k : ℕ) (few : k < length hs) where
-  step : sameOf (halvesFrom file (2 * k) (length hs - k)) (drop k hs) ≡ sameOf (halfAt file (2 * k) ∷ halvesFrom file
-      (2 * k + 2) (length hs - (k + 1))) (getD hs k 0 ∷ drop (suc k) hs)
-  unfolding halvesFrom
-  step =
-      let e : length hs - k ≡ suc (length hs - (k + 1)) = omega arith in
-      rw (e, drop-cons hs k 0 few)
-
-  pub left-more : Left file hs k → halfAt file (2 * k) ≡ getD hs k 0 → Left file hs (k + 1)
-  left-more l e =
-      let n : 2 * (k + 1) ≡ 2 * k + 2 = omega arith in
-      let m : k + 1 ≡ suc k = omega arith in
-      l ∙ (step ∙ simp (eq-eqb _ _ e) (rw (n, m)))
-
-  pub left-differs : Left file hs k → (halfAt file (2 * k) ≡ getD hs k 0 → ⊥) → false ≡ sameOf (halvesFrom file 0 (length hs)) hs
-  left-differs l n = sym (l ∙ (step ∙ simp (ne-eqb _ _ n)))
-
-pub left-none : (file hs : List ℕ) → Left file hs (length hs) → true ≡ sameOf (halvesFrom file 0 (length hs)) hs
-unfolding halvesFrom
-left-none file hs l = sym (l ∙ simp (drop-length, zero-left))
-  where
-    zero-left : length hs - length hs ≡ 0
-    zero-left = omega arith

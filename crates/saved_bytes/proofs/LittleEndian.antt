@@ -65,6 +65,11 @@ getD-halves-from xs a (suc n) (suc k) l =
     let e : a + 2 * suc k ≡ a + 2 + 2 * k = omega arith in
     rw e (getD-halves-from xs (a + 2) n k (omega arith))
 
+pub getD-halves-first : (xs : List ℕ) (n k : ℕ) → k < n → getD (halvesFrom xs 0 n) k 0 ≡ halfAt xs (2 * k)
+getD-halves-first xs n k l =
+    let e : 0 + 2 * k ≡ 2 * k = omega arith in
+    getD-halves-from xs 0 n k l ∙ ap (halfAt xs) e
+
 pub length-words-from : (xs : List ℕ) (a n : ℕ) → length (wordsFrom xs a n) ≡ n
 unfolding wordsFrom
 length-words-from xs a zero = refl

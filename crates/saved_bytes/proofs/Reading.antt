@@ -63,7 +63,7 @@ halves-back n pre hs post e u =
     rw f (halves-shift pre (bytesOf hs ++ post) 0 (length hs) ∙ halves-first hs post u)
 
 -- and so are words
-word-joined : (w : ℕ) → w < 2 ^ 32
+pub word-joined : (w : ℕ) → w < 2 ^ 32
     → w % 65536 % 256 + 256 * (w % 65536 / 256 % 256) + 65536 * (w / 65536 % 256 + 256 * (w / 65536 / 256 % 256)) ≡ w
 word-joined w l =
     let a : w % 65536 < 65536 = omega arith in

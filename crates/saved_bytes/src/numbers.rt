@@ -6,25 +6,25 @@ ghost use Rattle.saved_bytes.specs.Numbers.{bytesOf, halvesOf, halvesFro
 ghost use Rattle.saved_bytes.specs.inner.Put.{putAt};
 
 // Halfwords from byte `at` on.
-pub fn put_halves(room: &mut [u8], at: usize, halves: &[u16])
-    requires { ⌜ at + 2 * length (now halves) ≤ length (now room) ⌝ }
-    ensures { λ _. ⌜ now (room .exit) ≡ putAt (now (room .entry)) at (bytesOf (now (halves .entry))) ⌝ }
+pub fn put_halves(output: &mut [u8], at: usize, halves: &[u16])
+    requires { ⌜ at + 2 * length (now halves) ≤ length (now output) ⌝ }
+    ensures { λ _. ⌜ now (output .exit) ≡ putAt (now (output .entry)) at (bytesOf (now (halves .entry))) ⌝ }
 {
     let mut k = 0;
     while k < halves.len() {
-        word::put_half(room, at + 2 * k, halves[k] as u32);
+        word::put_half(output, at + 2 * k, halves[k] as u32);
         k += 1;
     }
 }
 
 // Words from byte `at` on.
-pub fn put_words(room: &mut [u8], at: usize, words: &[u32])
-    requires { ⌜ at + 4 * length (now words) ≤ length (now room) ⌝ }
-    ensures { λ _. ⌜ now (room .exit) ≡ putAt (now (room .entry)) at (bytesOf (halvesOf (now (words .entry)))) ⌝ }
+pub fn put_words(output: &mut [u8], at: usize, words: &[u32])
+    requires { ⌜ at + 4 * length (now words) ≤ length (now output) ⌝ }
+    ensures { λ _. ⌜ now (output .exit) ≡ putAt (now (output .entry)) at (bytesOf (halvesOf (now (words .entry)))) ⌝ }
 {
     let mut k = 0;
     while k < words.len() {
-        word::put_word(room, at + 4 * k, words[k]);
+        word::put_word(output, at + 4 * k, words[k]);
         k += 1;
     }
 }

@@ -7,21 +7,21 @@ ghost use Rattle.saved_bytes.specs.Parts.{bodySumOf};
 ghost use Rattle.saved_bytes.specs.inner.Put.{putAt};
 
 // Bytes over those from byte `at` on.
-pub fn put_bytes(room: &mut [u8], at: usize, bytes: &[u8])
-    requires { ⌜ at + length (now bytes) ≤ length (now room) ⌝ }
-    ensures { λ _. ⌜ now (room .exit) ≡ putAt (now (room .entry)) at (now (bytes .entry)) ⌝ }
+pub fn put_bytes(output: &mut [u8], at: usize, bytes: &[u8])
+    requires { ⌜ at + length (now bytes) ≤ length (now output) ⌝ }
+    ensures { λ _. ⌜ now (output .exit) ≡ putAt (now (output .entry)) at (now (bytes .entry)) ⌝ }
 {
-    bytes::copy(bytes, &mut room[at..]);
+    bytes::copy(bytes, &mut output[at..]);
 }
 
 // Zeros over `count` bytes from byte `at` on.
-pub fn put_zeros(room: &mut [u8], at: usize, count: usize)
-    requires { ⌜ at + count ≤ length (now room) ⌝ }
-    ensures { λ _. ⌜ now (room .exit) ≡ putAt (now (room .entry)) at (replicate count 0) ⌝ }
+pub fn put_zeros(output: &mut [u8], at: usize, count: usize)
+    requires { ⌜ at + count ≤ length (now output) ⌝ }
+    ensures { λ _. ⌜ now (output .exit) ≡ putAt (now (output .entry)) at (replicate count 0) ⌝ }
 {
     let mut k = 0;
     while k < count {
-        room[at + k] = 0;
+        output[at + k] = 0;
         k += 1;
     }
 }

@@ -43,17 +43,6 @@ pub reset-ok : hardwareBodyOk hardwareReset ≡ true
 unfolding hardwareBodyOk hardwareFrom hardwareOk controlBitsOf
 reset-ok = refl
 
--- two tests, the first known
-pub both-first : (a b : Bool) → a ≡ true → b ≡ both a b
-both-first a b e = rw e
-
-pub both-false : (a b : Bool) → a ≡ false → false ≡ both a b
-both-false a b e = rw e
-
-pub both-last : (a : Bool) → a ≡ both a true
-both-last true = refl
-both-last false = refl
-
 -- the records of a file where they stand
 module _ (form : Form) (p at : ℕ) (file : List ℕ) (e : at ≡ bodyPlaceOf form p 0) where
   records-are : recordsOk at file ≡ both (processorBodyOk (bodiesIn form p file .processor)) (drawingBodyOk (bodiesIn form p file .drawing))

@@ -1,6 +1,6 @@
 -- Whether a body is one that a writer makes for some accepted state: paper 02, W1's refusal 10 of kinds 1 and 2 and
 -- W12's of kind 6, by the tests of refusal 5 (processor, Acceptance; bus, Registers; bus_timer, Ports). Kinds 3 to 5
--- are free. And the same of a whole file, whose contents are right.
+-- are free. And the same of a whole file, whose contents are valid.
 use Prim.Native.Nat.{ℕ}
 use mathlib.Core.Bool.{Bool, true, false}
 use mathlib.Core.List.{List, [], _∷_}
@@ -63,6 +63,6 @@ hardwareBodyOk body = hardwareOk (hardwareFrom body)
 unfoldable pub bodiesOk : Bodies → Bool
 bodiesOk b = both (both (processorBodyOk (b .processor)) (drawingBodyOk (b .drawing))) (hardwareBodyOk (b .hardware))
 
--- 10: everything before the first body is right, and every body is one that a writer makes
+-- 10: everything before the first body is valid, and every body is one that a writer makes
 unfoldable pub fileOk : Form → ℕ → List ℕ → Bool
 fileOk form pak file = both (contentsOk form pak file) (bodiesOk (bodiesIn form pak file))

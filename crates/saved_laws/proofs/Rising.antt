@@ -1,10 +1,10 @@
--- `told-rising`: the statement of specs/Told. Each kind is put behind smaller ones. Assumes nothing.
+-- `replaced-rising`: the statement of specs/Rising. Each kind is put behind smaller ones. Assumes nothing.
 use Prim.Native.Nat.{ℕ, suc, _≤_}
 use mathlib.Core.Bool.{Bool, true, false}
 use mathlib.Core.List.{List, [], _∷_, _++_}
 use native.Mathlib.Omega.{arith}
-use Rattle.saved_salvage.specs.Told.{withKind, replacedOf}
-use Rattle.saved_laws.specs.Told.{Rising, ToldRising}
+use Rattle.saved_salvage.specs.Listed.{withKind, replacedOf}
+use Rattle.saved_laws.specs.Rising.{Rising, ReplacedRising}
 
 higher : (low high : ℕ) (ns : List ℕ) → Rising low high ns → Rising low (suc high) ns
 higher low high [] r = tt
@@ -19,9 +19,9 @@ with-kind : (ns : List ℕ) (high : ℕ) (kept : Bool) → Rising 1 high ns → 
 with-kind ns high true r = higher 1 high ns r
 with-kind ns high false r = behind 1 high ns (omega arith) r
 
-pub told-rising : ToldRising
+pub replaced-rising : ReplacedRising
 unfolding replacedOf
-told-rising k =
+replaced-rising k =
     with-kind _ 5 (k .hardware)
     (with-kind _ 4 (k .pak)
     (with-kind _ 3 (k .vram) (with-kind _ 2 (k .wram) (with-kind _ 1 (k .drawing) (with-kind [] 0 (k .processor) tt)))))

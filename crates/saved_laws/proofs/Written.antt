@@ -27,15 +27,15 @@ use Rattle.saved.proofs.Sixteen.{sixteen-agrees}
 use Rattle.saved_salvage.proofs.Unharmed.{unchanged}
 use Rattle.saved_laws.specs.Salvaged.{MovedAccepted, WrittenUnchanged}
 
-module _ (file room : List ℕ) (q : Processor) (n : Memory) (bytes : (k : ℕ) → getD file k 0 < 256) (e : moveVerdictOf file room ≡ Accepted)
+module _ (file output : List ℕ) (q : Processor) (n : Memory) (bytes : (k : ℕ) → getD file k 0 < 256) (e : moveVerdictOf file output ≡ Accepted)
     (accepted : acceptanceIn q n ≡ Accepted) (l : length (n .pak) ≡ pakLengthOf (formOf file) (length file)) where
   due : length file ≡ fileLengthOf (formOf file) (length (n .pak))
   unfolding pakIn
-  due = sym (rw l (fit-in file (lengths-passed file room e .0) .1))
+  due = sym (rw l (fit-in file (lengths-passed file output e .0) .1))
 
   ok : fileOk (formOf file) (length (n .pak)) file ≡ true
   unfolding pakIn
-  ok = rw l (all-passed file room e .1 .0)
+  ok = rw l (all-passed file output e .1 .0)
 
   own : Savable (formOf file) (heldProcessorOf n file) (heldMemoryOf n file)
   own = written-exactly q n file accepted due bytes .made ok .0
@@ -49,7 +49,7 @@ module _ (file room : List ℕ) (q : Processor) (n : Memory) (bytes : (k : ℕ) 
   other-held : holdsOk (otherOf (formOf file)) (heldProcessorOf n file .hardware) ≡ true
   other-held =
       sixteen-agrees (otherOf (formOf file)) (heldProcessorOf n file .hardware) (own .lines)
-      ∙ (ap (holdsBodyOk (otherOf (formOf file))) body ∙ all-passed file room e .1 .1)
+      ∙ (ap (holdsBodyOk (otherOf (formOf file))) body ∙ all-passed file output e .1 .1)
 
   other : Savable (otherOf (formOf file)) (heldProcessorOf n file) (heldMemoryOf n file)
   other =
@@ -64,10 +64,10 @@ module _ (file room : List ℕ) (q : Processor) (n : Memory) (bytes : (k : ℕ) 
       }
 
 pub moved-accepted : MovedAccepted
-moved-accepted file room q n bytes e accepted l =
+moved-accepted file output q n bytes e accepted l =
     record {
-      savable = other file room q n bytes e accepted l;
-      written = sym (move-writes file room n bytes e l);
+      savable = other file output q n bytes e accepted l;
+      written = sym (move-writes file output n bytes e l);
     }
 
 legal : (p : Processor) (m : Memory) → acceptanceIn p m ≡ Accepted → pakOk (length (machineBodiesOf p m .pak)) ≡ true
@@ -76,5 +76,5 @@ legal p m a = passed p m a .lengths .pak-ok
 
 pub written-unchanged : WrittenUnchanged
 unfolding stateFileOf
-written-unchanged p m room s l =
-    unchanged (machineBodiesOf p m) (sized Two p m s) (legal p m (s .accepted)) (made Two p m s) room l
+written-unchanged p m output s l =
+    unchanged (machineBodiesOf p m) (sized Two p m s) (legal p m (s .accepted)) (made Two p m s) output l

@@ -1,3 +1,3 @@
 pub mod Reset
 pub mod Salvaged
-pub mod Told
+pub mod Rising

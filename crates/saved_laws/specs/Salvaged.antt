@@ -17,8 +17,8 @@ use Rattle.saved_kinds.specs.Fits.{formOf, pakLengthOf}
 use Rattle.saved_move.specs.Move.{moveVerdictOf, movedOf}
 use Rattle.saved.specs.Calls.{stateFileOf, heldProcessorOf, heldMemoryOf}
 use Rattle.saved.specs.Exactly.{Savable}
-use Rattle.saved_salvage.specs.Right.{Unchanged}
-use Rattle.saved_salvage.specs.Salvage.{pakInFormTwo, salvageVerdictOf, salvagedRoomOf}
+use Rattle.saved_salvage.specs.Valid.{Unchanged}
+use Rattle.saved_salvage.specs.Salvage.{pakInFormTwo, salvageVerdictOf, salvagedOutputOf}
 
 -- the machine that `held` holds, with the memory n, is one that 1 to 5 accept, and `file` is what the form's writer
 -- makes for it
@@ -30,21 +30,21 @@ pub record FileOfAccepted (form : Form) (n : Memory) (held file : List ℕ) : Ty
 -- the length that follows from the file's
 abbrev pub SalvagedAccepted : Type 0
 SalvagedAccepted =
-    (file room : List ℕ) (q : Processor) (n : Memory) → ((k : ℕ) → getD file k 0 < 256)
-    → salvageVerdictOf file room ≡ Accepted → acceptanceIn q n ≡ Accepted → length (n .pak) ≡ pakInFormTwo file
-    → FileOfAccepted Two n (salvagedRoomOf file room) (salvagedRoomOf file room)
+    (file output : List ℕ) (q : Processor) (n : Memory) → ((k : ℕ) → getD file k 0 < 256)
+    → salvageVerdictOf file output ≡ Accepted → acceptanceIn q n ≡ Accepted → length (n .pak) ≡ pakInFormTwo file
+    → FileOfAccepted Two n (salvagedOutputOf file output) (salvagedOutputOf file output)
 
 -- the output of an accepted move is such a file, in the other form, of what the file given holds
 abbrev pub MovedAccepted : Type 0
 MovedAccepted =
-    (file room : List ℕ) (q : Processor) (n : Memory) → ((k : ℕ) → getD file k 0 < 256)
-    → moveVerdictOf file room ≡ Accepted → acceptanceIn q n ≡ Accepted
+    (file output : List ℕ) (q : Processor) (n : Memory) → ((k : ℕ) → getD file k 0 < 256)
+    → moveVerdictOf file output ≡ Accepted → acceptanceIn q n ≡ Accepted
     → length (n .pak) ≡ pakLengthOf (formOf file) (length file)
-    → FileOfAccepted (otherOf (formOf file)) n file (movedOf file room)
+    → FileOfAccepted (otherOf (formOf file)) n file (movedOf file output)
 
 -- what form 2's writer made for an accepted machine is left as it is, no kind is listed, and nothing before the first
 -- body differs
 abbrev pub WrittenUnchanged : Type 0
 WrittenUnchanged =
-    (p : Processor) (m : Memory) (room : List ℕ) → Savable Two p m → length room ≡ length (stateFileOf Two p m)
-    → Unchanged (stateFileOf Two p m) room
+    (p : Processor) (m : Memory) (output : List ℕ) → Savable Two p m → length output ≡ length (stateFileOf Two p m)
+    → Unchanged (stateFileOf Two p m) output

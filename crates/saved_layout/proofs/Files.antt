@@ -1,4 +1,4 @@
--- What stands in a file that was written is what it was written from; and a file whose contents are right is what its own bodies
+-- What stands in a file that was written is what it was written from; and a file whose contents are valid is what its own bodies
 -- are written as. Both forms at once. Assumes nothing.
 use Prim.Native.Nat.{ℕ, zero, suc, _+_, _-_, _*_, _/_, _%_, _^_, _<_, _≤_}
 use native.Mathlib.Omega.{arith}
@@ -47,9 +47,9 @@ Small (part ∷ parts) = (part .kind < 65536) × ((part .size ≤ 16777216) × S
 entries-under : (form : Form) (at : ℕ) (parts : List Part) (sums : List ℕ) → Small parts → at + 16777216 * length parts < 2 ^ 32
     → ((k : ℕ) → getD sums k 0 < 2 ^ 32)
     → Under 65536 (entriesFrom form at parts sums)
-entries-under form at [] sums small room under = tt
-entries-under form at (part ∷ parts) sums small room under =
-    let rest : at + 16777216 * suc (length parts) < 2 ^ 32 = room in
+entries-under form at [] sums small output under = tt
+entries-under form at (part ∷ parts) sums small output under =
+    let rest : at + 16777216 * suc (length parts) < 2 ^ 32 = output in
     let size : part .size ≤ 16777216 = small .1 .0 in
     append-under 65536 (contentsEntryOf form part at (sumAt sums (part .kind))) (entriesFrom form (at + part .size) parts sums)
     (entry-under form part at (sumAt sums (part .kind)) (small .0) (omega arith) (omega arith) (under (part .kind - 1)))
@@ -247,7 +247,7 @@ module _ (b : Bodies) (s : SizedBodies b) where
   unfolding contentsOk
   contents-back form few = rw (contents-held b s (fileOf form b) form (file-start form b)) (front-same form few)
 
--- the reverse: a file whose contents are right is what its bodies are written as
+-- the reverse: a file whose contents are valid is what its bodies are written as
 next : (a n m : ℕ) (xs : List ℕ) → m ≡ a + n → drop a xs ≡ take n (drop a xs) ++ drop m xs
 next a n m xs e =
     sym (take-append-drop n (drop a xs))

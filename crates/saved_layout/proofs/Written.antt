@@ -96,8 +96,8 @@ module _ (regs rest halves wram vram pak hardware d : List ℕ) where
     joined-two : (a b c d e f : List ℕ) → ((a ++ b) ++ (c ++ (d ++ e))) ++ f ≡ a ++ (b ++ (c ++ (d ++ (e ++ f))))
     joined-two a b c d e f = simp append-assoc
 
-    ending : (at : ℕ) (xs room : List ℕ) → at + length xs ≡ length d → room ≡ putAt d at xs → drop at room ≡ xs
-    ending at xs room e p =
+    ending : (at : ℕ) (xs output : List ℕ) → at + length xs ≡ length d → output ≡ putAt d at xs → drop at output ≡ xs
+    ending at xs output e p =
         ap (drop at) (p ∙ put-last d at xs e) ∙ drop-at (take at d) xs at (length-take-le at d (omega arith))
 
     pub wrote-one : (e f g : List ℕ) (at : ℕ) → at ≡ bodyPlaceOf One (length pak) 0 → length d ≡ fileLengthOf One (length pak)

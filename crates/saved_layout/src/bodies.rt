@@ -19,35 +19,35 @@ ghost use Rattle.saved_layout.specs.Layout.{fileLengthOf};
 ghost use Rattle.saved_layout.specs.File.{bodiesOf, bodiesIn, fileOf};
 
 // Kinds 1 and 2 from byte `at` on.
-fn put_records(room: &mut [u8], at: usize, regs: &[u32; 32], rest: &[u32; 11], halves: &[u16; 13])
+fn put_records(output: &mut [u8], at: usize, regs: &[u32; 32], rest: &[u32; 11], halves: &[u16; 13])
     requires { ⌜ (length (now regs) ≡ 32) × ((length (now rest) ≡ 11) × (length (now halves) ≡ 13)) ⌝ }
-    requires { ⌜ at + 198 ≤ length (now room) ⌝ }
+    requires { ⌜ at + 198 ≤ length (now output) ⌝ }
     ensures { λ _. ⌜
-        now (room .exit) ≡ putAt (now (room .entry)) at
+        now (output .exit) ≡ putAt (now (output .entry)) at
         (bytesOf (halvesOf (now (regs .entry) ++ now (rest .entry))) ++ bytesOf (now (halves .entry)))
         ⌝ }
 {
-    numbers::put_words(room, at, regs);
-    numbers::put_words(room, at + REST_AT, rest);
-    numbers::put_halves(room, at + DRAWING_AT, halves);
+    numbers::put_words(output, at, regs);
+    numbers::put_words(output, at + REST_AT, rest);
+    numbers::put_halves(output, at + DRAWING_AT, halves);
 }
 
 // Kinds 3 to 5 from byte `at` on.
-fn put_memories(room: &mut [u8], at: usize, wram: &[u8], vram: &[u8], pak: &[u8])
-    requires { ⌜ at + length (now wram) + length (now vram) + length (now pak) ≤ length (now room) ⌝ }
+fn put_memories(output: &mut [u8], at: usize, wram: &[u8], vram: &[u8], pak: &[u8])
+    requires { ⌜ at + length (now wram) + length (now vram) + length (now pak) ≤ length (now output) ⌝ }
     ensures { λ _. ⌜
-        now (room .exit) ≡ putAt (now (room .entry)) at (now (wram .entry) ++ (now (vram .entry) ++ now (pak .entry)))
+        now (output .exit) ≡ putAt (now (output .entry)) at (now (wram .entry) ++ (now (vram .entry) ++ now (pak .entry)))
         ⌝ }
 {
-    parts::put_bytes(room, at, wram);
-    parts::put_bytes(room, at + wram.len(), vram);
-    parts::put_bytes(room, at + wram.len() + vram.len(), pak);
+    parts::put_bytes(output, at, wram);
+    parts::put_bytes(output, at + wram.len(), vram);
+    parts::put_bytes(output, at + wram.len() + vram.len(), pak);
 }
 
 // A file into a buffer of its length.
 pub fn write(
     form: Form,
-    room: &mut [u8],
+    output: &mut [u8],
     regs: &[u32; 32],
     rest: &[u32; 11],
     halves: &[u16; 13],
@@ -58,21 +58,21 @@ pub fn write(
 )
     requires { ⌜ (length (now regs) ≡ 32) × ((length (now rest) ≡ 11) × (length (now halves) ≡ 13)) ⌝ }
     requires { ⌜ (length (now wram) ≡ 65536) × ((length (now vram) ≡ 262144) × (length (now pak) ≤ 16777216)) ⌝ }
-    requires { ⌜ (length (now hardware) ≡ 4) × (length (now room) ≡ fileLengthOf form (length (now pak))) ⌝ }
+    requires { ⌜ (length (now hardware) ≡ 4) × (length (now output) ≡ fileLengthOf form (length (now pak))) ⌝ }
     ensures { λ _. ⌜
-        now (room .exit) ≡ fileOf form
+        now (output .exit) ≡ fileOf form
         (bodiesOf (bytesOf (halvesOf (now (regs .entry) ++ now (rest .entry)))) (bytesOf (now (halves .entry)))
         (now (wram .entry)) (now (vram .entry)) (now (pak .entry)) (bytesOf (now (hardware .entry))))
         ⌝ }
 {
     let at = places::first(form, pak.len());
-    put_records(room, at, regs, rest, halves);
-    put_memories(room, at + WRAM_AT, wram, vram, pak);
+    put_records(output, at, regs, rest, halves);
+    put_memories(output, at + WRAM_AT, wram, vram, pak);
     match form {
-        Form::One => contents::put(Form::One, room, pak.len()),
+        Form::One => contents::put(Form::One, output, pak.len()),
         Form::Two => {
-            numbers::put_halves(room, at + PAK_AT + pak.len(), hardware);
-            contents::put(Form::Two, room, pak.len())
+            numbers::put_halves(output, at + PAK_AT + pak.len(), hardware);
+            contents::put(Form::Two, output, pak.len())
         }
     }
 }

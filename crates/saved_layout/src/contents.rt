@@ -152,16 +152,16 @@ fn stored_sums(form: Form, file: &[u8], pak: usize) -> [u32; 6]
 }
 
 // The contents into a buffer whose bodies stand at their places.
-pub fn put(form: Form, room: &mut [u8], pak: usize)
-    requires { ⌜ (length (now room) ≡ fileLengthOf form pak) × (pak ≤ 16777216) ⌝ }
+pub fn put(form: Form, output: &mut [u8], pak: usize)
+    requires { ⌜ (length (now output) ≡ fileLengthOf form pak) × (pak ≤ 16777216) ⌝ }
     ensures { λ _. ⌜
-        now (room .exit) ≡ putAt (now (room .entry)) 0 (bytesOf (contentsIn form pak (now (room .entry))))
+        now (output .exit) ≡ putAt (now (output .entry)) 0 (bytesOf (contentsIn form pak (now (output .entry))))
         ⌝ }
 {
-    let sums = stored_sums(form, room, pak);
+    let sums = stored_sums(form, output, pak);
     let mut table = [0u16; MOST_HALVES];
     let count = lay(form, pak, sums, &mut table);
-    numbers::put_halves(room, 0, &table[..count]);
+    numbers::put_halves(output, 0, &table[..count]);
 }
 
 // Whether a file of the due length begins with the contents.

@@ -38,13 +38,13 @@ module _ (form : Form) (p : ℕ) (file : List ℕ) (whole : length file ≡ file
       ∙ take-at (fiveOf (bodiesIn form p file)) (lastOf form (bodiesIn form p file .hardware)) n (five-in ∙ sym f))
 
 -- a buffer whose bodies end with it
-ending : (d : List ℕ) (at : ℕ) (xs room : List ℕ) → at + length xs ≡ length d → room ≡ putAt d at xs → drop at room ≡ xs
-ending d at xs room e p =
+ending : (d : List ℕ) (at : ℕ) (xs output : List ℕ) → at + length xs ≡ length d → output ≡ putAt d at xs → drop at output ≡ xs
+ending d at xs output e p =
     ap (drop at) (p ∙ put-last d at xs e) ∙ drop-at (take at d) xs at (length-take-le at d (omega arith))
 
-sealed-at : (b : Bodies) (form : Form) (p : ℕ) (room : List ℕ) → SizedBodies b → length (b .pak) ≡ p → drop (bodyPlaceOf form p 0) room ≡ joinedOf form b
-    → putAt room 0 (bytesOf (contentsIn form p room)) ≡ fileOf form b
-sealed-at b form p room s e start = rw (← e) (sealed b s room form (rw (← e) at start))
+sealed-at : (b : Bodies) (form : Form) (p : ℕ) (output : List ℕ) → SizedBodies b → length (b .pak) ≡ p → drop (bodyPlaceOf form p 0) output ≡ joinedOf form b
+    → putAt output 0 (bytesOf (contentsIn form p output)) ≡ fileOf form b
+sealed-at b form p output s e start = rw (← e) (sealed b s output form (rw (← e) at start))
 
 one-reset : (p : ℕ) (file : List ℕ) → bodiesIn One p file .hardware ≡ hardwareReset
 unfolding bodiesIn
@@ -52,7 +52,7 @@ one-reset p file = refl
 
 module _ (p : ℕ) (file d : List ℕ) where
   -- form 1 into form 2
-  module _ (whole : length file ≡ fileLengthOf One p) (room : length d ≡ fileLengthOf Two p) where
+  module _ (whole : length file ≡ fileLengthOf One p) (output : length d ≡ fileLengthOf Two p) where
     pub moved-two : (from at n : ℕ) (e f g : List ℕ) → from ≡ bodyPlaceOf One p 0 → at ≡ bodyPlaceOf Two p 0 → n ≡ 327878 + p
         → e ≡ putAt d at (take n (drop from file)) → f ≡ putAt e (at + 327878 + p) (replicate 8 0)
         → g ≡ putAt f 0 (bytesOf (contentsIn Two p f)) → g ≡ fileOf Two (bodiesIn One p file)
@@ -72,7 +72,7 @@ module _ (p : ℕ) (file d : List ℕ) where
         (omega (arith, length-append (fiveOf (bodiesIn One p file)) (replicate 8 0), l)) six ∙ joined))
 
   -- form 2 into form 1
-  module _ (whole : length file ≡ fileLengthOf Two p) (room : length d ≡ fileLengthOf One p) where
+  module _ (whole : length file ≡ fileLengthOf Two p) (output : length d ≡ fileLengthOf One p) where
     pub moved-one : (from at n : ℕ) (e g : List ℕ) → from ≡ bodyPlaceOf Two p 0 → at ≡ bodyPlaceOf One p 0 → n ≡ 327878 + p
         → e ≡ putAt d at (take n (drop from file))
         → g ≡ putAt e 0 (bytesOf (contentsIn One p e)) → g ≡ fileOf One (bodiesIn Two p file)

@@ -8,13 +8,12 @@ use borrow.Author.Tests.{eqb-true, eq-eqb, ne-eqb}
 use lib.Dec.{eqb}
 use lib.ListN.{length, getD}
 use Rattle.word.specs.LittleEndian.{halfAt}
+use Rattle.word.proofs.Choices.{pick-both, bool-refuted}
 use Rattle.refusal.specs.Number.{unless, whenAccepted}
-use Rattle.refusal.specs.declared.Refusal as refusal
-use Rattle.refusal.specs.declared.Verdict.{Verdict}
 use Rattle.refusal.specs.declared.Verdict.the-variants.{Accepted, Refused}
 use Rattle.refusal.specs.declared.Refusal.the-variants.{FileLength, FileBytes, NotAtReset}
 use Rattle.bus.specs.Refusal.{pakOk}
-use Rattle.processor.specs.Acceptance.{both}
+use Rattle.bus.proofs.Accepted.{unless-passed}
 use Rattle.saved_bytes.specs.Numbers.{bytesOf, sameOf}
 use Rattle.saved_bytes.proofs.Reading.{same-self, same-equal}
 use Rattle.saved_layout.specs.Layout.{otherOf, contentsOf, fileLengthOf}
@@ -49,12 +48,6 @@ other-other : (form : Form) → otherOf (otherOf form) ≡ form
 other-other One = refl
 other-other Two = refl
 
-both-true : (a b : Bool) → both a b ≡ true → (a ≡ true) × (b ≡ true)
-both-true true b e = (refl, e)
-both-true false b e =
-    let z : _≡_ {A = ℕ} 0 1 = cc in
-    absurd (omega arith)
-
 -- the move of a file that was written
 module _ (form : Form) (b : Bodies) (s : SizedBodies b) (h : HeldBy form b) (legal : pakOk (length (b .pak)) ≡ true) (ok : bodiesOk b ≡ true) where
   fits : (fitsOk form (length (fileOf form b)) ≡ true) × (pakLengthOf form (length (fileOf form b)) ≡ length (b .pak))
@@ -73,43 +66,36 @@ module _ (form : Form) (b : Bodies) (s : SizedBodies b) (h : HeldBy form b) (leg
   ok-back =
       rw (form-back form b, pak-back, contents-back b s form (pak-small (length (b .pak)) legal), file-held b s form h) ok
 
-  pub moves : (room : List ℕ) → length room ≡ fileLengthOf (otherOf form) (length (b .pak)) → holdsBodyOk (otherOf form) (b .hardware) ≡ true
-      → (Accepted ≡ moveVerdictOf (fileOf form b) room) × (fileOf (otherOf form) b ≡ movedOf (fileOf form b) room)
-  moves room due holds =
-      accepted (fileOf form b) room (rw (form-back form b) (fits .0)) (rw (form-back form b, pak-back) due) ok-back
+  pub moves : (output : List ℕ) → length output ≡ fileLengthOf (otherOf form) (length (b .pak)) → holdsBodyOk (otherOf form) (b .hardware) ≡ true
+      → (Accepted ≡ moveVerdictOf (fileOf form b) output) × (fileOf (otherOf form) b ≡ movedOf (fileOf form b) output)
+  moves output due holds =
+      accepted (fileOf form b) output (rw (form-back form b) (fits .0)) (rw (form-back form b, pak-back) due) ok-back
       (rw (form-back form b, held-back) holds) (fileOf (otherOf form) b) (rw (form-back form b, held-back) refl)
 
--- an accepted verdict says that nothing was refused
-passed : (t : Bool) (n : refusal.Refusal) (v : Verdict) → unless t n v ≡ Accepted → (t ≡ true) × (v ≡ Accepted)
-passed true n v e = (refl, e)
-passed false n v e =
-    let z : _≡_ {A = ℕ} 0 1 = cc in
-    absurd (omega arith)
-
-opened : (file room : List ℕ)
-    → unless (lengthsOk file room) FileLength (unless (fileOk (formOf file) (pakIn file) file) FileBytes (unless
+opened : (file output : List ℕ)
+    → unless (lengthsOk file output) FileLength (unless (fileOk (formOf file) (pakIn file) file) FileBytes (unless
     (holdsBodyOk (otherOf (formOf file)) (heldIn file .hardware)) NotAtReset Accepted))
-    ≡ moveVerdictOf file room
+    ≡ moveVerdictOf file output
 unfolding moveVerdictOf
-opened file room = refl
+opened file output = refl
 
-module _ (file room : List ℕ) (e : moveVerdictOf file room ≡ Accepted) where
-  pub all-passed : (lengthsOk file room ≡ true)
+module _ (file output : List ℕ) (e : moveVerdictOf file output ≡ Accepted) where
+  pub all-passed : (lengthsOk file output ≡ true)
       × ((fileOk (formOf file) (pakIn file) file ≡ true) × (holdsBodyOk (otherOf (formOf file)) (heldIn file .hardware) ≡ true))
   unfolding moveVerdictOf
   all-passed =
-      let a = passed (lengthsOk file room) FileLength _ e in
-      let b = passed (fileOk (formOf file) (pakIn file) file) FileBytes _ (a .1) in
-      let c = passed (holdsBodyOk (otherOf (formOf file)) (heldIn file .hardware)) NotAtReset Accepted (b .1) in
+      let a = unless-passed (lengthsOk file output) FileLength _ e in
+      let b = unless-passed (fileOk (formOf file) (pakIn file) file) FileBytes _ (a .1) in
+      let c = unless-passed (holdsBodyOk (otherOf (formOf file)) (heldIn file .hardware)) NotAtReset Accepted (b .1) in
       (a .0, (b .0, c .0))
 
-  pub lengths-passed : (fitsOk (formOf file) (length file) ≡ true) × (length room ≡ fileLengthOf (otherOf (formOf file)) (pakIn file))
+  pub lengths-passed : (fitsOk (formOf file) (length file) ≡ true) × (length output ≡ fileLengthOf (otherOf (formOf file)) (pakIn file))
   unfolding lengthsOk
   lengths-passed =
-      let a = both-true (fitsOk (formOf file) (length file)) _ (all-passed .0) in
-      (a .0, eqb-true (length room) (fileLengthOf (otherOf (formOf file)) (pakIn file)) (a .1))
+      let a = pick-both (fitsOk (formOf file) (length file)) _ (all-passed .0) in
+      (a .0, eqb-true (length output) (fileLengthOf (otherOf (formOf file)) (pakIn file)) (a .1))
 
-  pub left : movedOf file room ≡ fileOf (otherOf (formOf file)) (heldIn file)
+  pub left : movedOf file output ≡ fileOf (otherOf (formOf file)) (heldIn file)
   unfolding movedOf
   left = rw e
 
@@ -134,7 +120,7 @@ module _ (form : Form) (p : ℕ) (file back : List ℕ) (bytes : (k : ℕ) → g
   module _ (legal : pakOk p ≡ true) (ok : fileOk form p file ≡ true) (holds : holdsBodyOk (otherOf form) (bodiesIn form p file .hardware) ≡ true) where
     tests : (contentsOk form p file ≡ true) × (bodiesOk (bodiesIn form p file) ≡ true)
     unfolding fileOk
-    tests = both-true (contentsOk form p file) (bodiesOk (bodiesIn form p file)) ok
+    tests = pick-both (contentsOk form p file) (bodiesOk (bodiesIn form p file)) ok
 
     returned : length back ≡ length file
         → (Accepted ≡ moveVerdictOf (fileOf (otherOf form) (bodiesIn form p file)) back)
@@ -156,12 +142,12 @@ fit-in file t = fits-exactly (formOf file) (length file) .fits t
 
 pub there-and-back : ThereAndBack
 unfolding heldIn
-there-and-back file room back bytes e l =
-    let a = all-passed file room e in
-    let t = lengths-passed file room e in
+there-and-back file output back bytes e l =
+    let a = all-passed file output e in
+    let t = lengths-passed file output e in
     let f = fit-in file (t .0) in
     let r = returned (formOf file) (pakIn file) file back bytes (sym (f .1)) (f .0) (a .1 .0) (a .1 .1) l in
-    (rw (left file room e) (sym (r .0)), rw (left file room e) (sym (r .1)))
+    (rw (left file output e) (sym (r .0)), rw (left file output e) (sym (r .1)))
 
 -- 16
 refused-last : (t s u : Bool) → unless t FileLength (unless s FileBytes (unless u NotAtReset Accepted)) ≡ Refused NotAtReset
@@ -183,25 +169,21 @@ not-held One xs e =
     absurd (omega arith)
 not-held Two xs e = (refl, λ h. let f : true ≡ false = sym (rw h (same-self hardwareReset)) ∙ e in let z : _≡_ {A = ℕ} 0 1 = cc in absurd (omega arith))
 
-differs : (t : Bool) → (t ≡ true → ⊥) → t ≡ false
-differs true n = absurd (n refl)
-differs false n = refl
-
-pub sixteen-exactly : (file room : List ℕ) → SixteenExactly file room
-sixteen-exactly file room = record { refused = refused; only = only }
+pub sixteen-exactly : (file output : List ℕ) → SixteenExactly file output
+sixteen-exactly file output = record { refused = refused; only = only }
   where
-    refused : moveVerdictOf file room ≡ Refused NotAtReset
-        → (lengthsOk file room ≡ true)
+    refused : moveVerdictOf file output ≡ Refused NotAtReset
+        → (lengthsOk file output ≡ true)
         × ((fileOk (formOf file) (pakIn file) file ≡ true) × ((formOf file ≡ Two) × (heldIn file .hardware ≡ hardwareReset → ⊥)))
     refused e =
-        let a = refused-last (lengthsOk file room) (fileOk (formOf file) (pakIn file) file) (holdsBodyOk (otherOf
-        (formOf file)) (heldIn file .hardware)) (opened file room ∙ e) in
+        let a = refused-last (lengthsOk file output) (fileOk (formOf file) (pakIn file) file) (holdsBodyOk (otherOf
+        (formOf file)) (heldIn file .hardware)) (opened file output ∙ e) in
         (a .0, (a .1 .0, not-held (formOf file) (heldIn file .hardware) (a .1 .1)))
 
-    only : lengthsOk file room ≡ true → fileOk (formOf file) (pakIn file) file ≡ true → formOf file ≡ Two
+    only : lengthsOk file output ≡ true → fileOk (formOf file) (pakIn file) file ≡ true → formOf file ≡ Two
         → (heldIn file .hardware ≡ hardwareReset → ⊥)
-        → moveVerdictOf file room ≡ Refused NotAtReset
+        → moveVerdictOf file output ≡ Refused NotAtReset
     only t s f n =
         let u : holdsBodyOk (otherOf (formOf file)) (heldIn file .hardware) ≡ false
-        = rw f (differs (sameOf (heldIn file .hardware) hardwareReset) (λ e. n (holds-reset (heldIn file .hardware) e))) in
-        sym (opened file room) ∙ rw (t, s, u)
+        = rw f (bool-refuted (sameOf (heldIn file .hardware) hardwareReset) (λ e. n (holds-reset (heldIn file .hardware) e))) in
+        sym (opened file output) ∙ rw (t, s, u)

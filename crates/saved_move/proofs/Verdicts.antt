@@ -23,59 +23,59 @@ use Rattle.saved_move.specs.Move.{pakIn, heldIn, lengthsOk, holdsBodyOk,
 
 -- both clauses of the contract
 abbrev pub Leaves : List ℕ → List ℕ → Verdict → List ℕ → Type 0
-Leaves file room verdict after = (verdict ≡ moveVerdictOf file room) × (after ≡ movedOf file room)
+Leaves file output verdict after = (verdict ≡ moveVerdictOf file output) × (after ≡ movedOf file output)
 
-module _ (file room : List ℕ) where
+module _ (file output : List ℕ) where
   -- the buffer by the verdict
-  by-verdict : (v : Verdict) → v ≡ moveVerdictOf file room → Leaves file room v (whenAccepted v room (fileOf (otherOf (formOf file)) (heldIn file)))
+  by-verdict : (v : Verdict) → v ≡ moveVerdictOf file output → Leaves file output v (whenAccepted v output (fileOf (otherOf (formOf file)) (heldIn file)))
   unfolding movedOf
-  by-verdict v e = (e, ap (λ (w : Verdict). whenAccepted w room (fileOf (otherOf (formOf file)) (heldIn file))) e)
+  by-verdict v e = (e, ap (λ (w : Verdict). whenAccepted w output (fileOf (otherOf (formOf file)) (heldIn file))) e)
 
-  lengths-refused : lengthsOk file room ≡ false → Refused FileLength ≡ moveVerdictOf file room
+  lengths-refused : lengthsOk file output ≡ false → Refused FileLength ≡ moveVerdictOf file output
   unfolding moveVerdictOf
   lengths-refused e = rw e
 
-  length-no : fitsOk (formOf file) (length file) ≡ false → lengthsOk file room ≡ false
+  length-no : fitsOk (formOf file) (length file) ≡ false → lengthsOk file output ≡ false
   unfolding lengthsOk
   length-no e = rw e
 
-  pub no-length : fitsOk (formOf file) (length file) ≡ false → Leaves file room (Refused FileLength) room
+  pub no-length : fitsOk (formOf file) (length file) ≡ false → Leaves file output (Refused FileLength) output
   no-length e = by-verdict (Refused FileLength) (lengths-refused (length-no e))
 
-  room-no : (length room ≡ fileLengthOf (otherOf (formOf file)) (pakIn file) → ⊥) → fitsOk (formOf file) (length file) ≡ true → lengthsOk file room ≡ false
+  output-no : (length output ≡ fileLengthOf (otherOf (formOf file)) (pakIn file) → ⊥) → fitsOk (formOf file) (length file) ≡ true → lengthsOk file output ≡ false
   unfolding lengthsOk
-  room-no n e = rw (e, ne-eqb _ _ n)
+  output-no n e = rw (e, ne-eqb _ _ n)
 
-  pub no-room : fitsOk (formOf file) (length file) ≡ true → (length room ≡ fileLengthOf (otherOf (formOf file)) (pakIn file) → ⊥)
-      → Leaves file room (Refused FileLength) room
-  no-room e n = by-verdict (Refused FileLength) (lengths-refused (room-no n e))
+  pub other-length : fitsOk (formOf file) (length file) ≡ true → (length output ≡ fileLengthOf (otherOf (formOf file)) (pakIn file) → ⊥)
+      → Leaves file output (Refused FileLength) output
+  other-length e n = by-verdict (Refused FileLength) (lengths-refused (output-no n e))
 
-  module _ (fits : fitsOk (formOf file) (length file) ≡ true) (due : length room ≡ fileLengthOf (otherOf (formOf file)) (pakIn file)) where
-    pub lengths-yes : lengthsOk file room ≡ true
+  module _ (fits : fitsOk (formOf file) (length file) ≡ true) (due : length output ≡ fileLengthOf (otherOf (formOf file)) (pakIn file)) where
+    pub lengths-yes : lengthsOk file output ≡ true
     unfolding lengthsOk
     lengths-yes = rw (fits, eq-eqb _ _ due)
 
-    bytes-refused : fileOk (formOf file) (pakIn file) file ≡ false → Refused FileBytes ≡ moveVerdictOf file room
+    bytes-refused : fileOk (formOf file) (pakIn file) file ≡ false → Refused FileBytes ≡ moveVerdictOf file output
     unfolding moveVerdictOf
     bytes-refused e = rw (lengths-yes, e)
 
-    pub no-bytes : fileOk (formOf file) (pakIn file) file ≡ false → Leaves file room (Refused FileBytes) room
+    pub no-bytes : fileOk (formOf file) (pakIn file) file ≡ false → Leaves file output (Refused FileBytes) output
     no-bytes e = by-verdict (Refused FileBytes) (bytes-refused e)
 
     module _ (ok : fileOk (formOf file) (pakIn file) file ≡ true) where
-      reset-refused : holdsBodyOk (otherOf (formOf file)) (heldIn file .hardware) ≡ false → Refused NotAtReset ≡ moveVerdictOf file room
+      reset-refused : holdsBodyOk (otherOf (formOf file)) (heldIn file .hardware) ≡ false → Refused NotAtReset ≡ moveVerdictOf file output
       unfolding moveVerdictOf
       reset-refused e = rw (lengths-yes, ok, e)
 
-      pub no-reset : holdsBodyOk (otherOf (formOf file)) (heldIn file .hardware) ≡ false → Leaves file room (Refused NotAtReset) room
+      pub no-reset : holdsBodyOk (otherOf (formOf file)) (heldIn file .hardware) ≡ false → Leaves file output (Refused NotAtReset) output
       no-reset e = by-verdict (Refused NotAtReset) (reset-refused e)
 
-      held-accepted : holdsBodyOk (otherOf (formOf file)) (heldIn file .hardware) ≡ true → Accepted ≡ moveVerdictOf file room
+      held-accepted : holdsBodyOk (otherOf (formOf file)) (heldIn file .hardware) ≡ true → Accepted ≡ moveVerdictOf file output
       unfolding moveVerdictOf
       held-accepted e = rw (lengths-yes, ok, e)
 
       pub accepted : holdsBodyOk (otherOf (formOf file)) (heldIn file .hardware) ≡ true → (after : List ℕ)
-          → after ≡ fileOf (otherOf (formOf file)) (heldIn file) → Leaves file room Accepted after
+          → after ≡ fileOf (otherOf (formOf file)) (heldIn file) → Leaves file output Accepted after
       accepted e after f = let l = by-verdict Accepted (held-accepted e) in (l .0, f ∙ l .1)
 
 -- a file whose length fits has it by its pak RAM's
@@ -89,7 +89,7 @@ pub fits-is : (file : List ℕ) (form : Form) → form ≡ formOf file → (t : 
     → fitsOk (formOf file) (length file) ≡ s
 fits-is file form f t e s g = ap (λ (h : Form). fitsOk h (length file)) (sym f) ∙ (sym e ∙ g)
 
-module _ (file room : List ℕ) (form : Form) (pak : ℕ) (f : form ≡ formOf file) (p : pak ≡ pakLengthOf form (length file)) where
+module _ (file output : List ℕ) (form : Form) (pak : ℕ) (f : form ≡ formOf file) (p : pak ≡ pakLengthOf form (length file)) where
   pub pak-is : pak ≡ pakIn file
   unfolding pakIn
   pak-is = p ∙ ap (λ (g : Form). pakLengthOf g (length file)) f

@@ -17,16 +17,16 @@ use Rattle.saved_move.specs.Move.{pakIn, heldIn, lengthsOk, moveVerdictO
 -- form 1 to 2 and back, and from form 2, whose lines and timer are then at reset, to 1 and back
 abbrev pub ThereAndBack : Type 0
 ThereAndBack =
-    (file room back : List ℕ) → ((k : ℕ) → getD file k 0 < 256) → moveVerdictOf file room ≡ Accepted
+    (file output back : List ℕ) → ((k : ℕ) → getD file k 0 < 256) → moveVerdictOf file output ≡ Accepted
     → length back ≡ length file
-    → (moveVerdictOf (movedOf file room) back ≡ Accepted) × (movedOf (movedOf file room) back ≡ file)
+    → (moveVerdictOf (movedOf file output) back ≡ Accepted) × (movedOf (movedOf file output) back ≡ file)
 
 -- 16 is answered exactly where 9 and 10 are not, the file is in form 2, and its lines and timer are not at reset
-pub record SixteenExactly (file room : List ℕ) : Type 0 where
-  pub refused : moveVerdictOf file room ≡ Refused NotAtReset
-      → (lengthsOk file room ≡ true)
+pub record SixteenExactly (file output : List ℕ) : Type 0 where
+  pub refused : moveVerdictOf file output ≡ Refused NotAtReset
+      → (lengthsOk file output ≡ true)
       × ((fileOk (formOf file) (pakIn file) file ≡ true)
       × ((formOf file ≡ Two) × (heldIn file .hardware ≡ hardwareReset → ⊥)))
-  pub only : lengthsOk file room ≡ true → fileOk (formOf file) (pakIn file) file ≡ true → formOf file ≡ Two
+  pub only : lengthsOk file output ≡ true → fileOk (formOf file) (pakIn file) file ≡ true → formOf file ≡ Two
       → (heldIn file .hardware ≡ hardwareReset → ⊥)
-      → moveVerdictOf file room ≡ Refused NotAtReset
+      → moveVerdictOf file output ≡ Refused NotAtReset

@@ -29,8 +29,8 @@ heldIn file = bodiesIn (formOf file) (pakIn file) file
 
 -- 9: the file's length fits, and the output buffer ("room") has the length of the other form
 unfoldable pub lengthsOk : List ℕ → List ℕ → Bool
-lengthsOk file room =
-    both (fitsOk (formOf file) (length file)) (eqb (length room) (fileLengthOf (otherOf (formOf file)) (pakIn file)))
+lengthsOk file output =
+    both (fitsOk (formOf file) (length file)) (eqb (length output) (fileLengthOf (otherOf (formOf file)) (pakIn file)))
 
 -- 16: form 2 holds any lines and timer, form 1 only those at reset
 abbrev pub holdsBodyOk : Form → List ℕ → Bool
@@ -39,11 +39,11 @@ holdsBodyOk Two hardware = true
 
 -- 9, 10, 16
 unfoldable pub moveVerdictOf : List ℕ → List ℕ → Verdict
-moveVerdictOf file room =
-    unless (lengthsOk file room) FileLength
+moveVerdictOf file output =
+    unless (lengthsOk file output) FileLength
     (unless (fileOk (formOf file) (pakIn file) file) FileBytes
     (unless (holdsBodyOk (otherOf (formOf file)) (heldIn file .hardware)) NotAtReset Accepted))
 
 -- the output buffer afterwards
 unfoldable pub movedOf : List ℕ → List ℕ → List ℕ
-movedOf file room = whenAccepted (moveVerdictOf file room) room (fileOf (otherOf (formOf file)) (heldIn file))
+movedOf file output = whenAccepted (moveVerdictOf file output) output (fileOf (otherOf (formOf file)) (heldIn file))

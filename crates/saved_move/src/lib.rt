@@ -30,44 +30,44 @@ fn at_reset(file: &[u8], pak: usize) -> bool
 }
 
 // A file in form 1 into a buffer of form 2: lines and timer are at reset.
-fn to_two(file: &[u8], room: &mut [u8], pak: usize)
+fn to_two(file: &[u8], output: &mut [u8], pak: usize)
     requires { ⌜ (length (now file) ≡ fileLengthOf One pak) × (pak ≤ 16777216) ⌝ }
-    requires { ⌜ length (now room) ≡ fileLengthOf Two pak ⌝ }
-    ensures { λ _. ⌜ now (room .exit) ≡ fileOf Two (bodiesIn One pak (now (file .entry))) ⌝ }
+    requires { ⌜ length (now output) ≡ fileLengthOf Two pak ⌝ }
+    ensures { λ _. ⌜ now (output .exit) ≡ fileOf Two (bodiesIn One pak (now (file .entry))) ⌝ }
 {
     let from = places::first(Form::One, pak);
     let end = from + PAK_AT + pak;
     let at = places::first(Form::Two, pak);
-    parts::put_bytes(room, at, &file[from..end]);
-    parts::put_zeros(room, at + PAK_AT + pak, HARDWARE_BYTES);
-    contents::put(Form::Two, room, pak);
+    parts::put_bytes(output, at, &file[from..end]);
+    parts::put_zeros(output, at + PAK_AT + pak, HARDWARE_BYTES);
+    contents::put(Form::Two, output, pak);
 }
 
 // A file in form 2 into a buffer of form 1.
-fn to_one(file: &[u8], room: &mut [u8], pak: usize)
+fn to_one(file: &[u8], output: &mut [u8], pak: usize)
     requires { ⌜ (length (now file) ≡ fileLengthOf Two pak) × (pak ≤ 16777216) ⌝ }
-    requires { ⌜ length (now room) ≡ fileLengthOf One pak ⌝ }
-    ensures { λ _. ⌜ now (room .exit) ≡ fileOf One (bodiesIn Two pak (now (file .entry))) ⌝ }
+    requires { ⌜ length (now output) ≡ fileLengthOf One pak ⌝ }
+    ensures { λ _. ⌜ now (output .exit) ≡ fileOf One (bodiesIn Two pak (now (file .entry))) ⌝ }
 {
     let from = places::first(Form::Two, pak);
     let end = from + PAK_AT + pak;
     let at = places::first(Form::One, pak);
-    parts::put_bytes(room, at, &file[from..end]);
-    contents::put(Form::One, room, pak);
+    parts::put_bytes(output, at, &file[from..end]);
+    contents::put(Form::One, output, pak);
 }
 
 // The state that a file holds, into the output buffer (paper 02: "room") in the other form. The whole file is tested
 // before a byte is stored.
-pub fn move_state(file: &[u8], room: &mut [u8]) -> Verdict
-    ensures verdict { λ v. ⌜ v ≡ moveVerdictOf (now (file .entry)) (now (room .entry)) ⌝ }
-    ensures room { λ _. ⌜ now (room .exit) ≡ movedOf (now (file .entry)) (now (room .entry)) ⌝ }
+pub fn move_state(file: &[u8], output: &mut [u8]) -> Verdict
+    ensures verdict { λ v. ⌜ v ≡ moveVerdictOf (now (file .entry)) (now (output .entry)) ⌝ }
+    ensures output { λ _. ⌜ now (output .exit) ≡ movedOf (now (file .entry)) (now (output .entry)) ⌝ }
 {
     let form = lengths::form_of(file);
     if !lengths::fits(form, file.len()) {
         return Verdict::Refused(Refusal::FileLength);
     }
     let pak = lengths::pak_length(form, file.len());
-    if room.len() != places::file_length(places::other(form), pak) {
+    if output.len() != places::file_length(places::other(form), pak) {
         return Verdict::Refused(Refusal::FileLength);
     }
     if !bodies::file_ok(form, file, pak) {
@@ -75,14 +75,14 @@ pub fn move_state(file: &[u8], room: &mut [u8]) -> Verdict
     }
     match form {
         Form::One => {
-            to_two(file, room, pak);
+            to_two(file, output, pak);
             Verdict::Accepted
         }
         Form::Two => {
             if !at_reset(file, pak) {
                 return Verdict::Refused(Refusal::NotAtReset);
             }
-            to_one(file, room, pak);
+            to_one(file, output, pak);
             Verdict::Accepted
         }
     }

@@ -7,22 +7,15 @@ use mathlib.Core.Path.{_≡_, refl, sym, ap, _∙_}
 use borrow.Author.Tests.{eq-eqb, ne-eqb}
 use lib.ListN.{take, drop}
 use Rattle.word.specs.Choose.{pick}
+use Rattle.word.proofs.Choices.{pick-self, pick-opposite}
 use Rattle.saved_bytes.specs.Numbers.{sameOf}
 use Rattle.saved_salvage.specs.declared.Kept.{Kept}
 use Rattle.saved_salvage.specs.Differ.{either, partDiffers, entryDiffers, contentsDiffer}
 
-not-pick : (t : Bool) → not t ≡ pick t false true
-not-pick true = refl
-not-pick false = refl
-
 pub part-is : (at size n : ℕ) (file output : List ℕ) (t : Bool) → n ≡ size → t ≡ sameOf (take n (drop at file)) (take n (drop at output))
     → not t ≡ partDiffers at size file output
 unfolding partDiffers
-part-is at size n file output t e f = not-pick t ∙ rw (f, e)
-
-last-one : (a : Bool) → a ≡ either a false
-last-one true = refl
-last-one false = refl
+part-is at size n file output t e f = sym (pick-opposite t) ∙ rw (f, e)
 
 module _ (pak : ℕ) (k : Kept) (file output : List ℕ) where
   pub differ-0 : partDiffers 0 6 file output ≡ true → true ≡ contentsDiffer pak k file output
@@ -53,7 +46,7 @@ module _ (pak : ℕ) (k : Kept) (file output : List ℕ) where
             pub differ-empty : pak ≡ 0 → entryDiffers 62 (k .hardware) file output ≡ contentsDiffer pak k file output
             unfolding contentsDiffer
             differ-empty z =
-                simp (eq-eqb pak 0 z) (rw (p0, p1, p2, p3, p4) (last-one (entryDiffers 62 (k .hardware) file output)))
+                simp (eq-eqb pak 0 z) (rw (p0, p1, p2, p3, p4) (sym (pick-self (entryDiffers 62 (k .hardware) file output))))
 
             pub differ-5 : 0 < pak → entryDiffers 62 (k .pak) file output ≡ true → true ≡ contentsDiffer pak k file output
             unfolding contentsDiffer
@@ -63,4 +56,4 @@ module _ (pak : ℕ) (k : Kept) (file output : List ℕ) where
                 → entryDiffers 76 (k .hardware) file output ≡ contentsDiffer pak k file output
             unfolding contentsDiffer
             differ-6 some e =
-                simp (ne-eqb pak 0 (λ z. omega arith)) (rw (p0, p1, p2, p3, p4, e) (last-one (entryDiffers 76 (k .hardware) file output)))
+                simp (ne-eqb pak 0 (λ z. omega arith)) (rw (p0, p1, p2, p3, p4, e) (sym (pick-self (entryDiffers 76 (k .hardware) file output))))

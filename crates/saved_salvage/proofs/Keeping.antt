@@ -48,37 +48,18 @@ module _ (xs : List ℕ) (b : Bodies) (e : xs ≡ sumsOf b) where
   sum-6 = rw e
 
 -- all of them
-module _ (pak : ℕ) (file : List ℕ) where
-  module _ (b : Bodies) {k1 k2 k3 k4 : Bool}
-      (e1 : k1 ≡ keepsOf (wordAt file 16) (b .processor) (processorBodyOk (b .processor)))
-      (e2 : k2 ≡ keepsOf (wordAt file 30) (b .drawing) (drawingBodyOk (b .drawing)))
-      (e3 : k3 ≡ keepsOf (wordAt file 44) (b .wram) true)
-      (e4 : k4 ≡ keepsOf (wordAt file 58) (b .vram) true) where
-    empty-from : {k6 : Bool} → pak ≡ 0 → k6 ≡ keepsOf (wordAt file 72) (b .hardware) (hardwareBodyOk (b .hardware))
-        → record { processor = k1; drawing = k2; wram = k3; vram = k4; pak = true; hardware = k6 } ≡ keptFrom pak file b
-    unfolding keptFrom
-    empty-from z e6 = simp (eq-eqb pak 0 z) (rw (e1, e2, e3, e4, e6))
+module _ (pak : ℕ) (file : List ℕ) {k1 k2 k3 k4 : Bool}
+    (e1 : k1 ≡ keepsOf (wordAt file 16) (bodiesIn Two pak file .processor) (processorBodyOk (bodiesIn Two pak file .processor)))
+    (e2 : k2 ≡ keepsOf (wordAt file 30) (bodiesIn Two pak file .drawing) (drawingBodyOk (bodiesIn Two pak file .drawing)))
+    (e3 : k3 ≡ keepsOf (wordAt file 44) (bodiesIn Two pak file .wram) true)
+    (e4 : k4 ≡ keepsOf (wordAt file 58) (bodiesIn Two pak file .vram) true) where
+  pub kept-empty : {k6 : Bool} → pak ≡ 0 → k6 ≡ keepsOf (wordAt file 72) (bodiesIn Two pak file .hardware) (hardwareBodyOk (bodiesIn Two pak file .hardware))
+      → record { processor = k1; drawing = k2; wram = k3; vram = k4; pak = true; hardware = k6 } ≡ keptIn pak file
+  unfolding keptIn keptFrom
+  kept-empty z e6 = simp (eq-eqb pak 0 z) (rw (e1, e2, e3, e4, e6))
 
-    some-from : {k5 k6 : Bool} → 0 < pak → k5 ≡ keepsOf (wordAt file 72) (b .pak) true → k6 ≡ keepsOf (wordAt file 86)
-        (b .hardware) (hardwareBodyOk (b .hardware))
-        → record { processor = k1; drawing = k2; wram = k3; vram = k4; pak = k5; hardware = k6 } ≡ keptFrom pak file b
-    unfolding keptFrom
-    some-from some e5 e6 = simp (ne-eqb pak 0 (λ z. omega arith)) (rw (e1, e2, e3, e4, e5, e6))
-
-  kept-opened : keptFrom pak file (bodiesIn Two pak file) ≡ keptIn pak file
-  unfolding keptIn
-  kept-opened = refl
-
-  module _ {k1 k2 k3 k4 : Bool}
-      (e1 : k1 ≡ keepsOf (wordAt file 16) (bodiesIn Two pak file .processor) (processorBodyOk (bodiesIn Two pak file .processor)))
-      (e2 : k2 ≡ keepsOf (wordAt file 30) (bodiesIn Two pak file .drawing) (drawingBodyOk (bodiesIn Two pak file .drawing)))
-      (e3 : k3 ≡ keepsOf (wordAt file 44) (bodiesIn Two pak file .wram) true)
-      (e4 : k4 ≡ keepsOf (wordAt file 58) (bodiesIn Two pak file .vram) true) where
-    pub kept-empty : {k6 : Bool} → pak ≡ 0 → k6 ≡ keepsOf (wordAt file 72) (bodiesIn Two pak file .hardware) (hardwareBodyOk (bodiesIn Two pak file .hardware))
-        → record { processor = k1; drawing = k2; wram = k3; vram = k4; pak = true; hardware = k6 } ≡ keptIn pak file
-    kept-empty z e6 = empty-from (bodiesIn Two pak file) e1 e2 e3 e4 z e6 ∙ kept-opened
-
-    pub kept-some : {k5 k6 : Bool} → 0 < pak → k5 ≡ keepsOf (wordAt file 72) (bodiesIn Two pak file .pak) true
-        → k6 ≡ keepsOf (wordAt file 86) (bodiesIn Two pak file .hardware) (hardwareBodyOk (bodiesIn Two pak file .hardware))
-        → record { processor = k1; drawing = k2; wram = k3; vram = k4; pak = k5; hardware = k6 } ≡ keptIn pak file
-    kept-some some e5 e6 = some-from (bodiesIn Two pak file) e1 e2 e3 e4 some e5 e6 ∙ kept-opened
+  pub kept-some : {k5 k6 : Bool} → 0 < pak → k5 ≡ keepsOf (wordAt file 72) (bodiesIn Two pak file .pak) true
+      → k6 ≡ keepsOf (wordAt file 86) (bodiesIn Two pak file .hardware) (hardwareBodyOk (bodiesIn Two pak file .hardware))
+      → record { processor = k1; drawing = k2; wram = k3; vram = k4; pak = k5; hardware = k6 } ≡ keptIn pak file
+  unfolding keptIn keptFrom
+  kept-some some e5 e6 = simp (ne-eqb pak 0 (λ z. omega arith)) (rw (e1, e2, e3, e4, e5, e6))

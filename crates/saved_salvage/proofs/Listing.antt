@@ -9,7 +9,7 @@ use lib.Seq.{set-append-seam, append-snoc}
 use Rattle.word.specs.Choose.{pick}
 use Rattle.saved_salvage.specs.declared.Kept.{Kept}
 use Rattle.saved_salvage.specs.declared.ListedKinds.{ListedKinds}
-use Rattle.saved_salvage.specs.Told.{withKind, replacedOf, listedKindsOf}
+use Rattle.saved_salvage.specs.Listed.{withKind, replacedOf, listedKindsOf}
 use Rattle.saved_salvage.specs.inner.Added.{addedOf}
 
 pub none-count : (l : ListedKinds) → l ≡ listedKindsOf [] → l .count ≡ 0

@@ -11,6 +11,7 @@ use lib.ListN.{length, getD, take, drop, replicate, length-append}
 use lib.Seq.{take-at, drop-at, drop-drop, drop-cons, take-append-le}
 use Rattle.word.specs.Choose.{pick}
 use Rattle.word.specs.LittleEndian.{halfAt, wordAt}
+use Rattle.word.proofs.Choices.{pick-both}
 use Rattle.refusal.specs.declared.Verdict.the-variants.{Accepted}
 use Rattle.processor.specs.Acceptance.{both}
 use Rattle.saved_bytes.specs.Numbers.{bytesOf, halvesOf, halvesFrom, sameOf}
@@ -28,10 +29,10 @@ use Rattle.saved_salvage.specs.declared.Kept.{Kept}
 use Rattle.saved_salvage.specs.declared.Salvaged.{Salvaged}
 use Rattle.saved_salvage.specs.Keep.{keepsOf, keptFrom, keptIn, processorReset, keptBodiesOf}
 use Rattle.saved_salvage.specs.Differ.{either, partDiffers, entryDiffers, entriesDiffer, entriesKept, contentsDiffer}
-use Rattle.saved_salvage.specs.Salvage.{outputOf, pakInFormTwo, toldWhen, salvageVerdictOf, salvageOf}
-use Rattle.saved_salvage.specs.Means.{entryRight, entriesRight, contentsRight, ContentsDifferMeans}
+use Rattle.saved_salvage.specs.Salvage.{outputOf, pakInFormTwo, reportWhen, salvageVerdictOf, salvageOf}
+use Rattle.saved_salvage.specs.Means.{entryValid, entriesValid, contentsValid, ContentsDifferMeans}
 use Rattle.saved_salvage.proofs.Salvaging.{by-verdict}
-use Rattle.saved_salvage.proofs.Unharmed.{both-true, fit, whole, size}
+use Rattle.saved_salvage.proofs.Unharmed.{fit, whole, size}
 
 split-half : (a b : ℕ) → a < 256 → b < 256 → ((a + 256 * b) % 256 ≡ a) × ((a + 256 * b) / 256 % 256 ≡ b)
 split-half a b la lb = (omega arith, omega arith)
@@ -155,12 +156,12 @@ module _ (file output : List ℕ) (bytes : (k : ℕ) → getD file k 0 < 256) wh
         let b : halfAt file (at + 10 + 2) ≡ sum / 65536 = omega (arith, bytes (at + 10), bytes (at + 10 + 1)) in
         rw (a, b)
 
-    same-ten : sameOf (take 10 (drop at file)) (bytesOf (fiveOf place part)) ≡ entryRight at place part file
+    same-ten : sameOf (take 10 (drop at file)) (bytesOf (fiveOf place part)) ≡ entryValid at place part file
     same-ten =
         rw (five-length place part)
         at (bytes-same file bytes (fiveOf place part) at (under-first 65536 (fiveOf place part) (twoOf sum) u) (omega (arith, five-length place part)))
 
-    same-fourteen : wordAt file (at + 10) ≡ sum → sameOf (take 14 (drop at file)) (bytesOf (fiveOf place part ++ twoOf sum)) ≡ entryRight at place part file
+    same-fourteen : wordAt file (at + 10) ≡ sum → sameOf (take 14 (drop at file)) (bytesOf (fiveOf place part ++ twoOf sum)) ≡ entryValid at place part file
     same-fourteen e =
         let whole = rw seven-length at (bytes-same file bytes (fiveOf place part ++ twoOf sum) at u (omega (arith, seven-length))) in
         let split : halvesFrom file at 7 ≡ halvesFrom file at 5 ++ twoOf sum
@@ -169,16 +170,16 @@ module _ (file output : List ℕ) (bytes : (k : ℕ) → getD file k 0 < 256) wh
         ∙ (ap (λ (xs : List ℕ). sameOf xs (fiveOf place part ++ twoOf sum)) split
         ∙ same-append (halvesFrom file at 5) (fiveOf place part) (twoOf sum) (length-halves-from file at 5 ∙ sym (five-length place part)))
 
-    replaced : entryDiffers at false file output ≡ pick (entryRight at place part file) false true
+    replaced : entryDiffers at false file output ≡ pick (entryValid at place part file) false true
     unfolding entryDiffers partDiffers
     replaced = ap (λ (t : Bool). pick t false true) (ap (sameOf (take 10 (drop at file))) five ∙ same-ten)
 
-    kept-one : wordAt file (at + 10) ≡ sum → entryDiffers at true file output ≡ pick (entryRight at place part file) false true
+    kept-one : wordAt file (at + 10) ≡ sum → entryDiffers at true file output ≡ pick (entryValid at place part file) false true
     unfolding entryDiffers partDiffers
     kept-one e = ap (λ (t : Bool). pick t false true) (ap (sameOf (take 14 (drop at file))) seven ∙ same-fourteen e)
 
     pub entry-means : (kept : Bool) → (kept ≡ true → wordAt file
-        (at + 10) ≡ sum) → entryDiffers at kept file output ≡ pick (entryRight at place part file) false true
+        (at + 10) ≡ sum) → entryDiffers at kept file output ≡ pick (entryValid at place part file) false true
     entry-means true e = kept-one (e refl)
     entry-means false e = replaced
 
@@ -196,7 +197,7 @@ module _ (file output : List ℕ) (bytes : (k : ℕ) → getD file k 0 < 256) wh
   entries-mean : (sums : List ℕ) (parts : List Part) (flags : List Bool) (at place : ℕ) (rest : List ℕ) → Matches file sums at parts flags
       → drop at output ≡ bytesOf (entriesFrom Two place parts sums) ++ rest → Under 65536 (entriesFrom Two place parts sums)
       → at + 14 * length parts ≤ length file
-      → entriesDiffer at flags file output ≡ pick (entriesRight at place parts file) false true
+      → entriesDiffer at flags file output ≡ pick (entriesValid at place parts file) false true
   entries-mean sums [] [] at place rest m there u fits = refl
   entries-mean sums [] (k ∷ ks) at place rest m there u fits = absurd m
   entries-mean sums (p ∷ ps) [] at place rest m there u fits = absurd m
@@ -214,12 +215,12 @@ module _ (file output : List ℕ) (bytes : (k : ℕ) → getD file k 0 < 256) wh
       let e1 = entry-means at place p (sumAt sums (p .kind)) (bytesOf (entriesFrom Two (place + p .size) ps sums) ++ rest) here v1 (omega arith) k (m .0) in
       let n1 = next-entry at place p (sumAt sums (p .kind)) (bytesOf (entriesFrom Two (place + p .size) ps sums) ++ rest) here v1 (omega arith) in
       let e2 = entries-mean sums ps ks (at + 14) (place + p .size) rest (m .1) n1 v2 (omega arith) in
-      rw (e1, e2) (not-either (entryRight at place p file) (entriesRight (at + 14) (place + p .size) ps file))
+      rw (e1, e2) (not-either (entryValid at place p file) (entriesValid (at + 14) (place + p .size) ps file))
 
 -- the output's sums where a body is kept
 module _ (pak : ℕ) (file : List ℕ) (b : Bodies) where
   sum-kept : (word : ℕ) (body other : List ℕ) (made kept : Bool) → kept ≡ keepsOf word body made → kept ≡ true → word ≡ bodySumOf (pick kept body other)
-  sum-kept word body other made kept e t = rw t (eqb-true word (bodySumOf body) (both-true (eqb word (bodySumOf body)) made (sym e ∙ t) .0))
+  sum-kept word body other made kept e t = rw t (eqb-true word (bodySumOf body) (pick-both (eqb word (bodySumOf body)) made (sym e ∙ t) .0))
 
 matches : (p : ℕ) (file : List ℕ) (b : Bodies)
     → Matches file (sumsOf (keptBodiesOf (keptFrom p file b) b)) 6 (partsOf Two p) (entriesKept p (keptFrom p file b))
@@ -300,8 +301,8 @@ module _ (p : ℕ) (file sums rest : List ℕ) (few : p ≤ 16777216) (small : (
       ∙ rw (three-length p) at (bytes-same file bytes (three p) 0 (under-first 65536 (three p) (entries p sums) under)
       (omega (arith, three-length p, first-is p, length-is Two p))))
 
-  pub contents-mean : contentsDiffer p k file (bytesOf (contentsOf Two p sums) ++ rest) ≡ pick (contentsRight p file) false true
-  unfolding contentsDiffer contentsRight three entries
+  pub contents-mean : contentsDiffer p k file (bytesOf (contentsOf Two p sums) ++ rest) ≡ pick (contentsValid p file) false true
+  unfolding contentsDiffer contentsValid three entries
   contents-mean =
       rw (
         first-means,
@@ -309,16 +310,16 @@ module _ (p : ℕ) (file sums rest : List ℕ) (few : p ≤ 16777216) (small : (
             (contentsEndOf Two (length (partsOf Two p))) rest m behind (under-rest 65536 (three p)
             (entries p sums) under) fits,
       )
-      (not-either (sameOf (halvesFrom file 0 3) (0 ∷ 2 ∷ length (partsOf Two p) ∷ [])) (entriesRight 6
+      (not-either (sameOf (halvesFrom file 0 3) (0 ∷ 2 ∷ length (partsOf Two p) ∷ [])) (entriesValid 6
       (contentsEndOf Two (length (partsOf Two p))) (partsOf Two p) file))
 
-output-front : (file room : List ℕ) → salvageVerdictOf file room ≡ Accepted
+output-front : (file output : List ℕ) → salvageVerdictOf file output ≡ Accepted
     → outputOf (pakInFormTwo file) file
     ≡ bytesOf (contentsOf Two (pakInFormTwo file) (sumsOf (keptBodiesOf (keptIn (pakInFormTwo file) file) (bodiesIn Two
     (pakInFormTwo file) file)))) ++ joinedOf Two (keptBodiesOf (keptIn (pakInFormTwo file) file) (bodiesIn Two
     (pakInFormTwo file) file))
 unfolding outputOf fileOf
-output-front file room e = rw (size file room e)
+output-front file output e = rw (size file output e)
 
 kept-matches : (file : List ℕ)
     → Matches file (sumsOf (keptBodiesOf (keptIn (pakInFormTwo file) file) (bodiesIn Two (pakInFormTwo file) file))) 6
@@ -327,10 +328,10 @@ unfolding keptIn
 kept-matches file = matches (pakInFormTwo file) file (bodiesIn Two (pakInFormTwo file) file)
 
 pub contents-differ-means : ContentsDifferMeans
-contents-differ-means file room bytes e =
-    sym (ap (λ (s : Salvaged). s .differ) (by-verdict file room Accepted e .0))
-    ∙ (ap (contentsDiffer (pakInFormTwo file) (keptIn (pakInFormTwo file) file) file) (output-front file room e)
+contents-differ-means file output bytes e =
+    sym (ap (λ (s : Salvaged). s .differ) (by-verdict file output Accepted e .0))
+    ∙ (ap (contentsDiffer (pakInFormTwo file) (keptIn (pakInFormTwo file) file) file) (output-front file output e)
     ∙ contents-mean (pakInFormTwo file) file (sumsOf (keptBodiesOf (keptIn (pakInFormTwo file) file) (bodiesIn Two
-    (pakInFormTwo file) file))) _ (pak-small (pakInFormTwo file) (fit file room e .0))
+    (pakInFormTwo file) file))) _ (pak-small (pakInFormTwo file) (fit file output e .0))
     (sums-small (keptBodiesOf (keptIn (pakInFormTwo file) file) (bodiesIn Two (pakInFormTwo file) file))) bytes
-    (whole file room e) (keptIn (pakInFormTwo file) file) (kept-matches file))
+    (whole file output e) (keptIn (pakInFormTwo file) file) (kept-matches file))

@@ -1,4 +1,4 @@
--- `salvaged-right`, `undamaged-equal`, `salvage-again` and `kept-exactly`. Assumes nothing.
+-- `salvaged-valid`, `undamaged-equal`, `salvage-again` and `kept-exactly`. Assumes nothing.
 use Prim.Native.Nat.{ℕ, zero, suc, _+_, _*_, _/_, _%_, _^_, _<_, _≤_}
 use native.Mathlib.Omega.{arith}
 use mathlib.Core.Bool.{Bool, true, false}
@@ -9,12 +9,13 @@ use lib.Dec.{eqb, eqb·suc-zero}
 use lib.ListN.{length, getD, take, drop, replicate}
 use Rattle.word.specs.Choose.{pick, member}
 use Rattle.word.specs.LittleEndian.{halfAt, wordAt}
-use Rattle.refusal.specs.Number.{unless, whenAccepted}
-use Rattle.refusal.specs.declared.Refusal as refusal
-use Rattle.refusal.specs.declared.Verdict.{Verdict}
+use Rattle.word.proofs.Choices.{pick-both, pick-self, pick-either}
+use Rattle.word.proofs.Listed.{member-append}
+use Rattle.refusal.specs.Number.{whenAccepted}
 use Rattle.refusal.specs.declared.Verdict.the-variants.{Accepted, Refused}
 use Rattle.refusal.specs.declared.Refusal.the-variants.{FileLength, NoLayout}
 use Rattle.bus.specs.Refusal.{pakOk}
+use Rattle.bus.proofs.Accepted.{unless-passed}
 use Rattle.bus.specs.Registers.{drawingOk}
 use Rattle.processor_machine.specs.System.{pswBitsOf}
 use Rattle.processor.specs.Acceptance.{both, evenOk, formatsOk, stateOk}
@@ -22,7 +23,7 @@ use Rattle.processor.specs.Calls.{resetOf}
 use Rattle.saved_kinds.specs.Words.{restOf, recordWordsOf}
 use Rattle.saved_bytes.specs.Numbers.{bytesOf, halvesOf, halvesFrom, wordsFrom, sameOf}
 use Rattle.saved_bytes.specs.Parts.{bodySumOf}
-use Rattle.saved_bytes.proofs.Reading.{same-self}
+use Rattle.saved_bytes.proofs.Reading.{word-joined, same-self}
 use Rattle.saved_layout.specs.Layout.{contentsOf, fileLengthOf}
 use Rattle.saved_layout.specs.File.{Bodies, sumsOf, joinedOf, fileOf, bodiesIn, contentsOk, SizedBodies, HeldBy}
 use Rattle.saved_layout.specs.declared.Form.the-variants.{Two}
@@ -33,18 +34,12 @@ use Rattle.saved_kinds.proofs.Sizes.{pak-small, fits-exactly}
 use Rattle.saved_kinds.proofs.Tests.{reset-ok}
 use Rattle.saved_salvage.specs.declared.Kept.{Kept}
 use Rattle.saved_salvage.specs.Keep.{keepsOf, lastSumPlace, keptFrom, keptIn, processorReset, orZeros, keptBodiesOf}
-use Rattle.saved_salvage.specs.Told.{withKind, replacedOf, listedKindsOf}
+use Rattle.saved_salvage.specs.Listed.{withKind, replacedOf, listedKindsOf}
 use Rattle.saved_salvage.specs.Differ.{partDiffers, entryDiffers, entriesDiffer, entriesKept, contentsDiffer}
-use Rattle.saved_salvage.specs.Salvage.{outputOf, pakInFormTwo, toldOf, toldWhen, salvageVerdictOf, salvageOf, salvagedRoomOf}
-use Rattle.saved_salvage.specs.Right.{Right, SalvagedRight, Unchanged, UndamagedEqual, SalvageAgain, listsOf, KeptExactly, KeptExactlyAll}
+use Rattle.saved_salvage.specs.Salvage.{outputOf, pakInFormTwo, reportOf, reportWhen, salvageVerdictOf, salvageOf, salvagedOutputOf}
+use Rattle.saved_salvage.specs.Valid.{Valid, SalvagedValid, Unchanged, UndamagedEqual, SalvageAgain, listsOf, KeptExactly, KeptExactlyAll}
 use Rattle.saved_salvage.proofs.Replacing.{kept-sized, kept-pak}
 use Rattle.saved_salvage.proofs.Salvaging.{by-verdict, verdict-accepted}
-
-pub both-true : (a b : Bool) → both a b ≡ true → (a ≡ true) × (b ≡ true)
-both-true true b e = (refl, e)
-both-true false b e =
-    let z : _≡_ {A = ℕ} 0 1 = cc in
-    absurd (omega arith)
 
 -- reset values can be made
 processor-reset : processorBodyOk processorReset ≡ true
@@ -71,15 +66,15 @@ hardware-made false body l e = rw l reset-ok
 module _ (pak : ℕ) (file : List ℕ) (b : Bodies) (s : SizedBodies b) where
   kept-processor : keptFrom pak file b .processor ≡ true → processorBodyOk (b .processor) ≡ true
   unfolding keptFrom
-  kept-processor e = both-true (eqb (wordAt file 16) (bodySumOf (b .processor))) (processorBodyOk (b .processor)) e .1
+  kept-processor e = pick-both (eqb (wordAt file 16) (bodySumOf (b .processor))) (processorBodyOk (b .processor)) e .1
 
   kept-drawing : keptFrom pak file b .drawing ≡ true → drawingBodyOk (b .drawing) ≡ true
   unfolding keptFrom
-  kept-drawing e = both-true (eqb (wordAt file 30) (bodySumOf (b .drawing))) (drawingBodyOk (b .drawing)) e .1
+  kept-drawing e = pick-both (eqb (wordAt file 30) (bodySumOf (b .drawing))) (drawingBodyOk (b .drawing)) e .1
 
   kept-hardware : keptFrom pak file b .hardware ≡ true → hardwareBodyOk (b .hardware) ≡ true
   unfolding keptFrom
-  kept-hardware e = both-true (eqb (wordAt file (lastSumPlace pak)) (bodySumOf (b .hardware))) (hardwareBodyOk (b .hardware)) e .1
+  kept-hardware e = pick-both (eqb (wordAt file (lastSumPlace pak)) (bodySumOf (b .hardware))) (hardwareBodyOk (b .hardware)) e .1
 
   output-made : bodiesOk (keptBodiesOf (keptFrom pak file b) b) ≡ true
   unfolding bodiesOk keptBodiesOf
@@ -89,20 +84,13 @@ module _ (pak : ℕ) (file : List ℕ) (b : Bodies) (s : SizedBodies b) where
       let h = hardware-made (keptFrom pak file b .hardware) (b .hardware) (s .hardware) kept-hardware in
       rw (p, d, h)
 
--- what an accepted verdict says
-passed : (t : Bool) (n : refusal.Refusal) (v : Verdict) → unless t n v ≡ Accepted → (t ≡ true) × (v ≡ Accepted)
-passed true n v e = (refl, e)
-passed false n v e =
-    let z : _≡_ {A = ℕ} 0 1 = cc in
-    absurd (omega arith)
-
-module _ (file room : List ℕ) (e : salvageVerdictOf file room ≡ Accepted) where
-  pub all-passed : (length room ≡ length file) × (fitsOk Two (length file) ≡ true)
+module _ (file output : List ℕ) (e : salvageVerdictOf file output ≡ Accepted) where
+  pub all-passed : (length output ≡ length file) × (fitsOk Two (length file) ≡ true)
   unfolding salvageVerdictOf
   all-passed =
-      let a = passed (eqb (length room) (length file)) FileLength _ e in
-      let b = passed (fitsOk Two (length file)) NoLayout Accepted (a .1) in
-      (eqb-true (length room) (length file) (a .0), b .0)
+      let a = unless-passed (eqb (length output) (length file)) FileLength _ e in
+      let b = unless-passed (fitsOk Two (length file)) NoLayout Accepted (a .1) in
+      (eqb-true (length output) (length file) (a .0), b .0)
 
   pub fit : (pakOk (pakInFormTwo file) ≡ true) × (fileLengthOf Two (pakInFormTwo file) ≡ length file)
   fit = fits-exactly Two (length file) .fits (all-passed .1)
@@ -110,8 +98,8 @@ module _ (file room : List ℕ) (e : salvageVerdictOf file room ≡ Accepted) wh
   pub whole : length file ≡ fileLengthOf Two (pakInFormTwo file)
   whole = sym (fit .1)
 
-  pub left : outputOf (pakInFormTwo file) file ≡ salvagedRoomOf file room
-  left = by-verdict file room Accepted e .1
+  pub left : outputOf (pakInFormTwo file) file ≡ salvagedOutputOf file output
+  left = by-verdict file output Accepted e .1
 
   pub sized : SizedBodies (keptBodiesOf (keptIn (pakInFormTwo file) file) (bodiesIn Two (pakInFormTwo file) file))
   sized = kept-sized (keptIn (pakInFormTwo file) file) (bodiesIn Two (pakInFormTwo file) file) (sized-in (pakInFormTwo file) file Two whole)
@@ -125,7 +113,7 @@ module _ (file room : List ℕ) (e : salvageVerdictOf file room ≡ Accepted) wh
   unfolding keptIn
   made = output-made (pakInFormTwo file) file (bodiesIn Two (pakInFormTwo file) file) (sized-in (pakInFormTwo file) file Two whole)
 
-  pub output-is : salvagedRoomOf file room ≡ fileOf Two (keptBodiesOf (keptIn (pakInFormTwo file) file) (bodiesIn Two (pakInFormTwo file) file))
+  pub output-is : salvagedOutputOf file output ≡ fileOf Two (keptBodiesOf (keptIn (pakInFormTwo file) file) (bodiesIn Two (pakInFormTwo file) file))
   unfolding outputOf
   output-is = sym left
 
@@ -135,22 +123,18 @@ module _ (b : Bodies) (s : SizedBodies b) (legal : pakOk (length (b .pak)) ≡ t
   unfolding fileOk
   written-ok = rw (contents-back b s Two (pak-small (length (b .pak)) legal), file-held b s Two tt) ok
 
-pub salvaged-right : SalvagedRight
-salvaged-right file room e =
-    let legal = fit file room e .0 in
+pub salvaged-valid : SalvagedValid
+salvaged-valid file output e =
+    let legal = fit file output e .0 in
     record {
-      whole = ap length (output-is file room e) ∙ (file-length _ (sized file room e) Two ∙ (ap (fileLengthOf Two) (size file room e) ∙ fit file room e .1));
-      right =
-          rw (output-is file room e)
-          (rw (size file room e) at (written-ok (keptBodiesOf (keptIn (pakInFormTwo file) file) (bodiesIn Two
-          (pakInFormTwo file) file)) (sized file room e) (rw (size file room e) legal) (made file room e)));
+      whole = ap length (output-is file output e) ∙ (file-length _ (sized file output e) Two ∙ (ap (fileLengthOf Two) (size file output e) ∙ fit file output e .1));
+      valid =
+          rw (output-is file output e)
+          (rw (size file output e) at (written-ok (keptBodiesOf (keptIn (pakInFormTwo file) file) (bodiesIn Two
+          (pakInFormTwo file) file)) (sized file output e) (rw (size file output e) legal) (made file output e)));
     }
 
 -- the sums stand in the contents at their places
-word-joined : (w : ℕ) → w < 2 ^ 32
-    → w % 65536 % 256 + 256 * (w % 65536 / 256 % 256) + 65536 * (w / 65536 % 256 + 256 * (w / 65536 / 256 % 256)) ≡ w
-word-joined w l = omega arith
-
 module _ (s rest : List ℕ) (small : (k : ℕ) → getD s k 0 < 2 ^ 32) where
   stored-empty : (wordAt (bytesOf (contentsOf Two 0 s) ++ rest) 16 ≡ getD s 0 0)
       × ((wordAt (bytesOf (contentsOf Two 0 s) ++ rest) 30 ≡ getD s 1 0)
@@ -212,7 +196,7 @@ replaced-none = refl
 
 parts : (p : ℕ) (file : List ℕ) → fileOk Two p file ≡ true → (contentsOk Two p file ≡ true) × (bodiesOk (bodiesIn Two p file) ≡ true)
 unfolding fileOk
-parts p file e = both-true (contentsOk Two p file) (bodiesOk (bodiesIn Two p file)) e
+parts p file e = pick-both (contentsOk Two p file) (bodiesOk (bodiesIn Two p file)) e
 
 -- a part is the same as itself
 part-self : (at size : ℕ) (xs : List ℕ) → partDiffers at size xs xs ≡ false
@@ -237,8 +221,8 @@ module _ (b : Bodies) (s : SizedBodies b) (legal : pakOk (length (b .pak)) ≡ t
   oks : ((processorBodyOk (b .processor) ≡ true) × (drawingBodyOk (b .drawing) ≡ true)) × (hardwareBodyOk (b .hardware) ≡ true)
   unfolding bodiesOk
   oks =
-      let a = both-true (both (processorBodyOk (b .processor)) (drawingBodyOk (b .drawing))) (hardwareBodyOk (b .hardware)) ok in
-      (both-true (processorBodyOk (b .processor)) (drawingBodyOk (b .drawing)) (a .0), a .1)
+      let a = pick-both (both (processorBodyOk (b .processor)) (drawingBodyOk (b .drawing))) (hardwareBodyOk (b .hardware)) ok in
+      (pick-both (processorBodyOk (b .processor)) (drawingBodyOk (b .drawing)) (a .0), a .1)
 
   kept-front : (p : ℕ) → keptFrom p (bytesOf (contentsOf Two p (sumsOf b)) ++ joinedOf Two b) b ≡ allKept
   unfolding keptFrom sumsOf allKept
@@ -268,121 +252,75 @@ module _ (b : Bodies) (s : SizedBodies b) (legal : pakOk (length (b .pak)) ≡ t
   unfolding outputOf keptBodiesOf allKept
   output-same = rw (kept-all, file-held b s Two tt)
 
-  told-pak : (fitsOk Two (length (fileOf Two b)) ≡ true) × (pakInFormTwo (fileOf Two b) ≡ length (b .pak))
-  told-pak = fits-exactly Two (length (fileOf Two b)) .only (length (b .pak)) legal (sym (file-length b s Two))
+  pak-again : (fitsOk Two (length (fileOf Two b)) ≡ true) × (pakInFormTwo (fileOf Two b) ≡ length (b .pak))
+  pak-again = fits-exactly Two (length (fileOf Two b)) .only (length (b .pak)) legal (sym (file-length b s Two))
 
-  pub unchanged : (room : List ℕ) → length room ≡ length (fileOf Two b) → Unchanged (fileOf Two b) room
-  unchanged room l =
-      let v = by-verdict (fileOf Two b) room Accepted (verdict-accepted (fileOf Two b) room l (told-pak .0)) in
+  pub unchanged : (output : List ℕ) → length output ≡ length (fileOf Two b) → Unchanged (fileOf Two b) output
+  unchanged output l =
+      let v = by-verdict (fileOf Two b) output Accepted (verdict-accepted (fileOf Two b) output l (pak-again .0)) in
       record {
-        same = sym (v .1) ∙ rw (told-pak .1) output-same;
-        told = sym (v .0) ∙ rw (told-pak .1, kept-all, output-same, contents-self (length (b .pak)) allKept (fileOf Two b)) none;
+        same = sym (v .1) ∙ rw (pak-again .1) output-same;
+        reported = sym (v .0) ∙ rw (pak-again .1, kept-all, output-same, contents-self (length (b .pak)) allKept (fileOf Two b)) none;
       }
     where
-      none : toldOf Accepted (listedKindsOf (replacedOf allKept)) false ≡ toldOf Accepted (listedKindsOf []) false
-      none = ap (λ (xs : List ℕ). toldOf Accepted (listedKindsOf xs) false) replaced-none
+      none : reportOf Accepted (listedKindsOf (replacedOf allKept)) false ≡ reportOf Accepted (listedKindsOf []) false
+      none = ap (λ (xs : List ℕ). reportOf Accepted (listedKindsOf xs) false) replaced-none
 
 pub undamaged-equal : UndamagedEqual
-undamaged-equal file room bytes e ok =
-    let w = whole file room e in
+undamaged-equal file output bytes e ok =
+    let w = whole file output e in
     let t = parts (pakInFormTwo file) file ok in
     let f : fileOf Two (bodiesIn Two (pakInFormTwo file) file) ≡ file = file-again (pakInFormTwo file) file Two w bytes (t .0) in
     let l = length-pak-in (pakInFormTwo file) file Two w in
     rw f at (unchanged (bodiesIn Two (pakInFormTwo file) file) (sized-in (pakInFormTwo file) file Two w) (rw l
-    (fit file room e .0)) (t .1) room (rw f (all-passed file room e .0)))
+    (fit file output e .0)) (t .1) output (rw f (all-passed file output e .0)))
 
 pub salvage-again : SalvageAgain
-salvage-again file room again e l =
-    rw (output-is file room e)
+salvage-again file output again e l =
+    rw (output-is file output e)
     (unchanged (keptBodiesOf (keptIn (pakInFormTwo file) file) (bodiesIn Two (pakInFormTwo file) file))
-    (sized file room e) (rw (size file room e) (fit file room e .0)) (made file room e) again
-    (l ∙ (sym (salvaged-right file room e .whole) ∙ ap length (output-is file room e))))
+    (sized file output e) (rw (size file output e) (fit file output e .0)) (made file output e) again
+    (l ∙ (sym (salvaged-valid file output e .whole) ∙ ap length (output-is file output e))))
 
 -- which kinds are listed
-member-more : (n kind : ℕ) (xs : List ℕ) → eqb n kind ≡ false → member n (xs ++ (kind ∷ [])) ≡ member n xs
-member-more n kind [] e = rw e
-member-more n kind (x ∷ xs) e = ap (pick (eqb n x) true) (member-more n kind xs e)
-
-member-last : (n : ℕ) (xs : List ℕ) → member n xs ≡ false → member n (xs ++ (n ∷ [])) ≡ true
-member-last n [] e = rw (eq-eqb n n refl)
-member-last n (x ∷ xs) e = step (member-last n xs) (eqb n x) refl
-  where
-    step : (member n xs ≡ false → member n (xs ++ (n ∷ [])) ≡ true) → (t : Bool) → eqb n x ≡ t
-        → pick (eqb n x) true (member n (xs ++ (n ∷ []))) ≡ true
-    step tail true f = rw f
-    step tail false f = rw f (tail (rw f at e))
-
-skip : (n : ℕ) (xs : List ℕ) (kind : ℕ) (kept : Bool) → eqb n kind ≡ false → member n (withKind xs kind kept) ≡ member n xs
-skip n xs kind true e = refl
-skip n xs kind false e = member-more n kind xs e
-
-hit : (n : ℕ) (xs : List ℕ) (kept : Bool) → member n xs ≡ false → member n (withKind xs n kept) ≡ pick kept false true
-hit n xs true e = e
-hit n xs false e = member-last n xs e
+with-member : (n : ℕ) (xs : List ℕ) (kind : ℕ) (kept : Bool)
+    → member n (withKind xs kind kept) ≡ pick (member n xs) true (pick kept false (eqb n kind))
+with-member n xs kind true = sym (pick-self (member n xs))
+with-member n xs kind false = member-append n xs (kind ∷ []) ∙ ap (pick (member n xs) true) (pick-self (eqb n kind))
 
 module _ (k : Kept) where
   lists-1 : listsOf k 1 (k .processor)
   unfolding replacedOf
-  lists-1 = skip 1 (withKind (withKind (withKind (withKind (withKind [] 1 (k .processor)) 2 (k .drawing)) 3 (k .wram)) 4
-      (k .vram)) 5 (k .pak)) 6 (k .hardware) refl ∙ (skip 1 (withKind (withKind (withKind (withKind [] 1
-      (k .processor)) 2 (k .drawing)) 3 (k .wram)) 4 (k .vram)) 5 (k .pak) refl ∙ (skip 1 (withKind (withKind
-      (withKind [] 1 (k .processor)) 2 (k .drawing)) 3 (k .wram)) 4 (k .vram) refl ∙ (skip 1 (withKind (withKind [] 1
-      (k .processor)) 2 (k .drawing)) 3 (k .wram) refl ∙ (skip 1 (withKind [] 1 (k .processor)) 2 (k .drawing) refl ∙
-      (hit 1 [] (k .processor) refl)))))
+  lists-1 = simp (with-member, pick-either, pick-self)
 
   lists-2 : listsOf k 2 (k .drawing)
   unfolding replacedOf
-  lists-2 = skip 2 (withKind (withKind (withKind (withKind (withKind [] 1 (k .processor)) 2 (k .drawing)) 3 (k .wram)) 4
-      (k .vram)) 5 (k .pak)) 6 (k .hardware) refl ∙ (skip 2 (withKind (withKind (withKind (withKind [] 1
-      (k .processor)) 2 (k .drawing)) 3 (k .wram)) 4 (k .vram)) 5 (k .pak) refl ∙ (skip 2 (withKind (withKind
-      (withKind [] 1 (k .processor)) 2 (k .drawing)) 3 (k .wram)) 4 (k .vram) refl ∙ (skip 2 (withKind (withKind [] 1
-      (k .processor)) 2 (k .drawing)) 3 (k .wram) refl ∙ (hit 2 (withKind [] 1 (k .processor)) (k .drawing) (skip 2 [] 1
-      (k .processor) refl ∙ refl)))))
+  lists-2 = simp (with-member, pick-either, pick-self) (rw (pick-either (k .processor) false))
 
   lists-3 : listsOf k 3 (k .wram)
   unfolding replacedOf
-  lists-3 = skip 3 (withKind (withKind (withKind (withKind (withKind [] 1 (k .processor)) 2 (k .drawing)) 3 (k .wram)) 4
-      (k .vram)) 5 (k .pak)) 6 (k .hardware) refl ∙ (skip 3 (withKind (withKind (withKind (withKind [] 1
-      (k .processor)) 2 (k .drawing)) 3 (k .wram)) 4 (k .vram)) 5 (k .pak) refl ∙ (skip 3 (withKind (withKind
-      (withKind [] 1 (k .processor)) 2 (k .drawing)) 3 (k .wram)) 4 (k .vram) refl ∙ (hit 3 (withKind (withKind [] 1
-      (k .processor)) 2 (k .drawing)) (k .wram) (skip 3 (withKind [] 1 (k .processor)) 2 (k .drawing) refl ∙
-      (skip 3 [] 1 (k .processor) refl ∙ refl)))))
+  lists-3 = simp (with-member, pick-either, pick-self) (rw (pick-either (k .processor) false))
 
   lists-4 : listsOf k 4 (k .vram)
   unfolding replacedOf
-  lists-4 = skip 4 (withKind (withKind (withKind (withKind (withKind [] 1 (k .processor)) 2 (k .drawing)) 3 (k .wram)) 4
-      (k .vram)) 5 (k .pak)) 6 (k .hardware) refl ∙ (skip 4 (withKind (withKind (withKind (withKind [] 1
-      (k .processor)) 2 (k .drawing)) 3 (k .wram)) 4 (k .vram)) 5 (k .pak) refl ∙ (hit 4 (withKind (withKind
-      (withKind [] 1 (k .processor)) 2 (k .drawing)) 3 (k .wram)) (k .vram) (skip 4 (withKind (withKind [] 1
-      (k .processor)) 2 (k .drawing)) 3 (k .wram) refl ∙ (skip 4 (withKind [] 1 (k .processor)) 2 (k .drawing) refl ∙
-      (skip 4 [] 1 (k .processor) refl ∙ refl)))))
+  lists-4 = simp (with-member, pick-either, pick-self) (rw (pick-either (k .processor) false))
 
   lists-5 : listsOf k 5 (k .pak)
   unfolding replacedOf
-  lists-5 = skip 5 (withKind (withKind (withKind (withKind (withKind [] 1 (k .processor)) 2 (k .drawing)) 3 (k .wram)) 4
-      (k .vram)) 5 (k .pak)) 6 (k .hardware) refl ∙ (hit 5 (withKind (withKind (withKind (withKind [] 1
-      (k .processor)) 2 (k .drawing)) 3 (k .wram)) 4 (k .vram)) (k .pak) (skip 5 (withKind (withKind (withKind [] 1
-      (k .processor)) 2 (k .drawing)) 3 (k .wram)) 4 (k .vram) refl ∙ (skip 5 (withKind (withKind [] 1 (k .processor)) 2
-      (k .drawing)) 3 (k .wram) refl ∙ (skip 5 (withKind [] 1 (k .processor)) 2 (k .drawing) refl ∙ (skip 5 [] 1
-      (k .processor) refl ∙ refl)))))
+  lists-5 = simp (with-member, pick-either, pick-self) (rw (pick-either (k .processor) false))
 
   lists-6 : listsOf k 6 (k .hardware)
   unfolding replacedOf
-  lists-6 = hit 6 (withKind (withKind (withKind (withKind (withKind [] 1 (k .processor)) 2 (k .drawing)) 3 (k .wram)) 4
-      (k .vram)) 5 (k .pak)) (k .hardware) (skip 6 (withKind (withKind (withKind (withKind [] 1 (k .processor)) 2
-      (k .drawing)) 3 (k .wram)) 4 (k .vram)) 5 (k .pak) refl ∙ (skip 6 (withKind (withKind (withKind [] 1
-      (k .processor)) 2 (k .drawing)) 3 (k .wram)) 4 (k .vram) refl ∙ (skip 6 (withKind (withKind [] 1 (k .processor)) 2
-      (k .drawing)) 3 (k .wram) refl ∙ (skip 6 (withKind [] 1 (k .processor)) 2 (k .drawing) refl ∙ (skip 6 [] 1
-      (k .processor) refl ∙ refl)))))
+  lists-6 = simp (with-member, pick-either, pick-self) (rw (pick-either (k .processor) false))
 
 pub kept-exactly : KeptExactlyAll
-kept-exactly file room e =
+kept-exactly file output e =
     let k = keptIn (pakInFormTwo file) file in
     record {
       bodies =
-          rw (output-is file room e)
-          (rw (size file room e) at (file-held (keptBodiesOf (keptIn (pakInFormTwo file) file) (bodiesIn Two
-          (pakInFormTwo file) file)) (sized file room e) Two tt));
+          rw (output-is file output e)
+          (rw (size file output e) at (file-held (keptBodiesOf (keptIn (pakInFormTwo file) file) (bodiesIn Two
+          (pakInFormTwo file) file)) (sized file output e) Two tt));
       processor = lists-1 (keptIn (pakInFormTwo file) file);
       drawing = lists-2 (keptIn (pakInFormTwo file) file);
       wram = lists-3 (keptIn (pakInFormTwo file) file);

@@ -1,7 +1,7 @@
 pub mod Keep
-pub mod Told
+pub mod Listed
 pub mod Differ
 pub mod Salvage
-pub mod Right
+pub mod Valid
 pub mod Means
 pub mod inner

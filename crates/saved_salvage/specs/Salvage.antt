@@ -13,7 +13,7 @@ use Rattle.saved_layout.specs.File.{fileOf, bodiesIn}
 use Rattle.saved_layout.specs.declared.Form.the-variants.{Two}
 use Rattle.saved_kinds.specs.Fits.{pakLengthOf, fitsOk}
 use Rattle.saved_salvage.specs.Keep.{keptIn, keptBodiesOf}
-use Rattle.saved_salvage.specs.Told.{listedKindsOf, replacedOf}
+use Rattle.saved_salvage.specs.Listed.{listedKindsOf, replacedOf}
 use Rattle.saved_salvage.specs.Differ.{contentsDiffer}
 use Rattle.saved_salvage.specs.declared.Salvaged.{Salvaged}
 use Rattle.saved_salvage.specs.declared.ListedKinds.{ListedKinds}
@@ -28,21 +28,21 @@ pakInFormTwo file = pakLengthOf Two (length file)
 
 -- 9, 17
 unfoldable pub salvageVerdictOf : List ℕ → List ℕ → Verdict
-salvageVerdictOf file room =
-    unless (eqb (length room) (length file)) FileLength (unless (fitsOk Two (length file)) NoLayout Accepted)
+salvageVerdictOf file output =
+    unless (eqb (length output) (length file)) FileLength (unless (fitsOk Two (length file)) NoLayout Accepted)
 
-abbrev pub toldOf : Verdict → ListedKinds → Bool → Salvaged
-toldOf verdict list differ = record { verdict = verdict; list = list; differ = differ }
+abbrev pub reportOf : Verdict → ListedKinds → Bool → Salvaged
+reportOf verdict list differ = record { verdict = verdict; list = list; differ = differ }
 
-abbrev pub toldWhen : Verdict → List ℕ → Salvaged
-toldWhen Accepted file =
-    toldOf Accepted (listedKindsOf (replacedOf (keptIn (pakInFormTwo file) file)))
+abbrev pub reportWhen : Verdict → List ℕ → Salvaged
+reportWhen Accepted file =
+    reportOf Accepted (listedKindsOf (replacedOf (keptIn (pakInFormTwo file) file)))
     (contentsDiffer (pakInFormTwo file) (keptIn (pakInFormTwo file) file) file (outputOf (pakInFormTwo file) file))
-toldWhen (Refused n) file = toldOf (Refused n) (listedKindsOf []) false
+reportWhen (Refused n) file = reportOf (Refused n) (listedKindsOf []) false
 
 unfoldable pub salvageOf : List ℕ → List ℕ → Salvaged
-salvageOf file room = toldWhen (salvageVerdictOf file room) file
+salvageOf file output = reportWhen (salvageVerdictOf file output) file
 
 -- the output buffer afterwards
-unfoldable pub salvagedRoomOf : List ℕ → List ℕ → List ℕ
-salvagedRoomOf file room = whenAccepted (salvageVerdictOf file room) room (outputOf (pakInFormTwo file) file)
+unfoldable pub salvagedOutputOf : List ℕ → List ℕ → List ℕ
+salvagedOutputOf file output = whenAccepted (salvageVerdictOf file output) output (outputOf (pakInFormTwo file) file)

@@ -17,49 +17,49 @@ ghost use Rattle.saved_layout.specs.declared.Form.the-variants.{Two};
 ghost use Rattle.saved_salvage.specs.Differ.{partDiffers, entryDiffers, contentsDiffer};
 
 // Whether `size` bytes from byte `at` on differ.
-fn part_differs(file: &[u8], room: &[u8], at: usize, size: usize) -> bool
-    requires { ⌜ (at + size ≤ length (now file)) × (at + size ≤ length (now room)) ⌝ }
-    ensures { λ r. ⌜ r ≡ partDiffers at size (now (file .entry)) (now (room .entry)) ⌝ }
+fn part_differs(file: &[u8], output: &[u8], at: usize, size: usize) -> bool
+    requires { ⌜ (at + size ≤ length (now file)) × (at + size ≤ length (now output)) ⌝ }
+    ensures { λ r. ⌜ r ≡ partDiffers at size (now (file .entry)) (now (output .entry)) ⌝ }
 {
     let end = at + size;
-    !parts::same(&file[at..end], &room[at..end])
+    !parts::same(&file[at..end], &output[at..end])
 }
 
 // An entry is compared with its sum where its body is kept, and without where it is replaced.
-fn entry_differs(file: &[u8], room: &[u8], at: usize, kept: bool) -> bool
-    requires { ⌜ (at + 14 ≤ length (now file)) × (at + 14 ≤ length (now room)) ⌝ }
-    ensures { λ r. ⌜ r ≡ entryDiffers at kept (now (file .entry)) (now (room .entry)) ⌝ }
+fn entry_differs(file: &[u8], output: &[u8], at: usize, kept: bool) -> bool
+    requires { ⌜ (at + 14 ≤ length (now file)) × (at + 14 ≤ length (now output)) ⌝ }
+    ensures { λ r. ⌜ r ≡ entryDiffers at kept (now (file .entry)) (now (output .entry)) ⌝ }
 {
     if kept {
-        return part_differs(file, room, at, ENTRY_TWO_BYTES);
+        return part_differs(file, output, at, ENTRY_TWO_BYTES);
     }
-    part_differs(file, room, at, ENTRY_ONE_BYTES)
+    part_differs(file, output, at, ENTRY_ONE_BYTES)
 }
 
-pub fn contents_differ(file: &[u8], room: &[u8], pak: usize, kept: Kept) -> bool
-    requires { ⌜ (length (now file) ≡ fileLengthOf Two pak) × (length (now room) ≡ fileLengthOf Two pak) ⌝ }
-    ensures { λ r. ⌜ r ≡ contentsDiffer pak kept (now (file .entry)) (now (room .entry)) ⌝ }
+pub fn contents_differ(file: &[u8], output: &[u8], pak: usize, kept: Kept) -> bool
+    requires { ⌜ (length (now file) ≡ fileLengthOf Two pak) × (length (now output) ≡ fileLengthOf Two pak) ⌝ }
+    ensures { λ r. ⌜ r ≡ contentsDiffer pak kept (now (file .entry)) (now (output .entry)) ⌝ }
 {
-    if part_differs(file, room, 0, ENTRY_1) {
+    if part_differs(file, output, 0, ENTRY_1) {
         return true;
     }
-    if entry_differs(file, room, ENTRY_1, kept.processor) {
+    if entry_differs(file, output, ENTRY_1, kept.processor) {
         return true;
     }
-    if entry_differs(file, room, ENTRY_2, kept.drawing) {
+    if entry_differs(file, output, ENTRY_2, kept.drawing) {
         return true;
     }
-    if entry_differs(file, room, ENTRY_3, kept.wram) {
+    if entry_differs(file, output, ENTRY_3, kept.wram) {
         return true;
     }
-    if entry_differs(file, room, ENTRY_4, kept.vram) {
+    if entry_differs(file, output, ENTRY_4, kept.vram) {
         return true;
     }
     if pak == 0 {
-        return entry_differs(file, room, ENTRY_5, kept.hardware);
+        return entry_differs(file, output, ENTRY_5, kept.hardware);
     }
-    if entry_differs(file, room, ENTRY_5, kept.pak) {
+    if entry_differs(file, output, ENTRY_5, kept.pak) {
         return true;
     }
-    entry_differs(file, room, ENTRY_6, kept.hardware)
+    entry_differs(file, output, ENTRY_6, kept.hardware)
 }

@@ -2,8 +2,8 @@
 mod compare;
 mod entries;
 mod keep;
+mod listed;
 mod replace;
-mod told;
 
 use refusal::Refusal;
 use refusal::Verdict;
@@ -11,7 +11,7 @@ use saved_kinds::lengths;
 use saved_layout::Form;
 use saved_layout::contents;
 ghost use mathlib.Core.Path.{_≡_};
-ghost use Rattle.saved_salvage.specs.Salvage.{salvageOf, salvagedRoomOf};
+ghost use Rattle.saved_salvage.specs.Salvage.{salvageOf, salvagedOutputOf};
 
 // Which bodies are kept. An absent body counts as kept.
 pub struct Kept {
@@ -39,32 +39,32 @@ pub struct Salvaged {
 
 // A valid file in form 2 with every recoverable body of a file, into an output buffer (paper 02: "room") as long as
 // the file.
-pub fn salvage_state(file: &[u8], room: &mut [u8]) -> Salvaged
-    ensures told { λ r. ⌜ r ≡ salvageOf (now (file .entry)) (now (room .entry)) ⌝ }
-    ensures room { λ _. ⌜ now (room .exit) ≡ salvagedRoomOf (now (file .entry)) (now (room .entry)) ⌝ }
+pub fn salvage_state(file: &[u8], output: &mut [u8]) -> Salvaged
+    ensures reported { λ r. ⌜ r ≡ salvageOf (now (file .entry)) (now (output .entry)) ⌝ }
+    ensures output { λ _. ⌜ now (output .exit) ≡ salvagedOutputOf (now (file .entry)) (now (output .entry)) ⌝ }
 {
-    if room.len() != file.len() {
+    if output.len() != file.len() {
         return Salvaged {
             verdict: Verdict::Refused(Refusal::FileLength),
-            list: told::none(),
+            list: listed::none(),
             differ: false,
         };
     }
     if !lengths::fits(Form::Two, file.len()) {
         return Salvaged {
             verdict: Verdict::Refused(Refusal::NoLayout),
-            list: told::none(),
+            list: listed::none(),
             differ: false,
         };
     }
     let pak = lengths::pak_length(Form::Two, file.len());
     let kept = keep::kept(file, pak);
-    replace::put_bodies(file, room, pak, kept);
-    contents::put(Form::Two, room, pak);
-    let differ = compare::contents_differ(file, room, pak, kept);
+    replace::put_bodies(file, output, pak, kept);
+    contents::put(Form::Two, output, pak);
+    let differ = compare::contents_differ(file, output, pak, kept);
     Salvaged {
         verdict: Verdict::Accepted,
-        list: told::replaced(kept),
+        list: listed::replaced(kept),
         differ,
     }
 }

@@ -26,55 +26,61 @@ ghost use Rattle.saved_layout.specs.declared.Form.the-variants.{Two};
 ghost use Rattle.saved_salvage.specs.Keep.{processorReset, orZeros, keptBodiesOf};
 
 // Kind 1, which starts at byte `at` in both.
-fn put_processor(file: &[u8], room: &mut [u8], at: usize, kept: bool)
-    requires { ⌜ (at + 172 ≤ length (now file)) × (at + 172 ≤ length (now room)) ⌝ }
+fn put_processor(file: &[u8], output: &mut [u8], at: usize, kept: bool)
+    requires { ⌜ (at + 172 ≤ length (now file)) × (at + 172 ≤ length (now output)) ⌝ }
     ensures { λ _. ⌜
-        now (room .exit) ≡ putAt (now (room .entry)) at
+        now (output .exit) ≡ putAt (now (output .entry)) at
         (pick kept (take 172 (drop at (now (file .entry)))) processorReset)
         ⌝ }
 {
     if kept {
         let end = at + PROCESSOR_BYTES;
-        parts::put_bytes(room, at, &file[at..end]);
+        parts::put_bytes(output, at, &file[at..end]);
         return;
     }
     let reset = processor::calls::reset();
     let p = reset.processor;
     let regs = p.regs;
     let rest = words::rest(p);
-    numbers::put_words(room, at, &regs);
-    numbers::put_words(room, at + REST_AT, &rest);
+    numbers::put_words(output, at, &regs);
+    numbers::put_words(output, at + REST_AT, &rest);
 }
 
 // Another kind of `size` bytes, whose reset values are zeros.
-fn put_body(file: &[u8], room: &mut [u8], at: usize, size: usize, kept: bool)
-    requires { ⌜ (at + size ≤ length (now file)) × (at + size ≤ length (now room)) ⌝ }
+fn put_body(file: &[u8], output: &mut [u8], at: usize, size: usize, kept: bool)
+    requires { ⌜ (at + size ≤ length (now file)) × (at + size ≤ length (now output)) ⌝ }
     ensures { λ _. ⌜
-        now (room .exit) ≡ putAt (now (room .entry)) at (orZeros kept (take size (drop at (now (file .entry)))))
+        now (output .exit) ≡ putAt (now (output .entry)) at (orZeros kept (take size (drop at (now (file .entry)))))
         ⌝ }
 {
     if kept {
         let end = at + size;
-        parts::put_bytes(room, at, &file[at..end]);
+        parts::put_bytes(output, at, &file[at..end]);
         return;
     }
-    parts::put_zeros(room, at, size);
+    parts::put_zeros(output, at, size);
 }
 
 // All bodies, at their places.
-pub fn put_bodies(file: &[u8], room: &mut [u8], pak: usize, kept: Kept)
+pub fn put_bodies(file: &[u8], output: &mut [u8], pak: usize, kept: Kept)
     requires { ⌜ (length (now file) ≡ fileLengthOf Two pak) × (pak ≤ 16777216) ⌝ }
-    requires { ⌜ length (now room) ≡ fileLengthOf Two pak ⌝ }
+    requires { ⌜ length (now output) ≡ fileLengthOf Two pak ⌝ }
     ensures { λ _. ⌜
-        now (room .exit) ≡ putAt (now (room .entry)) (bodyPlaceOf Two pak 0)
+        now (output .exit) ≡ putAt (now (output .entry)) (bodyPlaceOf Two pak 0)
         (joinedOf Two (keptBodiesOf kept (bodiesIn Two pak (now (file .entry)))))
         ⌝ }
 {
     let at = places::first(Form::Two, pak);
-    put_processor(file, room, at, kept.processor);
-    put_body(file, room, at + DRAWING_AT, DRAWING_BYTES, kept.drawing);
-    put_body(file, room, at + WRAM_AT, WRAM_BYTES, kept.wram);
-    put_body(file, room, at + VRAM_AT, VRAM_BYTES, kept.vram);
-    put_body(file, room, at + PAK_AT, pak, kept.pak);
-    put_body(file, room, at + PAK_AT + pak, HARDWARE_BYTES, kept.hardware);
+    put_processor(file, output, at, kept.processor);
+    put_body(file, output, at + DRAWING_AT, DRAWING_BYTES, kept.drawing);
+    put_body(file, output, at + WRAM_AT, WRAM_BYTES, kept.wram);
+    put_body(file, output, at + VRAM_AT, VRAM_BYTES, kept.vram);
+    put_body(file, output, at + PAK_AT, pak, kept.pak);
+    put_body(
+        file,
+        output,
+        at + PAK_AT + pak,
+        HARDWARE_BYTES,
+        kept.hardware,
+    );
 }

@@ -4,7 +4,7 @@ use borrow.Author.Tests.{not-true, not-false}
 use Rattle.bus.specs.Memory.{memoryOf}
 use Rattle.saved.specs.Calls.{formHolds}
 use Rattle.saved.proofs.Accepting.{passed, small}
-use Rattle.saved.proofs.Verdicts.{write-refused, write-length, write-reset, write-accepted, file-beside}
+use Rattle.saved.proofs.Verdicts.{write-refused, write-length, write-reset, write-accepted, file-without-rom}
 use borrow.Author.Needs.{needs}
 use Rattle.saved.proofs.write_form.Statement.{statement}
 use Rattle.saved.proofs.write_form.Tie as tie
@@ -21,7 +21,7 @@ returns c =
     let c10 = c .before .before .before .before .before .before .before .before .before .before in
     write-length (c10 .args .form) (c10 .args .processor)
     (memoryOf (c10 .args .rom .now) (c10 .args .wram .now) (c10 .args .vram .now) (c10 .args .pak .now)
-    (c10 .args .drawing .regs)) (c10 .args .room .now) (sym (c .before .before .before .before .verdict .ensures) ∙
+    (c10 .args .drawing .regs)) (c10 .args .output .now) (sym (c .before .before .before .before .verdict .ensures) ∙
     (c .before .before .enum-told .given .1)) (λ e. (c .if1 .taken) (e ∙ sym (c .before .file-length .ensures)))
 
 returns-2 : tie.Need-returns-2
@@ -29,7 +29,7 @@ returns-2 c =
     let c13 = c .before .before .before .before .before .before .before .before .before .before .before .before .before
     in
     write-reset (c13 .args .form) (c13 .args .processor) (memoryOf (c13 .args .rom .now) (c13 .args .wram .now)
-    (c13 .args .vram .now) (c13 .args .pak .now) (c13 .args .drawing .regs)) (c13 .args .room .now)
+    (c13 .args .vram .now) (c13 .args .pak .now) (c13 .args .drawing .regs)) (c13 .args .output .now)
     (sym (c .before .before .before .before .before .before .before .verdict .ensures) ∙
     (c .before .before .before .before .before .enum-told .given .1))
     ((c .before .before .before .if1 .left) ∙ (c .before .before .before .before .file-length .ensures))
@@ -60,7 +60,7 @@ returns-3 : tie.Need-returns-3
 returns-3 c =
     let c9 = c .before .before .before .before .before .before .before .before .before in
     write-refused (c9 .args .form) (c9 .args .processor) (memoryOf (c9 .args .rom .now) (c9 .args .wram .now)
-    (c9 .args .vram .now) (c9 .args .pak .now) (c9 .args .drawing .regs)) (c9 .args .room .now) _
+    (c9 .args .vram .now) (c9 .args .pak .now) (c9 .args .drawing .regs)) (c9 .args .output .now) _
     (sym (c .before .before .before .verdict .ensures) ∙ (c .before .n .given .1))
 
 returns-4 : tie.Need-returns-4
@@ -71,14 +71,14 @@ returns-4 c =
     let c17 = c11 .before .before .before .before .before .before in
     let form = c17 .args .form in
     let w = write-accepted form (c17 .args .processor) (memoryOf (c17 .args .rom .now) (c17 .args .wram .now)
-    (c17 .args .vram .now) (c17 .args .pak .now) (c17 .args .drawing .regs)) (c17 .args .room .now)
+    (c17 .args .vram .now) (c17 .args .pak .now) (c17 .args .drawing .regs)) (c17 .args .output .now)
     (sym (c11 .verdict .ensures) ∙ (c9 .enum-told .given .1))
     ((c .before .before .before .before .before .before .before .if1 .left) ∙ (c8 .file-length .ensures))
     (ap (formHolds form) (sym (c .before .before .before .before .before .before .lines .ensures)) ∙
     (sym (c .before .before .before .before .before .holds .ensures) ∙ not-false _
     (c .before .before .before .before .if2 .left))) in (
       w .0,
-      (c .before .before .put .ensures) ∙ (file-beside form (c17 .args .processor)
+      (c .before .before .put .ensures) ∙ (file-without-rom form (c17 .args .processor)
           (memoryOf (c17 .args .rom .now) (c17 .args .wram .now) (c17 .args .vram .now) (c17 .args .pak .now)
           (c17 .args .drawing .regs)) ∙ w .1),
     )

@@ -5,4 +5,4 @@ use lib.ListN.{length, take, drop}
 
 -- a buffer with bytes put over those from byte `at` on
 unfoldable pub putAt : List ℕ → ℕ → List ℕ → List ℕ
-putAt room at bytes = take at room ++ bytes ++ drop (at + length bytes) room
+putAt output at bytes = take at output ++ bytes ++ drop (at + length bytes) output

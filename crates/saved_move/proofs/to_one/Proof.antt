@@ -24,7 +24,7 @@ returns c =
     let c13 = c10 .before .before .before in
     let from = (c10 .first .result) in
     let at = (c9 .first2 .result) in
-    moved-one (c13 .args .pak) (c13 .args .file .now) (c13 .args .room .now) (c13 .pre .0 .0) (c13 .pre .1) from at
+    moved-one (c13 .args .pak) (c13 .args .file .now) (c13 .args .output .now) (c13 .pre .0 .0) (c13 .pre .1) from at
     (from + 327878 + (c13 .args .pak) - from) _ _ (c10 .first .ensures .0) (c9 .first2 .ensures .0) (omega arith)
     (c .before .before .before .before .before .before .put-bytes .ensures) (c .before .before .put .ensures)
 

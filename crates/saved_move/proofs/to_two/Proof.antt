@@ -28,7 +28,7 @@ returns c =
     let c17 = c14 .before .before .before in
     let from = (c14 .first .result) in
     let at = (c13 .first2 .result) in
-    moved-two (c17 .args .pak) (c17 .args .file .now) (c17 .args .room .now) (c17 .pre .0 .0) (c17 .pre .1) from at
+    moved-two (c17 .args .pak) (c17 .args .file .now) (c17 .args .output .now) (c17 .pre .0 .0) (c17 .pre .1) from at
     (from + 327878 + (c17 .args .pak) - from) _ _ _ (c14 .first .ensures .0) (c13 .first2 .ensures .0) (omega arith)
     (c10 .put-bytes .ensures) (c .before .before .before .before .before .before .put-zeros .ensures)
     (c .before .before .put .ensures)

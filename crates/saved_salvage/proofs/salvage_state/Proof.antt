@@ -10,11 +10,11 @@ use Rattle.saved_salvage.proofs.salvage_state.Tie as tie
 
 returns : tie.Need-returns
 returns c = no-length ((c .before .before .before .before .args .file .now))
-    ((c .before .before .before .before .args .room .now)) _ ((c .before .if1 .taken)) ((c .none .ensures))
+    ((c .before .before .before .before .args .output .now)) _ ((c .before .if1 .taken)) ((c .none .ensures))
 
 returns-2 : tie.Need-returns-2
 returns-2 c = no-layout ((c .before .before .before .before .before .before .args .file .now))
-    ((c .before .before .before .before .before .before .args .room .now)) _ ((c .before .before .before .if1 .left))
+    ((c .before .before .before .before .before .before .args .output .now)) _ ((c .before .before .before .if1 .left))
     (sym ((c .before .before .fits2 .ensures)) ∙ not-true _ ((c .before .if2 .taken))) ((c .none2 .ensures))
 
 kept-requires : tie.Need-kept-requires
@@ -40,7 +40,7 @@ put-requires c κs =
     let c8 = c7 .before in
     let c9 = c8 .before in
     let c12 = c9 .before .before .before in (
-      (c .before .before .room .given) ∙ ((c9 .if1 .left) ∙
+      (c .before .before .output .given) ∙ ((c9 .if1 .left) ∙
           (fit (length (c12 .args .file .now)) (c6 .pak-length .result) (c6 .pak-length .ensures)
           (sym (c8 .fits2 .ensures) ∙ not-false _ (c7 .if2 .left))) .0),
       (fit (length (c12 .args .file .now)) (c6 .pak-length .result) (c6 .pak-length .ensures)
@@ -56,8 +56,8 @@ contents-differ-requires c κs =
     let c16 = c13 .before .before .before in (
       (fit (length (c16 .args .file .now)) (c10 .pak-length .result) (c10 .pak-length .ensures)
           (sym (c12 .fits2 .ensures) ∙ not-false _ (c11 .if2 .left))) .0,
-      (c .before .before .room2 .given) ∙
-          ((c .before .before .before .before .before .before .room .given) ∙
+      (c .before .before .output2 .given) ∙
+          ((c .before .before .before .before .before .before .output .given) ∙
           ((c13 .if1 .left) ∙ (fit (length (c16 .args .file .now)) (c10 .pak-length .result) (c10 .pak-length .ensures)
           (sym (c12 .fits2 .ensures) ∙ not-false _ (c11 .if2 .left))) .0)),
     )
@@ -71,7 +71,7 @@ returns-3 c =
     let c14 = c13 .before in
     let c15 = c14 .before in
     let c18 = c15 .before .before .before in
-    accepted (c18 .args .file .now) (c18 .args .room .now) (c15 .if1 .left)
+    accepted (c18 .args .file .now) (c18 .args .output .now) (c15 .if1 .left)
     (sym (c14 .fits2 .ensures) ∙ not-false _ (c13 .if2 .left)) (c12 .pak-length .result) (c12 .pak-length .ensures)
     (c11 .kept .result) (c11 .kept .ensures) _ _ _ _ (c9 .put-bodies .ensures)
     (c .before .before .before .before .before .put .ensures) (c .replaced .ensures)

@@ -11,37 +11,19 @@ use Rattle.saved_bytes.proofs.numbers.put_halves.Statement.{statement}
 use Rattle.saved_bytes.proofs.numbers.put_halves.Tie as tie
 
 abbrev Inv-loop : tie.InvT-loop
-Inv-loop room₀ at halves k₀ room k = (k ≤ length halves) × Pasted room₀ at (bytesOf halves) (2 * k) room
+Inv-loop output₀ at halves k₀ output k = (k ≤ length halves) × Pasted output₀ at (bytesOf halves) (2 * k) output
 
 abbrev μ-loop : tie.MeasureT-loop
-μ-loop room₀ at halves k₀ room k = length halves - k
+μ-loop output₀ at halves k₀ output k = length halves - k
 
 loop-holds : tie.Need-loop-holds Inv-loop μ-loop
 loop-holds c = (omega arith, pasted-none _ _ _)
-
-mul-put-half : tie.Need-mul-put-half Inv-loop μ-loop
-mul-put-half c = omega arith
-
-add-put-half : tie.Need-add-put-half Inv-loop μ-loop
-add-put-half c = omega arith
-
-mul-put-half-2 : tie.Need-mul-put-half-2 Inv-loop μ-loop
-mul-put-half-2 c = omega arith
-
-shared-slice-read-put-half : tie.Need-shared-slice-read-put-half Inv-loop μ-loop
-shared-slice-read-put-half c = omega arith
 
 cast-put-half : tie.Need-cast-put-half Inv-loop μ-loop
 cast-put-half c = omega (arith, c .shared-slice-known2 .given (c .before .before .before .loop .k))
 
 put-half-requires : tie.Need-put-half-requires Inv-loop μ-loop
 put-half-requires c κs = omega (arith, c .before .before .before .loop .inv .1 .size)
-
-add-k : tie.Need-add-k Inv-loop μ-loop
-add-k c = omega arith
-
-loop-less : tie.Need-loop-less Inv-loop μ-loop
-loop-less c = omega arith
 
 loop-again : tie.Need-loop-again Inv-loop μ-loop
 loop-again c = (
@@ -68,14 +50,14 @@ put-halves-spec =
     Inv-loop
     μ-loop
     loop-holds
-    mul-put-half
-    add-put-half
-    mul-put-half-2
-    shared-slice-read-put-half
+    (λ c. omega arith)
+    (λ c. omega arith)
+    (λ c. omega arith)
+    (λ c. omega arith)
     cast-put-half
     put-half-requires
-    add-k
-    loop-less
+    (λ c. omega arith)
+    (λ c. omega arith)
     loop-again
     same-length
     returns)

@@ -11,34 +11,16 @@ use Rattle.saved_bytes.proofs.numbers.put_words.Statement.{statement}
 use Rattle.saved_bytes.proofs.numbers.put_words.Tie as tie
 
 abbrev Inv-loop : tie.InvT-loop
-Inv-loop room₀ at words k₀ room k = (k ≤ length words) × Pasted room₀ at (bytesOf (halvesOf words)) (4 * k) room
+Inv-loop output₀ at words k₀ output k = (k ≤ length words) × Pasted output₀ at (bytesOf (halvesOf words)) (4 * k) output
 
 abbrev μ-loop : tie.MeasureT-loop
-μ-loop room₀ at words k₀ room k = length words - k
+μ-loop output₀ at words k₀ output k = length words - k
 
 loop-holds : tie.Need-loop-holds Inv-loop μ-loop
 loop-holds c = (omega arith, pasted-none _ _ _)
 
-mul-put-word : tie.Need-mul-put-word Inv-loop μ-loop
-mul-put-word c = omega arith
-
-add-put-word : tie.Need-add-put-word Inv-loop μ-loop
-add-put-word c = omega arith
-
-mul-put-word-2 : tie.Need-mul-put-word-2 Inv-loop μ-loop
-mul-put-word-2 c = omega arith
-
-shared-slice-read-put-word : tie.Need-shared-slice-read-put-word Inv-loop μ-loop
-shared-slice-read-put-word c = omega arith
-
 put-word-requires : tie.Need-put-word-requires Inv-loop μ-loop
 put-word-requires c κs = omega (arith, c .before .before .before .loop .inv .1 .size)
-
-add-k : tie.Need-add-k Inv-loop μ-loop
-add-k c = omega arith
-
-loop-less : tie.Need-loop-less Inv-loop μ-loop
-loop-less c = omega arith
 
 loop-again : tie.Need-loop-again Inv-loop μ-loop
 loop-again c = (
@@ -67,13 +49,13 @@ put-words-spec =
     Inv-loop
     μ-loop
     loop-holds
-    mul-put-word
-    add-put-word
-    mul-put-word-2
-    shared-slice-read-put-word
+    (λ c. omega arith)
+    (λ c. omega arith)
+    (λ c. omega arith)
+    (λ c. omega arith)
     put-word-requires
-    add-k
-    loop-less
+    (λ c. omega arith)
+    (λ c. omega arith)
     loop-again
     same-length
     returns)

@@ -17,26 +17,11 @@ abbrev μ-loop : tie.MeasureT-loop
 loop-holds : tie.Need-loop-holds Inv-loop μ-loop
 loop-holds c = (omega arith, filled-none _ _)
 
-mul-half-at : tie.Need-mul-half-at Inv-loop μ-loop
-mul-half-at c = omega arith
-
-add-half-at : tie.Need-add-half-at Inv-loop μ-loop
-add-half-at c = omega arith
-
 half-at-requires : tie.Need-half-at-requires Inv-loop μ-loop
 half-at-requires c κs = omega (arith, c .before .loop .inv .1 .whole)
 
-cast-halves : tie.Need-cast-halves Inv-loop μ-loop
-cast-halves c = omega arith
-
-mul-halves : tie.Need-mul-halves Inv-loop μ-loop
-mul-halves c = omega arith
-
 slice-write-halves : tie.Need-slice-write-halves Inv-loop μ-loop
 slice-write-halves c = omega (arith, c .before .before .loop .inv .1 .whole)
-
-add-k : tie.Need-add-k Inv-loop μ-loop
-add-k c = omega arith
 
 loop-less : tie.Need-loop-less Inv-loop μ-loop
 loop-less c = omega (arith, c .before .before .loop .inv .1 .whole)
@@ -62,13 +47,13 @@ take-halves-spec =
     Inv-loop
     μ-loop
     loop-holds
-    mul-half-at
-    add-half-at
+    (λ c. omega arith)
+    (λ c. omega arith)
     half-at-requires
-    cast-halves
-    mul-halves
+    (λ c. omega arith)
+    (λ c. omega arith)
     slice-write-halves
-    add-k
+    (λ c. omega arith)
     loop-less
     loop-again
     same-length

@@ -7,7 +7,7 @@ use Rattle.saved_bytes.proofs.parts.put_bytes.Tie as tie
 
 returns : tie.Need-returns
 returns c = part-put (c .before .before .before .before .before .before .args .at)
-    (c .before .before .before .before .before .before .args .room .now) (omega arith)
+    (c .before .before .before .before .before .before .args .output .now) (omega arith)
     (c .before .before .before .before .before .before .args .bytes .now) _ (c .before .before .copy .ensures .1)
 
 pub put-bytes-spec : {M : Type 1} → statement M

@@ -10,30 +10,21 @@ use Rattle.saved_bytes.proofs.parts.put_zeros.Statement.{statement}
 use Rattle.saved_bytes.proofs.parts.put_zeros.Tie as tie
 
 abbrev Inv-loop : tie.InvT-loop
-Inv-loop room₀ at count k₀ room k = (k ≤ count) × Pasted room₀ at (replicate count 0) k room
+Inv-loop output₀ at count k₀ output k = (k ≤ count) × Pasted output₀ at (replicate count 0) k output
 
 abbrev μ-loop : tie.MeasureT-loop
-μ-loop room₀ at count k₀ room k = count - k
+μ-loop output₀ at count k₀ output k = count - k
 
 loop-holds : tie.Need-loop-holds Inv-loop μ-loop
 loop-holds c = (omega arith, pasted-none _ _ _)
 
-add-room : tie.Need-add-room Inv-loop μ-loop
-add-room c = omega arith
-
-slice-write-room : tie.Need-slice-write-room Inv-loop μ-loop
-slice-write-room c = omega (arith, c .before .loop .inv .1 .size)
-
-add-k : tie.Need-add-k Inv-loop μ-loop
-add-k c = omega arith
-
-loop-less : tie.Need-loop-less Inv-loop μ-loop
-loop-less c = omega arith
+slice-write-output : tie.Need-slice-write-output Inv-loop μ-loop
+slice-write-output c = omega (arith, c .before .loop .inv .1 .size)
 
 loop-again : tie.Need-loop-again Inv-loop μ-loop
 loop-again c = let a = c .before .before .args in (
   omega arith,
-  zeros-more (a .room .now) (a .at) (a .count) (c .before .loop .k) (c .before .loop .room)
+  zeros-more (a .output .now) (a .at) (a .count) (c .before .loop .k) (c .before .loop .output)
       (c .before .loop .inv .1) (omega arith) (omega arith),
 )
 
@@ -50,10 +41,10 @@ put-zeros-spec =
     Inv-loop
     μ-loop
     loop-holds
-    add-room
-    slice-write-room
-    add-k
-    loop-less
+    (λ c. omega arith)
+    slice-write-output
+    (λ c. omega arith)
+    (λ c. omega arith)
     loop-again
     same-length
     returns)

@@ -1,11 +1,12 @@
 -- `saved_kinds::bodies::records_ok` meets its contract. Assumes nothing.
 use native.Mathlib.Omega.{arith}
 use Prim.Native.Nat.{ℕ, _+_, _-_}
+use mathlib.Core.Bool.{false}
 use mathlib.Core.Path.{_≡_, sym, ap, _∙_}
 use borrow.Author.Tests.{not-true, not-false}
 use lib.ListN.{take, drop}
+use Rattle.word.proofs.Choices.{pick-true, pick-false}
 use Rattle.saved_kinds.specs.Kinds.{processorBodyOk, drawingBodyOk}
-use Rattle.saved_kinds.proofs.Tests.{both-first, both-false}
 use borrow.Author.Needs.{needs}
 use Rattle.saved_kinds.proofs.bodies.records_ok.Statement.{statement}
 use Rattle.saved_kinds.proofs.bodies.records_ok.Tie as tie
@@ -13,7 +14,7 @@ use Rattle.saved_kinds.proofs.bodies.records_ok.Tie as tie
 returns : tie.Need-returns
 returns c = let a = (c .before .before .before .before .args) in
     let n : a .at + 172 - a .at ≡ 172 = omega arith in
-    both-false (processorBodyOk (take 172 (drop (a .at) (a .file .now)))) _ (ap (λ (k : ℕ). processorBodyOk (take k
+    pick-false (processorBodyOk (take 172 (drop (a .at) (a .file .now)))) _ false (ap (λ (k : ℕ). processorBodyOk (take k
     (drop (a .at) (a .file .now)))) (sym n) ∙ (sym ((c .before .processor-ok .ensures)) ∙ not-true _
     ((c .if1 .taken))))
 
@@ -22,7 +23,7 @@ returns-2 c =
     let a = (c .before .before .before .before .before .before .args) in
     let n : a .at + 172 - a .at ≡ 172 = omega arith in let m : a .at + 198 - (a .at + 172) ≡ 26 = omega arith in
     (c .drawing-ok .ensures) ∙ (ap (λ (k : ℕ). drawingBodyOk (take k (drop (a .at + 172) (a .file .now)))) m ∙
-    both-first (processorBodyOk (take 172 (drop (a .at) (a .file .now)))) _
+    pick-true (processorBodyOk (take 172 (drop (a .at) (a .file .now)))) _ false
     (ap (λ (k : ℕ). processorBodyOk (take k (drop (a .at) (a .file .now)))) (sym n) ∙
     (sym (c .before .before .before .processor-ok .ensures) ∙ not-false _ (c .before .before .if1 .left))))
 

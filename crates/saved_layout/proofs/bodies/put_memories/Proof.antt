@@ -8,7 +8,7 @@ use Rattle.saved_layout.proofs.bodies.put_memories.Tie as tie
 
 returns : tie.Need-returns
 returns c = let a = (c .before .before .before .before .before .before .before .before .before .before .before .before .before .before .before .before .args) in
-    put-three (a .room .now) (a .wram .now) (a .vram .now) (a .pak .now) _ _ _ (a .at) _ _ (omega arith) refl refl
+    put-three (a .output .now) (a .wram .now) (a .vram .now) (a .pak .now) _ _ _ (a .at) _ _ (omega arith) refl refl
     ((c .before .before .before .before .before .before .before .before .before .before .put-bytes .ensures))
     ((c .before .before .before .before .before .before .put-bytes2 .ensures))
     ((c .before .before .put-bytes3 .ensures))

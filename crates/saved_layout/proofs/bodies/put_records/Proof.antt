@@ -7,7 +7,7 @@ use Rattle.saved_layout.proofs.bodies.put_records.Tie as tie
 
 returns : tie.Need-returns
 returns c = let a = (c .before .before .before .before .before .before .before .before .before .before .before .before .before .before .before .before .args) in
-    records-put (a .room .now) (a .regs .now) (a .rest .now) (a .halves .now) _ _ _ (a .at) (omega arith) (omega arith)
+    records-put (a .output .now) (a .regs .now) (a .rest .now) (a .halves .now) _ _ _ (a .at) (omega arith) (omega arith)
     (omega arith) (omega arith) ((c .before .before .before .before .before .before .before .before .before .before
     .before .before .put-words .ensures))
     ((c .before .before .before .before .before .before .before .put-words2 .ensures))

@@ -21,7 +21,7 @@ put-records-requires c κs =
 put-memories-requires : tie.Need-put-memories-requires
 put-memories-requires c κs =
     let c10 = c .before .before .before .before .before .before .before .before .before .before in
-    omega (arith, length-is (c10 .args .form) (length (c10 .args .pak .now)), (c .before .before .room .given))
+    omega (arith, length-is (c10 .args .form) (length (c10 .args .pak .now)), (c .before .before .output .given))
 
 put-requires : tie.Need-put-requires
 put-requires c κs =
@@ -29,8 +29,8 @@ put-requires c κs =
     let c16 = c8 .before .before .before .before .before .before .before .before in (
       omega (
         arith,
-        (c .before .before .before .before .room2 .given),
-        (c8 .room .given),
+        (c .before .before .before .before .output2 .given),
+        (c8 .output .given),
         rw
             (c .before .enum-told .given .1) at (c16 .pre .1 .1 .1),
       ),
@@ -45,15 +45,15 @@ put-halves-requires c κs =
     let c17 = c12 .before .before .before .before .before in
     let pak = c17 .args .pak .now in
     let p = length pak in
-    let w : length (c17 .args .room .now) ≡ fileLengthOf Two (length pak) = rw (c2 .enum-told2 .given .1) at
+    let w : length (c17 .args .output .now) ≡ fileLengthOf Two (length pak) = rw (c2 .enum-told2 .given .1) at
     (c17 .pre .1 .1 .1) in let f : (c12 .first .result) ≡ bodyPlaceOf Two (length pak) 0 = rw (c2 .enum-told2 .given .1)
     at (c12 .first .ensures .0) in omega (
       arith,
       w,
       f,
       length-is Two p,
-      (c2 .before .before .before .room2 .given),
-      (c9 .room .given),
+      (c2 .before .before .before .output2 .given),
+      (c9 .output .given),
     )
 
 put-requires-2 : tie.Need-put-requires-2
@@ -63,9 +63,9 @@ put-requires-2 c κs =
     let c21 = c13 .before .before .before .before .before .before .before .before in (
       omega (
         arith,
-        (c .before .before .room4 .given),
-        (c9 .room2 .given),
-        (c13 .room .given),
+        (c .before .before .output4 .given),
+        (c9 .output2 .given),
+        (c13 .output .given),
         rw
             (c .before .before .before .before .before .before .enum-told2 .given .1) at (c21 .pre .1 .1 .1),
       ),
@@ -81,7 +81,7 @@ returns c =
     let c19 = c14 .before .before .before .before .before in
     let a = (c19 .args) in
     rw (c4 .enum-told .given .1) (wrote-one (a .regs .now) (a .rest .now) (a .halves .now) (a .wram .now) (a .vram .now)
-    (a .pak .now) (a .hardware .now) (a .room .now) (c19 .pre .0 .0) (c19 .pre .0 .1 .0) (c19 .pre .0 .1 .1)
+    (a .pak .now) (a .hardware .now) (a .output .now) (c19 .pre .0 .0) (c19 .pre .0 .1 .0) (c19 .pre .0 .1 .1)
     (c19 .pre .1 .0 .0) (c19 .pre .1 .0 .1 .0) (c19 .pre .1 .1 .0) _ _ _ (c14 .first .result)
     (rw (c4 .enum-told .given .1) at (c14 .first .ensures .0)) (rw (c4 .enum-told .given .1) at (c19 .pre .1 .1 .1))
     (c12 .put-records .ensures) (c8 .put-memories .ensures) (c .before .before .put .ensures))
@@ -95,7 +95,7 @@ returns-2 c =
     let c24 = c19 .before .before .before .before .before in
     let a = (c24 .args) in
     rw (c9 .enum-told2 .given .1) (wrote-two (a .regs .now) (a .rest .now) (a .halves .now) (a .wram .now)
-    (a .vram .now) (a .pak .now) (a .hardware .now) (a .room .now) (c24 .pre .0 .0) (c24 .pre .0 .1 .0)
+    (a .vram .now) (a .pak .now) (a .hardware .now) (a .output .now) (c24 .pre .0 .0) (c24 .pre .0 .1 .0)
     (c24 .pre .0 .1 .1) (c24 .pre .1 .0 .0) (c24 .pre .1 .0 .1 .0) (c24 .pre .1 .1 .0) _ _ _ _ (c19 .first .result)
     (rw (c9 .enum-told2 .given .1) at (c19 .first .ensures .0)) (rw (c9 .enum-told2 .given .1) at (c24 .pre .1 .1 .1))
     (c17 .put-records .ensures) (c13 .put-memories .ensures)

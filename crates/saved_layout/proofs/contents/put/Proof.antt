@@ -18,7 +18,7 @@ put-halves-requires c κs =
     omega (
       arith,
       length-is (a .form) (a .pak),
-      contents-fit (a .form) (a .pak) (a .room .now) _ (c .before .before .lay .ensures .0 ∙ c4 .stored-sums .ensures),
+      contents-fit (a .form) (a .pak) (a .output .now) _ (c .before .before .lay .ensures .0 ∙ c4 .stored-sums .ensures),
     )
 
 returns : tie.Need-returns
@@ -28,7 +28,7 @@ returns c =
     let c7 = c5 .before .before in
     let a = c7 .before .before .before .args in
     c2 .put-halves .ensures
-    ∙ contents-put (a .form) (a .pak) (a .room .now) _ (c5 .lay .ensures .0 ∙ c7 .stored-sums .ensures) _
+    ∙ contents-put (a .form) (a .pak) (a .output .now) _ (c5 .lay .ensures .0 ∙ c7 .stored-sums .ensures) _
 
 pub put-spec : {M : Type 1} → statement M
 put-spec =

@@ -15,7 +15,7 @@ part-differs-requires c κs =
 
 returns : tie.Need-returns
 returns c = differ-0 ((c .before .before .before .before .args .pak)) ((c .before .before .before .before .args .kept))
-    ((c .before .before .before .before .args .file .now)) ((c .before .before .before .before .args .room .now)) (sym
+    ((c .before .before .before .before .args .file .now)) ((c .before .before .before .before .args .output .now)) (sym
     ((c .before .part-differs .ensures)) ∙ (c .if1 .taken))
 
 entry-differs-requires : tie.Need-entry-differs-requires
@@ -27,7 +27,7 @@ entry-differs-requires c κs =
 returns-2 : tie.Need-returns-2
 returns-2 c =
     let c6 = c .before .before .before .before .before .before in
-    differ-1 (c6 .args .pak) (c6 .args .kept) (c6 .args .file .now) (c6 .args .room .now)
+    differ-1 (c6 .args .pak) (c6 .args .kept) (c6 .args .file .now) (c6 .args .output .now)
     (sym (c .before .before .before .part-differs .ensures) ∙ (c .before .before .if1 .left))
     (sym (c .before .entry-differs .ensures) ∙ (c .if2 .taken))
 
@@ -40,7 +40,7 @@ entry-differs-requires-2 c κs =
 returns-3 : tie.Need-returns-3
 returns-3 c =
     let c8 = c .before .before .before .before .before .before .before .before in
-    differ-2 (c8 .args .pak) (c8 .args .kept) (c8 .args .file .now) (c8 .args .room .now)
+    differ-2 (c8 .args .pak) (c8 .args .kept) (c8 .args .file .now) (c8 .args .output .now)
     (sym (c .before .before .before .before .before .part-differs .ensures) ∙
     (c .before .before .before .before .if1 .left)) (sym (c .before .before .before .entry-differs .ensures) ∙
     (c .before .before .if2 .left)) (sym (c .before .entry-differs2 .ensures) ∙ (c .if3 .taken))
@@ -54,7 +54,7 @@ entry-differs-requires-3 c κs =
 returns-4 : tie.Need-returns-4
 returns-4 c =
     let c10 = c .before .before .before .before .before .before .before .before .before .before in
-    differ-3 (c10 .args .pak) (c10 .args .kept) (c10 .args .file .now) (c10 .args .room .now)
+    differ-3 (c10 .args .pak) (c10 .args .kept) (c10 .args .file .now) (c10 .args .output .now)
     (sym (c .before .before .before .before .before .before .before .part-differs .ensures) ∙
     (c .before .before .before .before .before .before .if1 .left))
     (sym (c .before .before .before .before .before .entry-differs .ensures) ∙
@@ -72,7 +72,7 @@ returns-5 c =
     let c8 = c .before .before .before .before .before .before .before .before in
     let c9 = c8 .before in
     let c12 = c9 .before .before .before in
-    differ-4 (c12 .args .pak) (c12 .args .kept) (c12 .args .file .now) (c12 .args .room .now)
+    differ-4 (c12 .args .pak) (c12 .args .kept) (c12 .args .file .now) (c12 .args .output .now)
     (sym (c9 .part-differs .ensures) ∙ (c8 .if1 .left)) (sym
     (c .before .before .before .before .before .before .before .entry-differs .ensures) ∙
     (c .before .before .before .before .before .before .if2 .left))
@@ -95,7 +95,7 @@ returns-6 c =
     let c11 = c10 .before in
     let c14 = c11 .before .before .before in
     (c .entry-differs5 .ensures) ∙ differ-empty (c14 .args .pak) (c14 .args .kept) (c14 .args .file .now)
-    (c14 .args .room .now) (sym (c11 .part-differs .ensures) ∙ (c10 .if1 .left))
+    (c14 .args .output .now) (sym (c11 .part-differs .ensures) ∙ (c10 .if1 .left))
     (sym (c9 .entry-differs .ensures) ∙ (c8 .if2 .left)) (sym
     (c .before .before .before .before .before .before .before .entry-differs2 .ensures) ∙
     (c .before .before .before .before .before .before .if3 .left))
@@ -118,7 +118,7 @@ returns-7 c =
     let c11 = c10 .before in
     let c12 = c11 .before in
     let c15 = c12 .before .before .before in
-    differ-5 (c15 .args .pak) (c15 .args .kept) (c15 .args .file .now) (c15 .args .room .now)
+    differ-5 (c15 .args .pak) (c15 .args .kept) (c15 .args .file .now) (c15 .args .output .now)
     (sym (c12 .part-differs .ensures) ∙ (c11 .if1 .left)) (sym (c10 .entry-differs .ensures) ∙ (c9 .if2 .left))
     (sym (c8 .entry-differs2 .ensures) ∙ (c .before .before .before .before .before .before .before .if3 .left))
     (sym (c .before .before .before .before .before .before .entry-differs3 .ensures) ∙
@@ -143,7 +143,7 @@ returns-8 c =
     let c13 = c12 .before in
     let c16 = c13 .before .before .before in
     (c .entry-differs7 .ensures) ∙ differ-6 (c16 .args .pak) (c16 .args .kept) (c16 .args .file .now)
-    (c16 .args .room .now) (sym (c13 .part-differs .ensures) ∙ (c12 .if1 .left))
+    (c16 .args .output .now) (sym (c13 .part-differs .ensures) ∙ (c12 .if1 .left))
     (sym (c11 .entry-differs .ensures) ∙ (c10 .if2 .left)) (sym (c9 .entry-differs2 .ensures) ∙ (c8 .if3 .left))
     (sym (c .before .before .before .before .before .before .before .entry-differs3 .ensures) ∙
     (c .before .before .before .before .before .before .if4 .left))

@@ -8,7 +8,7 @@ use Rattle.saved_salvage.proofs.compare.part_differs.Tie as tie
 
 returns : tie.Need-returns
 returns c = let a = (c .before .before .before .before .before .args) in
-    part-is (a .at) (a .size) (a .at + a .size - a .at) (a .file .now) (a .room .now) _ (omega arith) ((c .same .ensures))
+    part-is (a .at) (a .size) (a .at + a .size - a .at) (a .file .now) (a .output .now) _ (omega arith) ((c .same .ensures))
 
 pub part-differs-spec : {M : Type 1} → statement M
 part-differs-spec =

@@ -23,50 +23,27 @@ put-body-requires : tie.Need-put-body-requires
 put-body-requires c κs =
     let c2 = c .before .before in
     let c5 = c2 .before .before .before in
-    let c8 = c5 .before .before .before in (
-      omega (
-        arith,
-        length-is Two (c8 .args .pak),
-        (c8 .pre .0 .0),
-        (c8 .pre .1),
-        (c5 .first .ensures .0),
-        (c2 .room .given),
-      ),
-      omega (
-        arith,
-        length-is Two (c8 .args .pak),
-        (c8 .pre .0 .0),
-        (c8 .pre .1),
-        (c5 .first .ensures .0),
-        (c2 .room .given),
-      ),
-    )
+    let c8 = c5 .before .before .before in
+    let whole = length-is Two (c8 .args .pak) in
+    let file = c8 .pre .0 .0 in
+    let output = c8 .pre .1 in
+    let first = c5 .first .ensures .0 in
+    let after-1 = c2 .output .given in
+    (omega arith, omega arith)
 
 put-body-requires-2 : tie.Need-put-body-requires-2
 put-body-requires-2 c κs =
     let c2 = c .before .before in
     let c6 = c2 .before .before .before .before in
     let c9 = c6 .before .before .before in
-    let c12 = c9 .before .before .before in (
-      omega (
-        arith,
-        length-is Two (c12 .args .pak),
-        (c12 .pre .0 .0),
-        (c12 .pre .1),
-        (c9 .first .ensures .0),
-        (c6 .room .given),
-        (c2 .room2 .given),
-      ),
-      omega (
-        arith,
-        length-is Two (c12 .args .pak),
-        (c12 .pre .0 .0),
-        (c12 .pre .1),
-        (c9 .first .ensures .0),
-        (c6 .room .given),
-        (c2 .room2 .given),
-      ),
-    )
+    let c12 = c9 .before .before .before in
+    let whole = length-is Two (c12 .args .pak) in
+    let file = c12 .pre .0 .0 in
+    let output = c12 .pre .1 in
+    let first = c9 .first .ensures .0 in
+    let after-1 = c6 .output .given in
+    let after-2 = c2 .output2 .given in
+    (omega arith, omega arith)
 
 put-body-requires-3 : tie.Need-put-body-requires-3
 put-body-requires-3 c κs =
@@ -74,28 +51,15 @@ put-body-requires-3 c κs =
     let c6 = c2 .before .before .before .before in
     let c10 = c6 .before .before .before .before in
     let c13 = c10 .before .before .before in
-    let c16 = c13 .before .before .before in (
-      omega (
-        arith,
-        length-is Two (c16 .args .pak),
-        (c16 .pre .0 .0),
-        (c16 .pre .1),
-        (c13 .first .ensures .0),
-        (c10 .room .given),
-        (c6 .room2 .given),
-        (c2 .room3 .given),
-      ),
-      omega (
-        arith,
-        length-is Two (c16 .args .pak),
-        (c16 .pre .0 .0),
-        (c16 .pre .1),
-        (c13 .first .ensures .0),
-        (c10 .room .given),
-        (c6 .room2 .given),
-        (c2 .room3 .given),
-      ),
-    )
+    let c16 = c13 .before .before .before in
+    let whole = length-is Two (c16 .args .pak) in
+    let file = c16 .pre .0 .0 in
+    let output = c16 .pre .1 in
+    let first = c13 .first .ensures .0 in
+    let after-1 = c10 .output .given in
+    let after-2 = c6 .output2 .given in
+    let after-3 = c2 .output3 .given in
+    (omega arith, omega arith)
 
 put-body-requires-4 : tie.Need-put-body-requires-4
 put-body-requires-4 c κs =
@@ -104,30 +68,16 @@ put-body-requires-4 c κs =
     let c10 = c6 .before .before .before .before in
     let c14 = c10 .before .before .before .before in
     let c17 = c14 .before .before .before in
-    let c20 = c17 .before .before .before in (
-      omega (
-        arith,
-        length-is Two (c20 .args .pak),
-        (c20 .pre .0 .0),
-        (c20 .pre .1),
-        (c17 .first .ensures .0),
-        (c14 .room .given),
-        (c10 .room2 .given),
-        (c6 .room3 .given),
-        (c2 .room4 .given),
-      ),
-      omega (
-        arith,
-        length-is Two (c20 .args .pak),
-        (c20 .pre .0 .0),
-        (c20 .pre .1),
-        (c17 .first .ensures .0),
-        (c14 .room .given),
-        (c10 .room2 .given),
-        (c6 .room3 .given),
-        (c2 .room4 .given),
-      ),
-    )
+    let c20 = c17 .before .before .before in
+    let whole = length-is Two (c20 .args .pak) in
+    let file = c20 .pre .0 .0 in
+    let output = c20 .pre .1 in
+    let first = c17 .first .ensures .0 in
+    let after-1 = c14 .output .given in
+    let after-2 = c10 .output2 .given in
+    let after-3 = c6 .output3 .given in
+    let after-4 = c2 .output4 .given in
+    (omega arith, omega arith)
 
 put-body-requires-5 : tie.Need-put-body-requires-5
 put-body-requires-5 c κs =
@@ -137,32 +87,17 @@ put-body-requires-5 c κs =
     let c14 = c10 .before .before .before .before in
     let c18 = c14 .before .before .before .before in
     let c21 = c18 .before .before .before in
-    let c24 = c21 .before .before .before in (
-      omega (
-        arith,
-        length-is Two (c24 .args .pak),
-        (c24 .pre .0 .0),
-        (c24 .pre .1),
-        (c21 .first .ensures .0),
-        (c18 .room .given),
-        (c14 .room2 .given),
-        (c10 .room3 .given),
-        (c6 .room4 .given),
-        (c2 .room5 .given),
-      ),
-      omega (
-        arith,
-        length-is Two (c24 .args .pak),
-        (c24 .pre .0 .0),
-        (c24 .pre .1),
-        (c21 .first .ensures .0),
-        (c18 .room .given),
-        (c14 .room2 .given),
-        (c10 .room3 .given),
-        (c6 .room4 .given),
-        (c2 .room5 .given),
-      ),
-    )
+    let c24 = c21 .before .before .before in
+    let whole = length-is Two (c24 .args .pak) in
+    let file = c24 .pre .0 .0 in
+    let output = c24 .pre .1 in
+    let first = c21 .first .ensures .0 in
+    let after-1 = c18 .output .given in
+    let after-2 = c14 .output2 .given in
+    let after-3 = c10 .output3 .given in
+    let after-4 = c6 .output4 .given in
+    let after-5 = c2 .output5 .given in
+    (omega arith, omega arith)
 
 returns : tie.Need-returns
 returns c =
@@ -178,7 +113,7 @@ returns c =
     let file = file-given in
     let first = (c24 .first .ensures .0) in
     bodies-put (c27 .args .kept) (bodiesIn Two pak file-given) (sized-in pak file-given Two (c27 .pre .0 .0)) pak
-    (length-pak-in pak file-given Two (c27 .pre .0 .0)) (c27 .args .room .now) at
+    (length-pak-in pak file-given Two (c27 .pre .0 .0)) (c27 .args .output .now) at
     (omega (arith, length-is Two pak, (c27 .pre .1), first)) _ _ _ _ _ _ _ _ _ _ _ _
     (processor-part Two pak at file first at 172 refl refl) (drawing-part Two pak at file first (at + 172) 26 refl refl)
     (wram-part Two pak at file first (at + 198) 65536 refl refl)
@@ -187,7 +122,7 @@ returns c =
     (hardware-part pak at file first (at + 327878 + pak) 8 refl refl) (c22 .put-processor .ensures)
     (c18 .put-body .ensures) (c14 .put-body2 .ensures) (c10 .put-body3 .ensures)
     (c .before .before .before .before .before .before .put-body4 .ensures) (c .before .before .put-body5 .ensures) ∙ ap
-    (λ (n : ℕ). putAt (c27 .args .room .now) n (joinedOf Two
+    (λ (n : ℕ). putAt (c27 .args .output .now) n (joinedOf Two
     (keptBodiesOf (c27 .args .kept) (bodiesIn Two pak file-given)))) first
 
 pub put-bodies-spec : {M : Type 1} → statement M

@@ -15,13 +15,13 @@ returns : tie.Need-returns
 returns c = let a = (c .before .before .before .before .before .before .before .before .args) in
     let n : a .at + a .size - a .at ≡ a .size = omega arith in
     rw ((c .before .before .before .before .before .if1 .taken)) ((c .before .before .put-bytes .ensures) ∙ ap (λ
-    (k : ℕ). putAt (a .room .now) (a .at) (take k (drop (a .at) (a .file .now)))) n)
+    (k : ℕ). putAt (a .output .now) (a .at) (take k (drop (a .at) (a .file .now)))) n)
 
 returns-2 : tie.Need-returns-2
 returns-2 c = let a = (c .before .before .before .before .before .before .before .args) in
     let n : length (take (a .size) (drop (a .at) (a .file .now))) ≡ a .size = simp (length-take, length-drop) (omega arith) in
     rw ((c .before .before .before .before .if1 .left)) ((c .before .before .put-zeros .ensures) ∙ ap (λ (k : ℕ). putAt
-    (a .room .now) (a .at) (replicate k 0)) (sym n))
+    (a .output .now) (a .at) (replicate k 0)) (sym n))
 
 pub put-body-spec : {M : Type 1} → statement M
 put-body-spec =

@@ -19,7 +19,7 @@ returns c =
     let n : a .at + 172 - a .at ≡ 172 = omega arith in
     rw (c5 .if1 .taken)
     ((c .before .before .put-bytes .ensures)
-    ∙ ap (λ (k : ℕ). putAt (a .room .now) (a .at) (take k (drop (a .at) (a .file .now)))) n)
+    ∙ ap (λ (k : ℕ). putAt (a .output .now) (a .at) (take k (drop (a .at) (a .file .now)))) n)
 
 put-words-requires : tie.Need-put-words-requires
 put-words-requires c κs =
@@ -33,7 +33,7 @@ returns-2 c =
     let c13 = c10 .before .before .before in
     let c17 = c13 .before .before .before .before in
     rw (c13 .before .if1 .left)
-    (reset-put (c17 .args .room .now) _ _ (c17 .args .at) _ _ (c17 .pre .1) (c13 .reset .ensures) (c10 .rest .ensures)
+    (reset-put (c17 .args .output .now) _ _ (c17 .args .at) _ _ (c17 .pre .1) (c13 .reset .ensures) (c10 .rest .ensures)
     (c7 .put-words .ensures) (c .before .before .put-words2 .ensures))
 
 pub put-processor-spec : {M : Type 1} → statement M

@@ -1,9 +1,9 @@
--- `saved_salvage::told::added` meets its contract. Assumes nothing.
+-- `saved_salvage::listed::added` meets its contract. Assumes nothing.
 use native.Mathlib.Omega.{arith}
 use Rattle.saved_salvage.specs.inner.Added.{addedOf}
 use borrow.Author.Needs.{needs}
-use Rattle.saved_salvage.proofs.told.added.Statement.{statement}
-use Rattle.saved_salvage.proofs.told.added.Tie as tie
+use Rattle.saved_salvage.proofs.listed.added.Statement.{statement}
+use Rattle.saved_salvage.proofs.listed.added.Tie as tie
 
 returns : tie.Need-returns
 unfolding addedOf

@@ -1,9 +1,9 @@
--- `saved_salvage::told::replaced` meets its contract. Assumes nothing.
+-- `saved_salvage::listed::replaced` meets its contract. Assumes nothing.
 use native.Mathlib.Omega.{arith}
 use Rattle.saved_salvage.proofs.Listing.{none-count, all-listed}
 use borrow.Author.Needs.{needs}
-use Rattle.saved_salvage.proofs.told.replaced.Statement.{statement}
-use Rattle.saved_salvage.proofs.told.replaced.Tie as tie
+use Rattle.saved_salvage.proofs.listed.replaced.Statement.{statement}
+use Rattle.saved_salvage.proofs.listed.replaced.Tie as tie
 
 added-requires : tie.Need-added-requires
 added-requires c κs = omega (arith, none-count _ ((c .none .ensures)))

@@ -4,7 +4,7 @@ use crate::ListedKinds;
 ghost use mathlib.Core.Path.{_≡_};
 ghost use Prim.Native.Nat.{_+_, _<_, _≤_};
 ghost use mathlib.Core.List.{[]};
-ghost use Rattle.saved_salvage.specs.Told.{listedKindsOf, replacedOf};
+ghost use Rattle.saved_salvage.specs.Listed.{listedKindsOf, replacedOf};
 ghost use Rattle.saved_salvage.specs.inner.Added.{addedOf};
 
 // No kind.
