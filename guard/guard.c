@@ -16,7 +16,7 @@
 /* Each call has 240 bytes and more of arguments on the caller's stack. A C function in between would copy them, for 5 to
  * 11 ns; here they stay in place. Meanwhile the return address and MXCSR wait in mm0 and mm1: the calling convention
  * leaves these registers to the callee, the proved functions use neither them nor the x87 unit, which shares them, and a
- * signal handler gets registers of its own. A debugger's backtrace ends here (.cfi_undefined). */
+ * signal handler gets separate registers. A debugger's backtrace ends here (.cfi_undefined). */
 #define GUARDED(name)                                                                               \
     __asm__(".text\n"                                                                               \
             ".p2align 6\n"                                                                          \

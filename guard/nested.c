@@ -1,5 +1,5 @@
 /* Calls from a signal handler within a call: a timer interrupts a run of ADD, BR again and again, and the handler makes a
- * floating step of its own, in another environment, and takes a backtrace. Both must answer as alone, and both must
+ * separate floating step, in another environment, and takes a backtrace. Both must answer as alone, and both must
  * find their environments again. */
 #include "vb.h"
 

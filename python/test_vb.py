@@ -52,14 +52,14 @@ class Module(unittest.TestCase):
             self.assertEqual(line, " ".join(map(str, expected)))
 
     def test_a_program_runs_to_its_halt(self):
-        lent = memories(ADD_1_R1 + ADD_1_R1 + HALT)
+        buffers = memories(ADD_1_R1 + ADD_1_R1 + HALT)
         machine = vb.vb_reset()
         self.assertEqual(machine.processor.pc, 0xFFFFFFF0)
-        ran = vb.vb_run(*lent, machine.processor, machine.drawing, 100)
+        ran = vb.vb_run(*buffers, machine.processor, machine.drawing, 100)
         self.assertEqual((ran.refusal, ran.count, ran.processor.regs[1]), (0, 3, 2))
         self.assertEqual(ran.processor.mode, vb.VB_HALTED)
 
-    def test_memory_is_written_where_it_is_lent(self):
+    def test_memory_that_was_passed_is_written(self):
         rom, wram, vram, pak = memories()
         machine = vb.vb_reset()
         records = (machine.drawing, machine.processor.hardware)
@@ -77,9 +77,9 @@ class Module(unittest.TestCase):
     def test_a_read_only_buffer_is_taken_where_the_library_only_reads(self):
         rom, wram, vram, pak = memories(ADD_1_R1 + HALT)
         machine = vb.vb_reset()
-        for lent in (memoryview(rom), memoryview(bytearray(rom)).toreadonly(), bytearray(rom), ctypes.create_string_buffer(rom, 1024)):
-            ran = vb.vb_run(lent, wram, vram, pak, machine.processor, machine.drawing, 9)
-            self.assertEqual((ran.refusal, ran.count), (0, 2), type(lent))
+        for given in (memoryview(rom), memoryview(bytearray(rom)).toreadonly(), bytearray(rom), ctypes.create_string_buffer(rom, 1024)):
+            ran = vb.vb_run(given, wram, vram, pak, machine.processor, machine.drawing, 9)
+            self.assertEqual((ran.refusal, ran.count), (0, 2), type(given))
         loaded = vb.vb_load_byte(rom, memoryview(bytes(65536)), bytes(262144), b"", machine.drawing, vb.vb_hardware(), 0)
         self.assertEqual(loaded.refusal, 0)
         with self.assertRaisesRegex(TypeError, "in one piece"):
@@ -168,10 +168,10 @@ class Module(unittest.TestCase):
         vram = bytearray(262144)
         vram[0x3D800 + 31 * 32 + 1] = 0xC0  # world 31 is normal and shown, one column wide
         vram[0x3D800 + 30 * 32] = 0x40  # END
-        room = bytearray(b"\xFF" * 24)
-        listed = vb.vb_pixel_bytes(vram, vb.vb_drawing(), 0, 0, 0, room)
+        output = bytearray(b"\xFF" * 24)
+        listed = vb.vb_pixel_bytes(vram, vb.vb_drawing(), 0, 0, 0, output)
         self.assertEqual((listed.refusal, listed.count), (0, 4))
-        self.assertEqual(struct.unpack("<6I", room), (0x20000, 0x20001, 0x6000, 0x6001, 0xFFFFFFFF, 0xFFFFFFFF))
+        self.assertEqual(struct.unpack("<6I", output), (0x20000, 0x20001, 0x6000, 0x6001, 0xFFFFFFFF, 0xFFFFFFFF))
         self.assertEqual(vb.vb_pixel_bytes(bytes(vram), vb.vb_drawing(), 1, 0, 7, None).count, 4)
         self.assertEqual(vb.vb_pixel_bytes(bytes(vram), vb.vb_drawing(), 2, 0, 0, None).refusal, vb.VB_MISUSE)
 
@@ -334,7 +334,7 @@ environments = [0x1F80 & ~mask | mode << 13 | zeros | flags
 rom, wram, vram = 512 * b"\x00\x68", bytearray(65536), bytearray(262144)
 drawing, processor = vb.vb_drawing(), vb.vb_reset().processor
 processor.pc, processor.psw = 0x05000100, 0
-lent = (rom, wram, vram, None)
+buffers = (rom, wram, vram, None)
 calls = 0
 for operation in (64, 66, 67, 68, 69, 70, 71, 75):
     encoded = vb.vb_encode(vb.vb_instruction(operation, 6, 5))
@@ -342,17 +342,17 @@ for operation in (64, 66, 67, 68, 69, 70, 71, 75):
     for n, word in enumerate(words):
         processor.regs[5], processor.regs[6] = word, words[(3 * n + operation) % len(words)]
         fast.set(0x1F80)
-        expected = vb.vb_step(*lent, processor, drawing)
+        expected = vb.vb_step(*buffers, processor, drawing)
         after = expected.processor
         trace = struct.pack("<4I", processor.pc, after.pc, after.psw, sum(after.regs) & 0xFFFFFFFF)
-        ran = vb.vb_run(*lent, processor, drawing, 2)
+        ran = vb.vb_run(*buffers, processor, drawing, 2)
         for environment in [loaded] + environments:
             fast.set(environment)
-            seen = vb.vb_step(*lent, processor, drawing)
+            seen = vb.vb_step(*buffers, processor, drawing)
             one = fast.get()
-            seen_run = vb.vb_run(*lent, processor, drawing, 2)
+            seen_run = vb.vb_run(*buffers, processor, drawing, 2)
             two = fast.get()
-            replayed = vb.vb_replay(*lent, processor, drawing, trace)
+            replayed = vb.vb_replay(*buffers, processor, drawing, trace)
             three = fast.get()
             fast.set(0x1F80)
             assert (seen, seen_run.processor) == (expected, ran.processor), (operation, hex(word), hex(environment))

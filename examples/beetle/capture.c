@@ -136,10 +136,10 @@ static void set_levels(const unsigned brightness[3])
         levels[value] = 255 * pow(fmin(lit[value], 128) / 128.0, 1 / 2.2);
     for (int value = 0; value < 3; value++)
         if (levels[value + 1] - levels[value] < 24)
-            fail(2, "values %d and %d cannot be told apart by this brightness", value, value + 1);
+            fail(2, "values %d and %d are too close in brightness", value, value + 1);
 }
 
-/* The value whose level is nearest; one that lies further off than rounding explains is none. */
+/* The value whose level is nearest; one that lies further off than rounding explains has no value. */
 static uint8_t value_of(uint8_t seen, int eye, int at)
 {
     int nearest = 0;

@@ -1,5 +1,5 @@
 ; Random scenes, another one in each frame: 20 background worlds of all three kinds and four object worlds over random
-; characters, maps, parameters and objects. They keep to what the papers and the console's games agree on: eight rows or more,
+; characters, maps, parameters and objects. They keep to what the specification and the console's games agree on: eight rows or more,
 ; at most eight maps from a base that is a multiple, parameter bases that are multiples of 16, parallax within nine bits.
 
     .equ cartridge, 0x3332

@@ -135,8 +135,8 @@ _release.argtypes = [ctypes.POINTER(_PyBuffer)]
 _release.restype = None
 
 
-class _Lent:
-    """A buffer while it is lent: its address, its length in bytes, and whether it is written."""
+class _Borrowed:
+    """A buffer while a call uses it: its address, its length in bytes, and whether it is written."""
 
     __slots__ = ("address", "length", "writable", "_buffer", "_held")
 
@@ -165,12 +165,12 @@ class _Lent:
             self._buffer = None
 
 
-def _apart(lent, names):
+def _apart(buffers, names):
     """Buffers of one call must not overlap where one of them is written."""
-    ranges = sorted([(b.address, b.address + b.length, b.writable, n) for b, n in zip(lent, names) if b.length])
+    ranges = sorted([(b.address, b.address + b.length, b.writable, n) for b, n in zip(buffers, names) if b.length])
     for (_, end, first, name), (start, _, second, other) in zip(ranges, ranges[1:]):
         if start < end and (first or second):
-            raise ValueError(f"{name} and {other} share bytes; each must be a buffer of its own")
+            raise ValueError(f"{name} and {other} share bytes; each must be a separate buffer")
 
 
 class _Call:
@@ -187,7 +187,7 @@ class _Call:
     def __call__(self, *given):
         if len(given) != len(self.parameters):
             raise TypeError(f"{self.__name__} takes {len(self.parameters)} arguments: {', '.join(self.names)}")
-        passed, lent, names = [], [], []
+        passed, buffers, names = [], [], []
         for value, (name, kind, writable) in zip(given, self.parameters):
             if writable is None:
                 outside = type(kind) is int and not (type(value) is int and 0 <= value <= kind)
@@ -195,12 +195,12 @@ class _Call:
             elif value is None or type(value) is bytes and not writable:
                 passed += (value, len(value) // kind if value else 0)  # no other buffer shares its bytes
             else:
-                buffer = _Lent(value, writable, f"{self.__name__}: {name}")
-                lent.append(buffer)
+                buffer = _Borrowed(value, writable, f"{self.__name__}: {name}")
+                buffers.append(buffer)
                 names.append(name)
                 passed += (buffer.address, buffer.length // kind)
-        if len(lent) > 1:
-            _apart(lent, names)
+        if len(buffers) > 1:
+            _apart(buffers, names)
         return self.function(*passed)
 
 
@@ -340,7 +340,7 @@ class Machine:
         self.vram = bytearray(262144) if vram is None else vram
         self.pak = pak
         names = ("rom", "wram", "vram", "pak")
-        self._buffers = [_Lent(getattr(self, name), name != "rom", name) for name in names]
+        self._buffers = [_Borrowed(getattr(self, name), name != "rom", name) for name in names]
         _apart(self._buffers, names)
         self._memories = tuple(part for b in self._buffers for part in (b.address, b.length))
         self._vram = self._memories[4:6]
@@ -370,9 +370,9 @@ class Machine:
         return ran.count
 
     def replay(self, trace):
-        """Steps beside a trace of 16 bytes a record, as vb_replayed says how it ended."""
-        lent = _Lent(trace, False, "trace")
-        replayed = vb_replay.function(*self._memories, self.processor, self.drawing, lent.address, lent.length)
+        """Steps along a trace of 16 bytes per record and compares; vb_replayed says how it ended."""
+        borrowed = _Borrowed(trace, False, "trace")
+        replayed = vb_replay.function(*self._memories, self.processor, self.drawing, borrowed.address, borrowed.length)
         if replayed.refusal in (0, 6):
             self.processor, self.drawing = replayed.processor, replayed.drawing
         if replayed.refusal:
@@ -422,18 +422,18 @@ class Machine:
         """A saved state of form 2, without ROM."""
         pak = self._memories[7]
         state = bytearray(327976 + pak if pak else 327962)
-        lent = _Lent(state, True, "state")
-        refusal = vb_write_state_2.function(*self._memories, self.processor, self.drawing, lent.address, lent.length)
+        borrowed = _Borrowed(state, True, "state")
+        refusal = vb_write_state_2.function(*self._memories, self.processor, self.drawing, borrowed.address, borrowed.length)
         if refusal:
             raise Refusal(refusal)
-        del lent
+        del borrowed
         return bytes(state)
 
     def restore(self, state):
         """Memories and registers from a saved state of either form."""
-        lent = _Lent(state, False, "state")
+        borrowed = _Borrowed(state, False, "state")
         call = vb_read_state.function
-        restored = call(*self._memories, self.processor, self.drawing, lent.address, lent.length)
+        restored = call(*self._memories, self.processor, self.drawing, borrowed.address, borrowed.length)
         if restored.refusal:
             raise Refusal(restored.refusal)
         self.processor, self.drawing = restored.processor, restored.drawing

@@ -6,7 +6,7 @@ use std::sync::atomic::{AtomicBool, Ordering};
 
 static OUTPUT_IS_CLOSED: AtomicBool = AtomicBool::new(false);
 
-/// Looks at standard output before `main`: Rust opens /dev/null for it where it is closed, and then nobody could tell.
+/// Looks at standard output before `main`: Rust opens /dev/null for it where it is closed, and then it would seem open.
 extern "C" fn look() {
     let closed = std::io::stdout().as_fd().try_clone_to_owned().is_err();
     OUTPUT_IS_CLOSED.store(closed, Ordering::Relaxed);

@@ -75,7 +75,7 @@ fn what_is_disassembled_assembles_to_the_same_bytes() {
 }
 
 #[test]
-fn a_disassembly_has_labels_and_says_what_is_no_instruction() {
+fn a_disassembly_has_labels_and_marks_what_is_not_an_instruction() {
     let folder = Folder::new("assembler-text");
     let halves: [u16; 12] = [
         0x9A00, 0x95FE, 0x1BFF, 0x6C00, 0x7C0B, 0x7038, 0xE841, 0x0004, 0x9A02, 0xABFF, 0xFFEE,

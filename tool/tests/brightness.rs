@@ -101,11 +101,11 @@ fn a_capture_of_brightness_is_compared() {
     // the same as raw bytes, with one pixel darker and one brighter
     let picture = Rgb::read(&folder.read("a/frame1-left-brightness.png"));
     let level = |x: usize, y: usize| (128 * u32::from(picture.at(3 * x, 3 * y)[0]) + 127) / 255;
-    let mut room: Vec<u8> =
+    let mut output: Vec<u8> =
         (0..WIDTH * HEIGHT).map(|i| level(i % WIDTH, i / WIDTH) as u8).collect();
-    let bright = room.iter().position(|&level| level > 0).unwrap();
-    (room[0], room[bright]) = (room[0] + 1, room[bright] - 1);
-    folder.write("seen.bin", &room);
+    let bright = output.iter().position(|&level| level > 0).unwrap();
+    (output[0], output[bright]) = (output[0] + 1, output[bright] - 1);
+    folder.write("seen.bin", &output);
     let ran = folder.vbmodel(&format!("compare {shown} --eyes left --left seen.bin --out b"));
     assert_eq!((ran.status, ran.error.as_str()), (1, ""), "{}", ran.text);
     assert!(
@@ -118,12 +118,12 @@ fn a_capture_of_brightness_is_compared() {
     assert_eq!(marked.at(0, 0), [0xFF, 0xE0, 0x00]);
     assert_eq!(marked.at(bright % WIDTH, bright / WIDTH), [0x00, 0xD0, 0xFF]);
 
-    room[bright] = 129;
-    folder.write("seen.bin", &room);
+    output[bright] = 129;
+    folder.write("seen.bin", &output);
     let at = format!("pixel ({}, {}) has the brightness 129", bright % WIDTH, bright / WIDTH);
     let ran = folder.vbmodel(&format!("compare {shown} --eyes left --left seen.bin --out c"));
     assert!(ran.status == 2 && ran.error.contains(&at), "{}", ran.error);
-    folder.write("seen.bin", &room[1..]);
+    folder.write("seen.bin", &output[1..]);
     let ran = folder.vbmodel(&format!("compare {shown} --eyes left --left seen.bin --out c"));
     assert!(ran.status == 2 && ran.error.contains("86,016"), "{}", ran.error);
     for other in ["--why", "--threshold 9"] {

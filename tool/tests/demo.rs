@@ -191,12 +191,12 @@ fn its_pictures_fit_each_other() {
     let folder = Folder::with_demo("demo-views");
     let read = |view: &str| Rgb::read(&folder.read(&format!("out/frame0-{view}.png")));
     let (left, right) = (read("left"), read("right"));
-    let (beside, anaglyph) = (read("side-by-side"), read("anaglyph"));
+    let (both, anaglyph) = (read("side-by-side"), read("anaglyph"));
     let mut apart = 0;
     for y in 0..HEIGHT {
         for x in 0..WIDTH {
             let (l, r) = (left.at(x, y), right.at(x, y));
-            assert_eq!((beside.at(x, y), beside.at(WIDTH + x, y)), (l, r));
+            assert_eq!((both.at(x, y), both.at(WIDTH + x, y)), (l, r));
             assert_eq!(anaglyph.at(x, y), [l[0], r[0], r[0]]);
             assert_eq!((l[1], l[2]), (0, 0));
             apart += usize::from(l != r);

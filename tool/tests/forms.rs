@@ -23,7 +23,7 @@ fn show(folder: &Folder, file: &str) -> Value {
 }
 
 #[test]
-fn w12_form_2_is_written_and_holds_lines_and_timer() {
+fn form_2_is_written_and_holds_lines_and_timer() {
     let folder = with_state("form-2");
     let file = folder.read("a.state");
     assert_eq!((file.len(), &file[..6]), (327_962, &[0, 0, 2, 0, 5, 0][..]));
@@ -56,7 +56,7 @@ fn w12_form_2_is_written_and_holds_lines_and_timer() {
 }
 
 #[test]
-fn w12_form_1_is_written_where_lines_and_timer_are_at_reset() {
+fn form_1_is_written_where_lines_and_timer_are_at_reset() {
     let folder = with_state("form-1");
     let before = folder.names();
     let ran = folder.vbmodel(
@@ -85,7 +85,7 @@ fn w12_form_1_is_written_where_lines_and_timer_are_at_reset() {
 }
 
 #[test]
-fn w12_a_state_moves_there_and_back() {
+fn a_state_moves_there_and_back() {
     let folder = Folder::with_demo("form-move");
     folder.write("a.pak", &[7; 32]);
     for (pak, one, two) in [("", 327_920, 327_962), ("--pak a.pak", 327_962, 328_008)] {
@@ -123,7 +123,7 @@ fn w12_a_state_moves_there_and_back() {
 }
 
 #[test]
-fn w12_moves_that_are_refused_write_nothing() {
+fn moves_that_are_refused_write_nothing() {
     let folder = with_state("form-refused");
     folder.refused(
         "state move a.state -o b.state",

@@ -226,7 +226,7 @@ fn closed_standard_output_is_an_error() {
         assert_eq!((ran.status, ran.error.as_str()), (2, line), "{arguments}");
     }
     assert!(!folder.path("w").exists());
-    // what is thrown away on purpose is no error
+    // what is thrown away on purpose is not an error
     let ran = folder.shell("\"$VB\" run --rom out/rom.bin --budget 1 >/dev/null");
     assert_eq!((ran.status, ran.error.as_str()), (0, ""));
     let ran = folder.shell("\"$VB\" run --rom out/rom.bin --budget 1 1<>/dev/null");

@@ -21,7 +21,7 @@ fn json(folder: &Folder, arguments: &str) -> Value {
 }
 
 #[test]
-fn w6_a_raised_line_wakes_a_halted_machine() {
+fn a_raised_line_wakes_a_halted_machine() {
     let folder = Folder::with_rom("lines-wake", &[LET_IN, HALT, ADD_1_R1, HALT], &[ADD_1_R1, RETI]);
     let waits = folder.vbmodel("run --rom a.rom --save-processor p");
     assert!(waits.text.contains("\nlines   0x0000   count   0x0000   "), "{}", waits.text);
@@ -55,7 +55,7 @@ fn w6_a_raised_line_wakes_a_halted_machine() {
 }
 
 #[test]
-fn w6_an_interrupt_comes_before_the_next_instruction_is_looked_at() {
+fn an_interrupt_comes_before_the_next_instruction_is_looked_at() {
     let folder = Folder::with_rom("lines-before", &[LET_IN, BIT_STRING], &[HALT]);
     assert_eq!(folder.vbmodel("run --rom a.rom").status, 2);
     let ran = json(&folder, "--raise 3");
@@ -82,7 +82,7 @@ fn w6_an_interrupt_comes_before_the_next_instruction_is_looked_at() {
 }
 
 #[test]
-fn w6_ticks_count_the_timer_down() {
+fn ticks_count_the_timer_down() {
     let folder = Folder::with_rom("lines-ticks", &[LET_IN, HALT], &[HALT]);
     let timer = "--set count=3 --set reload=5 --set control=0x09";
     for (ticks, lines, count, control) in [(0, 0, 3, 9), (2, 0, 1, 9), (3, 2, 0, 11), (4, 2, 4, 11)]
@@ -102,7 +102,7 @@ fn w6_ticks_count_the_timer_down() {
 }
 
 #[test]
-fn w6_a_schedule_raises_lowers_and_ticks() {
+fn a_schedule_raises_lowers_and_ticks() {
     let folder = Folder::with_rom("lines-schedule", &[LET_IN, ADD_1_R1, 0x8BFE], &[RETI]);
     let run = |schedule: &str, budget: u32| {
         folder.write("a.schedule", schedule.as_bytes());
@@ -126,7 +126,7 @@ fn w6_a_schedule_raises_lowers_and_ticks() {
 }
 
 #[test]
-fn w6_a_halted_machine_waits_for_its_schedule() {
+fn a_halted_machine_waits_for_its_schedule() {
     // each interrupt adds 1 and halts again
     let folder = Folder::with_rom("lines-halted", &[LET_IN, HALT, ADD_1_R1, 0x8BFC], &[RETI]);
     folder.write("two", b"at 1_000_000 raise vip\nat 1_000_001 lower vip\nat 2_000_000 raise pad\nat 2_000_001 lower pad\n");
@@ -147,7 +147,7 @@ fn w6_a_halted_machine_waits_for_its_schedule() {
 }
 
 #[test]
-fn w6_wrong_levels_and_schedules_are_reported_and_nothing_is_written() {
+fn wrong_levels_and_schedules_are_reported_and_nothing_is_written() {
     let folder = Folder::with_rom("lines-wrong", &[CLI, HALT], &[RETI]);
     for option in ["--raise 5", "--lower all", "--raise 0x"] {
         let ran = folder.vbmodel(&format!("run --rom a.rom {option} --save-processor p"));

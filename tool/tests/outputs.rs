@@ -1,4 +1,4 @@
-//! Files that the tool writes: one file under two names, what is no regular file, files that may not be written, and a
+//! Files that the tool writes: one file under two names, what is not a regular file, files that may not be written, and a
 //! run whose outputs fail.
 
 mod common;

@@ -191,7 +191,7 @@ fn compare_refuses_other_captures() {
 }
 
 #[test]
-fn why_tells_what_covers_a_pixel() {
+fn why_says_what_covers_a_pixel() {
     let folder = Folder::with_demo("why");
     let ran = folder.vbmodel(&format!("why left 192 120 {SCENE}"));
     assert_eq!((ran.status, ran.error.as_str()), (0, ""));
@@ -247,7 +247,7 @@ fn whys_bytes_are_those_the_pixel_answers_to() {
 }
 
 #[test]
-fn draw_lays_an_overlay_and_tells_refused_writes() {
+fn draw_lays_an_overlay_and_reports_refused_writes() {
     let folder = Folder::with_demo("draw-overlay");
     let lines = "# map 12, a character by its mirror, and a world record\nhalf 0x38000 0x0600\n\
                  word 0x0007_E000 0x12345678\nbyte 0x3D800 1\n";

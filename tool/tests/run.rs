@@ -176,7 +176,7 @@ fn bad_files_are_reported() {
     }
 }
 
-/// A long run tells how far it is.
+/// A long run shows how far it is.
 #[test]
 fn a_long_run_on_a_terminal_shows_progress() {
     let folder = with_rom("run-progress", &[BRANCH_TO_ITSELF]);

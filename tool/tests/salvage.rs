@@ -14,7 +14,7 @@ fn with_state(name: &str) -> Folder {
 }
 
 #[test]
-fn w13_an_undamaged_state_comes_out_as_it_is() {
+fn an_undamaged_state_comes_out_as_it_is() {
     let folder = with_state("salvage-sound");
     let ran = folder.vbmodel("state salvage a.state -o b.state");
     assert_eq!((ran.status, ran.error.as_str()), (0, ""));
@@ -33,7 +33,7 @@ fn w13_an_undamaged_state_comes_out_as_it_is() {
 }
 
 #[test]
-fn w13_what_is_lost_and_kept_is_reported_in_words() {
+fn what_is_lost_and_kept_is_reported_in_words() {
     let folder = with_state("salvage-damaged");
     let sound = folder.read("a.state");
     for (changes, lost, contents) in [
@@ -99,7 +99,7 @@ fn w13_what_is_lost_and_kept_is_reported_in_words() {
 }
 
 #[test]
-fn w13_a_sound_file_of_form_1_is_not_salvaged_unasked() {
+fn a_sound_file_of_form_1_is_not_salvaged_unasked() {
     let folder = Folder::with_demo("salvage-form-1");
     folder.write("a.pak", &[7; 32]);
     let run = "run --rom out/rom.bin --pak a.pak --budget 9 --state-form 1 --save-state one.state";
@@ -113,7 +113,7 @@ fn w13_a_sound_file_of_form_1_is_not_salvaged_unasked() {
     let forced = folder.vbmodel("state salvage one.state -o b.state --force");
     assert_eq!(forced.status, 1, "{}", forced.error);
     assert_eq!(folder.vbmodel("state show b.state").status, 0);
-    // a damaged one is no sound one
+    // a damaged one is not an undamaged one
     let mut file = folder.read("one.state");
     file[2] ^= 1;
     folder.write("bad", &file);
@@ -121,7 +121,7 @@ fn w13_a_sound_file_of_form_1_is_not_salvaged_unasked() {
 }
 
 #[test]
-fn w13_other_lengths_are_refused_and_nothing_is_written() {
+fn other_lengths_are_refused_and_nothing_is_written() {
     let folder = with_state("salvage-lengths");
     let sound = folder.read("a.state");
     folder.write("short", &sound[1..]);

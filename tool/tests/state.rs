@@ -18,9 +18,9 @@ fn by_library(folder: &Folder, name: &str, pak: &[u8]) -> Vec<u8> {
     let drawing = Drawing::from_bytes(&file("drawing")).unwrap();
     let (rom, wram, vram) = (vec![0; 1024], file("wram"), file("vram"));
     let memories = ReadMemories { rom: &rom, wram: &wram, vram: &vram, pak };
-    let mut room = vec![0; state_bytes(pak.len())];
-    Machine { processor, drawing }.write_state(&memories, &mut room).unwrap();
-    room
+    let mut output = vec![0; state_bytes(pak.len())];
+    Machine { processor, drawing }.write_state(&memories, &mut output).unwrap();
+    output
 }
 
 /// Options that save a machine apart.
@@ -109,7 +109,7 @@ fn state_files_are_what_the_library_writes() {
 }
 
 #[test]
-fn state_show_tells_what_it_holds() {
+fn state_show_says_what_it_holds() {
     let folder = with_state("state-show");
     let shown = folder.vbmodel("state show a.state");
     assert_eq!((shown.status, shown.error.as_str()), (0, ""));
@@ -213,7 +213,7 @@ const BROKEN: [Broken; 19] = [
 ];
 
 #[test]
-fn state_show_tells_the_rule_and_the_byte() {
+fn state_show_says_the_rule_and_the_byte() {
     let folder = with_state("state-rules");
     let sound = folder.read("a.state");
     for (changes, byte, said) in BROKEN {

@@ -1,4 +1,4 @@
-//! The wrapper `vbmodel` of the repository, in a folder of its own with stand-ins for setup, rt, cargo and the tool.
+//! The wrapper `vbmodel` of the repository, in a separate folder with stand-ins for setup, rt, cargo and the tool.
 
 mod common;
 

@@ -13,14 +13,15 @@ struct Buffers {
 }
 
 pub fn rows() -> Vec<Row> {
-    let mut lent = Buffers { rom: vec![0; 1 << 20], wram: vec![0; 65_536], vram: vec![0; 262_144] };
+    let mut buffers =
+        Buffers { rom: vec![0; 1 << 20], wram: vec![0; 65_536], vram: vec![0; 262_144] };
     vec![
-        load("word load from WRAM", 0x0500_0000, &lent),
-        load("word load from a ROM of 1 MiB", 0x0700_0000, &lent),
-        store("word store to WRAM", 0x0500_0000, &mut lent),
-        store("word store to VRAM", 0x0002_0000, &mut lent),
-        list("word load from WRAM, one of 256 in a list", 0, &mut lent),
-        list("word store to WRAM, one of 256 in a list", 1, &mut lent),
+        load("word load from WRAM", 0x0500_0000, &buffers),
+        load("word load from a ROM of 1 MiB", 0x0700_0000, &buffers),
+        store("word store to WRAM", 0x0500_0000, &mut buffers),
+        store("word store to VRAM", 0x0002_0000, &mut buffers),
+        list("word load from WRAM, one of 256 in a list", 0, &mut buffers),
+        list("word store to WRAM, one of 256 in a list", 1, &mut buffers),
     ]
 }
 
@@ -29,8 +30,8 @@ fn address(base: u32, call: u32) -> u32 {
     base + call.wrapping_mul(0x9E4C) % 0x1_0000
 }
 
-fn load(what: &str, base: u32, lent: &Buffers) -> Row {
-    let Buffers { rom, wram, vram } = lent;
+fn load(what: &str, base: u32, buffers: &Buffers) -> Row {
+    let Buffers { rom, wram, vram } = buffers;
     let library = vbsys::ReadMemories { rom, wram, vram, pak: &[] };
     let model = model::ReadMemories { rom, wram, vram, pak: &[] };
     let (first, second) = (vbsys::Drawing::default(), model::DrawingRegisters::default());
@@ -54,8 +55,8 @@ fn load(what: &str, base: u32, lent: &Buffers) -> Row {
     }
 }
 
-fn store(what: &str, base: u32, lent: &mut Buffers) -> Row {
-    let Buffers { rom, wram, vram } = lent;
+fn store(what: &str, base: u32, buffers: &mut Buffers) -> Row {
+    let Buffers { rom, wram, vram } = buffers;
     let (first, timer) = (vbsys::Drawing::default(), vbsys::Hardware::default());
     let (mut second, mut model_timer) = Default::default();
     let library = least(|| {
@@ -79,8 +80,8 @@ fn store(what: &str, base: u32, lent: &mut Buffers) -> Row {
 }
 
 /// Lists of 256 accesses, 1,024 accesses at a time.
-fn list(what: &str, write: u32, lent: &mut Buffers) -> Row {
-    let Buffers { rom, wram, vram } = lent;
+fn list(what: &str, write: u32, buffers: &mut Buffers) -> Row {
+    let Buffers { rom, wram, vram } = buffers;
     let of = |call: u32| vbsys::Access {
         address: address(0x0500_0000, call),
         size: 4,

@@ -263,24 +263,24 @@ fn turns(state: &[u8]) -> Option<u32> {
 struct Peer {
     frontend: PathBuf,
     core: PathBuf,
-    room: PathBuf,
+    folder: PathBuf,
 }
 
 impl Peer {
     /// Microseconds of a frame, and r10 at the end.
     fn frame(&self, rom: &Path, frames: u32) -> (f64, u32) {
-        let state = self.room.join("state");
+        let state = self.folder.join("state");
         let ran = Command::new(&self.frontend)
             .args([&self.core, rom])
             .arg(frames.to_string())
             .arg(&state)
-            .env("TMPDIR", &self.room)
+            .env("TMPDIR", &self.folder)
             .output()
             .expect("the frontend runs");
-        let told = String::from_utf8_lossy(&ran.stdout);
-        let time = told.trim().parse().unwrap_or_else(|_| {
+        let printed = String::from_utf8_lossy(&ran.stdout);
+        let time = printed.trim().parse().unwrap_or_else(|_| {
             panic!(
-                "the frontend fails ({}): {told}{}",
+                "the frontend fails ({}): {printed}{}",
                 ran.status,
                 String::from_utf8_lossy(&ran.stderr)
             )
@@ -290,8 +290,8 @@ impl Peer {
     }
 
     fn write(&self, name: &str, rom: &[u8]) -> PathBuf {
-        let path = self.room.join(format!("{name}.vb"));
-        fs::write(&path, rom).expect("the room can be written");
+        let path = self.folder.join(format!("{name}.vb"));
+        fs::write(&path, rom).expect("the folder can be written");
         path
     }
 }
@@ -397,11 +397,11 @@ fn draw(peer: &Peer, rounds: u32, frames: u32) {
 
 /// `bench peer FRONTEND CORE ROOM cpu|draw|all`, as `peer/run` calls it.
 pub fn compare(words: &[String]) {
-    let [frontend, core, room, asked] = words else {
+    let [frontend, core, folder, asked] = words else {
         eprintln!("use rust/bench/peer/run [cpu|draw|all]");
         std::process::exit(2);
     };
-    let peer = Peer { frontend: frontend.into(), core: core.into(), room: room.into() };
+    let peer = Peer { frontend: frontend.into(), core: core.into(), folder: folder.into() };
     let (rounds, frames) = (setting("ROUNDS", 5), setting("FRAMES", 100));
     if asked == "cpu" || asked == "all" {
         cpu(&peer, rounds, frames);

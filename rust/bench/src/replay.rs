@@ -21,7 +21,7 @@ impl Bench {
         Bench { rom, wram: vec![0; 65_536], vram: vec![0; 262_144] }
     }
 
-    fn lent(&mut self) -> vbsys::Memories<'_> {
+    fn memories(&mut self) -> vbsys::Memories<'_> {
         vbsys::Memories { rom: &self.rom, wram: &mut self.wram, vram: &mut self.vram, pak: &mut [] }
     }
 }
@@ -40,7 +40,7 @@ fn start() -> vbsys::Machine {
 /// The trace from memories of zeros.
 fn recorded(bench: &mut Bench) -> Vec<u8> {
     let vbsys::Machine { mut processor, drawing } = start();
-    let mut memories = bench.lent();
+    let mut memories = bench.memories();
     let mut trace = Vec::with_capacity(16 * RECORDS);
     for _ in 0..RECORDS {
         let before = processor.pc;
@@ -58,7 +58,7 @@ fn row(what: &str, code: &[u16]) -> Row {
     let vbsys::Machine { processor, drawing } = start();
     let library = least(|| {
         bench.wram.fill(0);
-        let replayed = vbsys::replay(&mut bench.lent(), processor, drawing, &trace);
+        let replayed = vbsys::replay(&mut bench.memories(), processor, drawing, &trace);
         assert_eq!((replayed.answer, replayed.agreed), (vbsys::REPLAY_AGREED, RECORDS as u64));
         replayed.agreed
     });

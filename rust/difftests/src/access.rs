@@ -71,19 +71,19 @@ pub fn by_library(
         drawing: to_model(&stored.drawing),
         hardware: hardware_to_model(&stored.hardware),
     };
-    let read = buffers.lend_library_to_read();
+    let read = buffers.read_by_library();
     match call {
         Call::LoadByte => load(vbsys::load_byte(read, registers, timer, address)),
         Call::LoadHalf => load(vbsys::load_half(read, registers, timer, address)),
         Call::LoadWord => load(vbsys::load_word(read, registers, timer, address)),
         Call::StoreByte => {
-            store(vbsys::store_byte(&mut buffers.lend_library(), registers, timer, address, value))
+            store(vbsys::store_byte(&mut buffers.for_library(), registers, timer, address, value))
         }
         Call::StoreHalf => {
-            store(vbsys::store_half(&mut buffers.lend_library(), registers, timer, address, value))
+            store(vbsys::store_half(&mut buffers.for_library(), registers, timer, address, value))
         }
         Call::StoreWord => {
-            store(vbsys::store_word(&mut buffers.lend_library(), registers, timer, address, value))
+            store(vbsys::store_word(&mut buffers.for_library(), registers, timer, address, value))
         }
     }
 }
@@ -98,13 +98,13 @@ pub fn by_model(
 ) -> Answer {
     let Registers { mut drawing, mut hardware } = registers.into();
     let (d, h) = (&mut drawing, &mut hardware);
-    let read = buffers.lend_model_to_read();
+    let read = buffers.read_by_model();
     let answer = match call {
         Call::LoadByte => bus::load_byte(&read, d, h, address),
         Call::LoadHalf => bus::load_half(&read, d, h, address),
         Call::LoadWord => bus::load_word(&read, d, h, address),
         Call::StoreByte | Call::StoreHalf | Call::StoreWord => {
-            let memories = &mut buffers.lend_model();
+            let memories = &mut buffers.for_model();
             let stored = match call {
                 Call::StoreByte => bus::store_byte(memories, d, h, address, value),
                 Call::StoreHalf => bus::store_half(memories, d, h, address, value),

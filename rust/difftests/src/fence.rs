@@ -95,16 +95,16 @@ pub fn sides_and_paks() -> impl Iterator<Item = (Side, usize)> {
 }
 
 /// Four fenced memories; ROM may not be written.
-pub struct Lent {
+pub struct FencedMemories {
     rom: Fenced,
     wram: Fenced,
     vram: Fenced,
     pak: Fenced,
 }
 
-impl Lent {
-    pub fn new(buffers: &Buffers, side: Side) -> Lent {
-        Lent {
+impl FencedMemories {
+    pub fn new(buffers: &Buffers, side: Side) -> FencedMemories {
+        FencedMemories {
             rom: Fenced::closed(&buffers.rom, side),
             wram: Fenced::new(&buffers.wram, side),
             vram: Fenced::new(&buffers.vram, side),
@@ -113,12 +113,12 @@ impl Lent {
     }
 
     /// Memories that may all not be written.
-    pub fn closed(buffers: &Buffers, side: Side) -> Lent {
-        let mut lent = Lent::new(buffers, side);
-        for memory in [&mut lent.wram, &mut lent.vram, &mut lent.pak] {
+    pub fn closed(buffers: &Buffers, side: Side) -> FencedMemories {
+        let mut fenced = FencedMemories::new(buffers, side);
+        for memory in [&mut fenced.wram, &mut fenced.vram, &mut fenced.pak] {
             memory.forbid_writing();
         }
-        lent
+        fenced
     }
 
     pub fn read(&self) -> vbsys::ReadMemories<'_> {

@@ -15,8 +15,8 @@ pub struct Buffers {
 
 impl Buffers {
     pub fn zeroed(rom: usize, wram: usize, vram: usize, pak: usize) -> Buffers {
-        let room = |length: usize| vec![0u8; length].into_boxed_slice();
-        Buffers { rom: room(rom), wram: room(wram), vram: room(vram), pak: room(pak) }
+        let zeros = |length: usize| vec![0u8; length].into_boxed_slice();
+        Buffers { rom: zeros(rom), wram: zeros(wram), vram: zeros(vram), pak: zeros(pak) }
     }
 
     /// Memories of accepted lengths with random contents.
@@ -29,7 +29,7 @@ impl Buffers {
         buffers
     }
 
-    pub fn lend_library(&mut self) -> vbsys::Memories<'_> {
+    pub fn for_library(&mut self) -> vbsys::Memories<'_> {
         vbsys::Memories {
             rom: &self.rom,
             wram: &mut self.wram,
@@ -38,11 +38,11 @@ impl Buffers {
         }
     }
 
-    pub fn lend_library_to_read(&self) -> vbsys::ReadMemories<'_> {
+    pub fn read_by_library(&self) -> vbsys::ReadMemories<'_> {
         vbsys::ReadMemories { rom: &self.rom, wram: &self.wram, vram: &self.vram, pak: &self.pak }
     }
 
-    pub fn lend_model(&mut self) -> model::Memories<'_> {
+    pub fn for_model(&mut self) -> model::Memories<'_> {
         model::Memories {
             rom: &self.rom,
             wram: &mut self.wram,
@@ -51,7 +51,7 @@ impl Buffers {
         }
     }
 
-    pub fn lend_model_to_read(&self) -> model::ReadMemories<'_> {
+    pub fn read_by_model(&self) -> model::ReadMemories<'_> {
         model::ReadMemories { rom: &self.rom, wram: &self.wram, vram: &self.vram, pak: &self.pak }
     }
 

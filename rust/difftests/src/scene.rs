@@ -142,7 +142,7 @@ impl Scene {
     }
 }
 
-/// Registers with palettes that tell values apart.
+/// Registers whose palettes keep values distinct.
 fn random_palettes(random: &mut Random) -> DrawingRegisters {
     let mut palette = || random.pick(&[0xE4u16, 0x1B, 0xD8, 0x6C, 0x27]) ^ random.half() & 3;
     DrawingRegisters {

@@ -1,7 +1,7 @@
 //! Machines saved and read back by the library and the model.
 
 #[cfg(target_os = "linux")]
-use crate::fence::{Fenced, Lent, Side};
+use crate::fence::{Fenced, FencedMemories, Side};
 use crate::machine::{expect_same_bytes, random_drawing, random_hardware, to_library, Buffers};
 use crate::program::random_processor;
 use crate::random::Random;
@@ -33,8 +33,8 @@ pub fn filled(length: usize) -> Box<[u8]> {
 }
 
 /// Whether nothing was written into an output buffer.
-pub fn is_untouched(room: &[u8]) -> bool {
-    room.iter().all(|&byte| byte == FILLED)
+pub fn is_untouched(output: &[u8]) -> bool {
+    output.iter().all(|&byte| byte == FILLED)
 }
 
 /// A machine to be saved, or to be filled.
@@ -63,10 +63,10 @@ impl State {
     }
 
     /// Writes with the library into an output buffer of this length.
-    pub fn write(&self, form: Form, room: usize) -> (u32, Box<[u8]>) {
+    pub fn write(&self, form: Form, output: usize) -> (u32, Box<[u8]>) {
         let write = write_by_library(form);
-        let mut bytes = filled(room);
-        let memories = self.buffers.lend_library_to_read();
+        let mut bytes = filled(output);
+        let memories = self.buffers.read_by_library();
         let processor = processor_to_library(&self.processor);
         let number = write(memories, processor, to_library(&self.drawing), &mut bytes);
         assert!(number == 0 || is_untouched(&bytes), "a refused writing has written");
@@ -74,13 +74,13 @@ impl State {
     }
 
     /// Writes with the model.
-    pub fn write_by_model(&self, form: Form, room: usize) -> (u32, Box<[u8]>) {
+    pub fn write_by_model(&self, form: Form, output: usize) -> (u32, Box<[u8]>) {
         let write = match form {
             Form::One => model::saved::write_state,
             Form::Two => model::saved::write_state_2,
         };
-        let mut bytes = filled(room);
-        let memories = self.buffers.lend_model_to_read();
+        let mut bytes = filled(output);
+        let memories = self.buffers.read_by_model();
         let answer = write(&memories, &self.processor, &self.drawing, &mut bytes);
         (answer.err().map_or(0, Refusal::number), bytes)
     }
@@ -99,12 +99,12 @@ impl State {
     pub fn read(&self, file: &[u8], what: &str) -> (u32, State) {
         let (mut library, mut model) = (self.buffers.clone(), self.clone());
         let restored = vbsys::read_state(
-            &mut library.lend_library(),
+            &mut library.for_library(),
             processor_to_library(&self.processor),
             to_library(&self.drawing),
             file,
         );
-        let memories = &mut model.buffers.lend_model();
+        let memories = &mut model.buffers.for_model();
         let answer =
             model::saved::read_state(memories, &mut model.processor, &mut model.drawing, file);
         let expected = vbsys::Restored {
@@ -130,17 +130,21 @@ impl State {
         let write = write_by_library(form);
         let processor = processor_to_library(&self.processor);
         let drawing = to_library(&self.drawing);
-        let saved = Lent::closed(&self.buffers, side);
+        let saved = FencedMemories::closed(&self.buffers, side);
         let Buffers { rom, wram, vram, pak } = &self.buffers;
         let mut blank = Buffers::zeroed(rom.len(), wram.len(), vram.len(), pak.len());
         blank.rom.copy_from_slice(rom);
         for length in [file.len(), file.len() - 1, 0] {
-            let mut room = Fenced::new(&filled(length), side);
-            let number = write(saved.read(), processor, drawing, room.bytes_mut());
+            let mut output = Fenced::new(&filled(length), side);
+            let number = write(saved.read(), processor, drawing, output.bytes_mut());
             assert_eq!(number, if length == file.len() { 0 } else { 9 });
-            assert!(if number == 0 { *room.bytes() == *file } else { is_untouched(room.bytes()) });
+            assert!(if number == 0 {
+                *output.bytes() == *file
+            } else {
+                is_untouched(output.bytes())
+            });
             let source = Fenced::closed(&file[..length], side);
-            let mut read = Lent::new(&blank, side);
+            let mut read = FencedMemories::new(&blank, side);
             let restored = vbsys::read_state(&mut read.write(), processor, drawing, source.bytes());
             assert_eq!(restored.refusal, number);
             read.expect_equal(if number == 0 { &self.buffers } else { &blank });
@@ -165,8 +169,8 @@ impl State {
         for &length in lengths.iter().chain(&[0, 1, file.len() - 1, file.len(), file.len() + 1]) {
             let number = if length == file.len() { 0 } else { 9 };
             let what = format!("length {length}, pak RAM {}", self.buffers.pak.len());
-            let (found, room) = self.write(form, length);
-            assert_eq!((found, room.len()), (number, length), "{what}");
+            let (found, output) = self.write(form, length);
+            assert_eq!((found, output.len()), (number, length), "{what}");
             assert_eq!(self.write_by_model(form, length).0, number, "{what}");
             let mut given = file.clone();
             given.resize(length, 0);

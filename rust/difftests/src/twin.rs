@@ -63,19 +63,19 @@ impl Twin {
 
     /// Steps both and compares answer and records.
     pub fn step(&mut self, what: &dyn Fn() -> String) -> Result<StepAnswer, Refusal> {
-        self.step_and_tell(what).map(|stepped| stepped.answer)
+        self.step_watched(what).map(|stepped| stepped.answer)
     }
 
-    /// The same; tells also what the step read that is undefined.
-    pub fn step_and_tell(&mut self, what: &dyn Fn() -> String) -> Result<Stepped, Refusal> {
+    /// The same; gives also what the step read that is undefined.
+    pub fn step_watched(&mut self, what: &dyn Fn() -> String) -> Result<Stepped, Refusal> {
         let (before, registers) = (self.processor, self.drawing);
         let library = vbsys::step(
-            &mut self.library.lend_library(),
+            &mut self.library.for_library(),
             processor_to_library(&before),
             to_library(&registers),
         );
         let stepped = model::processor::step(
-            &mut self.model.lend_model(),
+            &mut self.model.for_model(),
             &mut self.processor,
             &mut self.drawing,
         );
@@ -102,13 +102,13 @@ impl Twin {
     pub fn run(&mut self, budget: u64, what: &dyn Fn() -> String) -> model::Ran {
         let (before, registers) = (self.processor, self.drawing);
         let library = vbsys::run(
-            &mut self.library.lend_library(),
+            &mut self.library.for_library(),
             processor_to_library(&before),
             to_library(&registers),
             budget,
         );
         let ran = model::processor::run(
-            &mut self.model.lend_model(),
+            &mut self.model.for_model(),
             &mut self.processor,
             &mut self.drawing,
             budget,

@@ -35,7 +35,7 @@ fn made_by_library(buffers: &mut Buffers, registers: &Registers, list: &[u8]) ->
     let mut list: Box<[u8]> = list.into();
     let drawing = to_library(&registers.drawing);
     let hardware = hardware_to_library(&registers.hardware);
-    let stored = vbsys::access_bytes(&mut buffers.lend_library(), drawing, hardware, &mut list);
+    let stored = vbsys::access_bytes(&mut buffers.for_library(), drawing, hardware, &mut list);
     let registers = Registers {
         drawing: to_model(&stored.drawing),
         hardware: hardware_to_model(&stored.hardware),
@@ -46,7 +46,7 @@ fn made_by_library(buffers: &mut Buffers, registers: &Registers, list: &[u8]) ->
 fn made_by_model(buffers: &mut Buffers, registers: &Registers, list: &[u8]) -> Made {
     let mut accesses = accesses_in(list);
     let Registers { mut drawing, mut hardware } = *registers;
-    let memories = &mut buffers.lend_model();
+    let memories = &mut buffers.for_model();
     let answer =
         model::access_list::access_list(memories, &mut drawing, &mut hardware, &mut accesses);
     Made {
@@ -100,10 +100,10 @@ impl Threefold {
         let model = made_by_model(&mut self.model, registers, &bytes);
         for (name, other) in [("the single calls", &singles), ("the model", &model)] {
             assert_eq!(library.refusal, other.refusal, "{}", what());
-            assert_eq!(library.registers, other.registers, "beside {name}; {}", what());
+            assert_eq!(library.registers, other.registers, "compared with {name}; {}", what());
             let found = accesses_in(&library.list);
             for (number, pair) in found.iter().zip(accesses_in(&other.list)).enumerate() {
-                assert_eq!(*pair.0, pair.1, "access {number} beside {name}; {}", what());
+                assert_eq!(*pair.0, pair.1, "access {number}, {name}; {}", what());
             }
         }
         self.library.expect_equal(&self.singles, what);
@@ -373,22 +373,23 @@ fn the_order_of_refusals() {
 #[cfg(target_os = "linux")]
 #[test]
 fn between_fences() {
-    use difftests::fence::{sides_and_paks, Fenced, Lent};
+    use difftests::fence::{sides_and_paks, Fenced, FencedMemories};
     let mut random = Random::new(0x7007_0000);
     for (side, pak) in sides_and_paks() {
         for length in [0, 1, 2, 3, 100, 255, 256, 257] {
             let mut model = Buffers::random(&mut random, 1_024, pak);
             let list = bytes_of(&random_list(&mut random, length, true, 1_024, pak));
             let registers = Registers::random(&mut random);
-            let (mut lent, mut given) = (Lent::new(&model, side), Fenced::new(&list, side));
+            let (mut fenced, mut given) =
+                (FencedMemories::new(&model, side), Fenced::new(&list, side));
             let drawing = to_library(&registers.drawing);
             let hardware = hardware_to_library(&registers.hardware);
             let stored =
-                vbsys::access_bytes(&mut lent.write(), drawing, hardware, given.bytes_mut());
+                vbsys::access_bytes(&mut fenced.write(), drawing, hardware, given.bytes_mut());
             let expected = made_by_model(&mut model, &registers, &list);
             assert_eq!(stored.refusal, expected.refusal, "{length} accesses");
             assert!(*given.bytes() == *expected.list);
-            lent.expect_equal(&model);
+            fenced.expect_equal(&model);
         }
     }
 }

@@ -200,7 +200,7 @@ fn cells_that_are_cut() {
     }
 }
 
-/// Values under palettes of their own: each of the 256 values of a palette, by a
+/// Values under separate palettes: each of the 256 values of a palette, by a
 /// background world and by an object.
 #[test]
 fn every_palette() {

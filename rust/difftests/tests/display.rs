@@ -3,7 +3,7 @@
 
 use difftests::machine::expect_same_bytes;
 use difftests::random::Random;
-use model::display::{display, load_column_table, ROOM_LENGTH};
+use model::display::{display, load_column_table, DISPLAY_LENGTH};
 
 const VRAM: usize = 262_144;
 
@@ -26,16 +26,16 @@ fn random_bytes(random: &mut Random, length: usize) -> Box<[u8]> {
 
 /// Makes the call on both sides, the output buffers filled alike before, and compares
 /// number, output buffer and VRAM. Gives the number and the output buffer.
-fn expect_same(vram: &[u8], given: Given, room: usize, what: &str) -> (u32, Box<[u8]>) {
+fn expect_same(vram: &[u8], given: Given, output: usize, what: &str) -> (u32, Box<[u8]>) {
     let Given { frame, eye, start, brightness } = given;
-    let before = random_bytes(&mut Random::new(0x0B1C), room);
+    let before = random_bytes(&mut Random::new(0x0B1C), output);
     let (mut library, mut model) = (before.clone(), before.clone());
     let unchanged = vram.to_vec();
     let number = vbsys::display(vram, frame, eye, start, brightness, &mut library);
     let answer = display(vram, frame, eye, start, brightness, &mut model);
     let expected = answer.err().map_or(0, model::Refusal::number);
-    assert_eq!(number, expected, "{given:?}, room {room}; {what}");
-    expect_same_bytes("room", &library, &model, &|| format!("{given:?}; {what}"));
+    assert_eq!(number, expected, "{given:?}, output {output}; {what}");
+    expect_same_bytes("output", &library, &model, &|| format!("{given:?}; {what}"));
     assert!(vram == unchanged, "VRAM changes: {given:?}; {what}");
     if number != 0 {
         assert!(library == before, "a refusal stores: {given:?}; {what}");
@@ -71,11 +71,11 @@ fn random_images() {
             start: 95 + random.below(161),
             brightness: brightness(&mut random),
         };
-        let (number, room) = expect_same(&vram, given, ROOM_LENGTH, &format!("seed {seed:X}"));
+        let (number, output) = expect_same(&vram, given, DISPLAY_LENGTH, &format!("seed {seed:X}"));
         assert_eq!(number, 0);
-        limited += room.iter().filter(|&&byte| byte == 128).count();
-        below += room.iter().filter(|&&byte| (1..128).contains(&byte)).count();
-        assert!(room.iter().all(|&byte| byte <= 128));
+        limited += output.iter().filter(|&&byte| byte == 128).count();
+        below += output.iter().filter(|&&byte| (1..128).contains(&byte)).count();
+        assert!(output.iter().all(|&byte| byte <= 128));
     }
     assert!(limited > 500_000 && below > 500_000, "{limited} limited, {below} below");
 }
@@ -98,9 +98,9 @@ fn products_at_the_limit() {
             for (frame, eye) in [(0, 0), (0, 1), (1, 0), (1, 1)] {
                 let given = Given { frame, eye, start: 255, brightness };
                 let what = format!("{repeats} times {time}");
-                let (_, room) = expect_same(&vram, given, ROOM_LENGTH, &what);
+                let (_, output) = expect_same(&vram, given, DISPLAY_LENGTH, &what);
                 let due = (u32::from(time) * repeats).min(128) as u8;
-                let most = room.iter().copied().max().unwrap();
+                let most = output.iter().copied().max().unwrap();
                 let three = brightness == [time; 3];
                 assert!(most == due || three, "the brightest is {most}, {given:?}");
             }
@@ -108,7 +108,7 @@ fn products_at_the_limit() {
     }
 }
 
-/// Every start from 95 to 255, with entries that tell where they are: columns
+/// Every start from 95 to 255, with entries that say where they are: columns
 /// 4g to 4g + 3 take entry start - g.
 #[test]
 fn every_start() {
@@ -120,11 +120,11 @@ fn every_start() {
     for start in 95..=255 {
         for eye in 0..2 {
             let given = Given { frame: 0, eye, start, brightness: [0, 0, 1] };
-            let (_, room) = expect_same(&vram, given, ROOM_LENGTH, "every start");
+            let (_, output) = expect_same(&vram, given, DISPLAY_LENGTH, "every start");
             for x in 0..384 {
                 let entry = start - x / 4;
                 let due = ((entry / 2) ^ eye) + 1;
-                assert_eq!(u32::from(room[384 * 100 + x as usize]), due, "column {x}, {given:?}");
+                assert_eq!(u32::from(output[384 * 100 + x as usize]), due, "column {x}, {given:?}");
             }
         }
     }
@@ -150,8 +150,8 @@ fn nothing_else_matters() {
             let high = 0x3DC01 + 0x200 * eye as usize + 2 * entry as usize;
             other[high] = vram[high];
         }
-        let (_, first) = expect_same(&vram, given, ROOM_LENGTH, "first");
-        let (_, second) = expect_same(&other, given, ROOM_LENGTH, "second");
+        let (_, first) = expect_same(&vram, given, DISPLAY_LENGTH, "first");
+        let (_, second) = expect_same(&other, given, DISPLAY_LENGTH, "second");
         assert!(first == second, "other bytes matter: {given:?}");
     }
 }
@@ -162,21 +162,21 @@ fn both_sides_of_each_limit() {
     for (start, number) in
         [(0, 15), (94, 15), (95, 0), (255, 0), (256, 15), (351, 15), (0xFFFF_FFFF, 15)]
     {
-        let found = expect_same(&vram, Given { start, ..ACCEPTED }, ROOM_LENGTH, "start").0;
+        let found = expect_same(&vram, Given { start, ..ACCEPTED }, DISPLAY_LENGTH, "start").0;
         assert_eq!(found, number, "start {start}");
     }
     for (eye, number) in [(0, 0), (1, 0), (2, 15), (256, 15), (0xFFFF_FFFF, 15)] {
-        let found = expect_same(&vram, Given { eye, ..ACCEPTED }, ROOM_LENGTH, "eye").0;
+        let found = expect_same(&vram, Given { eye, ..ACCEPTED }, DISPLAY_LENGTH, "eye").0;
         assert_eq!(found, number, "eye {eye}");
     }
     for (frame, number) in [(0, 0), (1, 0), (2, 7), (256, 7), (0xFFFF_FFFF, 7)] {
-        let found = expect_same(&vram, Given { frame, ..ACCEPTED }, ROOM_LENGTH, "frame").0;
+        let found = expect_same(&vram, Given { frame, ..ACCEPTED }, DISPLAY_LENGTH, "frame").0;
         assert_eq!(found, number, "frame {frame}");
     }
-    for (room, number) in
+    for (output, number) in
         [(0, 15), (1, 15), (86_015, 15), (86_016, 0), (86_017, 15), (98_304, 15), (172_032, 15)]
     {
-        assert_eq!(expect_same(&vram, ACCEPTED, room, "room").0, number, "room {room}");
+        assert_eq!(expect_same(&vram, ACCEPTED, output, "output").0, number, "output {output}");
     }
 }
 
@@ -193,7 +193,7 @@ fn the_lowest_number_wins() {
             start: if broken(3) { 94 } else { 95 },
             ..ACCEPTED
         };
-        let room = if broken(4) { ROOM_LENGTH - 1 } else { ROOM_LENGTH };
+        let output = if broken(4) { DISPLAY_LENGTH - 1 } else { DISPLAY_LENGTH };
         let number = match (broken(0), broken(1), set >> 2) {
             (true, _, _) => 3,
             (_, true, _) => 7,
@@ -201,8 +201,8 @@ fn the_lowest_number_wins() {
             _ => 15,
         };
         for length in length {
-            let found = expect_same(&whole[..length], given, room, "broken conditions").0;
-            assert_eq!(found, number, "{given:?}, VRAM {length}, room {room}");
+            let found = expect_same(&whole[..length], given, output, "broken conditions").0;
+            assert_eq!(found, number, "{given:?}, VRAM {length}, output {output}");
         }
     }
 }
@@ -230,8 +230,8 @@ fn images_with_the_recommended_table() {
     let mut vram = random_bytes(&mut random, VRAM);
     assert_eq!(vbsys::load_column_table(&mut vram), 0);
     let given = Given { brightness: [10, 30, 50], ..ACCEPTED };
-    let (_, room) = expect_same(&vram, given, ROOM_LENGTH, "the recommended table");
-    assert!(room.iter().all(|byte| [0, 10, 30, 90].contains(byte)));
+    let (_, output) = expect_same(&vram, given, DISPLAY_LENGTH, "the recommended table");
+    assert!(output.iter().all(|byte| [0, 10, 30, 90].contains(byte)));
 }
 
 #[test]
@@ -257,25 +257,25 @@ fn between_fences() {
         assert_eq!(vbsys::load_column_table(vram.bytes_mut()), 0);
         let loaded = vram.bytes().to_vec();
         vram.forbid_writing();
-        let mut room = Fenced::new(&vec![9; ROOM_LENGTH], side);
+        let mut output = Fenced::new(&vec![9; DISPLAY_LENGTH], side);
         for start in [95, 255] {
             let Given { frame, eye, brightness, .. } = ACCEPTED;
             let number =
-                vbsys::display(vram.bytes(), frame, eye, start, brightness, room.bytes_mut());
+                vbsys::display(vram.bytes(), frame, eye, start, brightness, output.bytes_mut());
             assert_eq!(number, 0);
             let expected =
-                expect_same(&loaded, Given { start, ..ACCEPTED }, ROOM_LENGTH, "fences").1;
-            assert!(*room.bytes() == *expected, "start {start}");
+                expect_same(&loaded, Given { start, ..ACCEPTED }, DISPLAY_LENGTH, "fences").1;
+            assert!(*output.bytes() == *expected, "start {start}");
         }
-        for length in [0, 1, ROOM_LENGTH - 1] {
+        for length in [0, 1, DISPLAY_LENGTH - 1] {
             let mut short = Fenced::new(&vec![9; length], side);
             let number = vbsys::display(vram.bytes(), 0, 0, 95, [1; 3], short.bytes_mut());
-            assert_eq!(number, 15, "room {length}");
+            assert_eq!(number, 15, "output {length}");
         }
         for length in [0, 1, VRAM - 1] {
             let mut short = Fenced::new(&bytes[..length], side);
-            let mut room = vec![0; ROOM_LENGTH];
-            assert_eq!(vbsys::display(short.bytes(), 0, 0, 95, [1; 3], &mut room), 3);
+            let mut output = vec![0; DISPLAY_LENGTH];
+            assert_eq!(vbsys::display(short.bytes(), 0, 0, 95, [1; 3], &mut output), 3);
             assert_eq!(vbsys::load_column_table(short.bytes_mut()), 3);
         }
     }

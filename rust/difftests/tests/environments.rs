@@ -105,7 +105,7 @@ fn everywhere(buffers: &mut Buffers, reg2: u32, reg1: u32, environments: &[u32])
     before.registers[6] = reg1;
 
     let (mut stepped, mut ran) = (before, before);
-    let mut memories = buffers.lend_model();
+    let mut memories = buffers.for_model();
     model::processor::step(&mut memories, &mut stepped, &mut drawing.clone()).expect("a step");
     let count = model::processor::run(&mut memories, &mut ran, &mut drawing.clone(), 2).count;
     let trace = record_bytes(record_of(PC, &stepped));
@@ -114,7 +114,7 @@ fn everywhere(buffers: &mut Buffers, reg2: u32, reg1: u32, environments: &[u32])
 
     for &environment in environments {
         let what = || format!("{reg2:08X} {reg1:08X}, MXCSR {environment:04X}");
-        let mut memories = buffers.lend_library();
+        let mut memories = buffers.for_library();
         let (answer, after) = within(environment, || vbsys::step(&mut memories, given, drawing));
         let seen = (answer.refusal, answer.processor, after);
         assert_eq!(seen, (0, due_step, environment), "step, {}", what());

@@ -110,8 +110,8 @@ impl Bench {
         };
         let mut buffers = Buffers::zeroed(1_024, 65_536, 262_144, 0);
         for (at, code) in [(0, &main_loop(sub_opcode)[..]), (HANDLER, &handler())] {
-            for (room, half) in buffers.rom[at..].chunks_mut(2).zip(code) {
-                room.copy_from_slice(&half.to_le_bytes());
+            for (bytes, half) in buffers.rom[at..].chunks_mut(2).zip(code) {
+                bytes.copy_from_slice(&half.to_le_bytes());
             }
         }
         Bench { operation, buffers, at_reset: vbsys::reset().processor }
@@ -156,7 +156,7 @@ impl Bench {
             processor.regs[usize::from(register)] = value;
         }
         let budget = u64::from(20 * WORDS);
-        let ran = vbsys::run(&mut self.buffers.lend_library(), processor, drawing, budget);
+        let ran = vbsys::run(&mut self.buffers.for_library(), processor, drawing, budget);
         let word_of = |bytes: &[u8]| u32::from_le_bytes(bytes.try_into().expect("four bytes"));
         for (word, stored) in (first..=first + (WORDS - 1)).zip(self.buffers.wram.chunks_exact(8)) {
             let (result, status, trap) = self.expected(word);
@@ -185,7 +185,7 @@ impl Bench {
         processor.regs[usize::from(WORD)] = word;
         processor.regs[usize::from(RESULT)] = BEFORE;
         let drawing = vbsys::Drawing::default();
-        let stepped = vbsys::step(&mut self.buffers.lend_library(), processor, drawing);
+        let stepped = vbsys::step(&mut self.buffers.for_library(), processor, drawing);
         let (result, status, trap) = self.expected(word);
         let trap = trap.expect("words between two that trap do too");
         let (code, saved) = (status >> 16, status & 0xFFFF);
@@ -220,12 +220,12 @@ fn name(operation: Floating) -> &'static str {
 }
 
 /// A line that is seen though the test passes.
-fn tell(line: String) {
+fn say(line: String) {
     let _ = writeln!(std::io::stderr(), "{line}");
 }
 
 /// Every `share`th run of words of one conversion, on all cores.
-fn convert(operation: Floating, share: u32, told: bool) -> Tally {
+fn convert(operation: Floating, share: u32, says: bool) -> Tally {
     let (begun, tally) = (Instant::now(), Tally::default());
     let next = AtomicU32::new(0);
     let runs = RUNS.div_ceil(share);
@@ -240,11 +240,11 @@ fn convert(operation: Floating, share: u32, told: bool) -> Tally {
                         return;
                     }
                     bench.convert(run * share * WORDS, &tally);
-                    if told && (run + 1).is_multiple_of((runs / 16).max(1)) {
+                    if says && (run + 1).is_multiple_of((runs / 16).max(1)) {
                         let words = |runs: u32| u64::from(runs) * u64::from(WORDS);
                         let (done, all, name) = (words(run + 1), words(runs), name(operation));
                         let seconds = begun.elapsed().as_secs();
-                        tell(format!("{name}: {done} of {all} words, {seconds} s"));
+                        say(format!("{name}: {done} of {all} words, {seconds} s"));
                     }
                 }
             });
@@ -283,7 +283,7 @@ fn every_word_converted() {
         let [ended, reserved, invalid] =
             [tally.ended, tally.reserved, tally.invalid].map(AtomicU64::into_inner);
         let words = ended + reserved + invalid;
-        tell(format!(
+        say(format!(
             "{}: {words} words compared: {ended} end, {reserved} are reserved operands, {invalid} \
              are invalid; {} s since the start",
             name(operation),
@@ -298,7 +298,7 @@ fn every_word_converted() {
             assert_eq!((words, reserved, invalid), (1 << 32, traps.0, traps.1));
         }
     }
-    tell(
+    say(
         "compared for each word: reg2 and PSW after, and of a trap its code and the PSW it saved; \
          for each run: its count and its HALT; for each step: its answer, EIPC and PC"
             .into(),

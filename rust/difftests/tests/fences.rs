@@ -5,7 +5,7 @@
 
 use difftests::access::{biased_address, biased_value};
 use difftests::fence::Fenced;
-use difftests::fence::{Lent, Side};
+use difftests::fence::{FencedMemories, Side};
 use difftests::machine::{
     hardware_to_library, hardware_to_model, random_drawing, random_hardware, to_library, to_model,
     Buffers,
@@ -35,7 +35,7 @@ fn loads_and_stores() {
     for side in [Side::Start, Side::End] {
         for (rom, pak) in LENGTHS {
             let mut model = Buffers::random(&mut random, rom, pak);
-            let mut lent = Lent::new(&model, side);
+            let mut fenced = FencedMemories::new(&model, side);
             let mut drawing = random_drawing(&mut random);
             let mut hardware = random_hardware(&mut random);
             for _ in 0..20_000 {
@@ -45,20 +45,20 @@ fn loads_and_stores() {
                 let timer = hardware_to_library(&hardware);
                 let (load, model_load, store, model_store) = random.pick(&WIDTHS);
                 if random.one_in(2) {
-                    let loaded = load(lent.read(), registers, timer, address);
-                    let memories = model.lend_model_to_read();
+                    let loaded = load(fenced.read(), registers, timer, address);
+                    let memories = model.read_by_model();
                     let expected = model_load(&memories, &drawing, &hardware, address);
                     let vbsys::Loaded { value, undefined, .. } = loaded;
                     assert_eq!(Ok(Loaded { value, undefined }), expected);
                 } else {
-                    let stored = store(&mut lent.write(), registers, timer, address, value);
-                    let memories = &mut model.lend_model();
+                    let stored = store(&mut fenced.write(), registers, timer, address, value);
+                    let memories = &mut model.for_model();
                     model_store(memories, &mut drawing, &mut hardware, address, value).unwrap();
                     assert_eq!(to_model(&stored.drawing), drawing);
                     assert_eq!(hardware_to_model(&stored.hardware), hardware);
                 }
             }
-            lent.expect_equal(&model);
+            fenced.expect_equal(&model);
         }
     }
 }
@@ -80,11 +80,12 @@ fn refused_lengths() {
                 let mut lengths = good;
                 lengths[subject] = length;
                 let [rom, wram, vram, pak] = lengths;
-                let mut lent = Lent::new(&Buffers::zeroed(rom, wram, vram, pak), side);
+                let mut fenced = FencedMemories::new(&Buffers::zeroed(rom, wram, vram, pak), side);
                 for region in 0..8 {
                     let address = region << 24 | 0xFF_FFFC;
-                    let loaded = vbsys::load_word(lent.read(), registers, timer, address);
-                    let stored = vbsys::store_word(&mut lent.write(), registers, timer, address, 1);
+                    let loaded = vbsys::load_word(fenced.read(), registers, timer, address);
+                    let stored =
+                        vbsys::store_word(&mut fenced.write(), registers, timer, address, 1);
                     let number = subject as u32 + 1;
                     assert_eq!((loaded.refusal, stored.refusal), (number, number));
                 }
@@ -105,16 +106,16 @@ fn runs() {
                 let drawing = random_drawing(&mut random);
                 let mut twin = Twin::new(buffers, Default::default(), drawing);
                 load_program(&mut random, &mut twin, 150);
-                let mut lent = Lent::new(&twin.model, side);
+                let mut fenced = FencedMemories::new(&twin.model, side);
                 let processor = processor_to_library(&twin.processor);
                 let registers = to_library(&twin.drawing);
-                let ran = vbsys::run(&mut lent.write(), processor, registers, 500);
+                let ran = vbsys::run(&mut fenced.write(), processor, registers, 500);
                 let expected = twin.run(500, &|| "a run between fences".into());
                 assert_eq!(
                     (ran.count, ran.processor),
                     (expected.count, processor_to_library(&twin.processor))
                 );
-                lent.expect_equal(&twin.model);
+                fenced.expect_equal(&twin.model);
             }
         }
     }
@@ -127,17 +128,17 @@ fn drawings() {
     for side in [Side::Start, Side::End] {
         for _ in 0..40 {
             let mut scene = crowded(&mut random, 12);
-            let mut lent = Fenced::new(&scene.vram, side);
+            let mut fenced = Fenced::new(&scene.vram, side);
             let draw = if random.one_in(2) {
                 Draw::Frame { frame: random.below(2) }
             } else {
                 Draw::Strip { frame: random.below(2), strip: random.below(28) }
             };
-            assert_eq!(draw_by_library(draw, lent.bytes_mut(), &scene.drawing), 0);
+            assert_eq!(draw_by_library(draw, fenced.bytes_mut(), &scene.drawing), 0);
             assert_eq!(draw_by_model(draw, &mut scene.vram, &scene.drawing), 0);
-            assert!(lent.bytes() == &*scene.vram, "{draw:?}");
+            assert!(fenced.bytes() == &*scene.vram, "{draw:?}");
             for number in [0, 511, 512, 2_047, 2_048] {
-                vbsys::character(lent.bytes(), number);
+                vbsys::character(fenced.bytes(), number);
             }
         }
     }
@@ -158,12 +159,12 @@ fn pixel_lists() {
             let (x, y) = (random.below(384), random.below(224));
             let list = answers(&scene.vram, &scene.drawing, eye, x, y).unwrap().listed();
             for words in 0..list.len() + 3 {
-                let mut room = Fenced::new(&vec![0xA5; 4 * words], side);
+                let mut output = Fenced::new(&vec![0xA5; 4 * words], side);
                 let (bytes, drawing) = (vram.bytes(), to_library(&scene.drawing));
                 let listed =
-                    vbsys::pixel_bytes(bytes, drawing, eye.number(), x, y, room.words_mut());
+                    vbsys::pixel_bytes(bytes, drawing, eye.number(), x, y, output.words_mut());
                 assert_eq!((listed.refusal, listed.count), (0, list.len() as u64));
-                for (n, word) in room.words_mut().iter().enumerate() {
+                for (n, word) in output.words_mut().iter().enumerate() {
                     let due = list.get(n).map_or(0xA5A5_A5A5, |&address| address as u32);
                     assert_eq!(*word, due, "word {n} of {words}");
                 }

@@ -400,7 +400,7 @@ fn undefined_second_halfwords() {
             let mut processor = Processor { pc: 0x3FFFE, psw, ..Processor::default() };
             processor.registers[5] = reg2;
             bench.twin.processor = processor;
-            let stepped = bench.twin.step_and_tell(&|| format!("PSW {psw:X}")).unwrap();
+            let stepped = bench.twin.step_watched(&|| format!("PSW {psw:X}")).unwrap();
             assert_eq!(stepped.undefined, Undefined { first: 0, second: 3, load: 0 });
             assert_eq!(stepped.answer != StepAnswer::Ended, trapped);
         }

@@ -127,7 +127,7 @@ fn library_step(psw: u32, lines: u16, mode: u32, pc: u32, code: u16) -> vbsys::S
     buffers.wram[..2].copy_from_slice(&code.to_le_bytes());
     let hardware = vbsys::Hardware { lines, ..Default::default() };
     let processor = vbsys::Processor { pc, psw, mode, hardware, ..Default::default() };
-    vbsys::step(&mut buffers.lend_library(), processor, Default::default())
+    vbsys::step(&mut buffers.for_library(), processor, Default::default())
 }
 
 /// The request's worked steps.
@@ -605,20 +605,20 @@ fn runs_and_steps() {
 #[cfg(target_os = "linux")]
 #[test]
 fn between_fences() {
-    use difftests::fence::{sides_and_paks, Lent};
+    use difftests::fence::{sides_and_paks, FencedMemories};
     let mut random = Random::new(0x600A_0000);
     for (side, pak) in sides_and_paks() {
         for _ in 0..40 {
             let buffers = Buffers::random(&mut random, 1_024, pak);
             let mut twin = Twin::new(buffers, Processor::default(), DrawingRegisters::default());
             load_interrupt_program(&mut random, &mut twin);
-            let mut lent = Lent::new(&twin.model, side);
+            let mut fenced = FencedMemories::new(&twin.model, side);
             let processor = processor_to_library(&twin.processor);
-            let ran = vbsys::run(&mut lent.write(), processor, to_library(&twin.drawing), 200);
+            let ran = vbsys::run(&mut fenced.write(), processor, to_library(&twin.drawing), 200);
             let expected = twin.run(200, &|| "between fences".into());
             assert_eq!(ran.count, expected.count);
             assert_eq!(ran.processor, processor_to_library(&twin.processor));
-            lent.expect_equal(&twin.model);
+            fenced.expect_equal(&twin.model);
         }
     }
 }
@@ -652,7 +652,7 @@ fn expect_refused(
 ) {
     let mut after = buffers.clone();
     let what = format!("refused by {number}: {:X?}", processor.hardware);
-    let stepped = vbsys::step(&mut after.lend_library(), *processor, *drawing);
+    let stepped = vbsys::step(&mut after.for_library(), *processor, *drawing);
     let expected = vbsys::Stepped {
         refusal: number,
         processor: *processor,
@@ -661,7 +661,7 @@ fn expect_refused(
     };
     assert_eq!(stepped, expected, "{what}");
     for budget in [0, 1, 100] {
-        let ran = vbsys::run(&mut after.lend_library(), *processor, *drawing, budget);
+        let ran = vbsys::run(&mut after.for_library(), *processor, *drawing, budget);
         let expected =
             vbsys::Ran { refusal: number, count: 0, processor: *processor, drawing: *drawing };
         assert_eq!(ran, expected, "budget {budget}, {what}");
@@ -696,9 +696,9 @@ fn limits_of_lines_and_control() {
             let drawing = to_library(&twin.drawing);
             if legal {
                 let mut after = buffers.clone();
-                let stepped = vbsys::step(&mut after.lend_library(), processor, drawing);
+                let stepped = vbsys::step(&mut after.for_library(), processor, drawing);
                 assert_eq!(stepped.refusal, 0, "{hardware:X?}");
-                let ran = vbsys::run(&mut after.lend_library(), processor, drawing, 1);
+                let ran = vbsys::run(&mut after.for_library(), processor, drawing, 1);
                 assert_eq!(ran.refusal, 0, "{hardware:X?}");
             } else {
                 expect_refused(&buffers, &processor, &drawing, 5);
@@ -748,7 +748,7 @@ fn the_order_of_refusals() {
         match number {
             Some(number) => expect_refused(&buffers, &processor, &drawing, number),
             None => {
-                let stepped = vbsys::step(&mut buffers.lend_library(), processor, drawing);
+                let stepped = vbsys::step(&mut buffers.for_library(), processor, drawing);
                 assert_eq!((stepped.refusal, stepped.answer, stepped.code), (0, 5, 0xFE40));
             }
         }

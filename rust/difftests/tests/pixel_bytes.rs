@@ -18,7 +18,7 @@ const SCENES: u64 = 600;
 const PIXELS: u32 = 40;
 
 /// The output buffer's words after a call.
-fn room_after(list: &[u32], length: usize) -> Vec<u32> {
+fn output_after(list: &[u32], length: usize) -> Vec<u32> {
     (0..length).map(|word| list.get(word).copied().unwrap_or(KEPT)).collect()
 }
 
@@ -29,10 +29,10 @@ fn call(
     pixel: (u32, u32, u32),
     length: usize,
 ) -> (Listed, Vec<u32>) {
-    let mut room = vec![KEPT; length];
+    let mut output = vec![KEPT; length];
     let (eye, x, y) = pixel;
-    let listed = pixel_bytes(vram, to_library(drawing), eye, x, y, &mut room);
-    (listed, room)
+    let listed = pixel_bytes(vram, to_library(drawing), eye, x, y, &mut output);
+    (listed, output)
 }
 
 /// The count, and the output buffer's first words: output buffers of length 0, too short, exact
@@ -43,9 +43,9 @@ fn expect_list(scene: &Scene, account: &Answers, what: &str) {
     let count = list.len();
     let lengths = [0, 1, count / 2, count.saturating_sub(1), count, count + 1, count + 37, 2_600];
     for length in lengths {
-        let (listed, room) = call(&scene.vram, &scene.drawing, pixel, length);
-        assert_eq!(listed, Listed { refusal: 0, count: count as u64 }, "room {length}; {what}");
-        assert_eq!(room, room_after(&list, length), "room {length}; {what}");
+        let (listed, output) = call(&scene.vram, &scene.drawing, pixel, length);
+        assert_eq!(listed, Listed { refusal: 0, count: count as u64 }, "output {length}; {what}");
+        assert_eq!(output, output_after(&list, length), "output {length}; {what}");
     }
 }
 
@@ -148,14 +148,14 @@ fn both_sides_of_the_images() {
     for eye in [0, 1, 2, 3].into_iter().chain(far) {
         for x in [0, 383, 384, 385].into_iter().chain(far) {
             for y in [0, 223, 224, 255, 256].into_iter().chain(far) {
-                let (listed, room) = call(&scene.vram, &scene.drawing, (eye, x, y), 40);
+                let (listed, output) = call(&scene.vram, &scene.drawing, (eye, x, y), 40);
                 if eye < 2 && x < 384 && y < 224 {
                     let of = Eye::BOTH[eye as usize];
                     let account = answers(&scene.vram, &scene.drawing, of, x, y).unwrap();
                     expect_list(&scene, &account, &format!("{of:?} ({x}, {y})"));
                 } else {
                     assert_eq!(listed, Listed { refusal: MISUSE, count: 0 }, "({eye}, {x}, {y})");
-                    assert_eq!(room, [KEPT; 40], "a refusal stores: ({eye}, {x}, {y})");
+                    assert_eq!(output, [KEPT; 40], "a refusal stores: ({eye}, {x}, {y})");
                 }
             }
         }
@@ -171,12 +171,12 @@ fn expect_number(length: usize, drawing: &DrawingRegisters, pixel: (u32, u32, u3
     let mut vram = vec![0; length];
     Random::new(0xBA_0000).fill(&mut vram);
     let before = vram.clone();
-    let (listed, room) = call(&vram, drawing, pixel, 100);
+    let (listed, output) = call(&vram, drawing, pixel, 100);
     let what = format!("VRAM {length}, {drawing:X?}, {pixel:?}");
     assert_eq!(listed.refusal, expected, "{what}");
     assert!(vram == before, "VRAM changes: {what}");
     if expected != 0 {
-        assert_eq!((listed.count, room), (0, vec![KEPT; 100]), "{what}");
+        assert_eq!((listed.count, output), (0, vec![KEPT; 100]), "{what}");
     }
     if expected == 3 || expected == 5 {
         let of = Eye::BOTH[pixel.0 as usize % 2];

@@ -147,7 +147,7 @@ fn a_write_is_a_store() {
         let address = random.pick(&MIRRORS) | low;
         let (width, value) = (random.pick(&WIDTHS), random.word());
         assert_eq!(by_library(&mut probed, width, address, value), 0, "0x{address:08X}");
-        let (memories, registers, timer) = (&mut stored.lend_model(), &mut registers, &mut timer);
+        let (memories, registers, timer) = (&mut stored.for_model(), &mut registers, &mut timer);
         let answer = match width {
             Width::Byte => model::bus::store_byte(memories, registers, timer, address, value),
             Width::Half => model::bus::store_half(memories, registers, timer, address, value),

@@ -42,7 +42,7 @@ fn put_instruction(buffers: &mut Buffers, instruction: u16) {
 /// nothing changes, and the other answers are 0.
 fn expect_refused(given: &Given, number: u32, what: &str) {
     let mut after = given.clone();
-    let stepped = vbsys::step(&mut after.buffers.lend_library(), given.processor, given.drawing);
+    let stepped = vbsys::step(&mut after.buffers.for_library(), given.processor, given.drawing);
     let expected = vbsys::Stepped {
         refusal: number,
         answer: 0,
@@ -54,7 +54,7 @@ fn expect_refused(given: &Given, number: u32, what: &str) {
     assert_eq!(stepped, expected, "step, {what}");
     after.buffers.expect_equal(&given.buffers, &|| format!("refused step, {what}"));
     for budget in BUDGETS {
-        let memories = &mut after.buffers.lend_library();
+        let memories = &mut after.buffers.for_library();
         let ran = vbsys::run(memories, given.processor, given.drawing, budget);
         let expected = vbsys::Ran {
             refusal: number,
@@ -70,11 +70,11 @@ fn expect_refused(given: &Given, number: u32, what: &str) {
 /// Neither step nor run refuses.
 fn expect_accepted(given: &Given, what: &str) {
     let mut after = given.clone();
-    let stepped = vbsys::step(&mut after.buffers.lend_library(), given.processor, given.drawing);
+    let stepped = vbsys::step(&mut after.buffers.for_library(), given.processor, given.drawing);
     assert_eq!(stepped.refusal, 0, "step, {what}");
     for budget in BUDGETS {
         let mut after = given.clone();
-        let memories = &mut after.buffers.lend_library();
+        let memories = &mut after.buffers.for_library();
         let ran = vbsys::run(memories, given.processor, given.drawing, budget);
         assert_eq!(ran.refusal, 0, "run of {budget}, {what}");
     }
@@ -212,12 +212,12 @@ fn modes_that_are_none() {
 /// with budget 0 it never meets it.
 fn expect_not_modelled(given: &Given) {
     let mut after = given.clone();
-    let stepped = vbsys::step(&mut after.buffers.lend_library(), given.processor, given.drawing);
+    let stepped = vbsys::step(&mut after.buffers.for_library(), given.processor, given.drawing);
     assert_eq!((stepped.refusal, stepped.answer, stepped.code), (6, 0, 0));
     assert_eq!(stepped.undefined, vbsys::Undefined::default());
     assert_eq!((stepped.processor, stepped.drawing), (given.processor, given.drawing));
     for budget in BUDGETS {
-        let memories = &mut after.buffers.lend_library();
+        let memories = &mut after.buffers.for_library();
         let ran = vbsys::run(memories, given.processor, given.drawing, budget);
         assert_eq!((ran.refusal, ran.count), (if budget == 0 { 0 } else { 6 }, 0));
         assert_eq!((ran.processor, ran.drawing), (given.processor, given.drawing));

@@ -34,12 +34,12 @@ fn ending_to_library(ending: Ending) -> (u32, u32, u32) {
 fn replay(twin: &mut Twin, trace: &[u8], what: &dyn Fn() -> String) -> (Ending, u64) {
     let (before, registers) = (twin.processor, twin.drawing);
     let library = vbsys::replay(
-        &mut twin.library.lend_library(),
+        &mut twin.library.for_library(),
         processor_to_library(&before),
         to_library(&registers),
         trace,
     );
-    let memories = &mut twin.model.lend_model();
+    let memories = &mut twin.model.for_model();
     let model = model::replay::replay(memories, &mut twin.processor, &mut twin.drawing, trace);
     let (refusal, answer, word) = ending_to_library(model.ending);
     let expected = vbsys::Replayed {
@@ -69,7 +69,7 @@ fn record(twin: &Twin, most: usize) -> (Vec<Record>, Option<Ending>) {
     let mut records = Vec::new();
     while records.len() < most {
         let pc = twin.processor.pc;
-        let memories = &mut twin.model.lend_model();
+        let memories = &mut twin.model.for_model();
         let stepped = model::processor::step(memories, &mut twin.processor, &mut twin.drawing);
         match stepped.map(|stepped| stepped.answer) {
             Err(refusal) => return (records, Some(Ending::Refused(refusal))),
@@ -362,7 +362,7 @@ fn the_order_of_refusals() {
             trace.resize([15, 17][broken.way], 0);
         }
         let before = buffers.clone();
-        let replayed = vbsys::replay(&mut buffers.lend_library(), processor, drawing, &trace);
+        let replayed = vbsys::replay(&mut buffers.for_library(), processor, drawing, &trace);
         let what = broken.to_string();
         match broken.first(&[1, 2, 3, 4, 5, vbsys::MISUSE, 14, 6]) {
             Some(refusal) => {
@@ -384,7 +384,7 @@ fn the_order_of_refusals() {
 #[cfg(target_os = "linux")]
 #[test]
 fn between_fences() {
-    use difftests::fence::{sides_and_paks, Fenced, Lent};
+    use difftests::fence::{sides_and_paks, Fenced, FencedMemories};
     let mut random = Random::new(0xA006_0000);
     for (side, pak) in sides_and_paks() {
         let mut twin = new_twin(&mut random, pak);
@@ -398,15 +398,16 @@ fn between_fences() {
             if number % 10 == 9 {
                 trace.push(0);
             }
-            let (mut lent, given) = (Lent::new(&twin.model, side), Fenced::closed(&trace, side));
+            let (mut fenced, given) =
+                (FencedMemories::new(&twin.model, side), Fenced::closed(&trace, side));
             let processor = processor_to_library(&twin.processor);
             let drawing = to_library(&twin.drawing);
-            let replayed = vbsys::replay(&mut lent.write(), processor, drawing, given.bytes());
+            let replayed = vbsys::replay(&mut fenced.write(), processor, drawing, given.bytes());
             let (ending, agreed) = replay(&mut twin, &trace, &|| "between fences".into());
             let (refusal, answer, word) = ending_to_library(ending);
             let found = (replayed.refusal, replayed.answer, replayed.agreed, replayed.word);
             assert_eq!(found, (refusal, answer, agreed, word));
-            lent.expect_equal(&twin.model);
+            fenced.expect_equal(&twin.model);
         }
     }
 }

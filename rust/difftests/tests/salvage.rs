@@ -16,8 +16,8 @@ struct Salvage {
 
 /// Salvages on both sides into an output buffer of this length and compares; none where it is
 /// refused, with its number.
-fn salvage_into(file: &[u8], room: usize, what: &str) -> Result<Salvage, u32> {
-    let (mut library, mut model) = (filled(room), filled(room));
+fn salvage_into(file: &[u8], output: usize, what: &str) -> Result<Salvage, u32> {
+    let (mut library, mut model) = (filled(output), filled(output));
     let found = vbsys::salvage_state(file, &mut library);
     let answer = model::salvage::salvage_state(file, &mut model);
     let mut expected = vbsys::Salvaged::default();
@@ -113,7 +113,7 @@ fn fixed_cases() {
     let machine = vbsys::reset();
     let buffers = difftests::machine::Buffers::zeroed(1_024, 65_536, 262_144, 0);
     let mut file = filled(327_962);
-    let memories = buffers.lend_library_to_read();
+    let memories = buffers.read_by_library();
     assert_eq!(vbsys::write_state_2(memories, machine.processor, machine.drawing, &mut file), 0);
     for change in 1..=255u8 {
         for (at, kinds, contents_differ) in
@@ -362,22 +362,22 @@ fn lengths() {
     lengths.extend([0, 1, 32].map(|pak| file_length(Form::One, pak)));
     for &file in &lengths {
         let bytes = vec![0; file];
-        for &room in &lengths {
+        for &output in &lengths {
             let legal = pak_lengths().any(|pak| file_length(Form::Two, pak) == file);
-            let number = match (file == room, legal) {
+            let number = match (file == output, legal) {
                 (false, _) => Some(9),
                 (true, false) => Some(17),
                 (true, true) => None,
             };
-            let what = format!("file {file}, room {room}");
-            assert_eq!(salvage_into(&bytes, room, &what).err(), number, "{what}");
+            let what = format!("file {file}, output {output}");
+            assert_eq!(salvage_into(&bytes, output, &what).err(), number, "{what}");
         }
     }
     for pak in pak_lengths().filter(|&pak| pak > 1 << 20) {
         let due = file_length(Form::Two, pak);
         let bytes = vec![0; due + 1];
         assert_eq!(salvage_into(&bytes, due + 1, "one more").err(), Some(17));
-        assert_eq!(salvage_into(&bytes[..due], due + 1, "room longer").err(), Some(9));
+        assert_eq!(salvage_into(&bytes[..due], due + 1, "output longer").err(), Some(9));
         assert_eq!(salvage_into(&bytes[..due - 1], due - 1, "one less").err(), Some(17));
     }
 }
@@ -396,19 +396,20 @@ fn between_fences() {
         file[at] ^= 0x10;
         let expected = salvage(&file, "between fences");
         let due = file.len();
-        for (length, room) in [(due, due), (due, 0), (0, due), (0, 0), (1, 1), (due - 1, due - 1)] {
+        for (length, output) in [(due, due), (due, 0), (0, due), (0, 0), (1, 1), (due - 1, due - 1)]
+        {
             let mut source = Fenced::new(&file[..length], side);
             source.forbid_writing();
-            let mut room = Fenced::new(&filled(room), side);
-            let found = vbsys::salvage_state(source.bytes(), room.bytes_mut());
-            let number = match (length == room.bytes().len(), length == due) {
+            let mut output = Fenced::new(&filled(output), side);
+            let found = vbsys::salvage_state(source.bytes(), output.bytes_mut());
+            let number = match (length == output.bytes().len(), length == due) {
                 (false, _) => 9,
                 (true, false) => 17,
                 (true, true) => 0,
             };
             assert_eq!(found.refusal, number, "{length} bytes");
             if number == 0 {
-                assert!(*room.bytes() == *expected.output);
+                assert!(*output.bytes() == *expected.output);
             }
         }
     }

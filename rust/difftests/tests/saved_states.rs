@@ -53,7 +53,7 @@ fn worked_contents() {
 
 /// Lengths 0, 1, around the one due, and those of the neighbouring pak RAM.
 #[test]
-fn lengths_of_room_and_file() {
+fn lengths_of_output_and_file() {
     let mut random = Random::new(0x1004_0000);
     for pak in [0, 1, 2, 4, 32, 8_192] {
         let state = State::at_reset(&mut random, pak);
@@ -165,12 +165,12 @@ fn the_order_of_refusals() {
         let numbers = [1, 2, 3, 4, 5, vbsys::MISUSE, 9, 10];
         let number = |bits: usize| broken.first(&numbers[..bits]).unwrap_or(0);
         let before = buffers.clone();
-        let mut room = vec![0xA5; given.len()];
-        let read = buffers.lend_library_to_read();
-        let written = vbsys::write_state(read, processor, drawing, &mut room);
+        let mut output = vec![0xA5; given.len()];
+        let read = buffers.read_by_library();
+        let written = vbsys::write_state(read, processor, drawing, &mut output);
         assert_eq!(written, number(7), "writing, {broken}");
-        assert!(written == 0 || room.iter().all(|&byte| byte == 0xA5), "{broken}");
-        let memories = &mut buffers.lend_library();
+        assert!(written == 0 || output.iter().all(|&byte| byte == 0xA5), "{broken}");
+        let memories = &mut buffers.for_library();
         let restored = vbsys::read_state(memories, processor, drawing, &given);
         assert_eq!(restored.refusal, number(8), "reading, {broken}");
         if restored.refusal != 0 {

@@ -12,8 +12,8 @@ use model::saved::{file_length, Form};
 use model::{Hardware, Refusal};
 
 /// Moves a file on both sides into an output buffer of this length and compares.
-fn moved(file: &[u8], room: usize, what: &str) -> (u32, Box<[u8]>) {
-    let (mut library, mut model) = (filled(room), filled(room));
+fn moved(file: &[u8], output: usize, what: &str) -> (u32, Box<[u8]>) {
+    let (mut library, mut model) = (filled(output), filled(output));
     let number = vbsys::move_state(file, &mut library);
     let answer = model::saved::move_state(file, &mut model);
     assert_eq!(number, answer.err().map_or(0, Refusal::number), "{what}");
@@ -54,9 +54,9 @@ fn moves() {
             continue;
         }
         for (file, due) in [(&one, two.len()), (&two, one.len())] {
-            for room in [0, 1, due - 1, due + 1, due + 14, file.len(), file.len() + 1] {
-                if room != due {
-                    assert_eq!(moved(file, room, &what).0, 9, "room {room}, {what}");
+            for output in [0, 1, due - 1, due + 1, due + 14, file.len(), file.len() + 1] {
+                if output != due {
+                    assert_eq!(moved(file, output, &what).0, 9, "output {output}, {what}");
                 }
             }
             let mut longer = file.to_vec();
@@ -77,7 +77,7 @@ fn lengths_of_moved_files() {
         lengths.extend([Form::One, Form::Two].map(|form| file_length(form, pak)));
     }
     lengths.extend([327_930 + 3, 327_976 + 3, 327_976 + 48]);
-    let rooms: Vec<usize> = [0, 1, 2, 32, 64]
+    let outputs: Vec<usize> = [0, 1, 2, 32, 64]
         .into_iter()
         .flat_map(|pak| [Form::One, Form::Two].map(|form| file_length(form, pak)))
         .chain([0, 1])
@@ -90,15 +90,15 @@ fn lengths_of_moved_files() {
             }
             let form = if first == [0, 0] { Form::Two } else { Form::One };
             let pak = pak_lengths().find(|&pak| file_length(form, pak) == length);
-            for &room in &rooms {
-                let what = format!("{length} bytes, first {first:?}, room {room}");
-                let (number, _) = moved(&file, room, &what);
+            for &output in &outputs {
+                let what = format!("{length} bytes, first {first:?}, output {output}");
+                let (number, _) = moved(&file, output, &what);
                 let due = match form {
                     Form::One => pak.map(|pak| file_length(Form::Two, pak)),
                     Form::Two => pak.map(|pak| file_length(Form::One, pak)),
                 };
                 // zeros are no file: 10 where the lengths fit
-                assert_eq!(number, if due == Some(room) { 10 } else { 9 }, "{what}");
+                assert_eq!(number, if due == Some(output) { 10 } else { 9 }, "{what}");
             }
         }
     }
@@ -116,13 +116,13 @@ fn worked_contents() {
     let contents: Vec<u8> = bytes.map(|byte| u8::from_str_radix(byte, 16).unwrap()).collect();
     let buffers = Buffers::zeroed(1_024, 65_536, 262_144, 0);
     let machine = vbsys::reset();
-    let mut room = filled(327_962);
-    let memories = buffers.lend_library_to_read();
-    let number = vbsys::write_state_2(memories, machine.processor, machine.drawing, &mut room);
+    let mut output = filled(327_962);
+    let memories = buffers.read_by_library();
+    let number = vbsys::write_state_2(memories, machine.processor, machine.drawing, &mut output);
     assert_eq!(number, 0);
-    assert_eq!(room[..76], contents);
-    assert!(room[248..].iter().all(|&byte| byte == 0));
-    assert_eq!(sum(&room[76..248]), 1_628);
+    assert_eq!(output[..76], contents);
+    assert!(output[248..].iter().all(|&byte| byte == 0));
+    assert_eq!(sum(&output[76..248]), 1_628);
     // with pak RAM: the count, kind 5's entry and kind 6's, after each other
     let mut state = State::at_reset(&mut Random::new(0x1203_0000), 8_192);
     state.buffers.pak.fill(1);
@@ -138,7 +138,7 @@ fn worked_contents() {
 /// Lengths 0, 1, around the one due, those of the neighbouring pak RAM and of the
 /// other form.
 #[test]
-fn lengths_of_room_and_file() {
+fn lengths_of_output_and_file() {
     let mut random = Random::new(0x1204_0000);
     for pak in [0, 1, 2, 4, 32, 8_192] {
         let state = State::random(&mut random, pak);
@@ -316,19 +316,19 @@ fn the_order_of_refusals() {
         let earlier = broken.first(&[1, 2, 3, 4, 5, vbsys::MISUSE, 9]);
         let or_else = |bit, refusal| earlier.unwrap_or(if broken.has(bit) { refusal } else { 0 });
         // form 2
-        let mut room = filled(given.len());
-        let read = buffers.lend_library_to_read();
-        let written = vbsys::write_state_2(read, processor, drawing, &mut room);
+        let mut output = filled(given.len());
+        let read = buffers.read_by_library();
+        let written = vbsys::write_state_2(read, processor, drawing, &mut output);
         assert_eq!(written, earlier.unwrap_or(0), "form 2, {what}");
-        assert!(written == 0 || is_untouched(&room), "form 2, {what}");
+        assert!(written == 0 || is_untouched(&output), "form 2, {what}");
         // form 1
         let due = file_length(Form::One, 8);
-        let mut room = filled(if broken.has(6) { [due + 1, 0][broken.way] } else { due });
-        let written = vbsys::write_state(read, processor, drawing, &mut room);
+        let mut output = filled(if broken.has(6) { [due + 1, 0][broken.way] } else { due });
+        let written = vbsys::write_state(read, processor, drawing, &mut output);
         assert_eq!(written, or_else(8, 16), "form 1, {what}");
-        assert!(written == 0 || is_untouched(&room), "form 1, {what}");
+        assert!(written == 0 || is_untouched(&output), "form 1, {what}");
         // reading
-        let memories = &mut buffers.lend_library();
+        let memories = &mut buffers.for_library();
         let restored = vbsys::read_state(memories, processor, drawing, &given);
         assert_eq!(restored.refusal, or_else(7, 10), "{what}");
         if restored.refusal != 0 {
@@ -353,15 +353,15 @@ fn the_order_of_a_move() {
             let due = file_length(Form::One, pak);
             // damage in the contents, in a body, in a sum, and in kind 6 itself
             for at in [4, 8, 44, 100, 300, file.len() - 5] {
-                for room in [due + 1, due - 1, 0, file.len()] {
+                for output in [due + 1, due - 1, 0, file.len()] {
                     let mut given = file.clone();
                     if broken.has(1) {
                         given[at] ^= 0x40;
                     }
-                    let room = if broken.has(0) { room } else { due };
-                    let what = format!("{broken}, byte {at}, room {room}, pak RAM {pak}");
+                    let output = if broken.has(0) { output } else { due };
+                    let what = format!("{broken}, byte {at}, output {output}, pak RAM {pak}");
                     let number = broken.first(&[9, 10, 16]).unwrap_or(0);
-                    assert_eq!(moved(&given, room, &what).0, number, "{what}");
+                    assert_eq!(moved(&given, output, &what).0, number, "{what}");
                 }
             }
         }
@@ -381,7 +381,7 @@ fn between_fences() {
         let two = state.file(Form::Two, "between fences");
         state.expect_between_fences(Form::Two, side);
         for (file, other) in [(&one, &two), (&two, &one)] {
-            for (length, room) in [
+            for (length, output) in [
                 (file.len(), other.len()),
                 (file.len(), 0),
                 (0, other.len()),
@@ -391,11 +391,11 @@ fn between_fences() {
                 (file.len(), other.len() - 1),
             ] {
                 let source = Fenced::closed(&file[..length], side);
-                let mut room = Fenced::new(&filled(room), side);
-                let number = vbsys::move_state(source.bytes(), room.bytes_mut());
-                let fits = (length, room.bytes().len()) == (file.len(), other.len());
+                let mut output = Fenced::new(&filled(output), side);
+                let number = vbsys::move_state(source.bytes(), output.bytes_mut());
+                let fits = (length, output.bytes().len()) == (file.len(), other.len());
                 assert_eq!(number, if fits { 0 } else { 9 });
-                assert!(!fits || *room.bytes() == **other);
+                assert!(!fits || *output.bytes() == **other);
             }
         }
     }

@@ -163,7 +163,7 @@ fn frames_may_be_swapped() {
 }
 
 /// Two single calls of different frames, each the frame call or a strip call,
-/// refused ones too, with registers of their own for each.
+/// refused ones too, with separate registers for each.
 #[test]
 fn two_calls_may_be_swapped() {
     for number in 0..150 {

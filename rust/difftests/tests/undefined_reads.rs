@@ -145,7 +145,7 @@ mod steps {
                     twin.drawing = random_drawing(&mut random);
                     twin.processor.pc = (mirror | border).wrapping_add(step).wrapping_sub(8);
                     let first = twin.processor.pc;
-                    if let Ok(stepped) = twin.step_and_tell(&|| format!("PC 0x{first:08X}")) {
+                    if let Ok(stepped) = twin.step_watched(&|| format!("PC 0x{first:08X}")) {
                         let Undefined { first, second, .. } = stepped.undefined;
                         assert!([0, 3].contains(&first) && [0, 3].contains(&second));
                         seen[0] += u32::from(first == 3);
@@ -173,7 +173,7 @@ mod steps {
                     twin.put_half(0x3FFFE, opcode << 10 | low);
                     twin.processor = random_processor(&mut random);
                     twin.processor.pc = mirror | 0x3FFFE;
-                    let stepped = twin.step_and_tell(&|| format!("opcode {opcode:06b}"));
+                    let stepped = twin.step_watched(&|| format!("opcode {opcode:06b}"));
                     let two = opcode >= 0b101000 && ![0b110010, 0b110110].contains(&opcode);
                     match stepped {
                         Ok(stepped) => {
@@ -209,7 +209,7 @@ mod steps {
                         twin.processor.registers[7] =
                             address.wrapping_sub(displacement as i16 as u32);
                         let what = || format!("opcode {opcode:06b} at 0x{address:08X}, r{reg2}");
-                        let stepped = twin.step_and_tell(&what).unwrap();
+                        let stepped = twin.step_watched(&what).unwrap();
                         let Undefined { first, second, load } = stepped.undefined;
                         assert_eq!((first, second), (0, 0), "{}", what());
                         assert!(load == 0 || LOADS.contains(&opcode), "{}", what());
@@ -238,28 +238,28 @@ mod steps {
         let mut twin = random_twin(&mut Random::new(0x2006_0000));
         twin.processor.pc = 0x0004_0000;
         let before = twin.processor;
-        let stepped = twin.step_and_tell(&|| "an unmapped PC".into()).unwrap();
+        let stepped = twin.step_watched(&|| "an unmapped PC".into()).unwrap();
         assert_eq!(stepped.undefined, Undefined { first: 3, second: 0, load: 0 });
         assert_eq!(twin.processor, model::Processor { pc: 0x0004_0002, ..before });
 
         twin.put_half(0x3FFFE, half(0b101000, 1, 0));
         twin.processor.pc = 0x0003_FFFE;
-        let stepped = twin.step_and_tell(&|| "a Format V opcode".into()).unwrap();
+        let stepped = twin.step_watched(&|| "a Format V opcode".into()).unwrap();
         assert_eq!(stepped.undefined, Undefined { first: 0, second: 3, load: 0 });
 
         twin.put_code(0x0700_0000, &[half(0x33, 1, 2), 0, half(0x38, 0, 3), 0]);
         twin.processor.pc = 0x0700_0000;
         twin.processor.registers[2] = 0x0005_F870;
         twin.processor.registers[3] = 0x0005_F872;
-        let stepped = twin.step_and_tell(&|| "LD.W from BKCOL".into()).unwrap();
+        let stepped = twin.step_watched(&|| "LD.W from BKCOL".into()).unwrap();
         assert_eq!(stepped.undefined, Undefined { first: 0, second: 0, load: 0xC });
-        let stepped = twin.step_and_tell(&|| "IN.B into r0".into()).unwrap();
+        let stepped = twin.step_watched(&|| "IN.B into r0".into()).unwrap();
         assert_eq!(stepped.undefined, Undefined { first: 0, second: 0, load: 1 });
 
         let last = u32::MAX - 1;
         twin.put_code(last, &[half(0b101000, 1, 0), 0x1234]);
         twin.processor.pc = last;
-        let stepped = twin.step_and_tell(&|| "the end of the address space".into()).unwrap();
+        let stepped = twin.step_watched(&|| "the end of the address space".into()).unwrap();
         assert_eq!(stepped.undefined, Undefined::default());
     }
 
@@ -270,7 +270,7 @@ mod steps {
         for mode in [Mode::Halted, Mode::Fatal] {
             twin.processor.pc = 0x0004_0000;
             twin.processor.mode = mode;
-            let stepped = twin.step_and_tell(&|| format!("{mode:?}")).unwrap();
+            let stepped = twin.step_watched(&|| format!("{mode:?}")).unwrap();
             assert_eq!(stepped.undefined, Undefined::default(), "{mode:?}");
         }
     }
@@ -299,7 +299,7 @@ mod steps {
                 _ => processor.mode = 3,
             }
             let before = buffers.clone();
-            let stepped = vbsys::step(&mut buffers.lend_library(), processor, drawing);
+            let stepped = vbsys::step(&mut buffers.for_library(), processor, drawing);
             let expected =
                 vbsys::Stepped { refusal: number, processor, drawing, ..vbsys::Stepped::default() };
             assert_eq!(stepped, expected, "refusal {number}");

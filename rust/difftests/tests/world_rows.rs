@@ -199,12 +199,12 @@ fn expect_same_list(scene: &Scene, pixel: (Eye, u32, u32), what: &dyn Fn() -> St
     let (eye, x, y) = pixel;
     let account = answers(&scene.vram, &scene.drawing, eye, x, y).unwrap();
     let due: Vec<u32> = account.listed().iter().map(|&address| address as u32).collect();
-    let mut room = vec![0; due.len() + 16];
+    let mut output = vec![0; due.len() + 16];
     let registers = to_library(&scene.drawing);
-    let listed = pixel_bytes(&scene.vram, registers, eye.number(), x, y, &mut room);
+    let listed = pixel_bytes(&scene.vram, registers, eye.number(), x, y, &mut output);
     let expected = Listed { refusal: 0, count: due.len() as u64 };
     assert_eq!(listed, expected, "{eye:?} ({x}, {y}); {}", what());
-    assert_eq!(room[..due.len()], due, "{eye:?} ({x}, {y}); {}", what());
+    assert_eq!(output[..due.len()], due, "{eye:?} ({x}, {y}); {}", what());
     due.len()
 }
 

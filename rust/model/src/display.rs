@@ -7,7 +7,7 @@ use crate::refusal::{check_vram, refuse_unless, Refusal};
 use crate::world::{Eye, HEIGHT, WIDTH};
 
 /// The bytes of an output buffer: 384 columns by 224 rows.
-pub const ROOM_LENGTH: usize = 86_016;
+pub const DISPLAY_LENGTH: usize = 86_016;
 /// "the lesser of 128 and shade time times repeats".
 const BRIGHTEST: u32 = 128;
 
@@ -41,10 +41,10 @@ fn repeats(vram: &[u8], eye: Eye, start: usize, x: usize) -> u32 {
 }
 
 /// Refusals 3, 7 and 15, in this order; gives the eye.
-fn check(vram: &[u8], frame: u32, eye: u32, start: u32, room: usize) -> Result<Eye, Refusal> {
+fn check(vram: &[u8], frame: u32, eye: u32, start: u32, output: usize) -> Result<Eye, Refusal> {
     check_vram(vram.len())?;
     refuse_unless(frame <= 1, Refusal::Frame)?;
-    let fits = eye <= 1 && (95..=255).contains(&start) && room == ROOM_LENGTH;
+    let fits = eye <= 1 && (95..=255).contains(&start) && output == DISPLAY_LENGTH;
     refuse_unless(fits, Refusal::Display)?;
     Ok(Eye::BOTH[eye as usize])
 }
@@ -56,15 +56,15 @@ pub fn display(
     eye: u32,
     start: u32,
     brightness: Brightness,
-    room: &mut [u8],
+    output: &mut [u8],
 ) -> Result<(), Refusal> {
-    let eye = check(vram, frame, eye, start, room.len())?;
+    let eye = check(vram, frame, eye, start, output.len())?;
     let (width, height) = (WIDTH as usize, HEIGHT as usize);
     for (x, y) in (0..height).flat_map(|y| (0..width).map(move |x| (x, y))) {
         let shade = pixel(vram, frame, eye, x as u32, y as u32);
         let time = shade_time(shade, brightness);
         let shown = (time * repeats(vram, eye, start as usize, x)).min(BRIGHTEST);
-        room[width * y + x] = shown as u8;
+        output[width * y + x] = shown as u8;
     }
     Ok(())
 }

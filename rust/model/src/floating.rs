@@ -185,8 +185,8 @@ fn add(left: Number, right: Number) -> Exact {
 
 /// The lower of two operands of a sum, with its distance below the higher one's
 /// exponent. One that lies more than 64 binary places below a number of 24 bits
-/// can only tell that the sum isn't exactly that number; the least number at 64
-/// places, of its sign, tells the same.
+/// only says that the sum isn't exactly that number; the least number at 64
+/// places, of its sign, says the same.
 fn nearer(high: Number, low: Number) -> (Number, i32) {
     if low.is_zero() {
         return (low, 0);

@@ -59,13 +59,15 @@ impl Refusal {
             Refusal::NotModelled => "the next instruction isn't modelled",
             Refusal::Frame => "frame number above 1",
             Refusal::StripOrCharacter => "strip above 27, or character above 2,047",
-            Refusal::FileLength => "room or file isn't of the length that is due",
+            Refusal::FileLength => "output buffer or file isn't of the length that is due",
             Refusal::FileBytes => "the file's bytes aren't what the writer makes",
             Refusal::AccessList => "more than 256 accesses, or a size that isn't 1, 2 or 4",
             Refusal::Encoding => "no instruction that can be encoded",
             Refusal::ProbeTarget => "the target isn't one of the probe's",
             Refusal::TraceLength => "the trace's length isn't a multiple of 16",
-            Refusal::Display => "eye above 1, start not 95 to 255, or room not 86,016 bytes",
+            Refusal::Display => {
+                "eye above 1, start not 95 to 255, or output buffer not 86,016 bytes"
+            }
             Refusal::NotAtReset => "request lines or timer aren't at reset",
             Refusal::NoLayout => "no form 2 layout has this length",
         }

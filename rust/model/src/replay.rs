@@ -1,5 +1,5 @@
 //! Replay of a recorded trace (W10): the model steps along the records of a die
-//! and tells the first one that differs.
+//! and reports the first one that differs.
 
 use crate::bus::{DrawingRegisters, Memories};
 use crate::processor::{self, Processor, StepAnswer};
@@ -60,8 +60,8 @@ fn check(
 }
 
 /// One step compared with a record; none where it agrees. That the model refused, took no
-/// step or turned fatal "is told first", whatever the record holds.
-fn beside(
+/// step or turned fatal is reported first, whatever the record holds.
+fn compare_step(
     memories: &mut Memories,
     processor: &mut Processor,
     drawing: &mut DrawingRegisters,
@@ -95,7 +95,7 @@ pub fn replay(
     }
     let mut agreed = 0;
     for record in trace.chunks_exact(RECORD_LENGTH) {
-        if let Some(ending) = beside(memories, processor, drawing, record) {
+        if let Some(ending) = compare_step(memories, processor, drawing, record) {
             return Replayed { ending, agreed };
         }
         agreed += 1;

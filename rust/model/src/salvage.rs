@@ -5,7 +5,7 @@ use crate::processor;
 use crate::refusal::{refuse_unless, Refusal};
 use crate::saved::{can_be_made, file_of_bodies, processor_bytes, sum, word_at, Form};
 
-/// What a salvage tells.
+/// What a salvage reports.
 #[derive(Clone, Debug, Default, PartialEq, Eq)]
 pub struct Salvaged {
     /// "the list of kinds replaced, in order".
@@ -24,11 +24,11 @@ fn reset_body(kind: u16, length: usize) -> Vec<u8> {
     }
 }
 
-/// Writes a valid form 2 file with every recoverable body. "Refusal 9 first: the
-/// output room isn't as long as the file; then 17: no form 2 layout has this
-/// length."
-pub fn salvage_state(file: &[u8], room: &mut [u8]) -> Result<Salvaged, Refusal> {
-    refuse_unless(room.len() == file.len(), Refusal::FileLength)?;
+/// Writes a valid form 2 file with every recoverable body. Refusal 9 first: the
+/// output buffer isn't as long as the file; then 17: no form 2 layout has this
+/// length.
+pub fn salvage_state(file: &[u8], output: &mut [u8]) -> Result<Salvaged, Refusal> {
+    refuse_unless(output.len() == file.len(), Refusal::FileLength)?;
     let pak = Form::Two.pak_of(file.len()).ok_or(Refusal::NoLayout)?;
     let mut salvaged = Salvaged::default();
     let mut bodies = Vec::new();
@@ -46,10 +46,10 @@ pub fn salvage_state(file: &[u8], room: &mut [u8]) -> Result<Salvaged, Refusal> 
         }
     }
     let bodies: Vec<_> = bodies.iter().map(|(kind, body)| (*kind, &body[..])).collect();
-    let output = file_of_bodies(Form::Two, &bodies);
+    let written = file_of_bodies(Form::Two, &bodies);
     let mut before_bodies = 0..Form::Two.contents_length(pak);
     salvaged.contents_differ =
-        before_bodies.any(|at| file[at] != output[at] && !left_out.contains(&at));
-    room.copy_from_slice(&output);
+        before_bodies.any(|at| file[at] != written[at] && !left_out.contains(&at));
+    output.copy_from_slice(&written);
     Ok(salvaged)
 }

@@ -284,12 +284,12 @@ pub fn write_state(
     memories: &ReadMemories,
     processor: &Processor,
     drawing: &DrawingRegisters,
-    room: &mut [u8],
+    output: &mut [u8],
 ) -> Result<(), Refusal> {
     check(memories, processor, drawing)?;
-    check_length(Form::One, memories, room.len())?;
+    check_length(Form::One, memories, output.len())?;
     check_at_reset(processor)?;
-    room.copy_from_slice(&file_of(Form::One, memories, processor, drawing));
+    output.copy_from_slice(&file_of(Form::One, memories, processor, drawing));
     Ok(())
 }
 
@@ -298,11 +298,11 @@ pub fn write_state_2(
     memories: &ReadMemories,
     processor: &Processor,
     drawing: &DrawingRegisters,
-    room: &mut [u8],
+    output: &mut [u8],
 ) -> Result<(), Refusal> {
     check(memories, processor, drawing)?;
-    check_length(Form::Two, memories, room.len())?;
-    room.copy_from_slice(&file_of(Form::Two, memories, processor, drawing));
+    check_length(Form::Two, memories, output.len())?;
+    output.copy_from_slice(&file_of(Form::Two, memories, processor, drawing));
     Ok(())
 }
 
@@ -357,16 +357,16 @@ pub fn read_state(
 
 /// Moves a file to the other form: "what the other form's writer makes for the
 /// state held". 9 "when its file's length fits no pak RAM size in that form or its
-/// room isn't the length due, then by 10", then 16.
-pub fn move_state(file: &[u8], room: &mut [u8]) -> Result<(), Refusal> {
+/// output isn't the length due, then by 10", then 16.
+pub fn move_state(file: &[u8], output: &mut [u8]) -> Result<(), Refusal> {
     let form = Form::of(file);
     let other = form.other();
     let pak = form.pak_of(file.len()).ok_or(Refusal::FileLength)?;
-    refuse_unless(room.len() == file_length(other, pak), Refusal::FileLength)?;
+    refuse_unless(output.len() == file_length(other, pak), Refusal::FileLength)?;
     let Held { processor, drawing, memories } = state_in(form, file, pak)?;
     if other == Form::One {
         check_at_reset(&processor)?;
     }
-    room.copy_from_slice(&file_of(other, &memories, &processor, &drawing));
+    output.copy_from_slice(&file_of(other, &memories, &processor, &drawing));
     Ok(())
 }

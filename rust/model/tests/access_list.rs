@@ -13,7 +13,7 @@ fn machine(pak: usize) -> Machine {
 }
 
 fn make(machine: &mut Machine, list: &mut [Access]) -> Result<(), Refusal> {
-    let (mut memories, processor, drawing) = machine.lend();
+    let (mut memories, processor, drawing) = machine.borrowed();
     access_list(&mut memories, drawing, &mut processor.hardware, list)
 }
 

@@ -1,7 +1,7 @@
 //! The display unit (W11) of the model: 000's printed table, and brightness by
 //! hand.
 
-use model::display::{column_table, display, entry_address, load_column_table, ROOM_LENGTH};
+use model::display::{column_table, display, entry_address, load_column_table, DISPLAY_LENGTH};
 use model::world::Eye;
 use model::Refusal;
 
@@ -52,30 +52,30 @@ fn brightness_of_pixels() {
         (255, [0, 0, 0], [0, 0, 0, 0]),
     ] {
         vram[entry + 1] = high;
-        let mut room = vec![7; ROOM_LENGTH];
-        display(&vram, 1, 1, 200, brightness, &mut room).unwrap();
-        let found = [0, 1, 2, 3].map(|y| room[384 * y + 5]);
+        let mut output = vec![7; DISPLAY_LENGTH];
+        display(&vram, 1, 1, 200, brightness, &mut output).unwrap();
+        let found = [0, 1, 2, 3].map(|y| output[384 * y + 5]);
         assert_eq!(found, expected, "{high} {brightness:?}");
-        assert!(room.iter().enumerate().all(|(at, &byte)| byte == 0 || at % 384 == 5));
+        assert!(output.iter().enumerate().all(|(at, &byte)| byte == 0 || at % 384 == 5));
     }
 }
 
 #[test]
 fn refusals() {
     let vram = vec![0; 262_144];
-    let mut room = vec![0; ROOM_LENGTH];
+    let mut output = vec![0; DISPLAY_LENGTH];
     for (frame, eye, start, length, expected) in [
-        (0, 0, 95, ROOM_LENGTH, Ok(())),
-        (1, 1, 255, ROOM_LENGTH, Ok(())),
+        (0, 0, 95, DISPLAY_LENGTH, Ok(())),
+        (1, 1, 255, DISPLAY_LENGTH, Ok(())),
         (2, 2, 0, 0, Err(Refusal::Frame)),
-        (0, 2, 95, ROOM_LENGTH, Err(Refusal::Display)),
-        (0, 0, 94, ROOM_LENGTH, Err(Refusal::Display)),
-        (0, 0, 256, ROOM_LENGTH, Err(Refusal::Display)),
-        (0, 0, 351, ROOM_LENGTH, Err(Refusal::Display)),
-        (0, 0, 95, ROOM_LENGTH - 1, Err(Refusal::Display)),
+        (0, 2, 95, DISPLAY_LENGTH, Err(Refusal::Display)),
+        (0, 0, 94, DISPLAY_LENGTH, Err(Refusal::Display)),
+        (0, 0, 256, DISPLAY_LENGTH, Err(Refusal::Display)),
+        (0, 0, 351, DISPLAY_LENGTH, Err(Refusal::Display)),
+        (0, 0, 95, DISPLAY_LENGTH - 1, Err(Refusal::Display)),
         (0, 0, 95, 0, Err(Refusal::Display)),
     ] {
-        let answer = display(&vram, frame, eye, start, [1; 3], &mut room[..length]);
+        let answer = display(&vram, frame, eye, start, [1; 3], &mut output[..length]);
         assert_eq!(answer, expected, "{frame} {eye} {start} {length}");
     }
     let answer = display(&vram[1..], 2, 2, 0, [1; 3], &mut []);

@@ -156,7 +156,7 @@ fn accounts_show_both_heights() {
     }
 }
 
-/// An H-bias world's added rows have parameters of their own, row j's.
+/// An H-bias world's added rows have their own parameters, row j's.
 #[test]
 fn added_rows_have_their_own_parameters() {
     let mut vram = one_world(&[0xD000, 0, 0, 3, 0, 0, 0, 383, 1, 0xFFF9, 0]);

@@ -14,7 +14,7 @@ const CAXI: u16 = 0b111010 << 10;
 const ADD_ONE: u16 = 0b010001 << 10 | 1 << 5 | 1;
 
 fn replay(machine: &mut Machine, trace: &[u8]) -> Replayed {
-    let (mut memories, processor, drawing) = machine.lend();
+    let (mut memories, processor, drawing) = machine.borrowed();
     model::replay::replay(&mut memories, processor, drawing, trace)
 }
 
@@ -54,7 +54,7 @@ fn differing_words() {
 
 /// What the model itself does at a record is reported first, whatever the record holds.
 #[test]
-fn told_first() {
+fn the_models_end_is_reported_before_a_difference() {
     for (code, psw, ending) in [
         (CAXI, 0, Ending::Refused(Refusal::NotModelled)),
         (HALT, 0, Ending::WasHalted),

@@ -8,18 +8,18 @@ use model::{DrawingRegisters, Hardware, Processor, ReadMemories, Refusal};
 fn written(processor: &Processor, wram: u8, pak: &[u8]) -> Vec<u8> {
     let (wram, vram) = (vec![wram; 65_536], vec![0; 262_144]);
     let memories = ReadMemories { rom: &[0; 1_024], wram: &wram, vram: &vram, pak };
-    let mut room = vec![0xEE; model::saved::file_length(Form::Two, pak.len())];
-    write_state_2(&memories, processor, &DrawingRegisters::default(), &mut room).unwrap();
-    room
+    let mut output = vec![0xEE; model::saved::file_length(Form::Two, pak.len())];
+    write_state_2(&memories, processor, &DrawingRegisters::default(), &mut output).unwrap();
+    output
 }
 
 fn salvaged(file: &[u8]) -> (Vec<u16>, bool, Vec<u8>) {
-    let mut room = vec![0xEE; file.len()];
-    let Salvaged { replaced, contents_differ } = salvage_state(file, &mut room).unwrap();
+    let mut output = vec![0xEE; file.len()];
+    let Salvaged { replaced, contents_differ } = salvage_state(file, &mut output).unwrap();
     let mut again = vec![0xEE; file.len()];
-    assert_eq!(salvage_state(&room, &mut again), Ok(Salvaged::default()));
-    assert!(again == room, "salvaging the output changes nothing");
-    (replaced, contents_differ, room)
+    assert_eq!(salvage_state(&output, &mut again), Ok(Salvaged::default()));
+    assert!(again == output, "salvaging the output changes nothing");
+    (replaced, contents_differ, output)
 }
 
 /// Puts the right sum of a body into the file.
@@ -103,11 +103,11 @@ fn sums_are_not_enough() {
 /// 9 where the lengths differ, legal or not; then 17.
 #[test]
 fn lengths() {
-    let salvage = |file: usize, room: usize| {
-        let answer = salvage_state(&vec![0; file], &mut vec![0; room]);
+    let salvage = |file: usize, output: usize| {
+        let answer = salvage_state(&vec![0; file], &mut vec![0; output]);
         answer.map(|_| ()).map_err(Refusal::number)
     };
-    for (file, room, expected) in [
+    for (file, output, expected) in [
         (327_962, 327_962, Ok(())),
         (327_977, 327_977, Ok(())),
         (327_962, 327_961, Err(9)),
@@ -120,6 +120,6 @@ fn lengths() {
         (327_976, 327_976, Err(17)),
         (327_979, 327_979, Err(17)),
     ] {
-        assert_eq!(salvage(file, room), expected, "file {file}, room {room}");
+        assert_eq!(salvage(file, output), expected, "file {file}, output {output}");
     }
 }

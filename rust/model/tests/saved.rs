@@ -9,24 +9,24 @@ const ROM: [u8; 1_024] = [0; 1_024];
 fn written(processor: &Processor, pak: &[u8]) -> Vec<u8> {
     let (wram, vram) = (vec![3; 65_536], vec![4; 262_144]);
     let memories = ReadMemories { rom: &ROM, wram: &wram, vram: &vram, pak };
-    let mut room = vec![0xEE; file_length(Form::One, pak.len())];
-    write_state(&memories, processor, &DrawingRegisters::default(), &mut room).unwrap();
-    room
+    let mut output = vec![0xEE; file_length(Form::One, pak.len())];
+    write_state(&memories, processor, &DrawingRegisters::default(), &mut output).unwrap();
+    output
 }
 
 fn written_2(processor: &Processor, pak: &[u8]) -> Vec<u8> {
     let (wram, vram) = (vec![3; 65_536], vec![4; 262_144]);
     let memories = ReadMemories { rom: &ROM, wram: &wram, vram: &vram, pak };
-    let mut room = vec![0xEE; file_length(Form::Two, pak.len())];
-    write_state_2(&memories, processor, &DrawingRegisters::default(), &mut room).unwrap();
-    room
+    let mut output = vec![0xEE; file_length(Form::Two, pak.len())];
+    write_state_2(&memories, processor, &DrawingRegisters::default(), &mut output).unwrap();
+    output
 }
 
-fn moved(file: &[u8], room: usize) -> Result<Vec<u8>, Refusal> {
-    let mut room = vec![0xEE; room];
-    let answer = move_state(file, &mut room);
-    assert!(answer.is_ok() || room.iter().all(|&byte| byte == 0xEE));
-    answer.map(|()| room)
+fn moved(file: &[u8], output: usize) -> Result<Vec<u8>, Refusal> {
+    let mut output = vec![0xEE; output];
+    let answer = move_state(file, &mut output);
+    assert!(answer.is_ok() || output.iter().all(|&byte| byte == 0xEE));
+    answer.map(|()| output)
 }
 
 fn read(file: &[u8], pak: usize) -> Result<(Processor, Vec<u8>), Refusal> {
@@ -126,10 +126,10 @@ fn form_1_holds_no_lines_and_no_timer() {
         let hardware = Hardware { lines, count, reload, control };
         let processor = Processor { hardware, ..processor };
         for (length, refusal) in [(327_920, Refusal::NotAtReset), (327_919, Refusal::FileLength)] {
-            let mut room = vec![0xEE; length];
-            let answer = write_state(&memories, &processor, &drawing, &mut room);
+            let mut output = vec![0xEE; length];
+            let answer = write_state(&memories, &processor, &drawing, &mut output);
             assert_eq!(answer, Err(refusal));
-            assert!(room.iter().all(|&byte| byte == 0xEE));
+            assert!(output.iter().all(|&byte| byte == 0xEE));
         }
         let file = written_2(&processor, &[]);
         assert_eq!(read(&file, 0), Ok((processor, vec![])));
@@ -152,10 +152,10 @@ fn worked_contents_of_form_2() {
     let (processor, drawing) = reset();
     let (wram, vram) = (vec![0; 65_536], vec![0; 262_144]);
     let memories = ReadMemories { rom: &ROM, wram: &wram, vram: &vram, pak: &[] };
-    let mut room = vec![0xEE; 327_962];
-    write_state_2(&memories, &processor, &drawing, &mut room).unwrap();
-    assert_eq!(room[..76], contents);
-    assert_eq!(room[327_954..], [0; 8]);
+    let mut output = vec![0xEE; 327_962];
+    write_state_2(&memories, &processor, &drawing, &mut output).unwrap();
+    assert_eq!(output[..76], contents);
+    assert_eq!(output[327_954..], [0; 8]);
     let lengths = [0, 1, 32, 16_777_216].map(|pak| file_length(Form::Two, pak));
     assert_eq!(lengths, [327_962, 327_977, 328_008, 17_105_192]);
     assert_eq!(file_length(Form::One, 32), 327_962);
@@ -183,8 +183,8 @@ fn moves() {
         let (short, long) = (one.len(), two.len());
         assert!(moved(&one, long).unwrap() == two, "pak RAM {pak}");
         assert!(moved(&two, short).unwrap() == one, "pak RAM {pak}");
-        for room in [0, long - 1, long + 1, short] {
-            assert_eq!(moved(&one, room), Err(Refusal::FileLength), "{room}");
+        for output in [0, long - 1, long + 1, short] {
+            assert_eq!(moved(&one, output), Err(Refusal::FileLength), "{output}");
         }
         assert_eq!(moved(&one[1..], long), Err(Refusal::FileLength));
         assert_eq!(moved(&[], long), Err(Refusal::FileLength));

@@ -1,7 +1,7 @@
 //! The display unit: how bright a person sees each pixel of a frame.
 
 use crate::refusal::Refusal;
-use crate::ROOM_LENGTH;
+use crate::DISPLAY_LENGTH;
 
 /// What is shown, and how bright.
 #[derive(Clone, Copy, Debug, PartialEq, Eq)]
@@ -17,28 +17,28 @@ pub struct View {
     pub durations: [u8; 3],
 }
 
-/// The apparent brightness of pixel (x, y), 0 to 128, to byte 384y + x of `room`.
-pub fn display(vram: &[u8], view: View, room: &mut [u8]) -> Result<(), Refusal> {
+/// The apparent brightness of pixel (x, y), 0 to 128, to byte 384y + x of `output`.
+pub fn display(vram: &[u8], view: View, output: &mut [u8]) -> Result<(), Refusal> {
     let View { frame, eye, start, durations } = view;
-    match vbsys::display(vram, frame, eye, start, durations, room) {
+    match vbsys::display(vram, frame, eye, start, durations, output) {
         0 => Ok(()),
         3 => Err(Refusal::VramLength { given: vram.len() }),
         7 => Err(Refusal::Frame { given: frame }),
-        15 => Err(broken(&view, room.len())),
+        15 => Err(broken(&view, output.len())),
         number => unreachable!("the call has no refusal {number}"),
     }
 }
 
 /// Which of refusal 15's conditions was broken, in the order of paper 02's sentence.
-fn broken(view: &View, room: usize) -> Refusal {
+fn broken(view: &View, output: usize) -> Refusal {
     if view.eye > 1 {
         return Refusal::Eye { given: view.eye };
     }
     if !(95..=255).contains(&view.start) {
         return Refusal::Start { given: view.start };
     }
-    assert_ne!(room, ROOM_LENGTH, "the library refused an accepted view");
-    Refusal::Room { given: room }
+    assert_ne!(output, DISPLAY_LENGTH, "the library refused an accepted view");
+    Refusal::OutputLength { given: output }
 }
 
 /// Loads the recommended column table for both eyes.

@@ -92,7 +92,7 @@ pub enum Stop {
     NotModelled(Refusal),
 }
 
-/// What a call was given, to tell a refusal's number by.
+/// What a call was given, to find the refusal that a number stands for.
 pub(crate) struct Given<'a> {
     /// ROM, WRAM, VRAM, pak RAM.
     pub(crate) lengths: [usize; 4],
@@ -105,7 +105,7 @@ impl Given<'_> {
     /// `own` is the refusal of the call's own subject: 6, 7 or 8.
     pub(crate) fn refusal(&self, number: u32, own: &[Refusal]) -> Refusal {
         let [rom, wram, vram, pak] = self.lengths;
-        let told = match number {
+        let refusal = match number {
             1 => Some(Refusal::RomLength { given: rom }),
             2 => Some(Refusal::WramLength { given: wram }),
             3 => Some(Refusal::VramLength { given: vram }),
@@ -113,7 +113,7 @@ impl Given<'_> {
             5 => fault(self.processor, self.drawing, self.hardware),
             _ => own.iter().find(|refusal| refusal.number() == number).cloned(),
         };
-        told.unwrap_or_else(|| unreachable!("the call has no refusal {number}"))
+        refusal.unwrap_or_else(|| unreachable!("the call has no refusal {number}"))
     }
 }
 
@@ -219,12 +219,12 @@ impl Machine {
         (&self.processor.hardware).into()
     }
 
-    /// Tells the timer of one tick of its chosen interval.
+    /// Gives the timer one tick of its chosen interval.
     pub fn tick(&mut self) -> Result<(), Refusal> {
         let ticked = vbsys::tick(self.hardware());
         if ticked.refusal != 0 {
-            let told = hardware_fault(&self.processor.hardware);
-            return Err(told.expect("a record that is refused has a fault"));
+            let refusal = hardware_fault(&self.processor.hardware);
+            return Err(refusal.expect("a record that is refused has a fault"));
         }
         self.processor.hardware = (&ticked.hardware).into();
         Ok(())
@@ -235,7 +235,7 @@ impl Machine {
         self.step_watched(memories).map(|(answer, _)| answer)
     }
 
-    /// Accepts an interrupt, or does one instruction, and tells which bytes that it read are undefined.
+    /// Accepts an interrupt, or does one instruction, and gives which bytes that it read are undefined.
     pub fn step_watched(
         &mut self,
         memories: &mut Memories,

@@ -61,7 +61,7 @@ pub const ROWS: usize = 224;
 pub const IMAGE_LENGTH: usize = 24_576;
 
 /// Bytes of an output buffer for the brightness of an eye's pixels, one per pixel.
-pub const ROOM_LENGTH: usize = COLUMNS * ROWS;
+pub const DISPLAY_LENGTH: usize = COLUMNS * ROWS;
 /// The brightness that no pixel exceeds.
 pub const FULL_BRIGHTNESS: u8 = 128;
 

@@ -45,9 +45,9 @@ impl Drawing {
         eye: u32,
         x: u32,
         y: u32,
-        room: &mut [u32],
+        output: &mut [u32],
     ) -> Result<usize, NoList> {
-        let listed = vbsys::pixel_bytes(vram, self.into(), eye, x, y, room);
+        let listed = vbsys::pixel_bytes(vram, self.into(), eye, x, y, output);
         match listed.refusal {
             0 => Ok(listed.count as usize),
             vbsys::MISUSE => Err(NoList::Outside { eye, x, y }),
@@ -62,8 +62,8 @@ impl Drawing {
     /// The addresses of the bytes of VRAM that the pixel (x, y) of an eye answers to.
     pub fn pixel_bytes(&self, vram: &[u8], eye: u32, x: u32, y: u32) -> Result<Vec<u32>, NoList> {
         let count = self.pixel_bytes_into(vram, eye, x, y, &mut [])?;
-        let mut room = vec![0; count];
-        self.pixel_bytes_into(vram, eye, x, y, &mut room)?;
-        Ok(room)
+        let mut output = vec![0; count];
+        self.pixel_bytes_into(vram, eye, x, y, &mut output)?;
+        Ok(output)
     }
 }

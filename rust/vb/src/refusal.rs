@@ -74,7 +74,7 @@ pub enum Refusal {
         /// The file's length.
         file: usize,
         /// The output buffer's length.
-        room: usize,
+        output: usize,
     },
     /// Refusal 10: the bytes are not a saved state.
     FileBytes,
@@ -116,7 +116,7 @@ pub enum Refusal {
         given: u32,
     },
     /// Refusal 15: the output buffer of a display does not have a byte for each pixel.
-    Room {
+    OutputLength {
         /// Its length in bytes.
         given: usize,
     },
@@ -147,7 +147,7 @@ impl Refusal {
             Refusal::Encoding { .. } => 12,
             Refusal::ProbeTarget { .. } => 13,
             Refusal::TraceLength { .. } => 14,
-            Refusal::Eye { .. } | Refusal::Start { .. } | Refusal::Room { .. } => 15,
+            Refusal::Eye { .. } | Refusal::Start { .. } | Refusal::OutputLength { .. } => 15,
             Refusal::NotAtReset => 16,
             Refusal::NoLayout { .. } => 17,
         }
@@ -188,7 +188,7 @@ impl fmt::Display for Refusal {
                 write!(
                     f,
                     "operation {operation} with reg1 {reg1}, reg2 {reg2}, condition {condition} and immediate \
-                     0x{immediate:08X} is no instruction; each field must be in its operation's range, one that it \
+                     0x{immediate:08X} is not an instruction; each field must be in its operation's range, one that it \
                      does not have 0, an offset even, and a system register not 24"
                 )
             }
@@ -203,13 +203,13 @@ impl fmt::Display for Refusal {
             }
             Refusal::FileLength { given, due } => write!(
                 f,
-                "the file or room has {} bytes; with pak RAM of this length a saved state has {}",
+                "the file or output buffer has {} bytes; with pak RAM of this length a saved state has {}",
                 grouped(*given as u64),
                 grouped(*due as u64)
             ),
             Refusal::FileBytes => write!(
                 f,
-                "the bytes are no saved state; each byte before the first body must be the layout's, and the records \
+                "the bytes are not a saved state; each byte before the first body must be the layout's, and the records \
                  must be those of an accepted machine"
             ),
             Refusal::Eye { given } => {
@@ -220,9 +220,9 @@ impl fmt::Display for Refusal {
                 "the column table is to start at entry {given}; a start is from 95 to 255, since 384 columns use 96 \
                  entries downwards"
             ),
-            Refusal::Room { given } => write!(
+            Refusal::OutputLength { given } => write!(
                 f,
-                "the room has {} bytes; it must have 86,016, a byte for each pixel",
+                "the output buffer has {} bytes; it must have 86,016, a byte for each pixel",
                 grouped(*given as u64)
             ),
             Refusal::ProbeTarget { address } => write!(
@@ -241,11 +241,11 @@ impl fmt::Display for Refusal {
                 "the trace has {} bytes; its length must be a multiple of 16, a record's",
                 grouped(*given as u64)
             ),
-            Refusal::MoveLength { file, room } => write!(
+            Refusal::MoveLength { file, output } => write!(
                 f,
-                "the file has {} bytes and the room {}; the file's form has no such length, or the other form another",
+                "the file has {} bytes and the output buffer {}; the file's form has no such length, or the other form another",
                 grouped(*file as u64),
-                grouped(*room as u64)
+                grouped(*output as u64)
             ),
             Refusal::NotAtReset => write!(
                 f,

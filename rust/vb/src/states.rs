@@ -7,29 +7,33 @@ use crate::records::Machine;
 use crate::refusal::Refusal;
 
 impl Machine {
-    /// Writes this machine with WRAM, VRAM and pak RAM into `room`, which has [`state_bytes`] bytes. ROM is not stored;
+    /// Writes this machine with WRAM, VRAM and pak RAM into `output`, which has [`state_bytes`] bytes. ROM is not stored;
     /// request lines and timer must be at reset.
-    pub fn write_state(&self, memories: &ReadMemories, room: &mut [u8]) -> Result<(), Refusal> {
+    pub fn write_state(&self, memories: &ReadMemories, output: &mut [u8]) -> Result<(), Refusal> {
         let number =
-            vbsys::write_state(*memories, (&self.processor).into(), (&self.drawing).into(), room);
+            vbsys::write_state(*memories, (&self.processor).into(), (&self.drawing).into(), output);
         if number == 0 {
             return Ok(());
         }
         let ReadMemories { rom, wram, vram, pak } = memories;
         let lengths = [rom.len(), wram.len(), vram.len(), pak.len()];
-        Err(self.state_refusal(lengths, number, room.len(), state_bytes(pak.len())))
+        Err(self.state_refusal(lengths, number, output.len(), state_bytes(pak.len())))
     }
 
-    /// Writes the same in form 2, with request lines and timer, into `room` of [`state_2_bytes`] bytes.
-    pub fn write_state_2(&self, memories: &ReadMemories, room: &mut [u8]) -> Result<(), Refusal> {
-        let number =
-            vbsys::write_state_2(*memories, (&self.processor).into(), (&self.drawing).into(), room);
+    /// Writes the same in form 2, with request lines and timer, into `output` of [`state_2_bytes`] bytes.
+    pub fn write_state_2(&self, memories: &ReadMemories, output: &mut [u8]) -> Result<(), Refusal> {
+        let number = vbsys::write_state_2(
+            *memories,
+            (&self.processor).into(),
+            (&self.drawing).into(),
+            output,
+        );
         if number == 0 {
             return Ok(());
         }
         let ReadMemories { rom, wram, vram, pak } = memories;
         let lengths = [rom.len(), wram.len(), vram.len(), pak.len()];
-        Err(self.state_refusal(lengths, number, room.len(), state_2_bytes(pak.len())))
+        Err(self.state_refusal(lengths, number, output.len(), state_2_bytes(pak.len())))
     }
 
     /// Reads a machine with WRAM, VRAM and pak RAM from a file of either form that was written with pak RAM of the same
@@ -57,17 +61,17 @@ impl Machine {
 }
 
 /// Moves a saved state into the other form; the output buffer must have the length that is due there.
-pub fn move_state(file: &[u8], room: &mut [u8]) -> Result<(), Refusal> {
-    match vbsys::move_state(file, room) {
+pub fn move_state(file: &[u8], output: &mut [u8]) -> Result<(), Refusal> {
+    match vbsys::move_state(file, output) {
         0 => Ok(()),
-        9 => Err(Refusal::MoveLength { file: file.len(), room: room.len() }),
+        9 => Err(Refusal::MoveLength { file: file.len(), output: output.len() }),
         10 => Err(Refusal::FileBytes),
         16 => Err(Refusal::NotAtReset),
         number => unreachable!("a move has no refusal {number}"),
     }
 }
 
-/// What a salvage tells.
+/// What a salvage reports.
 #[derive(Clone, Debug, PartialEq, Eq)]
 pub struct Salvaged {
     /// The kinds of the bodies that were replaced, ascending.
@@ -77,14 +81,14 @@ pub struct Salvaged {
 }
 
 /// Writes a valid file of form 2 with every recoverable body of a damaged one into an output buffer as long as it.
-pub fn salvage_state(file: &[u8], room: &mut [u8]) -> Result<Salvaged, Refusal> {
-    let done = vbsys::salvage_state(file, room);
+pub fn salvage_state(file: &[u8], output: &mut [u8]) -> Result<Salvaged, Refusal> {
+    let done = vbsys::salvage_state(file, output);
     match done.refusal {
         0 => Ok(Salvaged {
             replaced: done.kinds[..done.replaced as usize].to_vec(),
             contents_differ: done.contents_differ != 0,
         }),
-        9 => Err(Refusal::FileLength { given: room.len(), due: file.len() }),
+        9 => Err(Refusal::FileLength { given: output.len(), due: file.len() }),
         17 => Err(Refusal::NoLayout { given: file.len() }),
         number => unreachable!("a salvage has no refusal {number}"),
     }

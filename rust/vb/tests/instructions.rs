@@ -22,12 +22,12 @@ fn a_refusal_names_the_fields() {
     let wrong = Instruction { operation: op::ADD_IMM, reg2: 1, immediate: 16, ..NONE };
     let refusal = encode(wrong).unwrap_err();
     assert_eq!((refusal.number(), refusal.clone()), (12, Refusal::Encoding { instruction: wrong }));
-    let start = "refusal 12: operation 17 with reg1 0, reg2 1, condition 0 and immediate 0x00000010 is no instruction";
+    let start = "refusal 12: operation 17 with reg1 0, reg2 1, condition 0 and immediate 0x00000010 is not an instruction";
     assert!(refusal.to_string().starts_with(start), "{refusal}");
 }
 
 #[test]
-fn what_is_no_instruction_is_told_apart() {
+fn illegal_halfwords_and_those_left_out_are_distinguished() {
     assert_eq!(decode(0x6C00, 0), Decoded::Illegal { halfwords: 1 });
     assert_eq!(decode(0xF800, 0x0400), Decoded::Illegal { halfwords: 2 });
     for (first, name, halfwords) in [

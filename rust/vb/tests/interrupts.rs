@@ -131,14 +131,14 @@ fn saved_states_load_lines_and_timer_at_reset() {
     bench.machine.processor.hardware = Hardware { lines: 0x1F, count: 1, reload: 2, control: 0x1B };
     let Bench { rom, wram, vram, machine } = &mut bench;
     let read = vb::ReadMemories { rom, wram, vram, pak: &[] };
-    let mut room = vec![0; vb::state_bytes(0)];
-    assert_eq!(machine.write_state(&read, &mut room), Err(vb::Refusal::NotAtReset));
+    let mut output = vec![0; vb::state_bytes(0)];
+    assert_eq!(machine.write_state(&read, &mut output), Err(vb::Refusal::NotAtReset));
     let hardware = std::mem::take(&mut machine.processor.hardware);
-    machine.write_state(&read, &mut room).expect("not refused");
+    machine.write_state(&read, &mut output).expect("not refused");
     machine.processor.hardware = hardware;
     let (given, written) = (machine.processor, Machine { ..*machine });
     let mut memories = Memories { rom, wram, vram, pak: &mut [] };
-    machine.read_state(&mut memories, &room).expect("not refused");
+    machine.read_state(&mut memories, &output).expect("not refused");
     let at_reset = Processor { hardware: Hardware::default(), ..given };
     assert_eq!(*machine, Machine { processor: at_reset, ..written });
 }

@@ -9,7 +9,7 @@ use vb::{read, write, Access, Machine, ReadMemories, Refusal};
 fn single(machine: &mut Machine, bench: &mut Bench, access: &mut Access) {
     let Access { address, size, write, value, .. } = *access;
     if write != 0 {
-        let mut memories = bench.lent();
+        let mut memories = bench.memories();
         match size {
             1 => machine.store_byte(&mut memories, address, value),
             2 => machine.store_half(&mut memories, address, value),
@@ -44,7 +44,7 @@ fn a_list_is_its_single_calls() {
         let mut singles = list.clone();
         singles.iter_mut().for_each(|access| single(&mut other, &mut second, access));
         let mut whole = list.clone();
-        one.access_list(&mut first.lent(), &mut whole).unwrap();
+        one.access_list(&mut first.memories(), &mut whole).unwrap();
         assert_eq!((whole, one), (singles, other));
         assert_eq!(first.bytes(), second.bytes());
     }
@@ -59,31 +59,31 @@ fn a_read_sees_the_writes_before_it() {
         write(0x0500_0011, 1, 0xFF),
         read(0x0500_0010, 4),
     ];
-    Machine::reset().access_list(&mut bench.lent(), &mut list).unwrap();
+    Machine::reset().access_list(&mut bench.memories(), &mut list).unwrap();
     assert_eq!([list[1].value, list[3].value], [0x3344, 0x1122_FF44]);
 }
 
 #[test]
-fn refusals_are_told_and_nothing_changes() {
+fn refusals_are_reported_and_nothing_changes() {
     let mut bench = Bench::of(0, 7);
     let before = bench.bytes().map(<[u8]>::to_vec);
     let mut machine = Machine::reset();
     let given = vec![write(0x0500_0000, 4, 1); 257];
     let mut list = given.clone();
-    let refused = machine.access_list(&mut bench.lent(), &mut list).unwrap_err();
+    let refused = machine.access_list(&mut bench.memories(), &mut list).unwrap_err();
     assert_eq!(refused, Refusal::TooManyAccesses { given: 257 });
     assert_eq!(refused.to_string(), "refusal 11: the list has 257 accesses; it may have up to 256");
-    machine.access_list(&mut bench.lent(), &mut []).unwrap();
+    machine.access_list(&mut bench.memories(), &mut []).unwrap();
     for (index, size) in [(0, 0), (100, 3), (255, 8), (255, u32::MAX)] {
         let mut list = given[..256].to_vec();
         list[index].size = size;
-        let refused = machine.access_list(&mut bench.lent(), &mut list).unwrap_err();
+        let refused = machine.access_list(&mut bench.memories(), &mut list).unwrap_err();
         assert_eq!(refused, Refusal::AccessSize { index, given: size });
         assert_eq!(refused.number(), 11);
     }
     assert_eq!(list, given);
     assert_eq!(before.each_ref().map(Vec::as_slice), bench.bytes());
     bench.wram.pop();
-    let refused = machine.access_list(&mut bench.lent(), &mut list).unwrap_err();
+    let refused = machine.access_list(&mut bench.memories(), &mut list).unwrap_err();
     assert_eq!(refused, Refusal::WramLength { given: 65_535 });
 }

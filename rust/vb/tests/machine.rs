@@ -14,16 +14,16 @@ fn rom(code: &[u16]) -> Vec<u8> {
     rom
 }
 
-struct Lent {
+struct Buffers {
     rom: Vec<u8>,
     wram: Vec<u8>,
     vram: Vec<u8>,
     pak: Vec<u8>,
 }
 
-impl Lent {
-    fn with(code: &[u16]) -> Lent {
-        Lent {
+impl Buffers {
+    fn with(code: &[u16]) -> Buffers {
+        Buffers {
             rom: rom(code),
             wram: vec![0; vb::WRAM_LENGTH],
             vram: vec![0; vb::VRAM_LENGTH],
@@ -71,63 +71,63 @@ fn a_step_answers_what_it_did() {
         (ILLEGAL, Answer::Trapped(Cause::Illegal), 0xFFFF_FF90),
         (TRAP_17, Answer::Trapped(Cause::Trap(17)), 0xFFFF_FFB0),
     ] {
-        let (mut lent, mut machine) = (Lent::with(&[code]), calm());
-        assert_eq!(machine.step(&mut lent.memories()), Ok(expected), "0x{code:04X}");
+        let (mut buffers, mut machine) = (Buffers::with(&[code]), calm());
+        assert_eq!(machine.step(&mut buffers.memories()), Ok(expected), "0x{code:04X}");
         assert_eq!(machine.processor.pc, pc, "0x{code:04X}");
         if let Answer::Trapped(cause) = expected {
             assert_eq!(machine.processor.ecr & 0xFFFF, cause.code());
         }
     }
-    let (mut lent, mut machine) = (Lent::with(&[TRAP_17]), Machine::reset());
+    let (mut buffers, mut machine) = (Buffers::with(&[TRAP_17]), Machine::reset());
     let fatal = Answer::TurnedFatal(Cause::Trap(17));
-    assert_eq!(machine.step(&mut lent.memories()), Ok(fatal));
-    assert_eq!(machine.step(&mut lent.memories()), Ok(Answer::WasFatal));
+    assert_eq!(machine.step(&mut buffers.memories()), Ok(fatal));
+    assert_eq!(machine.step(&mut buffers.memories()), Ok(Answer::WasFatal));
     machine.processor.mode = Mode::Halted;
-    assert_eq!(machine.step(&mut lent.memories()), Ok(Answer::WasHalted));
+    assert_eq!(machine.step(&mut buffers.memories()), Ok(Answer::WasHalted));
 }
 
 #[test]
-fn a_run_tells_why_it_ended() {
-    let mut lent = Lent::with(&[ADD_1_R1, ADD_1_R1, HALT]);
+fn a_run_says_why_it_ended() {
+    let mut buffers = Buffers::with(&[ADD_1_R1, ADD_1_R1, HALT]);
     let mut machine = calm();
-    let ran = machine.run(&mut lent.memories(), 2).unwrap();
+    let ran = machine.run(&mut buffers.memories(), 2).unwrap();
     assert_eq!((ran.count, ran.stop, machine.processor.regs[1]), (2, Stop::Budget, 2));
-    let ran = machine.run(&mut lent.memories(), 100).unwrap();
+    let ran = machine.run(&mut buffers.memories(), 100).unwrap();
     assert_eq!((ran.count, ran.stop, machine.processor.mode), (1, Stop::Halted, Mode::Halted));
-    let mut lent = Lent::with(&[ADD_1_R1, ILLEGAL]);
+    let mut buffers = Buffers::with(&[ADD_1_R1, ILLEGAL]);
     let mut machine = Machine::reset();
-    let ran = machine.run(&mut lent.memories(), 100).unwrap();
+    let ran = machine.run(&mut buffers.memories(), 100).unwrap();
     assert_eq!((ran.count, ran.stop), (1, Stop::Fatal));
 }
 
 #[test]
 fn a_run_that_meets_refusal_6_keeps_what_was_done() {
-    let mut lent = Lent::with(&[ADD_1_R1, BIT_STRING]);
+    let mut buffers = Buffers::with(&[ADD_1_R1, BIT_STRING]);
     let mut machine = calm();
-    let ran = machine.run(&mut lent.memories(), 100).unwrap();
+    let ran = machine.run(&mut buffers.memories(), 100).unwrap();
     let Stop::NotModelled(refusal) = ran.stop else { panic!("{:?}", ran.stop) };
     assert_eq!((ran.count, machine.processor.regs[1], refusal.number()), (1, 1, 6));
-    let told = refusal.to_string();
+    let text = refusal.to_string();
     let start =
         "refusal 6: the instruction 0x7C00 (SCH0BSU) at 0xFFFFFFF2 is not modelled; left out are";
-    assert!(told.starts_with(start), "{told}");
+    assert!(text.starts_with(start), "{text}");
     let before = machine;
-    assert_eq!(machine.step(&mut lent.memories()), Err(refusal));
+    assert_eq!(machine.step(&mut buffers.memories()), Err(refusal));
     assert_eq!(machine, before);
 }
 
 #[test]
 fn loads_and_stores_reach_memories_and_registers() {
-    let (mut lent, mut machine) = (Lent::with(&[]), Machine::reset());
-    machine.store_word(&mut lent.memories(), 0x0501_0002, 0x1234_5678).unwrap();
-    assert_eq!(machine.load_word(&lent.read(), 0x0500_0003), Ok(0x1234_5678));
-    assert_eq!(machine.load_half(&lent.read(), 0x0500_0002), Ok(0x1234));
-    assert_eq!(machine.load_byte(&lent.read(), 0x0500_0001), Ok(0x56));
-    machine.store_byte(&mut lent.memories(), 0x0005_F849, 0xFFFF).unwrap();
+    let (mut buffers, mut machine) = (Buffers::with(&[]), Machine::reset());
+    machine.store_word(&mut buffers.memories(), 0x0501_0002, 0x1234_5678).unwrap();
+    assert_eq!(machine.load_word(&buffers.read(), 0x0500_0003), Ok(0x1234_5678));
+    assert_eq!(machine.load_half(&buffers.read(), 0x0500_0002), Ok(0x1234));
+    assert_eq!(machine.load_byte(&buffers.read(), 0x0500_0001), Ok(0x56));
+    machine.store_byte(&mut buffers.memories(), 0x0005_F849, 0xFFFF).unwrap();
     assert_eq!((machine.drawing.spt[0], machine.drawing.spt[1]), (0x3FF, 0));
-    machine.store_half(&mut lent.memories(), 0x0007_A010, 0xABCD).unwrap();
-    assert_eq!(vb::character(&lent.vram, 513).unwrap()[..2], [0xCD, 0xAB]);
-    assert_eq!(vb::character(&lent.vram, 513).unwrap().len(), 16);
+    machine.store_half(&mut buffers.memories(), 0x0007_A010, 0xABCD).unwrap();
+    assert_eq!(vb::character(&buffers.vram, 513).unwrap()[..2], [0xCD, 0xAB]);
+    assert_eq!(vb::character(&buffers.vram, 513).unwrap().len(), 16);
 }
 
 #[test]
@@ -168,13 +168,13 @@ fn records_have_the_bytes_of_the_header() {
 }
 
 #[test]
-fn bytes_that_are_no_record_are_told() {
+fn bytes_that_are_not_a_record_are_reported() {
     let short = Processor::from_bytes(&[0; 171]).unwrap_err();
     assert_eq!(short, RecordError::Length { given: 171, wanted: 180 });
     assert_eq!(short.to_string(), "the record has 171 bytes; it must have 180");
     let mut bytes = [0; 172];
     bytes[168] = 3;
-    let told = Processor::from_bytes(&bytes).unwrap_err().to_string();
-    assert_eq!(told, "the mode is 3; it must be 0 (running), 1 (halted) or 2 (fatal)");
+    let text = Processor::from_bytes(&bytes).unwrap_err().to_string();
+    assert_eq!(text, "the mode is 3; it must be 0 (running), 1 (halted) or 2 (fatal)");
     assert!(Drawing::from_bytes(&[0; 27]).is_err());
 }

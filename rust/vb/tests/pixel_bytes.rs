@@ -14,16 +14,16 @@ fn scene() -> Vec<u8> {
 }
 
 #[test]
-fn a_room_takes_what_it_has_room_for() {
+fn an_output_takes_as_many_addresses_as_fit() {
     let (vram, drawing) = (scene(), Drawing::default());
     // row 9 lies in the second row of cells, and in row 1 of its character
     let list = [0x20080, 0x20081, 0x6002, 0x6003];
     assert_eq!(drawing.pixel_bytes(&vram, 0, 3, 9).unwrap(), list);
     for length in 0..6 {
-        let mut room = vec![7; length];
-        assert_eq!(drawing.pixel_bytes_into(&vram, 1, 3, 9, &mut room), Ok(4));
+        let mut output = vec![7; length];
+        assert_eq!(drawing.pixel_bytes_into(&vram, 1, 3, 9, &mut output), Ok(4));
         let due: Vec<u32> = list.into_iter().chain([7, 7]).take(length).collect();
-        assert_eq!(room, due);
+        assert_eq!(output, due);
     }
 }
 
@@ -52,24 +52,24 @@ fn only_listed_bytes_count() {
 fn refusals_and_pixels_that_are_none() {
     let (vram, drawing) = (scene(), Drawing::default());
     let wide = Drawing { bkcol: 4, ..drawing };
-    let told = |drawing: &Drawing, vram: &[u8], eye, x, y| {
-        let mut room = [7; 9];
-        let none = drawing.pixel_bytes_into(vram, eye, x, y, &mut room).unwrap_err();
-        assert_eq!(room, [7; 9]);
+    let refused = |drawing: &Drawing, vram: &[u8], eye, x, y| {
+        let mut output = [7; 9];
+        let none = drawing.pixel_bytes_into(vram, eye, x, y, &mut output).unwrap_err();
+        assert_eq!(output, [7; 9]);
         none.to_string()
     };
     let outside = "; eyes are 0 and 1, columns 0 to 383 and rows 0 to 223";
     for (eye, x, y) in [(2, 0, 0), (0, 384, 0), (1, 0, 224)] {
         let asked = format!("pixel ({x}, {y}) of eye {eye} was asked for{outside}");
-        assert_eq!(told(&drawing, &vram, eye, x, y), asked);
+        assert_eq!(refused(&drawing, &vram, eye, x, y), asked);
         assert_eq!(drawing.pixel_bytes(&vram, eye, x, y), Err(NoList::Outside { eye, x, y }));
     }
     assert_eq!(
-        told(&wide, &vram, 2, 384, 224),
+        refused(&wide, &vram, 2, 384, 224),
         "refusal 5: BKCOL is 0x00000004; it must be at most 3 (2 bits)"
     );
     assert_eq!(
-        told(&wide, &vram[1..], 2, 384, 224),
+        refused(&wide, &vram[1..], 2, 384, 224),
         "refusal 3: VRAM has 262,143 bytes; it must have 262,144"
     );
 }

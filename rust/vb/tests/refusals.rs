@@ -85,8 +85,8 @@ fn drawing_calls() {
     }
     assert!(vram.iter().chain(&short).all(|&byte| byte == 0));
     assert!(vb::character(&vram, 2047).is_ok());
-    let told = vb::character(&vram, 2048).unwrap_err().to_string();
-    assert_eq!(told, "refusal 8: character 2048 was asked for; characters are 0 to 2,047");
+    let text = vb::character(&vram, 2048).unwrap_err().to_string();
+    assert_eq!(text, "refusal 8: character 2048 was asked for; characters are 0 to 2,047");
     assert_eq!(vb::character(&short, 2048).unwrap_err().number(), 3);
 }
 
@@ -114,9 +114,9 @@ fn the_probe_refuses_1_to_4_and_then_13() {
         let refusal = probed(lengths, Width::Word, 0x0005_F848).unwrap_err();
         assert_eq!(refusal.number(), number);
     }
-    let told = probed(GOOD, Width::Half, 0x0703_8001).unwrap_err().to_string();
+    let text = probed(GOOD, Width::Half, 0x0703_8001).unwrap_err().to_string();
     assert_eq!(
-        told,
+        text,
         "refusal 13: the probe was to write at 0x07038001; it may write characters 1,536 to 2,047 and background maps \
          12 and 13, at 0x0001E000 to 0x0001FFFF, 0x00038000 to 0x0003BFFF and their mirrors"
     );

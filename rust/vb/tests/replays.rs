@@ -9,7 +9,7 @@ struct Bench {
 }
 
 impl Bench {
-    fn lent(&mut self) -> Memories<'_> {
+    fn memories(&mut self) -> Memories<'_> {
         Memories { rom: &self.rom, wram: &mut self.wram, vram: &mut self.vram, pak: &mut [] }
     }
 }
@@ -42,7 +42,7 @@ fn recorded(code: &[u16], psw: u32, most: usize) -> (Bench, Machine, Vec<u8>) {
     let mut trace = Vec::new();
     for _ in 0..most {
         let before = machine.processor.pc;
-        match machine.step(&mut bench.lent()) {
+        match machine.step(&mut bench.memories()) {
             Ok(Answer::Ended | Answer::Trapped(_) | Answer::Interrupted(_)) => {
                 trace.extend(record(before, &machine.processor));
             }
@@ -56,27 +56,27 @@ fn recorded(code: &[u16], psw: u32, most: usize) -> (Bench, Machine, Vec<u8>) {
 fn a_recorded_trace_agrees() {
     let (stepped, after, trace) = recorded(&LOOP, 0, 100);
     let (mut bench, mut machine) = bench(&LOOP);
-    let replayed = machine.replay(&mut bench.lent(), &trace).unwrap();
+    let replayed = machine.replay(&mut bench.memories(), &trace).unwrap();
     assert_eq!(replayed, Replayed { agreed: 100, end: End::Agreed });
     assert_eq!((machine, bench.wram), (after, stepped.wram));
 }
 
 #[test]
-fn the_first_wrong_word_is_told_and_its_step_stays_made() {
+fn the_first_wrong_word_is_reported_and_its_step_stays_made() {
     let words = [Word::PcBefore, Word::PcAfter, Word::PswAfter, Word::Sum];
     for (k, (place, word)) in [0, 7, 19].into_iter().zip(words.into_iter().enumerate().cycle()) {
         let (stepped, after, mut trace) = recorded(&LOOP, 0, k + 1);
         trace.extend(recorded(&LOOP, 0, 20).2[trace.len()..].iter());
         (place..4).for_each(|place| trace[16 * k + 4 * place] ^= 1);
         let (mut bench, mut machine) = bench(&LOOP);
-        let replayed = machine.replay(&mut bench.lent(), &trace).unwrap();
+        let replayed = machine.replay(&mut bench.memories(), &trace).unwrap();
         assert_eq!(replayed, Replayed { agreed: k as u64, end: End::Differed(word) });
         assert_eq!((machine, bench.wram), (after, stepped.wram));
     }
 }
 
 #[test]
-fn the_models_own_end_is_told_first() {
+fn the_models_own_end_is_reported_first() {
     let refused = Refusal::NotModelled { pc: 0x0700_0002, first: CAXI, second: 0 };
     for (code, psw, end, mode) in [
         ([0x4541, HALT], 0, End::WasHalted, Mode::Halted),
@@ -93,7 +93,7 @@ fn the_models_own_end_is_told_first() {
             });
             let (mut bench, mut machine) = bench(&code);
             machine.processor.psw = psw;
-            let replayed = machine.replay(&mut bench.lent(), &longer).unwrap();
+            let replayed = machine.replay(&mut bench.memories(), &longer).unwrap();
             assert_eq!(replayed, Replayed { agreed: trace.len() as u64 / 16, end: end.clone() });
             assert_eq!(machine.processor.mode, mode);
             assert_eq!(machine.processor.regs, after.processor.regs);
@@ -107,16 +107,16 @@ fn empty_traces_and_odd_lengths() {
         let (mut bench, mut machine) = bench(&[CAXI]);
         machine.processor.mode = mode;
         let before = machine;
-        let replayed = machine.replay(&mut bench.lent(), &[]).unwrap();
+        let replayed = machine.replay(&mut bench.memories(), &[]).unwrap();
         assert_eq!(replayed, Replayed { agreed: 0, end: End::Agreed });
         for length in [1, 15, 17, 31] {
-            let refused = machine.replay(&mut bench.lent(), &vec![0; length]).unwrap_err();
+            let refused = machine.replay(&mut bench.memories(), &vec![0; length]).unwrap_err();
             assert_eq!(refused, Refusal::TraceLength { given: length });
             assert_eq!(refused.number(), 14);
         }
         assert_eq!(machine, before);
         bench.vram.pop();
-        let refused = machine.replay(&mut bench.lent(), &[0]).unwrap_err();
+        let refused = machine.replay(&mut bench.memories(), &[0]).unwrap_err();
         assert_eq!(refused, Refusal::VramLength { given: 262_143 });
     }
 }

@@ -37,7 +37,7 @@ fn a_state_is_read_as_it_was_written() {
         assert_eq!(file[..printed.len()], printed);
         let mut other = Bench::of(pak, 100);
         let mut read = Machine::reset();
-        read.read_state(&mut other.lent(), &file).unwrap();
+        read.read_state(&mut other.memories(), &file).unwrap();
         assert_eq!(read, machine());
         assert_eq!((&other.wram, &other.vram, &other.pak), (&bench.wram, &bench.vram, &bench.pak));
         assert_ne!(other.rom, bench.rom);
@@ -61,7 +61,7 @@ fn a_refused_read_stores_nothing() {
         broken[at] ^= change;
         let mut other = Bench::of(4, 100);
         let mut read = Machine::reset();
-        let refusal = read.read_state(&mut other.lent(), &broken).unwrap_err();
+        let refusal = read.read_state(&mut other.memories(), &broken).unwrap_err();
         assert_eq!(refusal, Refusal::FileBytes, "byte {at}");
         assert_eq!(read, Machine::reset());
         let kept = Bench::of(4, 100);
@@ -70,20 +70,20 @@ fn a_refused_read_stores_nothing() {
 }
 
 #[test]
-fn lengths_are_told() {
+fn wrong_lengths_are_reported() {
     let mut bench = Bench::of(0, 7);
     for given in [0, 1, 327_919, 327_921, 327_931] {
-        let mut room = vec![0xEE; given];
-        let refusal = machine().write_state(&bench.read(), &mut room).unwrap_err();
+        let mut output = vec![0xEE; given];
+        let refusal = machine().write_state(&bench.read(), &mut output).unwrap_err();
         assert_eq!(refusal, Refusal::FileLength { given, due: 327_920 });
-        assert!(room.iter().all(|&byte| byte == 0xEE));
+        assert!(output.iter().all(|&byte| byte == 0xEE));
         let mut read = Machine::reset();
-        assert_eq!(read.read_state(&mut bench.lent(), &room), Err(refusal));
+        assert_eq!(read.read_state(&mut bench.memories(), &output), Err(refusal));
     }
-    let told = machine().write_state(&bench.read(), &mut []).unwrap_err().to_string();
+    let text = machine().write_state(&bench.read(), &mut []).unwrap_err().to_string();
     assert_eq!(
-        told,
-        "refusal 9: the file or room has 0 bytes; with pak RAM of this length a saved state has 327,920"
+        text,
+        "refusal 9: the file or output buffer has 0 bytes; with pak RAM of this length a saved state has 327,920"
     );
     let mut odd = machine();
     odd.processor.pc = 1;
@@ -107,19 +107,19 @@ fn form_2_is_written_read_and_moved() {
         move_state(&there, &mut back).unwrap();
         assert!(there == two && back == one, "pak RAM {pak}");
         let wrong = move_state(&one, &mut back).unwrap_err();
-        assert_eq!(wrong, Refusal::MoveLength { file: one.len(), room: one.len() });
+        assert_eq!(wrong, Refusal::MoveLength { file: one.len(), output: one.len() });
         state.processor.hardware = Hardware { lines: 9, count: 1, reload: 2, control: 0x1B };
         state.write_state_2(&bench.read(), &mut two).unwrap();
         let mut other = Bench::of(pak, 100);
         let mut read = Machine::reset();
-        read.read_state(&mut other.lent(), &two).unwrap();
+        read.read_state(&mut other.memories(), &two).unwrap();
         assert_eq!(read, state);
         assert_eq!(move_state(&two, &mut back), Err(Refusal::NotAtReset));
         two[300] ^= 1;
         assert_eq!(move_state(&two, &mut back), Err(Refusal::FileBytes));
-        assert_eq!(read.read_state(&mut other.lent(), &two), Err(Refusal::FileBytes));
-        let told = read.read_state(&mut other.lent(), &two[1..]).unwrap_err();
-        assert_eq!(told.number(), 9);
+        assert_eq!(read.read_state(&mut other.memories(), &two), Err(Refusal::FileBytes));
+        let refusal = read.read_state(&mut other.memories(), &two[1..]).unwrap_err();
+        assert_eq!(refusal.number(), 9);
     }
 }
 
@@ -128,26 +128,26 @@ fn a_damaged_file_is_salvaged() {
     let bench = Bench::of(4, 7);
     let mut file = vec![0; state_2_bytes(4)];
     machine().write_state_2(&bench.read(), &mut file).unwrap();
-    let mut room = vec![0; file.len()];
+    let mut output = vec![0; file.len()];
     let sound = Salvaged { replaced: vec![], contents_differ: false };
-    assert_eq!(salvage_state(&file, &mut room), Ok(sound.clone()));
-    assert!(room == file);
+    assert_eq!(salvage_state(&file, &mut output), Ok(sound.clone()));
+    assert!(output == file);
     let mut damaged = file.clone();
     damaged[300] ^= 1;
     damaged[8] ^= 1;
     damaged[100] ^= 1;
     let found = Salvaged { replaced: vec![1, 3], contents_differ: true };
-    assert_eq!(salvage_state(&damaged, &mut room), Ok(found));
+    assert_eq!(salvage_state(&damaged, &mut output), Ok(found));
     let mut again = vec![0; file.len()];
-    assert_eq!(salvage_state(&room, &mut again), Ok(sound));
-    assert!(again == room);
+    assert_eq!(salvage_state(&output, &mut again), Ok(sound));
+    assert!(again == output);
     let mut other = Bench::of(4, 100);
     let mut read = Machine::reset();
-    read.read_state(&mut other.lent(), &room).unwrap();
+    read.read_state(&mut other.memories(), &output).unwrap();
     assert_eq!(read.processor, Machine::reset().processor);
     assert_eq!(read.drawing, machine().drawing);
     assert!(other.wram.iter().all(|&byte| byte == 0) && other.vram == bench.vram);
-    let told = salvage_state(&file, &mut room[1..]).unwrap_err();
-    assert_eq!(told, Refusal::FileLength { given: file.len() - 1, due: file.len() });
+    let refusal = salvage_state(&file, &mut output[1..]).unwrap_err();
+    assert_eq!(refusal, Refusal::FileLength { given: file.len() - 1, due: file.len() });
     assert_eq!(salvage_state(&[], &mut []), Err(Refusal::NoLayout { given: 0 }));
 }

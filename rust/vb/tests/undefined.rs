@@ -2,20 +2,20 @@
 
 use vb::{Answer, Machine, Mask, Memories, ReadMemories, Undefined};
 
-struct Lent {
+struct Buffers {
     rom: Vec<u8>,
     wram: Vec<u8>,
     vram: Vec<u8>,
 }
 
-impl Lent {
+impl Buffers {
     /// A ROM of 1,024 bytes whose reset address holds these halfwords, and zeros.
-    fn with(code: &[u16]) -> Lent {
+    fn with(code: &[u16]) -> Buffers {
         let mut rom = vec![0; 1024];
         for (i, half) in code.iter().enumerate() {
             rom[0x3F0 + 2 * i..0x3F2 + 2 * i].copy_from_slice(&half.to_le_bytes());
         }
-        Lent { rom, wram: vec![0; vb::WRAM_LENGTH], vram: vec![0; vb::VRAM_LENGTH] }
+        Buffers { rom, wram: vec![0; vb::WRAM_LENGTH], vram: vec![0; vb::VRAM_LENGTH] }
     }
 
     fn memories(&mut self) -> Memories<'_> {
@@ -64,49 +64,49 @@ const HALT: u16 = 0x6800;
 
 #[test]
 fn loads_name_their_undefined_bytes() {
-    let mut lent = Lent::with(&[]);
-    lent.vram[0x3FFFF] = 7;
-    assert_eq!(lent.byte(0x0003_FFFF), (7, 0));
-    assert_eq!(lent.byte(0x0004_0000), (0, 1));
-    assert_eq!(lent.half(0x0005_F801), (0, 0));
-    assert_eq!(lent.half(0x0005_F847), (0, 3));
-    assert_eq!(lent.word(0x0005_F847), (2, 0xC));
+    let mut buffers = Buffers::with(&[]);
+    buffers.vram[0x3FFFF] = 7;
+    assert_eq!(buffers.byte(0x0003_FFFF), (7, 0));
+    assert_eq!(buffers.byte(0x0004_0000), (0, 1));
+    assert_eq!(buffers.half(0x0005_F801), (0, 0));
+    assert_eq!(buffers.half(0x0005_F847), (0, 3));
+    assert_eq!(buffers.word(0x0005_F847), (2, 0xC));
     for address in [0x0005_F82D, 0x000D_F82C, 0xF805_F82C] {
-        assert_eq!(lent.word(address), (0, 3));
+        assert_eq!(buffers.word(address), (0, 3));
     }
     for address in [0x0100_0000, 0x0300_0000, 0x0400_0000, 0x0600_0000] {
-        assert_eq!(lent.word(address), (0, 0));
+        assert_eq!(buffers.word(address), (0, 0));
     }
 }
 
 #[test]
 fn a_step_holds_each_halfword_and_its_load_apart() {
-    let mut lent = Lent::with(&LD_W);
-    assert_eq!(lent.step(0x0004_0000, 0), (Answer::Ended, [3, 0, 0]));
-    assert_eq!(lent.step(RESET, 0x0005_F870), (Answer::Ended, [0, 0, 0xC]));
-    assert_eq!(lent.step(RESET, 0x0500_0000), (Answer::Ended, [0, 0, 0]));
-    lent.vram[0x3FFFE..].copy_from_slice(&MOVEA.to_le_bytes());
-    assert_eq!(lent.step(0x0003_FFFE, 0), (Answer::Ended, [0, 3, 0]));
-    let mut lent = Lent::with(&IN_B_R0);
-    assert_eq!(lent.step(RESET, 0x0005_F870), (Answer::Ended, [0, 0, 1]));
-    assert_eq!(lent.step(RESET, 0x0005_F86F), (Answer::Ended, [0, 0, 0]));
+    let mut buffers = Buffers::with(&LD_W);
+    assert_eq!(buffers.step(0x0004_0000, 0), (Answer::Ended, [3, 0, 0]));
+    assert_eq!(buffers.step(RESET, 0x0005_F870), (Answer::Ended, [0, 0, 0xC]));
+    assert_eq!(buffers.step(RESET, 0x0500_0000), (Answer::Ended, [0, 0, 0]));
+    buffers.vram[0x3FFFE..].copy_from_slice(&MOVEA.to_le_bytes());
+    assert_eq!(buffers.step(0x0003_FFFE, 0), (Answer::Ended, [0, 3, 0]));
+    let mut buffers = Buffers::with(&IN_B_R0);
+    assert_eq!(buffers.step(RESET, 0x0005_F870), (Answer::Ended, [0, 0, 1]));
+    assert_eq!(buffers.step(RESET, 0x0005_F86F), (Answer::Ended, [0, 0, 0]));
 }
 
 #[test]
 fn a_step_that_fetches_nothing_reads_nothing_undefined() {
-    let mut lent = Lent::with(&[HALT]);
+    let mut buffers = Buffers::with(&[HALT]);
     let mut machine = Machine::reset();
-    machine.step(&mut lent.memories()).unwrap();
+    machine.step(&mut buffers.memories()).unwrap();
     machine.processor.pc = 0x0004_0000;
-    let told = machine.step_watched(&mut lent.memories()).unwrap();
-    assert_eq!(told, (Answer::WasHalted, Undefined::default()));
-    assert!(!told.1.any());
+    let watched = machine.step_watched(&mut buffers.memories()).unwrap();
+    assert_eq!(watched, (Answer::WasHalted, Undefined::default()));
+    assert!(!watched.1.any());
 }
 
 #[test]
-fn a_mask_tells_its_bytes() {
-    let lent = Lent::with(&[]);
-    let mask = |address| Machine::reset().read_word(&lent.read(), address).unwrap().undefined;
+fn a_mask_names_its_bytes() {
+    let buffers = Buffers::with(&[]);
+    let mask = |address| Machine::reset().read_word(&buffers.read(), address).unwrap().undefined;
     assert_eq!(mask(0x0005_F844).to_string(), "bytes 2 and 3");
     assert_eq!(mask(0x0004_0000).to_string(), "bytes 0, 1, 2 and 3");
     assert_eq!(mask(0).to_string(), "no byte");

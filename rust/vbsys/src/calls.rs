@@ -8,7 +8,7 @@ use crate::*;
 
 /// A call with each memory's pointer and length first, then the other arguments.
 /// ROM is always passed to be read, the other three by the method that is named.
-macro_rules! lending {
+macro_rules! with_memories {
     ($memories:ident, $wram:ident $vram:ident $pak:ident, $function:ident($($other:expr),*)) => {
         // SAFETY: each pointer is passed with its slice's own length, and a slice
         // that is written is borrowed mutably, apart from the others.
@@ -34,7 +34,7 @@ macro_rules! reading {
         #[doc = concat!("`", stringify!($function), "`")]
         #[inline]
         pub fn $wrapper(memories: ReadMemories, $($name: $kind),*) -> $answer {
-            lending!(memories, as_ptr as_ptr as_ptr, $function($($name),*))
+            with_memories!(memories, as_ptr as_ptr as_ptr, $function($($name),*))
         }
     )*};
 }
@@ -45,7 +45,7 @@ macro_rules! writing {
         #[doc = concat!("`", stringify!($function), "`")]
         #[inline]
         pub fn $wrapper(memories: &mut Memories, $($name: $kind),*) -> $answer {
-            lending!(memories, as_mut_ptr as_mut_ptr as_mut_ptr, $function($($name),*))
+            with_memories!(memories, as_mut_ptr as_mut_ptr as_mut_ptr, $function($($name),*))
         }
     )*};
 }
@@ -56,7 +56,7 @@ macro_rules! probing {
         #[doc = concat!("`", stringify!($function), "`")]
         #[inline]
         pub fn $wrapper(memories: &mut ProbeMemories, address: u32, value: u32) -> u32 {
-            lending!(memories, as_ptr as_mut_ptr as_ptr, $function(address, value))
+            with_memories!(memories, as_ptr as_mut_ptr as_ptr, $function(address, value))
         }
     )*};
 }
@@ -150,10 +150,10 @@ mod processor {
                 memories: ReadMemories,
                 processor: Processor,
                 drawing: Drawing,
-                room: &mut [u8],
+                output: &mut [u8],
             ) -> u32 {
-                let (at, length) = (room.as_mut_ptr(), room.len());
-                lending!(
+                let (at, length) = (output.as_mut_ptr(), output.len());
+                with_memories!(
                     memories,
                     as_ptr as_ptr as_ptr,
                     $function(processor, drawing, at, length)
@@ -168,7 +168,7 @@ mod processor {
     }
 
     /// Wrappers that read a file or a trace with the machine.
-    macro_rules! beside {
+    macro_rules! reading_a_file {
         ($($wrapper:ident, $function:ident($file:ident) -> $answer:ty;)*) => {$(
             #[doc = concat!("`", stringify!($function), "`")]
             #[inline]
@@ -179,7 +179,7 @@ mod processor {
                 $file: &[u8],
             ) -> $answer {
                 let (at, length) = ($file.as_ptr(), $file.len());
-                lending!(
+                with_memories!(
                     memories,
                     as_mut_ptr as_mut_ptr as_mut_ptr,
                     $function(processor, drawing, at, length)
@@ -188,24 +188,24 @@ mod processor {
         )*};
     }
 
-    beside! {
+    reading_a_file! {
         read_state, vb_read_state(file) -> Restored;
         replay, vb_replay(trace) -> Replayed;
     }
 
     /// `vb_move_state`
     #[inline]
-    pub fn move_state(file: &[u8], room: &mut [u8]) -> u32 {
+    pub fn move_state(file: &[u8], output: &mut [u8]) -> u32 {
         // SAFETY: each pointer is passed with its slice's own length; the file is only read, and the
         // output buffer is borrowed mutably and apart.
-        unsafe { vb_move_state(file.as_ptr(), file.len(), room.as_mut_ptr(), room.len()) }
+        unsafe { vb_move_state(file.as_ptr(), file.len(), output.as_mut_ptr(), output.len()) }
     }
 
     /// `vb_salvage_state`
     #[inline]
-    pub fn salvage_state(file: &[u8], room: &mut [u8]) -> Salvaged {
+    pub fn salvage_state(file: &[u8], output: &mut [u8]) -> Salvaged {
         // SAFETY: as for a move.
-        unsafe { vb_salvage_state(file.as_ptr(), file.len(), room.as_mut_ptr(), room.len()) }
+        unsafe { vb_salvage_state(file.as_ptr(), file.len(), output.as_mut_ptr(), output.len()) }
     }
 
     /// `vb_access_list` over bytes, 20 an access.
@@ -217,7 +217,7 @@ mod processor {
         list: &mut [u8],
     ) -> Stored {
         let (at, length) = (list.as_mut_ptr(), list.len());
-        lending!(
+        with_memories!(
             memories,
             as_mut_ptr as_mut_ptr as_mut_ptr,
             vb_access_list(drawing, hardware, at, length)
@@ -276,9 +276,9 @@ mod drawing {
         eye: u32,
         x: u32,
         y: u32,
-        room: &mut [u32],
+        output: &mut [u32],
     ) -> Listed {
-        let (words, length) = (room.as_mut_ptr(), room.len());
+        let (words, length) = (output.as_mut_ptr(), output.len());
         // SAFETY: each pointer is passed with its slice's own length; VRAM is only read, and the
         // output buffer is borrowed mutably and apart.
         unsafe { vb_pixel_bytes(vram.as_ptr(), vram.len(), drawing, eye, x, y, words, length) }
@@ -292,13 +292,13 @@ mod drawing {
         eye: u32,
         start: u32,
         durations: [u8; 3],
-        room: &mut [u8],
+        output: &mut [u8],
     ) -> u32 {
         let (memory, length) = (vram.as_ptr(), vram.len());
-        let ([a, b, c], at, room_length) = (durations, room.as_mut_ptr(), room.len());
+        let ([a, b, c], at, output_length) = (durations, output.as_mut_ptr(), output.len());
         // SAFETY: each pointer is passed with its slice's own length; VRAM is only read, and the
         // output buffer is borrowed mutably and apart.
-        unsafe { vb_display(memory, length, frame, eye, start, a, b, c, at, room_length) }
+        unsafe { vb_display(memory, length, frame, eye, start, a, b, c, at, output_length) }
     }
 
     /// `vb_load_column_table`

@@ -69,7 +69,7 @@ fn declared() -> Signatures {
     let direct = SOURCE.replace(body, "");
     for (at, _) in direct.match_indices("on_memories! {") {
         let used = words(block(&direct, at, '{', '}'));
-        let (memories, calls) = used.split_once(']').expect("how memories are lent");
+        let (memories, calls) = used.split_once(']').expect("how memories are passed");
         for call in calls.split(';').map(str::trim).filter(|text| !text.is_empty()) {
             let (head, answer) = call.split_once("->").expect("an answer");
             let (name, _) = head.split_once('(').expect("arguments");

@@ -145,8 +145,8 @@ fn program(facts: &[Fact]) -> String {
 
 fn compile_and_run(text: &str) -> String {
     let include = Path::new(env!("CARGO_MANIFEST_DIR")).join("../../include");
-    let room = PathBuf::from(env!("CARGO_TARGET_TMPDIR"));
-    let (source, binary) = (room.join("layout.c"), room.join("layout"));
+    let folder = PathBuf::from(env!("CARGO_TARGET_TMPDIR"));
+    let (source, binary) = (folder.join("layout.c"), folder.join("layout"));
     fs::write(&source, text).expect("the temporary directory can be written");
     let compiler = std::env::var("CC").unwrap_or_else(|_| "cc".into());
     let compiled = Command::new(&compiler)

@@ -87,7 +87,7 @@ fn null_vram_of_length_0_is_refused() {
 }
 
 #[test]
-fn a_null_room_of_length_0_takes_no_address() {
+fn a_null_output_of_length_0_takes_no_address() {
     let vram = vec![0xFFu8; 262_144];
     // SAFETY: null is passed with length 0; VRAM is passed with its length.
     let (none, listed) = unsafe {
@@ -105,18 +105,18 @@ fn a_null_room_of_length_0_takes_no_address() {
 fn null_buffers_of_the_display_unit_are_refused() {
     let vram = vec![9u8; 262_144];
     // SAFETY: null is passed with length 0; VRAM is passed with its length.
-    let (both, room, loaded) = unsafe {
+    let (both, output, loaded) = unsafe {
         (
             vb_display(null(), 0, 2, 2, 0, 1, 2, 3, null_mut(), 0),
             vb_display(vram.as_ptr(), vram.len(), 0, 0, 95, 1, 2, 3, null_mut(), 0),
             vb_load_column_table(null_mut(), 0),
         )
     };
-    assert_eq!((both, room, loaded), (3, 15, 3));
+    assert_eq!((both, output, loaded), (3, 15, 3));
 }
 
 #[test]
-fn a_probe_may_be_lent_null_memories_of_length_0() {
+fn a_probe_takes_null_memories_of_length_0() {
     let (rom, wram, mut vram) = (vec![7u8; 1_024], vec![8u8; 65_536], vec![9u8; 262_144]);
     // SAFETY: each pointer is null with length 0 or passed with its length.
     let probe = |wram: (*const u8, usize), vram: (*mut u8, usize)| unsafe {

@@ -41,8 +41,9 @@ fn a_refused_step_has_no_masks() {
 #[test]
 fn a_refused_load_has_no_mask() {
     let (rom, wram, vram) = (vec![0; 1024], vec![0; 65_536], vec![0; 262_144]);
-    let lent = |rom| ReadMemories { rom, wram: &wram, vram: &vram, pak: &[] };
-    let load = |rom| vbsys::load_word(lent(rom), Drawing::default(), Hardware::default(), UNMAPPED);
+    let memories = |rom| ReadMemories { rom, wram: &wram, vram: &vram, pak: &[] };
+    let load =
+        |rom| vbsys::load_word(memories(rom), Drawing::default(), Hardware::default(), UNMAPPED);
     assert_eq!((load(&rom).refusal, load(&rom).undefined), (0, 0xF));
     assert_eq!((load(&rom[1..]).refusal, load(&rom[1..]).undefined), (1, 0));
 }

@@ -123,7 +123,7 @@ impl Sliced {
                 Stop::Fatal => Some(End::Fatal),
                 Stop::NotModelled(refusal) => Some(End::NotModelled(refusal)),
             };
-            self.tell(before + count);
+            self.show(before + count);
             if let Some(end) = end {
                 if end != End::Budget || before + count == self.budget {
                     self.progress.clear();
@@ -133,7 +133,7 @@ impl Sliced {
         }
     }
 
-    fn tell(&mut self, count: u64) {
+    fn show(&mut self, count: u64) {
         let Sliced { begun, progress, budget } = self;
         progress.show(|| {
             let rate = count as f64 / begun.elapsed().as_secs_f64() / 1e6;

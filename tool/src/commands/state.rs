@@ -178,7 +178,7 @@ struct Salvaged {
     lost: Vec<Body>,
     kept: Vec<Body>,
     contents_repaired: bool,
-    /// What the salvage cannot tell.
+    /// What the salvage cannot know.
     #[serde(skip_serializing_if = "Option::is_none")]
     warning: Option<&'static str>,
     written: String,
@@ -199,8 +199,8 @@ fn salvage(options: &Salvage) -> Result<Report, Failure> {
              `vbmodel state move` brings it to form 2, and --force salvages it all the same",
         )));
     }
-    let mut room = vec![0; file.len()];
-    let found = vb::salvage_state(file, &mut room);
+    let mut output = vec![0; file.len()];
+    let found = vb::salvage_state(file, &mut output);
     let found = found.map_err(|refusal| Failure::refused(&refusal, input.wrong(&refusal)))?;
     let layout = Layout::of_length(Form::Two, file.len()).expect("the library has salvaged it");
     let (lost, kept) =
@@ -215,7 +215,7 @@ fn salvage(options: &Salvage) -> Result<Report, Failure> {
         written: shown(&options.out),
     };
     let status = i32::from(!reported.undamaged);
-    written(&options.out, room, Report::new(reported.text(), &reported, status))
+    written(&options.out, output, Report::new(reported.text(), &reported, status))
 }
 
 /// Whether a file of the one length that both forms have is right as form 1.
@@ -224,8 +224,8 @@ fn is_sound_form_1(file: &[u8]) -> bool {
         (Layout::of_length(Form::One, file.len()), Layout::of_length(Form::Two, file.len()));
     let (Some(one), Some(_), Form::One) = (one, two, Form::of(file)) else { return false };
     let pak = one.body(PAK).map_or(0, |body| body.length);
-    let mut room = vec![0; Layout::of(Form::Two, pak).length()];
-    vb::move_state(file, &mut room).is_ok()
+    let mut output = vec![0; Layout::of(Form::Two, pak).length()];
+    vb::move_state(file, &mut output).is_ok()
 }
 
 impl Salvaged {

@@ -40,7 +40,7 @@ fn turns(y: f64, x: f64) -> f64 {
     }
 }
 
-/// A chequered ball in a square of 64 pixels, lit from the upper left, as an eye `eye` pixels beside the middle sees
+/// A chequered ball in a square of 64 pixels, lit from the upper left, as an eye `eye` pixels from the middle sees
 /// it from 360 pixels away, turned by `turn` of a full turn.
 pub fn ball(eye: f64, turn: f64) -> Picture {
     const RADIUS: f64 = 30.0;
@@ -161,8 +161,8 @@ pub fn sea(path: f64) -> Picture {
         let length = 3.0 + j / 5.0;
         let dash = ((x + 97.0 * noise(line, 1)) / length) as usize;
         let chance = noise(dash, line + 40);
-        let beside = (x - path).abs() / (9.0 + 0.42 * j + 10.0 * noise(line, 3));
-        if beside < 1.0 && chance > 0.25 + 0.55 * beside {
+        let off = (x - path).abs() / (9.0 + 0.42 * j + 10.0 * noise(line, 3));
+        if off < 1.0 && chance > 0.25 + 0.55 * off {
             return if chance > 0.62 { 3 } else { 2 };
         }
         match chance {

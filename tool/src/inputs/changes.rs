@@ -115,8 +115,8 @@ fn load(bench: &mut Bench, first: u32, path: &Path) -> Result<(), Failure> {
             (None, None) => format!(
                 "byte {n} would lie at 0x{address:08X}, which is not memory; it must be VRAM, WRAM, pak RAM or ROM"
             ),
-            (None, Some(room)) => {
-                *room = byte;
+            (None, Some(place)) => {
+                *place = byte;
                 last = Some((memory, at));
                 continue;
             }

@@ -1,7 +1,7 @@
 //! `draw --brightness` and `compare --brightness`: what a person sees of a frame, by the display unit.
 
 use clap::Args;
-use vb::{Refusal, View, COLUMNS, FULL_BRIGHTNESS, ROOM_LENGTH};
+use vb::{Refusal, View, COLUMNS, DISPLAY_LENGTH, FULL_BRIGHTNESS};
 
 use crate::commands::draw::Eyes;
 use crate::failure::Failure;
@@ -96,11 +96,11 @@ impl BrightnessOptions {
     }
 
     fn seen(&self, vram: &[u8], frame: u32, eye: u32) -> Result<Seen, Failure> {
-        let mut room = vec![0; ROOM_LENGTH];
+        let mut output = vec![0; DISPLAY_LENGTH];
         let durations = [self.brta, self.brtb, self.brtc];
         let view = View { frame, eye, start: self.start, durations };
-        vb::display(vram, view, &mut room).map_err(refused)?;
-        Ok(Seen(room))
+        vb::display(vram, view, &mut output).map_err(refused)?;
+        Ok(Seen(output))
     }
 }
 
@@ -115,7 +115,7 @@ pub fn captured(input: &Input) -> Result<Picture, Failure> {
         };
         return exact_values(&input.bytes, level, ALLOWED).map(Picture::of_values).map_err(wrong);
     }
-    if input.bytes.len() != ROOM_LENGTH {
+    if input.bytes.len() != DISPLAY_LENGTH {
         return Err(wrong(CAPTURE.to_string()));
     }
     if let Some(at) = input.bytes.iter().position(|&level| level > FULL_BRIGHTNESS) {

@@ -46,7 +46,7 @@ document.querySelectorAll(".map").forEach(function (map) {
       place(event.clientX, box.left, box.width, map.width.baseVal.value)];
     return found === undefined ? -1 : found;
   }
-  function tell(n) {
+  function say(n) {
     line.textContent = n < 0 ? "\u00a0" : name(n);
     map.querySelector("title").textContent = n < 0 ? "" : name(n);
   }
@@ -54,7 +54,7 @@ document.querySelectorAll(".map").forEach(function (map) {
     now = n;
     ring.setAttribute("x", edge + pitch * all()[n][1]);
     ring.setAttribute("y", edge + pitch * all()[n][0]);
-    tell(n);
+    say(n);
   }
   function go(n) {
     location.hash = "#" + row(n).id;
@@ -64,8 +64,8 @@ document.querySelectorAll(".map").forEach(function (map) {
     for (var n = from + ahead; n >= 0 && n < dies.length; n += ahead) { if (wanted(n)) { return n; } }
     return from;
   }
-  map.addEventListener("mousemove", function (event) { all(); tell(at(event)); });
-  map.addEventListener("mouseleave", function () { tell(now); });
+  map.addEventListener("mousemove", function (event) { all(); say(at(event)); });
+  map.addEventListener("mouseleave", function () { say(now); });
   map.addEventListener("click", function (event) {
     all();
     var n = at(event);

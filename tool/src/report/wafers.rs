@@ -15,7 +15,7 @@ use crate::judge::Verdict;
 const PITCH: i32 = 24;
 const EDGE: i32 = 4;
 const SIDE: i32 = 20;
-/// Colours that people who see few colours can tell apart; the first is that of parts that pass.
+/// Colours that differ also for people who see few colours; the first is that of parts that pass.
 const FILLS: [&str; 8] =
     ["#a6cee3", "#d95f02", "#e6ab02", "#7570b3", "#1b9e77", "#e7298a", "#66a61e", "#a6761d"];
 const INVALID: &str = "#dddddd";

@@ -106,16 +106,16 @@ pub fn frames(random: &mut Random) -> u64 {
 pub fn byte_lists(random: &mut Random) -> u64 {
     const COUNT: u64 = 40;
     let scene = crowded(random, 12);
-    let mut room = [0; 2_600];
+    let mut output = [0; 2_600];
     for _ in 0..COUNT {
         let eye = random.pick(&[Eye::Left, Eye::Right]);
         let (x, y) = (random.below(384), random.below(224));
         let list = answers(&scene.vram, &scene.drawing, eye, x, y).expect("a pixel").listed();
         let drawing = to_library(&scene.drawing);
-        let listed = vbsys::pixel_bytes(&scene.vram, drawing, eye.number(), x, y, &mut room);
+        let listed = vbsys::pixel_bytes(&scene.vram, drawing, eye.number(), x, y, &mut output);
         let what = format!("the bytes of column {x}, row {y}, {eye:?} eye");
         assert_eq!((listed.refusal, listed.count), (0, list.len() as u64), "{what}");
-        assert!(room.iter().zip(&list).all(|(&seen, &listed)| seen as usize == listed), "{what}");
+        assert!(output.iter().zip(&list).all(|(&seen, &listed)| seen as usize == listed), "{what}");
     }
     COUNT
 }

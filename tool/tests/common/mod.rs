@@ -1,4 +1,4 @@
-//! The tool driven from the command line, each test in a folder of its own.
+//! The tool driven from the command line, each test in a separate folder.
 #![allow(dead_code)]
 
 use std::fs;
@@ -139,8 +139,8 @@ impl Folder {
         let folder = Folder::new(name);
         let mut rom = vec![0; 1024];
         let mut put = |at: usize, code: &[u16]| {
-            for (room, half) in rom[at..].chunks_mut(2).zip(code) {
-                room.copy_from_slice(&half.to_le_bytes());
+            for (bytes, half) in rom[at..].chunks_mut(2).zip(code) {
+                bytes.copy_from_slice(&half.to_le_bytes());
             }
         };
         put(0x3F0, code);

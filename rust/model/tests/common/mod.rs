@@ -47,7 +47,7 @@ impl Machine {
     }
 
     /// The memories and the records that a call takes.
-    pub fn lend(&mut self) -> (Memories<'_>, &mut Processor, &mut DrawingRegisters) {
+    pub fn borrowed(&mut self) -> (Memories<'_>, &mut Processor, &mut DrawingRegisters) {
         let Machine { rom, wram, vram, pak, processor, drawing } = self;
         (Memories { rom, wram, vram, pak }, processor, drawing)
     }
@@ -57,7 +57,7 @@ impl Machine {
     }
 
     pub fn stepped(&mut self) -> Result<Stepped, Refusal> {
-        let (mut memories, processor, drawing) = self.lend();
+        let (mut memories, processor, drawing) = self.borrowed();
         step(&mut memories, processor, drawing)
     }
 
@@ -66,7 +66,7 @@ impl Machine {
     }
 
     pub fn run(&mut self, budget: u64) -> (u64, Option<Refusal>) {
-        let (mut memories, processor, drawing) = self.lend();
+        let (mut memories, processor, drawing) = self.borrowed();
         let ran = run(&mut memories, processor, drawing, budget);
         (ran.count, ran.refusal)
     }
@@ -86,14 +86,14 @@ impl Machine {
             2 => store_half,
             _ => store_word,
         };
-        let (mut memories, processor, drawing) = self.lend();
+        let (mut memories, processor, drawing) = self.borrowed();
         store(&mut memories, drawing, &mut processor.hardware, address, value).unwrap();
     }
 }
 
 /// Puts halfwords at the start of a memory.
 fn put(memory: &mut [u8], halves: &[u16]) {
-    for (room, half) in memory.chunks_exact_mut(2).zip(halves) {
-        room.copy_from_slice(&half.to_le_bytes());
+    for (bytes, half) in memory.chunks_exact_mut(2).zip(halves) {
+        bytes.copy_from_slice(&half.to_le_bytes());
     }
 }

@@ -21,7 +21,7 @@ impl Bench {
         ReadMemories { rom: &self.rom, wram: &self.wram, vram: &self.vram, pak: &self.pak }
     }
 
-    pub fn lent(&mut self) -> Memories<'_> {
+    pub fn memories(&mut self) -> Memories<'_> {
         Memories { rom: &self.rom, wram: &mut self.wram, vram: &mut self.vram, pak: &mut self.pak }
     }
 

@@ -83,9 +83,9 @@ pub fn moved(input: &Input) -> Result<(Form, Vec<u8>), Failure> {
     };
     let other = Form::of(file).other();
     let pak = Layout::of_file(file).map_or(0, |layout| layout.length_of(PAK));
-    let mut room = vec![0; Layout::of(other, pak).length()];
-    vb::move_state(file, &mut room).map_err(broken)?;
-    Ok((other, room))
+    let mut output = vec![0; Layout::of(other, pak).length()];
+    vb::move_state(file, &mut output).map_err(broken)?;
+    Ok((other, output))
 }
 
 /// Read by the library. ROM is not stored, so any will do here.
