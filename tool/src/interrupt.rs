@@ -38,14 +38,17 @@ pub fn install() {
     let taken = [SIGINT, SIGTERM, SIGHUP];
     let taken = taken.into_iter().filter(|&signal| signal != SIGHUP || !is_ignored(SIGHUP));
     let taken: Vec<i32> = taken.collect();
+    // before the flag: a signal between the two would set it, and no thread would see it
+    let signals = Signals::new(&taken);
     let asked = ASKED.get_or_init(Arc::default);
     for signal in &taken {
         let _ = signal_hook::flag::register(*signal, Arc::clone(asked));
     }
-    let Ok(mut signals) = Signals::new(taken) else { return };
+    let Ok(mut signals) = signals else { return };
     thread::spawn(move || {
         let mut all = signals.forever();
         if all.next().is_some() {
+            asked.store(true, Ordering::SeqCst);
             wait();
         }
         if all.next().is_some() {

@@ -362,19 +362,25 @@ fn bad_input_what_is_not_a_lot_is_reported() {
     assert!(ran.text.contains("2 parts: 1 pass, 1 fail\n"), "{}", ran.text);
 }
 
+/// A folder `many` of 60 parts that take some time: their captures are enlarged 16 times.
+fn slow_lot(folder: &Folder) {
+    let scene = "--vram out/vram.bin --drawing out/drawing.bin";
+    let ran = folder.vbmodel(&format!("draw {scene} --scale 16 --eye left --out large"));
+    assert_eq!(ran.status, 0, "{}", ran.error);
+    fs::create_dir(folder.path("many")).unwrap();
+    for (from, to) in [("vram.bin", "all.vram"), ("drawing.bin", "all.drawing")] {
+        fs::copy(folder.path(&format!("out/{from}")), folder.path(&format!("many/{to}"))).unwrap();
+    }
+    for i in 0..60 {
+        let capture = folder.path(&format!("many/{i:04}.left.png"));
+        fs::hard_link(folder.path("large/frame0-left.png"), capture).unwrap();
+    }
+}
+
 #[test]
 fn a_lot_is_stopped_by_ctrl_c_with_what_was_judged() {
     let folder = Folder::with_demo("judge-interrupt");
-    lot_of(&folder, 1);
-    for i in 1..9 {
-        for end in ["vram", "drawing", "left.png"] {
-            let copy = folder.path(&format!("many/000{i}.{end}"));
-            fs::copy(folder.path(&format!("many/0000.{end}")), copy).unwrap();
-        }
-    }
-    // the second part takes long: a FIFO that nobody writes to until the signal has come
-    fs::remove_file(folder.path("many/0001.left.png")).unwrap();
-    assert_eq!(folder.shell("mkfifo many/0001.left.raw").status, 0);
+    slow_lot(&folder);
     let child = std::process::Command::new(env!("CARGO_BIN_EXE_vbmodel"))
         .args(["judge", "many", "--eyes", "left"])
         .env("RAYON_NUM_THREADS", "1")
@@ -383,29 +389,20 @@ fn a_lot_is_stopped_by_ctrl_c_with_what_was_judged() {
         .spawn()
         .unwrap();
     common::interrupt(child.id());
-    folder.shell("head -c 24576 /dev/zero | timeout 5 dd of=many/0001.left.raw 2>/dev/null");
     let output = child.wait_with_output().unwrap();
     assert_eq!(output.status.code(), Some(130));
     let text = String::from_utf8(output.stdout).unwrap();
     assert!(text.lines().any(|line| line.ends_with(" not judged")), "{text}");
 }
 
-/// The parts wait for a FIFO each, so that the lot
-/// takes long enough.
 #[test]
 fn a_lot_on_a_terminal_shows_progress() {
     let folder = Folder::with_demo("judge-progress");
-    lot_of(&folder, 3);
-    for i in 0..3 {
-        fs::remove_file(folder.path(&format!("many/000{i}.left.png"))).unwrap();
-    }
-    assert_eq!(folder.shell("for i in 0 1 2; do mkfifo many/000$i.left.raw; done").status, 0);
-    let feed = "for i in 0 1 2; do sleep 0.3; head -c 24576 /dev/zero >many/000$i.left.raw; done";
-    let command =
-        format!("{{ {feed}; }} & RAYON_NUM_THREADS=1 \"$VB\" judge many --eyes left; wait");
-    let Some(text) = folder.terminal(&command) else { return };
-    assert!(text.contains(" of 3 parts\r"), "{text:?}");
-    assert!(text.contains("3 parts: 0 pass, 3 fail"), "{text}");
+    slow_lot(&folder);
+    let command = "RAYON_NUM_THREADS=1 \"$VB\" judge many --eyes left";
+    let Some(text) = folder.terminal(command) else { return };
+    assert!(text.contains(" of 60 parts\r"), "{text:?}");
+    assert!(text.contains("60 parts: 60 pass, 0 fail"), "{text}");
 }
 
 #[test]

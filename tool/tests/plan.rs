@@ -147,7 +147,7 @@ fn what_the_plan_asks_for_and_is_not_there_makes_a_part_invalid() {
         fs::rename(&kept, &file).unwrap();
     }
     fs::create_dir(folder.path("parts/empty")).unwrap();
-    assert_eq!(judged(&folder, JUDGE, 2)[0], "invalid  empty: a: nothing of it is there");
+    assert_eq!(judged(&folder, JUDGE, 2)[0], "invalid  empty: a: it has no file");
 }
 
 #[test]
@@ -244,6 +244,86 @@ fn ambiguous_and_unknown_files_never_pass() {
     }
 }
 
+/// Half of a part's captures under one name and half under the other never make a part that passes.
+#[test]
+fn one_test_of_a_part_written_in_two_ways_is_invalid() {
+    let folder = with_part("plan-spelled");
+    for (first, second, line) in [
+        (
+            "one",
+            "one@1",
+            "invalid  one: one and one@1 are the same test of the part; it must have one",
+        ),
+        (
+            "one@2",
+            "one@02",
+            "invalid  one@2: one@02 and one@2 are the same test of the part; it must have one",
+        ),
+    ] {
+        let halves = format!(
+            "cd parts && cp -r die '{first}' && mkdir '{second}' && mv '{first}'/*right* '{second}'"
+        );
+        assert_eq!(folder.shell(&halves).status, 0);
+        for extra in ["", " --allow-extra"] {
+            assert_eq!(judged(&folder, &format!("{JUDGE}{extra}"), 2)[0], line);
+        }
+        assert_eq!(folder.shell(&format!("cd parts && rm -r '{first}' '{second}'")).status, 0);
+    }
+    // flat names, and a first test that is numbered
+    let flat = "cd parts && cp die/a.frame0.left.png one.a.frame0.left.png && cp die/a.trace one.a.trace && \
+                cp die/a.frame0.right.png one@1.a.frame0.right.png";
+    assert_eq!(folder.shell(flat).status, 0);
+    assert!(judged(&folder, JUDGE, 2)[0].starts_with("invalid  one: one and one@1 are the same"));
+    assert_eq!(folder.shell("cd parts && rm one* && mv die die@1").status, 0);
+    judged(&folder, JUDGE, 0);
+}
+
+#[test]
+fn names_that_are_not_utf_8_are_not_taken_for_one_part() {
+    let folder = with_part("plan-not-utf-8");
+    let halves = "cd parts && a=$(printf 'b\\377') && b=$(printf 'b\\376') && cp -r die \"$a\" && mkdir \"$b\" && \
+                  mv \"$a\"/*right* \"$b\"";
+    let made = folder.shell(halves);
+    assert_eq!(made.status, 0, "{}", made.error);
+    for extra in ["", " --allow-extra"] {
+        let lines = judged(&folder, &format!("{JUDGE}{extra}"), 2);
+        assert!(lines[0].contains(": the name is not UTF-8"), "{}", lines[0]);
+        assert_eq!(lines.last().unwrap(), "2 parts: 1 pass, 0 fail, 1 invalid; yield 50.0 %");
+    }
+}
+
+#[test]
+fn a_folder_that_is_a_link_is_one_part_and_a_link_to_nothing_is_invalid() {
+    let folder = with_part("plan-links");
+    assert_eq!(folder.shell("mv parts/die kept && ln -s ../kept parts/die").status, 0);
+    judged(&folder, JUDGE, 0);
+    assert_eq!(folder.shell("ln -s ../kept parts/other").status, 0);
+    let lines = judged(&folder, JUDGE, 2);
+    assert_eq!(
+        lines[0],
+        "invalid  die: die and other are the same folder; each part must have its own"
+    );
+    assert_eq!(
+        lines[1],
+        "invalid  other: die and other are the same folder; each part must have its own"
+    );
+    assert_eq!(folder.shell("ln -sfn nowhere parts/other").status, 0);
+    for extra in ["", " --allow-extra"] {
+        let lines = judged(&folder, &format!("{JUDGE}{extra}"), 2);
+        assert_eq!(lines[0], "invalid  other: parts/other: No such file or directory");
+    }
+}
+
+#[test]
+fn a_list_of_parts_with_other_capitals_is_not_overlooked() {
+    let folder = with_part("plan-list-capitals");
+    folder.write("parts/Parts.csv", b"part\ndie\nlost\n");
+    for extra in ["", " --allow-extra"] {
+        let message = "vbmodel: parts/Parts.csv: the list of parts must be written parts.csv";
+        folder.refused(&format!("{JUDGE}{extra}"), message);
+    }
+}
+
 #[test]
 fn the_list_of_parts_says_where_they_lie_and_which_there_are() {
     let folder = with_part("plan-list");
@@ -259,11 +339,15 @@ fn the_list_of_parts_says_where_they_lie_and_which_there_are() {
     assert_eq!(lines[0], "invalid  die: parts.csv does not list it");
     for (list, message) in [
         (&b"name,x\na,1\n"[..], "line 1: the columns are `name,x`; one must be `part`"),
-        (b"part,x,y\ndie,1,two\n", "line 2: y is `two`; it must be a whole number from -32,768 to 32,767"),
+        (b"part,x,y\ndie,1,two\n", "line 2: y is `two`; it must be a whole number from -32,767 to 32,767"),
+        (b"part,x,y\ndie,-32768,1\n", "line 2: x is `-32768`; it must be a whole number from -32,767 to 32,767"),
         (b"part,x,y\ndie,1,\n", "line 2: x or y is empty; a part has both or none"),
         (b"part\ndie\nb\ndie\n", "line 4: part die is on line 2 too"),
         (b"part,wafer,x,y\ndie,W,1,2\nb,W,1,2\n", "line 3: part b lies where part die lies, x 1, y 2"),
         (b"part,x,y\n,1,2\n", "line 2: part is empty; it must be a part's name"),
+        (b"part,note\ndie,\"a\nlost,b\n", "line 2: a quoted value is not closed; it must end on the line where it begins"),
+        (b"part,note\ndie,\"a\nlost,b\"\n", "line 2: a quoted value is not closed; it must end on the line where it begins"),
+        (b"part,x,part\ndie,1,lost\n", "line 1: the column `part` appears twice"),
         (b"part,x\ndie\n", "line 2: CSV error: record 1 (line: 2, byte: 7): found record with 1 fields, but the previous record has 2 fields"),
     ] {
         folder.write("parts/parts.csv", list);

@@ -1,4 +1,4 @@
-//! `vbmodel trace` and `vbmodel replay`: a trace recorded, and the model beside it.
+//! `vbmodel trace` and `vbmodel replay`: a trace recorded, and compared with the model.
 
 mod common;
 
@@ -31,7 +31,7 @@ fn replay(folder: &Folder, arguments: &str) -> (i32, Value) {
 }
 
 #[test]
-fn w10_a_trace_has_four_words_a_step() {
+fn a_trace_has_four_words_per_step() {
     let folder = with_rom("trace-words", &[LET_IN, ADD_1_R1, ADD_1_R1, HALT]);
     let ran = folder.vbmodel("trace --rom a.rom -o a.trace");
     assert_eq!((ran.status, ran.error.as_str()), (0, ""));
@@ -62,7 +62,7 @@ fn w10_a_trace_has_four_words_a_step() {
 }
 
 #[test]
-fn w10_the_first_record_that_differs_is_reported() {
+fn the_first_record_that_differs_is_reported() {
     let folder = with_rom("replay-differs", &[LET_IN, ADD_1_R1, BACK]);
     assert_eq!(folder.vbmodel("trace --rom a.rom --budget 1_000 -o a.trace").status, 0);
     let ran = folder.vbmodel("replay --rom a.rom --partial a.trace");
@@ -106,7 +106,7 @@ fn w10_the_first_record_that_differs_is_reported() {
 }
 
 #[test]
-fn w10_what_the_model_does_is_reported_first() {
+fn what_the_model_does_is_reported_first() {
     for (name, code, psw, verdict, status) in [
         ("replay-halted", HALT, "0", "halted", 1),
         ("replay-fatal", ILLEGAL, "0x8000", "turned fatal", 1),
@@ -142,7 +142,7 @@ fn w10_what_the_model_does_is_reported_first() {
 }
 
 #[test]
-fn w10_several_traces_with_a_schedule_are_one() {
+fn several_traces_with_a_schedule_are_one() {
     let folder = with_rom("replay-schedule", &[LET_IN, ADD_1_R1, HALT, BACK]);
     // the machine halts; each line wakes it, and its handler returns
     folder.write(
@@ -184,6 +184,14 @@ fn w10_several_traces_with_a_schedule_are_one() {
 }
 
 #[test]
+fn a_number_of_records_is_at_least_one() {
+    let folder = Folder::with_demo("replay-no-record");
+    folder.write("empty", b"");
+    let message = "vbmodel: --records: `0` asks for nothing; write 1 or more";
+    folder.refused("replay --rom out/rom.bin empty --records 0", message);
+}
+
+#[test]
 fn a_trace_that_ends_before_its_program_is_invalid() {
     let folder = with_rom("replay-short", &[LET_IN, ADD_1_R1, ADD_1_R1, HALT]);
     assert_eq!(folder.vbmodel("trace --rom a.rom -o a.trace").status, 0);
@@ -199,7 +207,9 @@ fn a_trace_that_ends_before_its_program_is_invalid() {
         // so many are enough where so many were asked for, and an empty file is never enough
         let enough = |options: &str| replay(&folder, &format!("{options} b.trace")).0;
         assert_eq!(enough("--partial"), if records == 0 { 2 } else { 0 }, "{records}");
-        assert_eq!(enough(&format!("--records {records}")), 0, "{records}");
+        if records > 0 {
+            assert_eq!(enough(&format!("--records {records}")), 0, "{records}");
+        }
         assert_eq!(enough(&format!("--records {}", records + 1)), 2, "{records}");
     }
     let text = folder.vbmodel("replay --rom a.rom --records 9 b.trace").text;
@@ -308,7 +318,7 @@ fn go_on_counts_the_later_differences_from_the_models_own_state() {
 }
 
 #[test]
-fn w10_a_long_trace_is_read_in_pieces() {
+fn a_long_trace_is_read_in_pieces() {
     let folder = with_rom("replay-long", &[LET_IN, ADD_1_R1, BACK]);
     assert_eq!(folder.vbmodel("trace --rom a.rom --budget 300_000 -o a.trace").status, 0);
     assert_eq!(replay(&folder, "--records 300_000 a.trace").1["agreed"], 300_000);
@@ -339,7 +349,7 @@ fn w10_a_long_trace_is_read_in_pieces() {
 }
 
 #[test]
-fn w10_a_long_replay_on_a_terminal_shows_progress() {
+fn a_long_replay_on_a_terminal_shows_progress() {
     let folder = with_rom("replay-progress", &[LET_IN, ADD_1_R1, BACK]);
     assert_eq!(folder.vbmodel("trace --rom a.rom --budget 2_000_000 -o a.trace").status, 0);
     let many = ["a.trace"; 12].join(" ");
@@ -352,7 +362,7 @@ fn w10_a_long_replay_on_a_terminal_shows_progress() {
 }
 
 #[test]
-fn w10_bad_traces_are_reported_and_nothing_is_written() {
+fn bad_traces_are_reported_and_nothing_is_written() {
     let folder = with_rom("replay-bad", &[LET_IN, ADD_1_R1, BACK]);
     assert_eq!(folder.vbmodel("trace --rom a.rom --budget 3 -o a.trace").status, 0);
     folder.write("odd.trace", &[0; 31]);

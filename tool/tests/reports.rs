@@ -256,7 +256,7 @@ fn shards_put_together_are_the_report_of_the_whole_lot() {
     let plan = String::from_utf8(folder.read("lot/plan.toml")).unwrap();
     folder.write("lot/plan.toml", plan.replace("bin = 4", "bin = 5").as_bytes());
     folder.vbmodel(&format!("{JUDGE} --shard 2/3 --report other.json"));
-    let message = "vbmodel: other.json: a file of plan or lot is another: lot/plan.toml";
+    let message = "vbmodel: other.json: a file of the plan or the lot differs: lot/plan.toml";
     folder.refused("merge 1.json other.json 3.json", message);
     for shard in ["0/3", "4/3", "3", "1/0", "a/b"] {
         let ran = folder.vbmodel(&format!("{JUDGE} --shard {shard}"));
@@ -306,6 +306,114 @@ fn a_report_is_tried_again_and_what_changed_is_said() {
     let message = "the report is not whole; it must be a report of `judge --report`";
     let ran = folder.vbmodel("verify cut.json");
     assert!(ran.status == 2 && ran.error.contains(message), "{}", ran.error);
+}
+
+/// A report whose lines were changed by `change`.
+fn edited(folder: &Folder, from: &str, to: &str, change: impl FnOnce(&mut Vec<Value>)) {
+    let mut lines = report(folder, from);
+    change(&mut lines);
+    let text: String = lines.iter().map(|line| format!("{line}\n")).collect();
+    folder.write(to, text.as_bytes());
+}
+
+#[test]
+fn a_report_that_was_edited_is_not_confirmed() {
+    let folder = with_lot("reports-edited");
+    folder.vbmodel(&format!("{JUDGE} --report r.json"));
+    edited(&folder, "r.json", "e.json", |_| {});
+    assert_eq!(folder.vbmodel("verify e.json").status, 0);
+    let die_04 = 4;
+    let refused = |what: &str, change: &dyn Fn(&mut Vec<Value>)| {
+        edited(&folder, "r.json", "e.json", change);
+        let message = format!("vbmodel: e.json: {what}; the report was changed");
+        folder.refused("verify e.json", &message);
+    };
+    refused("the totals are not those of its parts", &|lines| {
+        lines.last_mut().unwrap()["totals"]["pass"] = 24.into();
+    });
+    refused("it has 25 parts, and 0 that were not judged; it must have 24", &|lines| {
+        let mut other = lines[die_04].clone();
+        other["part"] = "die-99".into();
+        lines.insert(25, other);
+    });
+    refused("part die-04 appears twice", &|lines| lines.insert(die_04, lines[die_04].clone()));
+    refused("its parts are not those that the lot had", &|lines| {
+        lines[die_04]["part"] = "die-99".into();
+    });
+    refused("part die-04: its verdict does not follow from its tests", &|lines| {
+        lines[die_04]["verdict"] = "pass".into();
+    });
+    refused("part die-04: its bin does not follow from its verdict", &|lines| {
+        lines[die_04]["bin"] = 1.into();
+    });
+    refused("part die-14: a record has no such word", &|lines| {
+        lines[14]["tests"][1]["trace"]["word"] = 4.into();
+    });
+    refused("part die-22: only its last test decides", &|lines| {
+        lines.iter_mut().filter(|line| line["part"] == "die-22").for_each(|line| {
+            line["decides"] = (line["attempt"] == 1).into();
+        });
+    });
+    refused("its shard is not K of N with K from 1 to N", &|lines| {
+        lines[0]["header"]["shard"] = serde_json::json!({"number": 0, "of": 0});
+    });
+    // what agrees with itself is found by judging again
+    let differs = |what: &str, change: &dyn Fn(&mut Vec<Value>)| {
+        edited(&folder, "r.json", "e.json", change);
+        let ran = folder.vbmodel("verify e.json");
+        assert!(
+            ran.status == 1 && ran.text.contains(what),
+            "{what}\nnot in\n{}{}",
+            ran.text,
+            ran.error
+        );
+    };
+    differs("report:   1 line is not the same\n  die-01: was x 77; is x 2\n", &|lines| {
+        lines[1]["x"] = 77.into();
+    });
+    differs(
+        "  die-01: was files {}; is files {lot/parts/die-01/picture.frame0.left.png, ",
+        &|lines| {
+            lines[1]["files"] = Value::Array(Vec::new());
+        },
+    );
+    differs("  the lot: was files {}; is files {lot/plan.toml, lot/demo.rom, ", &|lines| {
+        lines[0]["header"]["files"] = Value::Array(Vec::new());
+    });
+    folder.write("lot/parts/notes.txt", b"x");
+    differs("  the lot: was unknown files {}; is unknown files {notes.txt}\n", &|_| {});
+}
+
+/// Of four parts each shard judges two. Where a part's name changes in between, one may be judged twice and one never.
+#[test]
+fn shards_of_a_lot_that_changed_in_between_are_refused() {
+    let folder = with_lot("reports-other-lot");
+    let four =
+        "cd lot/parts && mkdir ../../p && for part in a b c d; do cp -r die-01 ../../p/$part; done";
+    assert_eq!(folder.shell(four).status, 0);
+    let shard = |number: u32| {
+        let arguments =
+            format!("judge --plan lot/plan.toml p --shard {number}/2 --report {number}.json");
+        assert_eq!(folder.vbmodel(&arguments).status, 0);
+    };
+    shard(1);
+    fs::rename(folder.path("p/a"), folder.path("p/e")).unwrap();
+    shard(2);
+    let message =
+        "vbmodel: 2.json: the lot had other parts; every shard must be judged from the same lot";
+    folder.refused("merge 1.json 2.json", message);
+    fs::rename(folder.path("p/e"), folder.path("p/a")).unwrap();
+    shard(2);
+    assert_eq!(folder.vbmodel("merge 1.json 2.json").status, 0);
+    edited(&folder, "2.json", "3.json", |lines| {
+        lines.remove(1);
+    });
+    let message =
+        "vbmodel: 3.json: it has 1 parts, and 0 that were not judged; it must have 2; the report was changed";
+    folder.refused("merge 1.json 3.json", message);
+    edited(&folder, "2.json", "3.json", |lines| lines[1]["part"] = "a".into());
+    let message = "vbmodel: the shards are not those of one lot: part a appears twice";
+    folder.refused("merge 1.json 3.json", message);
 }
 
 /// The parts that were judged when Ctrl-C came are reported; the others are counted.

@@ -205,3 +205,112 @@ fn the_second_of_two_parts_of_one_name_is_invalid() {
         ran.text
     );
 }
+
+/// The manifest's parts, each with the scene of the demo's frame 1 and these files.
+fn manifest_of(folder: &Folder, parts: &[(&str, &str)]) {
+    let part = |(name, files): &(&str, &str)| {
+        format!(
+            "[[part]]\nname = '{name}'\nvram = 'out/vram.bin'\ndrawing = 'out/drawing.bin'\n{files}\n"
+        )
+    };
+    folder.write("lot.toml", parts.iter().map(part).collect::<String>().as_bytes());
+}
+
+#[test]
+fn a_capture_that_two_parts_name_is_invalid_for_both() {
+    let folder = Folder::with_demo("verdicts-shared");
+    let own = "left = 'out/frame1-left.png'\nright = 'out/frame1-right.png'\n";
+    manifest_of(&folder, &[("a", own), ("b", own)]);
+    for (part, other) in [("a", "b"), ("b", "a")] {
+        let line = format!(
+            "invalid  {part}: out/frame1-left.png: is the capture of {other} too; each eye of a part must have its own file"
+        );
+        invalid(&folder, "lot.toml", &line);
+    }
+    // a whole VRAM has both eyes of both frames, of one part
+    let dump = "capture = 'out/vram.bin'\nframe = 1\n";
+    assert_eq!(folder.shell("cp out/vram.bin die.dump").status, 0);
+    manifest_of(&folder, &[("a", &dump.replace("out/vram.bin", "die.dump")), ("b", dump)]);
+    assert_eq!(folder.vbmodel("judge lot.toml").status, 0);
+    manifest_of(&folder, &[("a", dump), ("b", dump)]);
+    assert_eq!(folder.vbmodel("judge lot.toml").status, 2);
+    let both = "left = 'die.dump'\nright = 'die.dump'\nframe = 1\n";
+    manifest_of(&folder, &[("a", both), ("b", &both.replace("frame = 1", "frame = 0"))]);
+    let ran = folder.vbmodel("judge lot.toml");
+    assert!(ran.text.starts_with("pass     a: "), "{}", ran.text);
+}
+
+#[test]
+fn one_picture_is_not_taken_for_both_eyes() {
+    let folder = Folder::with_demo("verdicts-both-eyes");
+    // a blank scene, which both eyes show alike
+    folder.write("v", &[0; 262_144]);
+    folder.write("d", &[0; 26]);
+    assert_eq!(folder.vbmodel("draw --vram v --drawing d --out blank").status, 0);
+    let picture = "blank/frame0-left.png";
+    let message = format!(
+        "vbmodel: {picture}: is given for both eyes; each eye needs its own capture, or one whole VRAM"
+    );
+    folder.refused(
+        &format!("compare --vram v --drawing d --left {picture} --right {picture}"),
+        &message,
+    );
+    let part = format!("[[part]]\nname = 'a'\nvram = 'v'\ndrawing = 'd'\nleft = '{picture}'\nright = '{picture}'\n");
+    folder.write("lot.toml", part.as_bytes());
+    let line = format!(
+        "invalid  a: {picture}: is the capture of both eyes; each eye of a part must have its own file"
+    );
+    invalid(&folder, "lot.toml", &line);
+}
+
+#[test]
+fn a_quoted_value_does_not_hide_the_lines_after_it() {
+    let folder = Folder::with_demo("verdicts-quotes");
+    let files = "out/vram.bin,out/drawing.bin,1,out/frame1-left.png,out/frame1-right.png";
+    let text = format!("vram,drawing,frame,left,right,name\n{files},\"a\n{files},b\n");
+    folder.write("lot.csv", text.as_bytes());
+    let message =
+        "vbmodel: lot.csv: line 2: a quoted value is not closed; it must end on the line where it begins";
+    folder.refused("judge lot.csv", message);
+}
+
+#[test]
+fn the_lots_scene_written_in_two_ways_is_invalid() {
+    let folder = lot("verdicts-two-scenes-of-all");
+    folder.write("lot/all.VRAM", &[0; 262_144]);
+    let line = "invalid  a: lot/all.VRAM: the ending must be written `.vram`";
+    invalid(&folder, "lot", line);
+    // a part with its own scene needs none of the lot's
+    copy(&folder, "vram.bin", "a.vram");
+    copy(&folder, "drawing.bin", "a.drawing");
+    assert_eq!(folder.vbmodel("judge lot").status, 0);
+}
+
+#[test]
+fn names_that_are_not_utf_8_are_not_taken_for_one_part() {
+    let folder = lot("verdicts-not-utf-8");
+    let halves = "cd lot && mv a.left.png \"$(printf 'a\\377.left.png')\" && \
+                  mv a.right.png \"$(printf 'a\\376.right.png')\"";
+    assert_eq!(folder.shell(halves).status, 0);
+    let ran = folder.vbmodel("judge lot --allow-extra");
+    assert!(ran.status == 2 && ran.text.contains(": the name is not UTF-8\n"), "{}", ran.text);
+}
+
+/// A pipe that nobody writes to would make the command wait for ever.
+#[test]
+fn a_pipe_among_the_captures_is_invalid_and_the_others_are_judged() {
+    let folder = lot("verdicts-pipe");
+    assert_eq!(folder.shell("mkfifo lot/b.left.png lot/c.vram").status, 0);
+    let ran = folder.vbmodel("judge lot");
+    assert_eq!(ran.status, 2);
+    for start in [
+        "pass     a: frame 0, left eye equal; right eye equal\n",
+        "invalid  b: lot/b.left.png: is a device or a pipe; it must be a capture",
+        "invalid  c: lot/c.vram: is a device or a pipe; it must be VRAM of 262,144 bytes",
+    ] {
+        assert!(ran.text.contains(start), "{start}\nnot in\n{}", ran.text);
+    }
+    manifest_of(&folder, &[("a", "left = '-'\nright = 'out/frame1-right.png'\n")]);
+    let line = "invalid  a: lot.toml: a file is `-`, standard input; it must be the name of a file";
+    invalid(&folder, "lot.toml", line);
+}

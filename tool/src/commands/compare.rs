@@ -183,7 +183,13 @@ fn captures(options: &Options) -> Result<Vec<(u32, Input)>, Failure> {
     for (eye, path) in [(0, &options.left), (1, &options.right)] {
         if let Some(path) = path {
             let what = if options.seen.asked() { brightness::CAPTURE } else { CAPTURE };
-            inputs.push((eye, Input::read(path, what)?));
+            let input = Input::read(path, what)?;
+            if options.left == options.right && input.bytes.len() != VRAM_LENGTH {
+                let rule =
+                    "is given for both eyes; each eye needs its own capture, or one whole VRAM";
+                return Err(Failure::bad(format!("{}: {rule}", input.name())));
+            }
+            inputs.push((eye, input));
         } else if options.capture.is_none() && options.eyes.need(eye) {
             let eye = if eye == 0 { "left" } else { "right" };
             return Err(Failure::bad(missing(eye, options.eyes)));

@@ -52,7 +52,7 @@ struct TestReported {
 pub fn run(options: &Options) -> Result<Report, Failure> {
     let plan = Plan::read(&options.plan)?;
     interrupt::watch();
-    let expected = model_of(&plan)?;
+    let (expected, _) = model_of(&plan)?;
     let mut outputs = Outputs::default();
     for (test, expected) in plan.tests.iter().zip(&expected) {
         frames(options, test, expected, &mut outputs);

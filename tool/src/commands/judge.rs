@@ -49,7 +49,7 @@ The names are name, state, vram, drawing, frame, left, right, capture (a whole V
 left or right). A manifest in CSV has them as its first line, and a line for each part. Files are named from the
 manifest's folder.
 
-With --plan the parts are judged by what programs come to: the model runs each test of the plan once, draws its frames and
+With --plan the parts are judged by the results of programs: the model runs each test of the plan once, draws its frames and
 keeps its records, and every part's captures and traces are compared with those. The lot is a folder with a folder for each
 part (die-17/pier.frame0.left.png, die-17/pier.trace) or with flat names (die-17.pier.frame0.left.png); die-17@2 is the
 part's second test, and the last one decides; parts.csv (part, wafer, x, y, others) is a list of the parts. `vbmodel demo
@@ -57,15 +57,15 @@ part's second test, and the last one decides; parts.csv (part, wafer, x, y, othe
   vbmodel judge --plan demo-lot/plan.toml demo-lot/parts --html report.html
 
 A part passes when both eyes have a capture and both are equal. It fails when one differs. It is invalid when something
-could not be judged: a capture is missing or broken, there are two of one eye or two scenes, or a name differs only in
-case. An invalid part does not stop the others.
+could not be judged: a capture is missing or broken, there are two of one eye or two scenes, a name differs only in case,
+or a capture or folder is another part's too. An invalid part does not stop the others.
 
 Exit status: 0 all pass; 1 some fail; 2 some are invalid, an unknown file is in the folder, or nothing could be judged;
 3 the independent model and the proved library differ; 130 stopped by Ctrl-C.")]
 pub struct Options {
     /// A folder, or a manifest whose name ends in .toml or .csv; with --plan a folder of parts
     lot: PathBuf,
-    /// A test plan: each part must show what the plan's programs come to
+    /// A test plan: each part must show the results of the plan's programs
     #[arg(long, value_name = "FILE", conflicts_with_all = ["vram", "drawing", "state", "threshold", "eyes"])]
     plan: Option<PathBuf>,
     /// With --plan: judge every N-th part, from the K-th on
@@ -122,7 +122,7 @@ fn by_plan(options: &Options, plan: &Path) -> Result<Report, Failure> {
     let plan = Plan::read(plan)?;
     options.forms.test()?;
     interrupt::watch();
-    let expected = match model_of(&plan) {
+    let (expected, files) = match model_of(&plan) {
         Err(failure) if interrupt::asked() => {
             let (text, json) = (String::new(), json(&failure));
             let status = interrupt::STATUS;
@@ -130,7 +130,7 @@ fn by_plan(options: &Options, plan: &Path) -> Result<Report, Failure> {
         }
         expected => expected?,
     };
-    let model = Model { plan: &plan, expected: &expected };
+    let model = Model { plan: &plan, expected: &expected, files: &files };
     let pictures = options.forms.has_pictures().then_some(options.first as usize);
     let asked = Asked { allow_extra: options.allow_extra, shard: options.shard, pictures };
     let report = judge_lot(model, &options.lot, &asked)?;

@@ -18,7 +18,8 @@ use crate::report::{self, read_lines, Forms};
   vbmodel judge --plan plan.toml lot --shard 2/2 --report 2.json
   vbmodel merge 1.json 2.json --html report.html
 
-Reports of another plan, lot or model are refused, and so is a shard that is missing or is there twice.
+Reports of another plan, lot or model are refused, and so are a shard that is missing or is given twice, a report that was
+cut or edited, and shards of a lot whose parts changed in between.
 Exit status: 0 all pass; 1 some fail; 2 some are invalid, or the reports are not those of one lot; 3 in a part the
 independent model and the library differ.")]
 pub struct Options {
@@ -60,8 +61,12 @@ pub fn run(options: &Options) -> Result<Report, Failure> {
         return Err(Failure::bad(format!("shard {missing} of {of} is missing")));
     }
     let shards: Vec<report::Report> = shards.into_values().map(|(report, _)| report).collect();
+    let whole = joined(shards);
+    if let Some(what) = whole.contradiction() {
+        return Err(Failure::bad(format!("the shards are not those of one lot: {what}")));
+    }
     options.forms.test()?;
-    options.forms.written(&joined(shards), begun.elapsed().as_secs_f64())
+    options.forms.written(&whole, begun.elapsed().as_secs_f64())
 }
 
 pub fn read(path: &Path) -> Result<report::Report, Failure> {

@@ -42,7 +42,7 @@ pub struct Options {
     #[arg(long, value_name = "FILE")]
     schedule: Option<PathBuf>,
     /// Ask for N records, and not for the program's end
-    #[arg(long, value_name = "N", value_parser = number::whole, conflicts_with = "partial")]
+    #[arg(long, value_name = "N", value_parser = number::records, conflicts_with = "partial")]
     records: Option<u64>,
     /// Ask for as many records as there are, one at least
     #[arg(long)]

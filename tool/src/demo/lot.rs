@@ -73,7 +73,7 @@ pub fn write(folder: &Path) -> Result<(PathBuf, PathBuf), Failure> {
     outputs.add_in(folder, "frame.schedule", SCHEDULE.as_bytes().to_vec());
     outputs.add_in(folder, "demo.rom", rom().map_err(Failure::bad)?);
     outputs.write()?;
-    let expected = model_of(&Plan::read(&plan)?)?;
+    let (expected, _) = model_of(&Plan::read(&plan)?)?;
     let mut outputs = Outputs::default();
     let mut list = "part,wafer,x,y,probe card\n".to_string();
     let places = ROWS_OF_WAFER.iter().enumerate();

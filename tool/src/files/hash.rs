@@ -37,6 +37,19 @@ impl FileRead {
     pub fn of(path: &Path, bytes: u64, sha256: Hash) -> FileRead {
         FileRead { path: path.to_string_lossy().into_owned(), bytes, sha256 }
     }
+
+    /// Adds it to a list that has it once. A file that is read again must be what it was.
+    pub fn noted(self, list: &mut Vec<FileRead>) -> Result<(), Failure> {
+        match list.iter().find(|one| one.path == self.path) {
+            None => list.push(self),
+            Some(before) if *before == self => {}
+            Some(_) => {
+                let name = shown(Path::new(&self.path));
+                return Err(Failure::bad(format!("{name}: was changed while it was judged")));
+            }
+        }
+        Ok(())
+    }
 }
 
 /// Refuses a device or a pipe: it would make the command wait, and could not be read again.
@@ -90,6 +103,20 @@ impl<'de> Deserialize<'de> for Hash {
 #[cfg(test)]
 mod tests {
     use super::*;
+
+    #[test]
+    fn a_file_that_is_read_again_must_be_what_it_was() {
+        let read = |path: &str, bytes: &[u8]| {
+            FileRead::of(Path::new(path), bytes.len() as u64, Hash::of(bytes))
+        };
+        let mut list = Vec::new();
+        for (path, bytes) in [("a", b"1"), ("b", b"2"), ("a", b"1")] {
+            assert!(read(path, bytes).noted(&mut list).is_ok());
+        }
+        assert_eq!(list.len(), 2);
+        let changed = read("a", b"3").noted(&mut list).unwrap_err();
+        assert_eq!(changed.message, "a: was changed while it was judged");
+    }
 
     #[test]
     fn a_hash_is_read_as_it_is_written() {

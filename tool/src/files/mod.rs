@@ -21,7 +21,7 @@ use std::fs::Metadata;
 use std::os::unix::fs::MetadataExt;
 
 /// What makes two names the same file: the device and the file's number on it.
-#[derive(Clone, Copy, Debug, PartialEq, Eq, PartialOrd, Ord)]
+#[derive(Clone, Copy, Debug, Hash, PartialEq, Eq, PartialOrd, Ord)]
 pub struct Identity(u64, u64);
 
 impl Identity {

@@ -9,4 +9,5 @@ pub mod scene;
 pub mod schedule;
 pub mod setup;
 pub mod state;
+pub mod table;
 pub mod trace;

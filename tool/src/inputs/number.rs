@@ -51,6 +51,14 @@ pub fn byte(text: &str) -> Result<u8, String> {
     within(text, 0, 255).map(|n| n as u8)
 }
 
+/// How many records are asked for.
+pub fn records(text: &str) -> Result<u64, String> {
+    match whole(text)? {
+        0 => Err(format!("`{text}` asks for nothing; write 1 or more")),
+        count => Ok(count),
+    }
+}
+
 /// How many records are printed.
 pub fn few(text: &str) -> Result<usize, String> {
     within(text, 0, 1_000).map(|n| n as usize)

@@ -27,6 +27,8 @@ const KEPT: usize = 10;
 pub struct Model<'a> {
     pub plan: &'a Plan,
     pub expected: &'a [Expected],
+    /// The plan's files.
+    pub files: &'a [FileRead],
 }
 
 pub fn judge_attempt(model: Model, part: &Part, attempt: &Attempt, decides: bool) -> report::Part {
@@ -83,7 +85,7 @@ fn judge_test(model: Model, attempt: &Attempt, number: usize, files: &mut Vec<Fi
         trace: None,
     };
     if !attempt.files.slots().any(|slot| slot.test == number) {
-        tested.problems.push("nothing of it is there".to_string());
+        tested.problems.push("it has no file".to_string());
         tested.verdict = Verdict::Invalid;
         return tested;
     }
@@ -142,9 +144,7 @@ fn judge_eye(
     let Some(path) = capture_path(test, attempt, place)? else { return Ok(None) };
     let frame = &expected.frames[place.frame];
     let (Capture { picture, levels }, read) = capture(path, test, frame, place.eye)?;
-    if !files.contains(&read) {
-        files.push(read);
-    }
+    read.noted(files)?;
     let found = differences(frame.view(place.eye), &picture);
     let Some(bounds) = Bounds::of(&found) else { return Ok(None) };
     let sources = Sources::of(&frame.vram, &registers(&frame.drawing), place.eye, &bounds);

@@ -11,10 +11,11 @@ use super::attempt::{judge_attempt, Model};
 use super::explained::{explain_traces, picture, PICTURED};
 use super::Verdict;
 use crate::failure::Failure;
+use crate::files::shown;
 use crate::interrupt;
 use crate::lot::{Lot, Part};
 use crate::plan::{expected, Expected, Plan};
-use crate::report::{self, read_hashed, Header, Report, Shard};
+use crate::report::{self, names_hash, read_hashed, FileRead, Header, Report, Shard};
 use crate::reports::progress::Progress;
 
 /// What is wanted in addition to the verdicts.
@@ -25,20 +26,34 @@ pub struct Asked {
     pub pictures: Option<usize>,
 }
 
-/// Runs every test of a plan once.
-pub fn model_of(plan: &Plan) -> Result<Vec<Expected>, Failure> {
-    plan.tests.par_iter().map(expected).collect()
+/// Runs every test of a plan once. Gives the result of each, and the files that they were run from.
+pub fn model_of(plan: &Plan) -> Result<(Vec<Expected>, Vec<FileRead>), Failure> {
+    let hashed = || -> Result<Vec<FileRead>, Failure> {
+        let files = plan.files().into_iter();
+        files.map(|path| Ok(read_hashed(path, "a file of the plan")?.1)).collect()
+    };
+    // a file that cannot be read is named by the test that needs it
+    let before = hashed();
+    let expected = plan.tests.par_iter().map(expected).collect::<Result<_, _>>()?;
+    let files = hashed()?;
+    let before = before.unwrap_or_default();
+    if let Some(file) = files.iter().find(|file| !before.contains(file)) {
+        let rule = "was changed while the plan was run";
+        return Err(Failure::bad(format!("{}: {rule}", shown(Path::new(&file.path)))));
+    }
+    Ok((expected, files))
 }
 
 pub fn judge_lot(model: Model, folder: &Path, asked: &Asked) -> Result<Report, Failure> {
     let lot = Lot::read(folder, model.plan, asked.allow_extra)?;
     let mut header = Header::of(model.plan, model.expected, &folder.to_string_lossy());
-    let named = model.plan.files().into_iter().chain(lot.list.as_deref());
-    for path in named {
-        header.files.push(read_hashed(path, "a file of the plan")?.1);
+    header.files = model.files.to_vec();
+    if let Some(list) = &lot.list {
+        header.files.push(read_hashed(list, "a list of parts")?.1);
     }
     (header.allow_extra, header.shard) = (asked.allow_extra, asked.shard);
     (header.parts, header.unknown) = (lot.parts.len(), lot.unknown.clone());
+    header.names = Some(names_hash(lot.parts.iter().map(|part| part.name.as_str())));
     let mine = lot.parts.iter().enumerate();
     let mine = mine.filter(|(n, _)| asked.shard.is_none_or(|shard| shard.has(*n)));
     let mine: Vec<&Part> = mine.map(|(_, part)| part).collect();
@@ -47,7 +62,7 @@ pub fn judge_lot(model: Model, folder: &Path, asked: &Asked) -> Result<Report, F
     let mut report = Report { header, parts: judged.into_iter().flatten().collect(), not_judged };
     explain_traces(model, &mut report.parts)?;
     if let Some(pixels) = asked.pictures {
-        pictures(model, &lot, &mut report, pixels)?;
+        pictures(model, &lot, &mut report, pixels);
     }
     Ok(report)
 }
@@ -90,7 +105,7 @@ fn how_far(done: usize, all: usize, seconds: f64) -> String {
 }
 
 /// The pictures of the first parts of each verdict that differ in one.
-fn pictures(model: Model, lot: &Lot, report: &mut Report, pixels: usize) -> Result<(), Failure> {
+fn pictures(model: Model, lot: &Lot, report: &mut Report, pixels: usize) {
     let mut left = [Verdict::Fault, Verdict::Fail, Verdict::Invalid].map(|one| (one, PICTURED));
     let first = report.parts.iter_mut().filter(|part| {
         let differs = part.tests.iter().any(|test| !test.eyes.is_empty());
@@ -98,7 +113,14 @@ fn pictures(model: Model, lot: &Lot, report: &mut Report, pixels: usize) -> Resu
         left.is_some_and(|(_, left)| std::mem::replace(left, left.saturating_sub(1)) > 0)
     });
     let first: Vec<&mut report::Part> = first.collect();
-    first.into_par_iter().try_for_each(|part| picture(model, lot, part, pixels))
+    first.into_par_iter().for_each(|part| {
+        if let Err(failure) = picture(model, lot, part, pixels) {
+            // its captures are read again here, and are not what they were
+            (part.verdict, part.bin) = (Verdict::Invalid, model.plan.invalid_bin);
+            part.details.clear();
+            part.problems.push(failure.message);
+        }
+    });
 }
 
 #[cfg(test)]

@@ -11,7 +11,7 @@ use super::verdict::{judge, Explained, EyeJudged, Judged, Wish};
 use super::{Lot, Part, Verdict};
 use crate::interrupt;
 use crate::report::{
-    self, Captures, Detail, EyeFound, Header, Pixel, Report, TestHeader, Tested, Zoom,
+    self, names_hash, Captures, Detail, EyeFound, Header, Pixel, Report, TestHeader, Tested, Zoom,
 };
 use crate::reports::progress::Progress;
 
@@ -31,6 +31,7 @@ pub fn judge_captures(lot: &Lot, header: &Header, wish: Wish) -> (Report, Vec<Ju
     let test =
         TestHeader { name: TEST.to_string(), bin: BIN, frames: 1, records: None, instructions: 0 };
     (header.tests, header.parts) = (vec![test], lot.entries.len());
+    header.names = Some(names_hash(lot.entries.iter().map(|entry| entry.name.as_str())));
     header.unknown.clone_from(&lot.unknown);
     header.files.clone_from(&lot.files);
     for file in judged.iter().flat_map(|one| &one.scene) {

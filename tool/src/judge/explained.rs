@@ -1,9 +1,12 @@
 //! Why parts fail: the pictures of the first of them, and what the model did where a trace first differs.
 
+use std::path::Path;
+
 use model::world::Eye;
 
 use super::attempt::{capture_path, found_again, Model, Place};
 use crate::failure::Failure;
+use crate::files::shown;
 use crate::inputs::setup::Bench;
 use crate::inputs::trace::Record;
 use crate::lot::{Attempt, Lot};
@@ -94,10 +97,12 @@ fn detail(model: Model, attempt: &Attempt, place: Place, pixels: usize) -> Resul
     let test: &plan::Test = &model.plan.tests[place.number];
     let frame = &model.expected[place.number].frames[place.frame];
     let path = capture_path(test, attempt, place)?;
+    let changed =
+        |path: &Path| Failure::bad(format!("{}: was changed while it was judged", shown(path)));
     let path = path.ok_or_else(|| Failure::bad("the capture is gone"))?;
     let (seen, found) = found_again(path, test, frame, place.eye)?;
     let expected = frame.view(place.eye);
-    let first = found.first().ok_or_else(|| Failure::bad("the capture was changed"))?;
+    let first = found.first().ok_or_else(|| changed(path))?;
     let why = found.iter().take(pixels).map(|pixel| explained_pixel(frame, place.eye, pixel));
     Ok(Detail {
         test: test.name.clone(),

@@ -52,9 +52,11 @@ pub fn read(folder: &Path) -> Result<Lot, Failure> {
     let mut found = Found::default();
     for name in names {
         let path = folder.join(&name);
+        // two names of other bytes may be printed alike
+        let garbled = name.to_str().is_none().then_some("the name is not UTF-8".to_string());
         let name = name.to_string_lossy().into_owned();
         match ending(&name) {
-            Some((part, kind)) if !part.is_empty() => found.take(part, kind, path),
+            Some((part, kind)) if !part.is_empty() => found.take(part, kind, path, garbled),
             _ => match ending(&name.to_lowercase()) {
                 Some((part, kind)) if !part.is_empty() => found.mistyped(&name, kind, path),
                 _ => lot.unknown.push(printable(&name)),
@@ -72,8 +74,9 @@ fn ending(name: &str) -> Option<(&str, Kind)> {
 }
 
 impl Found {
-    fn take(&mut self, name: &str, kind: Kind, path: PathBuf) {
-        let (base, frame, wrong) = framed(name);
+    /// A file of a part; `wrong` says why it may be another's.
+    fn take(&mut self, name: &str, kind: Kind, path: PathBuf, wrong: Option<String>) {
+        let (base, frame, not_a_frame) = framed(name);
         let part = match kind {
             Kind::Vram | Kind::Drawing | Kind::State => {
                 self.scenes.entry(name.to_string()).or_default()
@@ -92,7 +95,7 @@ impl Found {
             let [first, second] = [&other, &path].map(|path| shown(path));
             part.refuse(format!("{first} and {second} are the same capture; it must have one"));
         }
-        if let Some(wrong) = wrong {
+        for wrong in [wrong, not_a_frame].into_iter().flatten() {
             part.refuse(format!("{}: {wrong}", shown(&path)));
         }
     }
@@ -105,15 +108,7 @@ impl Found {
             return;
         };
         let part = &name[..name.len() - end.len()];
-        self.take(part, kind, path.clone());
-        let (base, frame, _) = framed(part);
-        let wrong = format!("{}: the ending must be written `{end}`", shown(&path));
-        match kind {
-            Kind::Vram | Kind::Drawing | Kind::State => {
-                self.scenes.entry(part.to_string()).or_default().refuse(wrong)
-            }
-            _ => self.parts.entry((base, frame)).or_default().refuse(wrong),
-        }
+        self.take(part, kind, path, Some(format!("the ending must be written `{end}`")));
     }
 
     /// Two names that differ only in case may be one part: neither is judged.
@@ -150,7 +145,9 @@ impl Found {
             let scene = scenes.get(&base).cloned().unwrap_or_default();
             let name = if frame == 0 { base } else { format!("{base}.frame{frame}") };
             let Part { left, right, capture, ambiguous, .. } = captures;
-            let ambiguous = ambiguous.or(scene.ambiguous.clone());
+            let own = scene.state.is_some() || (scene.vram.is_some() && scene.drawing.is_some());
+            let shared = all.ambiguous.clone().filter(|_| !own);
+            let ambiguous = ambiguous.or(scene.ambiguous.clone()).or(shared);
             let part = Part { name, frame: Some(frame), left, right, capture, ambiguous, ..scene };
             let mut entry = Entry::of(part);
             entry.complete(&all);

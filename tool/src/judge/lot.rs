@@ -1,11 +1,14 @@
 //! A lot read from a manifest or a folder.
 
-use std::collections::HashSet;
+use std::collections::{BTreeMap, HashSet};
+use std::fs;
 use std::path::{Path, PathBuf};
+
+use vb::VRAM_LENGTH;
 
 use super::{folder, manifest, Entry, Part};
 use crate::failure::Failure;
-use crate::files::{shown, FileRead};
+use crate::files::{printable, shown, FileRead};
 
 /// The entries in order, and the files of a folder that no naming rule takes.
 #[derive(Default)]
@@ -14,6 +17,25 @@ pub struct Lot {
     pub unknown: Vec<String>,
     /// The manifest.
     pub files: Vec<FileRead>,
+}
+
+/// Which part names a capture, and the frame and eye that it is for; a whole VRAM is for both eyes.
+struct Owner {
+    number: usize,
+    frame: u32,
+    eye: Option<u32>,
+}
+
+impl Owner {
+    /// Whether both name the same picture of a file.
+    fn shares(&self, other: &Owner, is_vram: bool) -> bool {
+        let same_eye = self.eye.is_none() || other.eye.is_none() || self.eye == other.eye;
+        let same_part = self.number == other.number;
+        match is_vram {
+            true => !same_part && self.frame == other.frame && same_eye,
+            false => !same_part || self.eye != other.eye,
+        }
+    }
 }
 
 impl Lot {
@@ -39,7 +61,39 @@ impl Lot {
         lot.entries.iter_mut().for_each(|entry| entry.complete(defaults));
         lot.refuse_repeated();
         lot.entries.iter_mut().for_each(Entry::refuse_ambiguous);
+        lot.refuse_shared();
         Ok(lot)
+    }
+
+    /// A picture is one part's and one eye's: of two that name the same one, one was not seen. A whole VRAM has four.
+    fn refuse_shared(&mut self) {
+        let mut owners: BTreeMap<&Path, Vec<Owner>> = BTreeMap::new();
+        for (number, entry) in self.entries.iter().enumerate() {
+            let Ok(part) = &entry.part else { continue };
+            let frame = part.frame.unwrap_or(0);
+            for (path, eye) in part.captures() {
+                owners.entry(path).or_default().push(Owner { number, frame, eye });
+            }
+        }
+        let mut shared: Vec<(usize, String)> = Vec::new();
+        for (path, owners) in owners.into_iter().filter(|(_, owners)| owners.len() > 1) {
+            let is_vram = fs::metadata(path).is_ok_and(|about| about.len() == VRAM_LENGTH as u64);
+            for owner in &owners {
+                let shares = |other: &&Owner| owner.shares(other, is_vram);
+                let Some(other) = owners.iter().find(shares) else { continue };
+                let name = printable(&self.entries[other.number].name);
+                let whose = match other.number == owner.number {
+                    true => "the capture of both eyes".to_string(),
+                    false => format!("the capture of {name} too"),
+                };
+                let rule = "each eye of a part must have its own file";
+                shared.push((owner.number, format!("{}: is {whose}; {rule}", shown(path))));
+            }
+        }
+        // the first message of a part stays
+        for (number, message) in shared.into_iter().rev() {
+            self.entries[number].part = Err(Failure::bad(message));
+        }
     }
 
     /// A name stands for one part: it is how a report finds it.
@@ -79,6 +133,13 @@ impl Entry {
 }
 
 impl Part {
+    /// Its captures, each with its eye, 0 left and 1 right; a whole VRAM has none.
+    fn captures(&self) -> impl Iterator<Item = (&Path, Option<u32>)> {
+        let Part { left, right, capture, .. } = self;
+        let all = [(left, Some(0)), (right, Some(1)), (capture, None)];
+        all.into_iter().filter_map(|(path, eye)| Some((path.as_deref()?, eye)))
+    }
+
     /// What makes a part's files ambiguous, if anything does.
     fn wrong(&self) -> Option<String> {
         if let Some(wrong) = &self.ambiguous {
@@ -94,7 +155,7 @@ impl Part {
             .or_else(|| two(&self.capture, &self.right, "two captures of the right eye"))
     }
 
-    /// Takes what the part leaves out. A part with a state of its own needs no VRAM, and the other way round. Both
+    /// Takes what the part leaves out. A part with its own state needs no VRAM, and the other way round. Both
     /// are taken where the defaults have both, so that they are seen to be two scenes.
     fn complete(&mut self, defaults: &Part) {
         let own = self.state.is_some() || self.vram.is_some();

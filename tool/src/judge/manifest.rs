@@ -9,6 +9,7 @@ use super::{Entry, Eyes, Lot, Part};
 use crate::failure::Failure;
 use crate::files::{printable, shown, FileRead, Input};
 use crate::inputs::capture::LARGEST_THRESHOLD;
+use crate::inputs::table::table;
 
 const MANIFEST: &str = "a manifest, TOML or CSV";
 
@@ -73,13 +74,9 @@ pub fn toml(path: &Path) -> Result<Lot, Failure> {
 pub fn csv(path: &Path) -> Result<Lot, Failure> {
     let (input, text) = text(path)?;
     let folder = path.parent().unwrap_or(Path::new(""));
-    // and semicolons between the columns, where its language has commas in numbers
-    let first = text.lines().next().unwrap_or_default();
-    let between = if first.contains(';') && !first.contains(',') { b';' } else { b',' };
-    let mut reader = csv::ReaderBuilder::new();
-    let mut reader = reader.trim(csv::Trim::All).delimiter(between).from_reader(text.as_bytes());
-    let broken = |error: csv::Error| Failure::bad(input.wrong(format!("not a manifest: {error}")));
-    let heads = reader.headers().map_err(broken)?.clone();
+    let (mut reader, heads) = table(&text).map_err(|(line, rule)| {
+        Failure::bad(format!("{}: line {line}: {}", shown(path), printable(&rule)))
+    })?;
     if !heads.iter().any(|head| head == "name") {
         let rule = "its first line must name the columns: name, and of state, vram, drawing, frame, left, right, \
                     capture, threshold and eyes those that are used";
@@ -120,6 +117,13 @@ fn taken(part: Part, folder: &Path, manifest: &Path, place: String) -> Entry {
 
 impl Part {
     fn out_of_range(&self) -> Option<String> {
+        let Part { state, vram, drawing, left, right, capture, .. } = self;
+        let mut files = [state, vram, drawing, left, right, capture].into_iter().flatten();
+        if files.any(|path| path == Path::new("-")) {
+            return Some(
+                "a file is `-`, standard input; it must be the name of a file".to_string(),
+            );
+        }
         let threshold = self.threshold.filter(|n| !(1..=LARGEST_THRESHOLD).contains(n))?;
         Some(format!("threshold is {threshold}; it must be 1 to {LARGEST_THRESHOLD}"))
     }

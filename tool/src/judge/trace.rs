@@ -35,10 +35,13 @@ pub fn judge(
         return Err(wrong(what.to_string()));
     }
     register(&about);
-    let file = File::open(path).map_err(|error| wrong(reason(&error)))?;
+    let mut file = File::open(path).map_err(|error| wrong(reason(&error)))?;
     let mut compared = Compared::default();
-    compared.read(file, records).map_err(|error| wrong(reason(&error)))?;
+    compared.read(&mut file, records).map_err(|error| wrong(reason(&error)))?;
     let Compared { bytes, first, differing, hash } = compared;
+    if file.metadata().is_ok_and(|about| about.len() != bytes) {
+        return Err(wrong("was changed while it was judged".to_string()));
+    }
     files.push(FileRead::of(path, bytes, Hash(hash.finalize().into())));
     if !bytes.is_multiple_of(RECORD_LENGTH as u64) {
         let refusal = Refusal::TraceLength { given: bytes as usize };
@@ -88,11 +91,11 @@ struct Compared {
 }
 
 impl Compared {
-    fn read(&mut self, mut file: File, model: &Records) -> std::io::Result<()> {
+    fn read(&mut self, file: &mut File, model: &Records) -> std::io::Result<()> {
         let (mut piece, mut expected) = (Vec::with_capacity(PIECE), Vec::with_capacity(PIECE));
         loop {
             piece.clear();
-            (&mut file).take(PIECE as u64).read_to_end(&mut piece)?;
+            file.take(PIECE as u64).read_to_end(&mut piece)?;
             if piece.is_empty() {
                 return Ok(());
             }

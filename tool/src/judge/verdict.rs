@@ -1,5 +1,7 @@
 //! One part judged.
 
+use std::path::Path;
+
 use model::world::Eye;
 use serde::{Deserialize, Serialize};
 use vb::{grouped, COLUMNS, ROWS, VRAM_LENGTH};
@@ -8,9 +10,10 @@ use super::{Entry, Eyes, Part};
 use crate::commands::compare::CAPTURE;
 use crate::commands::draw::Views;
 use crate::failure::Failure;
-use crate::files::{FileRead, Input};
+use crate::files::{regular, FileRead, Input};
 use crate::inputs::capture::{Capture, Level, Wanted};
-use crate::inputs::scene::{Read, Scene};
+use crate::inputs::scene::{Read, Scene, DRAWING, VRAM};
+use crate::inputs::state::STATE;
 use crate::pictures::difference::{differences, Bounds, Difference};
 use crate::pictures::explain::{explain, eye_name, registers, Question};
 use crate::pictures::picture::Picture;
@@ -138,6 +141,11 @@ impl Judged {
     fn part(&mut self, part: &Part, wish: Wish) -> Result<(), Failure> {
         self.frame = part.frame.unwrap_or(0);
         let Part { state, vram, drawing, .. } = part.clone();
+        for (path, wanted) in [(&state, STATE), (&vram, VRAM), (&drawing, DRAWING)] {
+            if let Some(path) = path.as_deref().filter(|path| *path != Path::new("-")) {
+                regular(path, wanted)?;
+            }
+        }
         let scene = Scene { state, vram, drawing }.read()?;
         self.scene.clone_from(&scene.files);
         (self.vram, self.drawing) = (Some(scene.vram.name()), Some(scene.drawing_file.name()));
@@ -167,10 +175,7 @@ impl Judged {
         wish: Wish,
     ) -> Result<(), Failure> {
         let Some(input) = capture(part, eye)? else { return Ok(()) };
-        let read = FileRead::whole(&input);
-        if !self.captures.contains(&read) {
-            self.captures.push(read);
-        }
+        FileRead::whole(&input).noted(&mut self.captures)?;
         let threshold = part.threshold.unwrap_or(0);
         let wanted = Wanted { frame: self.frame, eye: eye.number(), threshold };
         let capture = Capture::read(&input, wanted)?;
@@ -194,6 +199,7 @@ impl Judged {
 /// An eye's capture; none where it is not there and was not asked for.
 fn capture(part: &Part, eye: Eye) -> Result<Option<Input>, Failure> {
     if let Some(path) = &part.capture {
+        regular(path, "a whole VRAM of 262,144 bytes")?;
         let input = Input::read(path, "a whole VRAM of 262,144 bytes")?;
         if input.bytes.len() != VRAM_LENGTH {
             let rule = "a capture of both eyes is a whole VRAM of 262,144 bytes";
@@ -204,7 +210,10 @@ fn capture(part: &Part, eye: Eye) -> Result<Option<Input>, Failure> {
     let path = if eye == Eye::Left { &part.left } else { &part.right };
     let asked = part.eyes.unwrap_or_default();
     match path {
-        Some(path) => Input::read(path, CAPTURE).map(Some),
+        Some(path) => {
+            regular(path, CAPTURE)?;
+            Input::read(path, CAPTURE).map(Some)
+        }
         None if part.left.is_none() && part.right.is_none() => {
             Err(Failure::bad("it has no capture: left and right, or a whole VRAM of both"))
         }

@@ -16,9 +16,9 @@ use std::path::{Path, PathBuf};
 use rayon::prelude::*;
 
 use crate::failure::Failure;
-use crate::files::{printable, reason, shown};
+use crate::files::{printable, reason, shown, Identity};
 use crate::plan::Plan;
-use names::{attempt, flat, within_part, Named};
+use names::{attempt, flat, within_part, Flat, Named};
 
 /// The list of a lot's parts.
 pub const LIST: &str = "parts.csv";
@@ -43,6 +43,8 @@ pub struct Part {
 #[derive(Default)]
 pub struct Attempt {
     pub number: u32,
+    /// How the lot writes it: `die-17` and `die-17@1` have one number, and may be two runs.
+    spelled: String,
     pub files: Files,
     /// What makes it invalid before any file is read.
     pub problems: Vec<String>,
@@ -82,7 +84,12 @@ impl Lot {
             Failure::bad(format!("{}: {what}; {wanted}", shown(folder)))
         };
         let entries = entries(folder).map_err(failed)?;
-        let list = entries.iter().map(DirEntry::path).find(|path| path.ends_with(LIST));
+        let is_list = |entry: &&DirEntry| entry.file_name().eq_ignore_ascii_case(LIST);
+        let list = entries.iter().find(is_list).map(DirEntry::path);
+        if let Some(other) = list.as_deref().filter(|path| !path.ends_with(LIST)) {
+            let rule = format!("the list of parts must be written {LIST}");
+            return Err(Failure::bad(format!("{}: {rule}", shown(other))));
+        }
         let listed = list.as_deref().map(parts::read).transpose()?;
         let mut lot = Lot { parts: Vec::new(), unknown: Vec::new(), list };
         let found = found(&entries, plan, &mut lot.unknown);
@@ -105,34 +112,69 @@ fn entries(folder: &Path) -> Result<Vec<DirEntry>, String> {
 
 /// What lies in the lot's folder, sorted into parts.
 fn found(entries: &[DirEntry], plan: &Plan, unknown: &mut Vec<String>) -> Found {
-    let mut found = Found::new();
+    let (mut found, mut folders) = (Found::new(), Folders::new());
     let inside: Vec<(Attempt, Vec<String>)> =
         entries.par_iter().map(|entry| part_folder(&entry.path(), plan)).collect();
     for (entry, (mut read, others)) in entries.iter().zip(inside) {
         let name = entry.file_name().to_string_lossy().into_owned();
-        let is_folder = entry.path().is_dir();
-        match (attempt(&name), flat(&name, plan)) {
+        let about = fs::metadata(entry.path());
+        let is_folder = about.as_ref().is_ok_and(|about| about.is_dir());
+        let there = match (attempt(&name), flat(&name, plan)) {
             (Some((part, number)), _) if is_folder && !name.starts_with('.') => {
                 unknown.extend(others.iter().map(|other| format!("{}/{other}", printable(&name))));
-                let there = &mut at(&mut found, part, number).problems;
-                there.append(&mut read.problems);
-                for (slot, path) in read.files.0 {
-                    put(&mut found, part, number, slot, path);
-                }
+                let there = at(&mut found, part, number, &name);
+                there.problems.append(&mut read.problems);
+                read.files.0.into_iter().for_each(|(slot, path)| insert(there, slot, path));
+                let identity = about.as_ref().ok().map(Identity::of);
+                folders.entry(identity).or_default().push((part.to_string(), number, name.clone()));
+                there
+            }
+            (Some((part, number)), None) if about.is_err() && !name.starts_with('.') => {
+                let there = at(&mut found, part, number, &name);
+                let error = about.err().map(|error| reason(&error)).unwrap_or_default();
+                there.problems.push(format!("{}: {error}", shown(&entry.path())));
+                there
             }
             _ if is_folder || name == LIST => {
                 unknown.extend((name != LIST).then(|| printable(&name)));
+                continue;
             }
-            (_, Some((part, number, Named::Slot(slot)))) => {
-                put(&mut found, part, number, slot, entry.path());
+            (_, Some(Flat { part, number, spelled, named })) => {
+                let there = at(&mut found, part, number, spelled);
+                match named {
+                    Named::Slot(slot) => insert(there, slot, entry.path()),
+                    _ => there.problems.push(mistyped(&entry.path())),
+                }
+                there
             }
-            (_, Some((part, number, Named::Mistyped))) => {
-                at(&mut found, part, number).problems.push(mistyped(&entry.path()));
+            _ => {
+                unknown.push(printable(&name));
+                continue;
             }
-            _ => unknown.push(printable(&name)),
+        };
+        // two names of other bytes may be printed alike
+        if entry.file_name().to_str().is_none() {
+            there.problems.push(format!("{}: the name is not UTF-8", shown(&entry.path())));
         }
     }
+    refuse_shared(&mut found, folders);
     found
+}
+
+/// Folders by what they are on the disk: the part, the number of its test, and the name in the lot.
+type Folders = HashMap<Option<Identity>, Vec<(String, u32, String)>>;
+
+/// A folder that is another part's too, by a link, is not known to be this part's.
+fn refuse_shared(found: &mut Found, folders: Folders) {
+    for mut same in folders.into_values().filter(|same| same.len() > 1) {
+        same.sort();
+        let names: Vec<String> = same.iter().map(|(_, _, name)| printable(name)).collect();
+        let rule = "are the same folder; each part must have its own";
+        for (part, number, name) in &same {
+            let problem = format!("{} {rule}", names.join(" and "));
+            at(found, part, *number, name).problems.push(problem);
+        }
+    }
 }
 
 /// A part's folder: its files by what they are, and the names that no rule takes.
@@ -163,18 +205,26 @@ fn mistyped(path: &Path) -> String {
     format!("{}: the name differs only in case from one that the plan asks for", shown(path))
 }
 
-fn at<'a>(found: &'a mut Found, part: &str, number: u32) -> &'a mut Attempt {
+/// The attempt of this number. Written in two ways it is ambiguous.
+fn at<'a>(found: &'a mut Found, part: &str, number: u32, spelled: &str) -> &'a mut Attempt {
     let attempts = found.entry(part.to_string()).or_default();
     let place = attempts.partition_point(|one| one.number < number);
     if attempts.get(place).is_none_or(|one| one.number != number) {
         attempts.reserve_exact(1);
-        attempts.insert(place, Attempt { number, ..Attempt::default() });
+        let spelled = spelled.to_string();
+        attempts.insert(place, Attempt { number, spelled, ..Attempt::default() });
     }
-    &mut attempts[place]
-}
-
-fn put(found: &mut Found, part: &str, number: u32, slot: Slot, path: PathBuf) {
-    insert(at(found, part, number), slot, path);
+    let there = &mut attempts[place];
+    if there.spelled != spelled {
+        let mut two = [there.spelled.as_str(), spelled].map(printable);
+        two.sort();
+        let problem =
+            format!("{} and {} are the same test of the part; it must have one", two[0], two[1]);
+        if !there.problems.contains(&problem) {
+            there.problems.push(problem);
+        }
+    }
+    there
 }
 
 fn insert(attempt: &mut Attempt, slot: Slot, path: PathBuf) {
@@ -191,7 +241,7 @@ fn joined(mut found: Found, listed: Option<Vec<(String, Listed)>>, allow_extra: 
     let mut listed: HashMap<String, Listed> = listed.unwrap_or_default().into_iter().collect();
     for name in listed.keys().filter(|name| !found.contains_key(*name)).cloned().collect::<Vec<_>>()
     {
-        at(&mut found, &name, 1).problems.push(format!("{LIST} lists it; it has no file"));
+        at(&mut found, &name, 1, &name).problems.push(format!("{LIST} lists it; it has no file"));
     }
     let mut spelled: HashMap<String, u32> = HashMap::new();
     for name in found.keys() {

@@ -66,13 +66,22 @@ fn slot(name: &str, plan: &Plan, same: &dyn Fn(&str, &str) -> bool) -> Option<Sl
     fits.then_some(Slot { test, what: What::Frame(number, seen) })
 }
 
-/// A flat name: the part, the number of its test, and what the rest says.
-pub fn flat<'a>(name: &'a str, plan: &Plan) -> Option<(&'a str, u32, Named)> {
+/// A flat name.
+pub struct Flat<'a> {
+    pub part: &'a str,
+    /// The number of its test, and both as they are written.
+    pub number: u32,
+    pub spelled: &'a str,
+    /// What the rest says; it is known.
+    pub named: Named,
+}
+
+pub fn flat<'a>(name: &'a str, plan: &Plan) -> Option<Flat<'a>> {
     let dots: Vec<usize> = name.rmatch_indices('.').map(|(at, _)| at).take(4).collect();
     dots.iter().rev().find_map(|&dot| {
-        let named = within_part(&name[dot + 1..], plan);
-        let (part, number) = attempt(&name[..dot]).filter(|_| named != Named::Unknown)?;
-        (!part.starts_with('.')).then_some((part, number, named))
+        let (spelled, named) = (&name[..dot], within_part(&name[dot + 1..], plan));
+        let (part, number) = attempt(spelled).filter(|_| named != Named::Unknown)?;
+        (!part.starts_with('.')).then_some(Flat { part, number, spelled, named })
     })
 }
 

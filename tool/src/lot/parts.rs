@@ -5,6 +5,7 @@ use std::path::Path;
 
 use crate::failure::Failure;
 use crate::files::{printable, read_hashed, shown};
+use crate::inputs::table::table;
 
 const WANTED: &str =
     "a list of parts: CSV whose first line names the columns part, wafer, x, y and others";
@@ -26,16 +27,12 @@ pub fn read(path: &Path) -> Result<Vec<(String, Listed)>, Failure> {
     let (input, _) = read_hashed(path, WANTED)?;
     let text = String::from_utf8(input.bytes.clone())
         .map_err(|_| Failure::bad(input.wrong("not a text file")))?;
-    let text = text.trim_start_matches('\u{FEFF}');
-    let first = text.lines().next().unwrap_or_default();
-    let between = if first.contains(';') && !first.contains(',') { b';' } else { b',' };
-    let mut reader = csv::ReaderBuilder::new();
-    let mut reader = reader.trim(csv::Trim::All).delimiter(between).from_reader(text.as_bytes());
     let wrong = |line: u64, rule: String| {
         Failure::bad(format!("{}: line {line}: {}", shown(path), printable(&rule)))
     };
-    let heads = reader.headers().map_err(|error| wrong(1, error.to_string()))?.clone();
+    let (mut reader, heads) = table(&text).map_err(|(line, rule)| wrong(line, rule))?;
     if !heads.iter().any(|head| head == "part") {
+        let first = text.trim_start_matches('\u{FEFF}').lines().next().unwrap_or_default();
         return Err(wrong(1, format!("the columns are `{first}`; one must be `part`")));
     }
     let (mut names, mut places) = (Lines::new(), Lines::new());
@@ -70,9 +67,10 @@ fn listed(
     let (mut name, mut listed) = (String::new(), Listed::default());
     for (head, value) in heads.iter().zip(record).filter(|(_, value)| !value.is_empty()) {
         let coordinate = || -> Result<Option<i16>, String> {
-            let number = value.parse();
-            number.map(Some).map_err(|_| {
-                format!("{head} is `{value}`; it must be a whole number from -32,768 to 32,767")
+            // STDF has -32,768 for a place that is not known
+            let number = value.parse().ok().filter(|number| *number > i16::MIN);
+            number.map(Some).ok_or_else(|| {
+                format!("{head} is `{value}`; it must be a whole number from -32,767 to 32,767")
             })
         };
         match head {

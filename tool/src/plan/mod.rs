@@ -94,7 +94,11 @@ impl Plan {
         let bin =
             |key: &str, default: u64| Ok(keys.number(key, 0..=LARGEST_BIN)?.unwrap_or(default));
         let (pass_bin, invalid_bin) = (bin("pass_bin", 1)? as u16, bin("invalid_bin", 0)? as u16);
-        let tests = tests(&keys)?;
+        if pass_bin == invalid_bin {
+            let rule = format!("invalid_bin is {invalid_bin}, as is pass_bin; it must be another");
+            return Err(keys.wrong("invalid_bin", rule));
+        }
+        let tests = tests(&keys, pass_bin)?;
         Ok(Plan { file: file.to_path_buf(), name, pass_bin, invalid_bin, tests })
     }
 
@@ -113,7 +117,8 @@ fn syntax(file: &Path, error: &toml::de::Error) -> Failure {
     Failure::bad(format!("{}: {line}not TOML: {what}", shown(file)))
 }
 
-fn tests(keys: &Keys) -> Result<Vec<Test>, Failure> {
+/// The tests of a plan whose parts that pass have this bin: no part that fails may have it.
+fn tests(keys: &Keys, pass_bin: u16) -> Result<Vec<Test>, Failure> {
     let wrong = || keys.not_allowed("test", "tables `[[test]]`, at least one");
     let all = keys.table.get("test").and_then(Value::as_array).ok_or_else(wrong)?;
     let mut tests: Vec<Test> = Vec::new();
@@ -125,6 +130,10 @@ fn tests(keys: &Keys) -> Result<Vec<Test>, Failure> {
         if tests.iter().any(same) {
             let rule = format!("the name `{}` is given to an earlier test", test.name);
             return Err(keys.wrong("name", rule));
+        }
+        if test.bin == pass_bin {
+            let rule = format!("bin is {pass_bin}, as is pass_bin; it must be another");
+            return Err(keys.wrong("bin", rule));
         }
         tests.push(test);
     }

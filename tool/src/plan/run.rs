@@ -55,7 +55,7 @@ pub fn expected(test: &Test) -> Result<Expected, Failure> {
         ..failure
     };
     for path in &test.files {
-        // a file that is not there is named by the one who reads it, who knows what it must be
+        // a missing file is reported where it is read: there it is known what it must be
         if fs::metadata(path).is_ok() {
             regular(path, "a file").map_err(named)?;
         }

@@ -194,7 +194,7 @@ fn frames(keys: &Keys, is_scene: bool, trace: Asked, budget: u64) -> Result<Vec<
             (Some("halt"), _) if !is_scene => When::Halt,
             (_, Some(0)) if is_scene && frames.len() < 2 => When::After(0),
             (_, Some(count)) if !is_scene && count >= least => {
-                least = count + 1;
+                least = count.saturating_add(1);
                 When::After(count as u64)
             }
             _ => return Err(wrong()),

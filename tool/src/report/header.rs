@@ -1,11 +1,11 @@
-//! What stands at the head of every form of a report: what was judged, by which model, and when.
+//! The head of every form of a report: what was judged, by which model, and when.
 
 use std::path::PathBuf;
 use std::time::SystemTime;
 
 use serde::{Deserialize, Serialize};
 
-use super::FileRead;
+use super::{FileRead, Hash};
 use crate::failure::Failure;
 use crate::files::printable;
 use crate::judge::Eyes;
@@ -33,8 +33,10 @@ pub struct Header {
     pub allow_extra: bool,
     #[serde(default, skip_serializing_if = "Option::is_none")]
     pub shard: Option<Shard>,
-    /// Parts of the whole lot.
+    /// Parts of the whole lot, and the SHA-256 of their names, a line each.
     pub parts: usize,
+    #[serde(default, skip_serializing_if = "Option::is_none")]
+    pub names: Option<Hash>,
     /// Files of the lot that no rule takes.
     pub unknown: Vec<String>,
     /// The plan's files, and the list of parts; or the manifest, and scenes.
@@ -152,6 +154,7 @@ impl Header {
             allow_extra: false,
             shard: None,
             parts: 0,
+            names: None,
             unknown: Vec::new(),
             files: Vec::new(),
         }
@@ -186,10 +189,14 @@ impl Header {
             }
             (one, two) if one.files != two.files => {
                 let file = two.files.iter().find(|file| !one.files.contains(file));
-                let file = file.map_or("one less", |file| file.path.as_str()).to_string();
-                Err(Failure::bad(format!("a file of plan or lot is another: {file}")))
+                let file = file.map_or("one is missing", |file| file.path.as_str()).to_string();
+                Err(Failure::bad(format!("a file of the plan or the lot differs: {file}")))
             }
-            _ => Err(Failure::bad("tests, parts or options of the lot are others")),
+            (one, two) if (one.parts, one.names) != (two.parts, two.names) => {
+                let rule = "every shard must be judged from the same lot";
+                Err(Failure::bad(format!("the lot had other parts; {rule}")))
+            }
+            _ => Err(Failure::bad("the tests or the options differ")),
         }
     }
 }

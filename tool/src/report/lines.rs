@@ -3,6 +3,7 @@
 use std::path::Path;
 
 use serde::{Deserialize, Serialize};
+use serde_json::Value;
 
 use super::{Header, Part, Report, Totals, TraceFound};
 use crate::failure::Failure;
@@ -22,12 +23,7 @@ struct HeaderLine {
 /// The last line.
 #[derive(Deserialize)]
 struct LastLine {
-    totals: LastTotals,
-}
-
-#[derive(Deserialize)]
-struct LastTotals {
-    not_judged: usize,
+    totals: Value,
 }
 
 /// The header as JSON, on one line.
@@ -71,13 +67,21 @@ pub fn read_lines(path: &Path, text: &str) -> Result<Report, Failure> {
     let header: HeaderLine =
         serde_json::from_str(first).map_err(|error| wrong(1, &printable(&error.to_string())))?;
     let (last, parts) = rest.split_last().unwrap_or((&"", &[]));
-    let last: LastLine =
-        serde_json::from_str(last).map_err(|_| wrong(lines.len(), "the report is not whole"))?;
-    let mut report =
-        Report { header: header.header, parts: Vec::new(), not_judged: last.totals.not_judged };
+    let not_whole = || wrong(lines.len(), "the report is not whole");
+    let LastLine { totals } = serde_json::from_str(last).map_err(|_| not_whole())?;
+    let not_judged = totals.get("not_judged").and_then(Value::as_u64).ok_or_else(not_whole)?;
+    let not_judged = not_judged as usize;
+    let mut report = Report { header: header.header, parts: Vec::new(), not_judged };
     for (number, line) in parts.iter().enumerate() {
         let part = serde_json::from_str(line);
         report.parts.push(part.map_err(|error| wrong(number + 2, &printable(&error.to_string())))?);
+    }
+    if let Some(what) = report.contradiction() {
+        return Err(Failure::bad(format!("{}: {what}; the report was changed", shown(path))));
+    }
+    if serde_json::to_value(Totals::of(&report)).ok() != Some(totals) {
+        let what = "the totals are not those of its parts";
+        return Err(Failure::bad(format!("{}: {what}; the report was changed", shown(path))));
     }
     Ok(report)
 }

@@ -1,5 +1,6 @@
 //! What judging a lot by a plan came to. Every form of the report is made from this, and the JSON holds all of it.
 
+mod check;
 mod csv;
 mod forms;
 mod header;
@@ -13,6 +14,7 @@ mod wafers;
 mod xml;
 
 pub use crate::files::{read_hashed, FileRead, Hash};
+pub use check::names_hash;
 pub use forms::Forms;
 pub use header::{shard, Captures, Header, Shard, TestHeader};
 pub use lines::{header_json, header_lines, json_lines, read_lines, text};

@@ -63,9 +63,12 @@ impl Capture {
     /// Reads 384 by 224 pixels, each a square of the same number of PNG pixels, in four shades of red or grey.
     fn of_png(bytes: &[u8], threshold: u8) -> Result<Capture, String> {
         let seen = each_square(bytes, ALLOWED, |square| {
-            let colour = if threshold == 0 { square.exact()? } else { square.mean()? };
-            let value = value_of(colour, threshold).ok_or_else(|| square.wrong(colour, threshold));
-            Ok((value?, colour[0]))
+            if threshold > 0 {
+                return square.near(threshold);
+            }
+            let colour = square.exact()?;
+            let value = value_of(colour, 0).ok_or_else(|| square.wrong(colour, 0))?;
+            Ok((value, colour[0]))
         })?;
         let levels = (threshold > 0).then(|| {
             let mut levels: Vec<Level> = (0..4).map(Level::of).collect();
@@ -196,24 +199,30 @@ impl Square<'_> {
         let first = self.at(0, true)?;
         for i in 1..self.scale * self.rows {
             if self.at(i, true)? != first {
-                let (x, y, scale) = (self.x, self.y, self.scale);
-                return Err(format!(
-                    "in the PNG, pixel ({x}, {y}) is not one square of {scale} by {scale}"
-                ));
+                return Err(self.not_one());
             }
         }
         Ok(first)
     }
 
-    /// Their mean, rounded.
-    fn mean(&self) -> Result<[u8; 3], String> {
+    /// The value whose level every one of them is near, and the mean of their red, rounded.
+    fn near(&self, threshold: u8) -> Result<(u8, u8), String> {
         let count = self.scale * self.rows;
-        let mut sums = [0; 3];
+        let (mut value, mut sum) = (None, 0);
         for i in 0..count {
             let colour = self.at(i, false)?;
-            (0..3).for_each(|n| sums[n] += usize::from(colour[n]));
+            let this = value_of(colour, threshold).ok_or_else(|| self.wrong(colour, threshold))?;
+            if *value.get_or_insert(this) != this {
+                return Err(self.not_one());
+            }
+            sum += usize::from(colour[0]);
         }
-        Ok(sums.map(|sum| ((sum + count / 2) / count) as u8))
+        Ok((value.unwrap_or(0), ((sum + count / 2) / count) as u8))
+    }
+
+    fn not_one(&self) -> String {
+        let Square { x, y, scale, .. } = self;
+        format!("in the PNG, pixel ({x}, {y}) is not one square of {scale} by {scale}")
     }
 
     fn wrong(&self, [red, green, blue]: [u8; 3], threshold: u8) -> String {

@@ -36,8 +36,8 @@ impl Chunks<'_> {
             let before = stream.total_in();
             while !ended && stream.total_in() - before < piece.len() as u64 {
                 let used = (stream.total_in() - before) as usize;
-                let room = stream.total_out() as usize;
-                let into = &mut unpacked[room..];
+                let written = stream.total_out() as usize;
+                let into = &mut unpacked[written..];
                 match stream.decompress(&piece[used..], into, FlushDecompress::None) {
                     Ok(Status::StreamEnd) => ended = true,
                     Ok(Status::Ok) if stream.total_out() as usize <= length => {}
@@ -93,6 +93,11 @@ fn chunks(bytes: &[u8]) -> Result<Chunks<'_>, String> {
             .ok_or(format!("the PNG cannot be read: it ends inside its chunk {name}"))?;
         match name.as_str() {
             "IDAT" => found.image.push(data),
+            "PLTE" | "tRNS" if !found.image.is_empty() => {
+                return Err(format!(
+                    "the PNG has a chunk {name} after its image; it must come before"
+                ));
+            }
             "PLTE" => found.palette = data,
             "tRNS" => found.transparent = data,
             "acTL" => return Err("the PNG is an animation; a capture is one picture".to_string()),
@@ -188,7 +193,7 @@ impl Samples {
     fn byte(&self, sample: u16, exact: bool) -> Result<u8, String> {
         match self.depth {
             16 if exact && !sample.is_multiple_of(257) => Err(format!(
-                "has the 16-bit sample {sample:04X}, which is none of 0000, 5555, AAAA and FFFF"
+                "has the 16-bit sample {sample:04X}, which is not one of 0000, 5555, AAAA and FFFF"
             )),
             16 => Ok(((u32::from(sample) + 128) / 257) as u8),
             depth => Ok((u32::from(sample) * 255 / ((1 << depth) - 1)) as u8),

@@ -60,6 +60,16 @@ fn a_palette_index_beyond_plte_is_refused() {
     refused_pixel(&bytes, "has the palette index 4; PLTE has 4 colours");
 }
 
+/// Readers take the colours from the first PLTE, and may not look for one after the image.
+#[test]
+fn a_palette_after_the_image_is_refused() {
+    let mut bytes = png(ColorType::Indexed, BitDepth::Eight, &[0; PIXELS], &[]);
+    let plte = bytes.windows(4).position(|name| name == b"PLTE").unwrap() - 4;
+    let chunk = bytes[plte..plte + 24].to_vec();
+    bytes.splice(bytes.len() - 12..bytes.len() - 12, chunk);
+    refused(&bytes, "the PNG has a chunk PLTE after its image; it must come before");
+}
+
 #[test]
 fn any_alpha_is_refused() {
     let opaque = png(ColorType::Rgba, BitDepth::Eight, &changed(&[0x55, 0, 0, 0xFF], 0, 0xAA), &[]);
@@ -86,12 +96,15 @@ fn samples_of_16_bits_between_the_levels_are_refused() {
         let data = changed(&[0, 0], n, value);
         let bytes = png(ColorType::Grayscale, BitDepth::Sixteen, &data, &[]);
         let what =
-            format!("has the 16-bit sample {given}, which is none of 0000, 5555, AAAA and FFFF");
+            format!("has the 16-bit sample {given}, which is not one of 0000, 5555, AAAA and FFFF");
         refused_pixel(&bytes, &what);
     }
     let data = changed(&[0x55, 0x55, 0, 0, 0, 0], 1, 0x80);
     let bytes = png(ColorType::Rgb, BitDepth::Sixteen, &data, &[]);
-    refused_pixel(&bytes, "has the 16-bit sample 5580, which is none of 0000, 5555, AAAA and FFFF");
+    refused_pixel(
+        &bytes,
+        "has the 16-bit sample 5580, which is not one of 0000, 5555, AAAA and FFFF",
+    );
 }
 
 #[test]
@@ -136,7 +149,7 @@ fn sizes_and_colours_that_are_not_allowed_are_named() {
 }
 
 #[test]
-fn a_threshold_takes_the_nearest_level_and_tells_what_it_saw() {
+fn a_threshold_takes_the_nearest_level_and_says_what_it_saw() {
     let data = changed(&[0x50, 3, 0], 0, 0x5A);
     let bytes = png(ColorType::Rgb, BitDepth::Eight, &data, &[]);
     refused(&bytes, "pixel (0, 0) has the colour 500300");
@@ -150,4 +163,22 @@ fn a_threshold_takes_the_nearest_level_and_tells_what_it_saw() {
     for sample in 0..=255 {
         assert!(value_of([sample; 3], LARGEST_THRESHOLD).is_some(), "{sample}");
     }
+}
+
+/// The mean of 00 and AA is 55: a pixel whose samples are of two levels has no level.
+#[test]
+fn a_threshold_is_kept_by_every_sample_of_a_pixel() {
+    let dithered = |samples: [u8; 2]| {
+        let mut bytes = Vec::new();
+        let mut encoder = Encoder::new(&mut bytes, 2 * COLUMNS as u32, 2 * ROWS as u32);
+        encoder.set_color(ColorType::Grayscale);
+        encoder.set_depth(BitDepth::Eight);
+        let mut writer = encoder.write_header().unwrap();
+        writer.write_image_data(&samples.repeat(2 * PIXELS)).unwrap();
+        writer.finish().unwrap();
+        Capture::of_png(&bytes, 42)
+    };
+    assert!(dithered([0x50, 0x5A]).unwrap().picture == Picture::of_values(vec![1; PIXELS]));
+    let wrong = dithered([0x00, 0xAA]).err().unwrap();
+    assert_eq!(wrong, "in the PNG, pixel (0, 0) is not one square of 2 by 2");
 }
