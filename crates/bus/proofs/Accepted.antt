@@ -1,4 +1,4 @@
--- What the verdict "accepted" tells, and what gives it: the lengths of 1 to 4 and the register widths of 5.
+-- What the verdict "accepted" says, and what gives it: the lengths of 1 to 4 and the register widths of 5.
 -- Assumes nothing.
 use Prim.Native.Nat.{ℕ}
 use mathlib.Core.Bool.{Bool, true, false}

@@ -1,6 +1,6 @@
 -- What accesses of each size do in each region, as far as no one memory says it: bytes of WRAM and ROM, the regions
 -- with nothing behind them, and the range between VRAM and the mirror. Assumes nothing.
-use Prim.Native.Nat.{ℕ, zero, suc, _+_, _/_, _%_, _<_, _≤_}
+use Prim.Native.Nat.{ℕ, zero, suc, _+_, _/_, _%_, _<_, _≤_, _^_}
 use mathlib.Core.Path.{_≡_, refl, sym, _∙_}
 use native.Mathlib.Omega.{arith}
 use Rattle.word.specs.LittleEndian.{littleEndian}
@@ -13,10 +13,10 @@ use Rattle.bus.proofs.Steps.{from-steps}
 use Rattle.bus.proofs.VipPlaces.{register-byte, between-next}
 
 -- the region that the code's test found
-pub found : (a r : ℕ) → a / 16777216 % 8 ≡ r → regionOf a ≡ r
+pub found : (a r : ℕ) → a / 2 ^ 24 % 8 ≡ r → regionOf a ≡ r
 found a r e = sym (region-code a) ∙ e
 
-pub missed : (a r : ℕ) → (a / 16777216 % 8 ≡ r → ⊥) → regionOf a ≡ r → ⊥
+pub missed : (a r : ℕ) → (a / 2 ^ 24 % 8 ≡ r → ⊥) → regionOf a ≡ r → ⊥
 missed a r n e = n (region-code a ∙ e)
 
 -- neither the VIP, pak RAM nor the timer, by the code's tests

@@ -161,7 +161,7 @@ module _ (m : Memory) (size a : ℕ) (ok : sizeOk size ≡ true) where
       let all : Inert (regionOf (alignedOf size a)) = (q .no-wram, (q .no-vip, (q .no-pak, q .no-port))) in
       sym (nothing-stored m size a v (λ j less. rw (region-within size a ok j less) all))
 
--- what the fast path of a store tells
+-- what the fast path of a store reports
 pub stored-all : (m : Memory) (size a v : ℕ) (r : Bool) (after : Memory) → r ≡ true → Stores m size a v r after → after ≡ storeOf m size a v
 stored-all m size a v true after e p = p
 stored-all m size a v false after e p = absurd (false≢true e)

@@ -23,7 +23,7 @@ use Rattle.bus.specs.inner.Code.{Stands, Halves}
 
 -- what a length is tested for: it is even and parts 2 ^ 24, and its bounds
 abbrev parts : ℕ → Bool
-parts n = pick (eqb (16777216 % n) 0) (pick (eqb (n % 2) 0) (pick (leb 1024 n) (leb n 16777216) false) false) false
+parts n = pick (eqb (2 ^ 24 % n) 0) (pick (eqb (n % 2) 0) (pick (leb 1024 n) (leb n (2 ^ 24)) false) false) false
 
 sub-part : (a b c : ℕ) → b + c ≡ a → a - c ≡ b
 sub-part a b c e = omega arith
@@ -49,10 +49,10 @@ module _ (n : ℕ) (pos : 0 < n) where
     quotient-of : (base + x) / n ≡ base / n
     quotient-of = subst (λ (b : ℕ). (b + x) / n ≡ base / n) (multiple base z) (digits-div (base / n) h)
 
-    pub region-of : 16777216 % n ≡ 0 → (base + x) / 16777216 ≡ base / 16777216
+    pub region-of : 2 ^ 24 % n ≡ 0 → (base + x) / 2 ^ 24 ≡ base / 2 ^ 24
     region-of part =
-        let q = 16777216 / n in
-        let e : n * (16777216 / n) ≡ 16777216 = mul-comm n (16777216 / n) ∙ multiple 16777216 part in
+        let q = 2 ^ 24 / n in
+        let e : n * (2 ^ 24 / n) ≡ 2 ^ 24 = mul-comm n (2 ^ 24 / n) ∙ multiple (2 ^ 24) part in
         subst (λ (w : ℕ). (base + x) / w ≡ base / w) e
         (sym (div-div-eq-div-mul (base + x) n q) ∙ ap (λ (k : ℕ). k / q) quotient-of ∙ div-div-eq-div-mul base n q)
 
@@ -67,34 +67,34 @@ module _ (n : ℕ) (pos : 0 < n) where
 -- a length: its bounds; the start of the memory below an address; and the addresses from such a start on
 pub record Room (n : ℕ) : Type 0 where
   pub least : 1024 ≤ n
-  pub most : n ≤ 16777216
+  pub most : n ≤ 2 ^ 24
   pub start : (pc : ℕ) → (pc - pc % n) % n ≡ 0
-  pub same : (pc : ℕ) → (pc - pc % n) / 16777216 ≡ pc / 16777216
+  pub same : (pc : ℕ) → (pc - pc % n) / 2 ^ 24 ≡ pc / 2 ^ 24
   pub even : (base : ℕ) → base % n ≡ 0 → base % 2 ≡ 0
   pub fits : (base x : ℕ) → base < 2 ^ 32 → base % n ≡ 0 → x < n → base + x < 2 ^ 32
   pub index : (base x : ℕ) → base % n ≡ 0 → x < n → (base + x) % n ≡ x
-  pub region : (base x : ℕ) → base % n ≡ 0 → x < n → (base + x) / 16777216 ≡ base / 16777216
+  pub region : (base x : ℕ) → base % n ≡ 0 → x < n → (base + x) / 2 ^ 24 ≡ base / 2 ^ 24
 
 rejoin : (pc r : ℕ) → r ≤ pc → pc - r + r ≡ pc
 rejoin pc r h = omega arith
 
-below : (a b : ℕ) → a / 16777216 ≡ b / 16777216 → b < 2 ^ 32 → a < 2 ^ 32
+below : (a b : ℕ) → a / 2 ^ 24 ≡ b / 2 ^ 24 → b < 2 ^ 32 → a < 2 ^ 32
 below a b e h = omega arith
 
 room-of : (n : ℕ) → parts n ≡ true → Room n
 room-of n t =
-    let a = pick-both (eqb (16777216 % n) 0) _ t in
+    let a = pick-both (eqb (2 ^ 24 % n) 0) _ t in
     let b = pick-both (eqb (n % 2) 0) _ (a .1) in
-    let d = pick-both (leb 1024 n) (leb n 16777216) (b .1) in
+    let d = pick-both (leb 1024 n) (leb n (2 ^ 24)) (b .1) in
     let least : 1024 ≤ n = leb-true 1024 n (d .0) in
     let pos : 0 < n = omega (arith, least) in
-    let part : 16777216 % n ≡ 0 = eqb-true (16777216 % n) 0 (a .0) in
+    let part : 2 ^ 24 % n ≡ 0 = eqb-true (2 ^ 24 % n) 0 (a .0) in
     record {
       least = least;
-      most = leb-true n 16777216 (d .1);
+      most = leb-true n (2 ^ 24) (d .1);
       start = start-of n pos;
       same = λ pc.
-          subst (λ (k : ℕ). (pc - pc % n) / 16777216 ≡ k / 16777216) (rejoin pc (pc % n) (mod-le pc n))
+          subst (λ (k : ℕ). (pc - pc % n) / 2 ^ 24 ≡ k / 2 ^ 24) (rejoin pc (pc % n) (mod-le pc n))
           (sym (region-of n pos (pc - pc % n) (pc % n) (start-of n pos pc) (mod-lt pc pos) part));
       even = even-of n pos (eqb-true (n % 2) 0 (b .0));
       fits = λ base x h z k. below (base + x) base (region-of n pos base x z k part) h;

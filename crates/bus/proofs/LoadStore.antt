@@ -195,7 +195,7 @@ module _ (first : Memory) (b : ℕ) where
       (λ m a v q. record { shape = register-shape m a v; byte = λ p. write-elsewhere m a b v (moved m a p q) })
       first size a v ne .byte (same first)
 
--- a place of memory is no register
+-- a place of memory is not a register
 held-plain : (m n : Memory) (p : Place) (v : ℕ) → Held m p → putDrawing n p v ≡ n
 held-plain m n (vramAt i) v h = refl
 held-plain m n (wramAt i) v h = refl

@@ -12,7 +12,7 @@ use Rattle.bus.specs.Memory.{Memory, byteOf, putByte, putRegister}
 use Rattle.bus.proofs.Power.{rom-power, power-low}
 
 -- the region as the code works it out
-pub region-code : (a : ℕ) → a / 16777216 % 8 ≡ regionOf a
+pub region-code : (a : ℕ) → a / 2 ^ 24 % 8 ≡ regionOf a
 unfolding regionOf
 region-code a = omega arith
 

@@ -18,7 +18,7 @@ use Rattle.bus.proofs.Places.{place-hardware, region-step, register-els
 use Rattle.bus.proofs.Halfwords.{byte-store}
 use Rattle.bus.proofs.Accesses.{Idle, zero-bytes, idle-puts}
 
--- an offset that is no multiple of four has no register
+-- an offset that is not a multiple of four has no register
 pub between-read : (h : TimerLines) (o : ℕ) → (o % 4 ≡ 0 → ⊥) → portByteOf h o ≡ 0
 unfolding portByteOf
 between-read h o n =
@@ -55,7 +55,7 @@ module _ (m : Memory) (a : ℕ) (here : regionOf a ≡ 2) where
   pub port-store : (v : ℕ) → storeOf m 1 a v ≡ withRegs m (withHardware (m .regs) (portWrittenOf (hardwareIn (m .regs)) (hardwareOffsetOf a) (v % 256)))
   port-store v = byte-store m a v ∙ register-elsewhere _ a v (not-vip a here) ∙ port-put v
 
--- a byte that is no multiple of four reads 0 and takes nothing
+-- a byte that is not at a multiple of four reads 0 and takes nothing
 between-byte : (m : Memory) (a : ℕ) → regionOf a ≡ 2 → (a % 4 ≡ 0 → ⊥) → byteOf m a ≡ 0
 between-byte m a here n =
     port-byte m a here ∙ between-read (hardwareIn (m .regs)) (hardwareOffsetOf a) (λ e. n (sym (offset-four a) ∙ e))

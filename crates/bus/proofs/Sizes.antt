@@ -66,7 +66,7 @@ drop-case size a (inr (inr e)) = rw e (omega arith)
 pub mask-below : (size a : ℕ) → sizeOk size ≡ true → bitAnd a (size - 1) ≤ a
 mask-below size a h = rw (size-mask size a h) (drop-case size a (size-cases size h))
 
--- what a test against 4 tells
+-- what a test against 4 says
 below-case : (size : ℕ) → (size ≡ 1) ⊎ ((size ≡ 2) ⊎ (size ≡ 4)) → size < 4 → (size ≡ 1) ⊎ (size ≡ 2)
 below-case size (inl e) h = inl e
 below-case size (inr (inl e)) h = inr e

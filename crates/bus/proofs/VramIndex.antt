@@ -1,5 +1,5 @@
 -- Where an address leads in VRAM (`vramIndexOf`), by its region and the 19 bits that the VIP keeps. Assumes nothing.
-use Prim.Native.Nat.{ℕ, zero, suc, _+_, _-_, _/_, _%_, _<_, _≤_}
+use Prim.Native.Nat.{ℕ, zero, suc, _+_, _-_, _/_, _%_, _<_, _≤_, _^_}
 use mathlib.Core.List.{[], _∷_}
 use mathlib.Core.Path.{_≡_, refl, sym, ap, _∙_}
 use native.Mathlib.Decide.{ℕ-discrete, decLt}
@@ -44,15 +44,15 @@ register-elsewhere v =
     (pick-each Other (eqb h versionAddress) (versionAt (v % 2)) _ refl (pick-each Other (member h silentAddresses) silent unmapped refl refl))
 
 module _ (rom pak a : ℕ) where
-  pub elsewhere : (a / 16777216 % 8 ≡ 0 → ⊥) → vramIndexOf (placeOf rom pak a) ≡ 0x40000
+  pub elsewhere : (a / 2 ^ 24 % 8 ≡ 0 → ⊥) → vramIndexOf (placeOf rom pak a) ≡ 0x40000
   unfolding placeOf
   elsewhere n = no-vram _ _ _ _ _ (regionOf a) (λ e. n (region-code a ∙ e))
 
-  pub low : a / 16777216 % 8 ≡ 0 → a % 524288 < 0x40000 → vramIndexOf (placeOf rom pak a) ≡ a % 524288
+  pub low : a / 2 ^ 24 % 8 ≡ 0 → a % 524288 < 0x40000 → vramIndexOf (placeOf rom pak a) ≡ a % 524288
   unfolding vipPlace
   low e h = rw (place-vip rom pak a (sym (region-code a) ∙ e)) (simp (lt-ltb (a % 524288) 0x40000 h))
 
-  pub between : a / 16777216 % 8 ≡ 0 → 0x40000 ≤ a % 524288 → a % 524288 < 0x78000
+  pub between : a / 2 ^ 24 % 8 ≡ 0 → 0x40000 ≤ a % 524288 → a % 524288 < 0x78000
       → vramIndexOf (placeOf rom pak a) ≡ 0x40000
   unfolding vipPlace
   between e l h =
@@ -62,7 +62,7 @@ module _ (rom pak a : ℕ) where
       (pick-each (λ (p : Place). vramIndexOf p ≡ 0x40000) (ltb (a % 524288) 0x60000) (registerPlace (a % 524288)) unmapped
       (register-elsewhere (a % 524288)) refl)))
 
-  pub mirrored : a / 16777216 % 8 ≡ 0 → 0x78000 ≤ a % 524288
+  pub mirrored : a / 2 ^ 24 % 8 ≡ 0 → 0x78000 ≤ a % 524288
       → vramIndexOf (placeOf rom pak a) ≡ mirrorOf (a % 524288 - 0x78000)
   unfolding vipPlace
   mirrored e l =
@@ -116,7 +116,7 @@ pub record Follows (rom pak s j : ℕ) : Type 0 where
 
 pub follows : (rom pak s j : ℕ) → s % 4 + j < 4 → vramIndexOf (placeOf rom pak s) < 0x40000 → Follows rom pak s j
 follows rom pak s j h i =
-    elim (ℕ-discrete (s / 16777216 % 8) 0) [
+    elim (ℕ-discrete (s / 2 ^ 24 % 8) 0) [
       | no n ↦ absurd (omega (arith, elsewhere rom pak s n))
       | yes e ↦ elim (decLt (s % 524288) 0x40000) [
         | yes l ↦ below e l
@@ -130,10 +130,10 @@ follows rom pak s j h i =
     next-index : (s + j) % 524288 ≡ s % 524288 + j
     next-index = omega arith
 
-    next-region : s / 16777216 % 8 ≡ 0 → (s + j) / 16777216 % 8 ≡ 0
+    next-region : s / 2 ^ 24 % 8 ≡ 0 → (s + j) / 2 ^ 24 % 8 ≡ 0
     next-region e = omega arith
 
-    below : s / 16777216 % 8 ≡ 0 → s % 524288 < 0x40000 → Follows rom pak s j
+    below : s / 2 ^ 24 % 8 ≡ 0 → s % 524288 < 0x40000 → Follows rom pak s j
     below e l =
         record {
           next =
@@ -143,7 +143,7 @@ follows rom pak s j h i =
           in-word = rw (low rom pak s e l) (omega arith);
         }
 
-    above : s / 16777216 % 8 ≡ 0 → 0x78000 ≤ s % 524288 → Follows rom pak s j
+    above : s / 2 ^ 24 % 8 ≡ 0 → 0x78000 ≤ s % 524288 → Follows rom pak s j
     above e l =
         let k : s % 524288 + j - 0x78000 ≡ s % 524288 - 0x78000 + j = omega arith in
         record {

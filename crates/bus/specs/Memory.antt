@@ -1,4 +1,4 @@
--- The lent memories with the device registers, and what loads and stores mean: paper 01, "Addresses".
+-- The caller's memories with the device registers, and what loads and stores mean: paper 01, "Addresses".
 -- A load is the little-endian number of its bytes, at every size. A store is a composition of steps
 -- that are total: put a byte (nothing at a VIP register), put a VIP register (nothing elsewhere).
 use Prim.Native.Nat.{ℕ, zero, suc, _+_, _-_, _/_, _%_, _^_, _<_}
@@ -19,7 +19,7 @@ use Rattle.refusal.specs.declared.Verdict.{Verdict}
 use Rattle.refusal.specs.declared.Verdict.the-variants.{Accepted}
 use Rattle.refusal.specs.declared.Refusal.the-variants.{RomLength, WramLength, VramLength, PakLength, State}
 
--- the lent memories, each a list of bytes, and the device registers
+-- the caller's memories, each a list of bytes, and the device registers
 pub record Memory : Type 0 where
   pub rom : List ℕ
   pub wram : List ℕ

@@ -1,4 +1,4 @@
-// The bus: where an address leads, loads and stores over the lent memories, the device registers,
+// The bus: where an address leads, loads and stores over the caller's memories, the device registers,
 // and paper 01's refusals 1 to 5. The functions here are for the crates above; the calls that test
 // their arguments and refuse are those of the crate bus_calls.
 pub mod code;
@@ -15,7 +15,7 @@ pub mod store;
 pub type DrawingRegisters = [u16; 13];
 
 // What stands behind bus addresses and is not memory: the drawing registers, then the request lines and the timer's
-// count, reload and control bits. It is lent as an array, because a reference to a struct is not walked by the prover
+// count, reload and control bits. It is borrowed as an array, because a reference to a struct is not walked by the prover
 // and a struct by value costs a run its speed.
 pub type Device = [u16; 17];
 

@@ -8,6 +8,9 @@ ghost use Rattle.bus.specs.Refusal.{pakOk};
 ghost use Rattle.bus.specs.Memory.{alignedOf, sizeOk};
 ghost use Rattle.bus.specs.inner.LeadsTo.{LeadsTo, VipLeadsTo};
 
+// The bytes of a region: an address has its offset there in its low 24 bits.
+const REGION_BYTES: u32 = 0x1000000;
+
 // Region 0, by the 19 bits that the VIP keeps: VRAM, then the registers' range, then the character mirror.
 fn vip_place(v: u32) -> Place
     requires { ⌜ v < 524288 ⌝ }
@@ -27,7 +30,7 @@ fn vip_place(v: u32) -> Place
 pub fn place_of(address: u32) -> Place
     ensures { λ r. ⌜ LeadsTo address r ⌝ }
 {
-    let region = address / 16777216 % 8;
+    let region = address / REGION_BYTES % 8;
     if region == 5 {
         return Place::Wram((address % 65536) as usize);
     }
@@ -41,7 +44,7 @@ pub fn place_of(address: u32) -> Place
         return Place::Pak(address);
     }
     if region == 2 {
-        return Place::Port(address % 16777216);
+        return Place::Port(address % REGION_BYTES);
     }
     Place::Nothing
 }

@@ -1,5 +1,5 @@
 -- From the verdict that a call found to its answer, for a load and a store of any size: refused or done; and what an
--- access does that is lent a copy of the device registers. Assumes nothing.
+-- access does that borrows a copy of the device registers. Assumes nothing.
 use Prim.Native.Nat.{ℕ}
 use mathlib.Core.List.{List}
 use mathlib.Core.Path.{_≡_, sym, ap, subst, _∙_}
@@ -46,7 +46,7 @@ module _ (m : Memory) (size a : ℕ) (found : Verdict) (e : found ≡ verdictOf 
     unfolding checkedStoreOf
     store-done h verdict k left p = (k ∙ (sym h ∙ e), p ∙ sym (rw (sym e ∙ h)))
 
--- an access that was lent a copy of the device registers
+-- an access that borrowed a copy of the device registers
 module _ (m : Memory) (size a : ℕ) (lent : List ℕ) (same : lent ≡ m .regs) where
   pub load-lent : (r : ℕ) → Reads (withRegs m lent) size a r → Reads m size a r
   load-lent r p = subst (λ (x : List ℕ). Reads (withRegs m x) size a r) same p

@@ -1,6 +1,6 @@
 // The bus's public calls: each tests refusals 1 to 5 and then loads or stores. They take the drawing registers and the
 // request lines with the timer by value, and a store gives both back. Only accesses that the bus's fast path does not
-// answer are lent a copy of them as device registers.
+// answer borrow a copy of them as device registers.
 use bus::Drawing;
 use bus::Found;
 use bus::device;
@@ -35,7 +35,7 @@ pub enum Load {
     Refused(Refusal),
 }
 
-// The answer of a store: the drawing registers, the request lines and the timer afterwards beside the verdict.
+// The answer of a store: the drawing registers, the request lines and the timer afterwards next to the verdict.
 pub struct Stored {
     pub verdict: Verdict,
     pub drawing: Drawing,

@@ -198,13 +198,13 @@ in-vram a i here e =
 
 -- by region and the 19 bits that the VIP keeps
 module _ (a : ℕ) where
-  pub defined-outside : 0 < a / 16777216 % 8 → definedAt a ≡ true
+  pub defined-outside : 0 < a / 2 ^ 24 % 8 → definedAt a ≡ true
   unfolding definedAt
   defined-outside h =
       let n : regionOf a ≡ 0 → ⊥ = λ e. omega (arith, region-code a, e, h) in
       simp (ne-eqb (regionOf a) 0 n)
 
-  module _ (here : a / 16777216 % 8 ≤ 0) where
+  module _ (here : a / 2 ^ 24 % 8 ≤ 0) where
     region : regionOf a ≡ 0
     region = omega (arith, region-code a, here)
 
@@ -242,12 +242,12 @@ led-defined a (Port o) n (here, e) = defined-region a (λ z. omega arith)
 led-defined a Nothing n e = defined-region a (e .no-vip)
 
 -- undefined addresses
-between : (a : ℕ) → definedAt a ≡ false → (a / 16777216 % 8 ≤ 0) × ((0x40000 ≤ a % 524288) × (a % 524288 < 0x78000))
+between : (a : ℕ) → definedAt a ≡ false → (a / 2 ^ 24 % 8 ≤ 0) × ((0x40000 ≤ a % 524288) × (a % 524288 < 0x78000))
 between a h =
-    elim (decLt 0 (a / 16777216 % 8)) [
+    elim (decLt 0 (a / 2 ^ 24 % 8)) [
       | yes e ↦ absurd (true≢false (sym (defined-outside a e) ∙ h))
       | no e ↦
-          let here : a / 16777216 % 8 ≤ 0 = omega arith in
+          let here : a / 2 ^ 24 % 8 ≤ 0 = omega arith in
           elim (decLt (a % 524288) 0x40000) [
             | yes f ↦ absurd (true≢false (sym (defined-low a here f) ∙ h))
             | no f ↦ elim (decLt (a % 524288) 0x78000) [
@@ -279,7 +279,7 @@ undefined-exactly m a = (
       let b = between a none in
       (omega (arith, b .0), ranges (a % 524288) (b .1 .0) (b .1 .1) (sym (defined-between a (b .0) (b .1 .0) (b .1 .1)) ∙ none)),
   λ u.
-      let here : a / 16777216 % 8 ≤ 0 = omega (arith, u .0) in
+      let here : a / 2 ^ 24 % 8 ≤ 0 = omega (arith, u .0) in
       let r = unlisted-range (a % 524288) (u .1) in
       defined-address m a ∙ (defined-between a here (r .0) (r .1 .0) ∙ r .1 .1),
 )

@@ -46,7 +46,7 @@ fn listed(h: u32) -> bool
 }
 
 // The mask of a halfword. Both bytes are of one kind, because every range and register begins at an even address; and
-// no register is listed outside the register range, so that range needs no test of its own.
+// no register is listed outside the register range, so that range needs no separate test.
 pub fn half(address: u32) -> u32
     ensures { λ r. ⌜ ((m : Memory) → r ≡ undefinedOf m 2 address) × (r ≤ 3) ⌝ }
 {

@@ -62,7 +62,7 @@ module _ (m : Memory) (xs : List ℕ) (v : Verdict) (e : v ≡ listVerdictOf m x
   unfolding accessListOf
   list-left h t f = rw (← e, h) f
 
-  -- with the device registers lent
+  -- with the device registers borrowed
   pub list-lent : v ≡ Accepted → length (m .regs) ≡ deviceLength → (lent : List ℕ) → lent ≡ m .regs
       → (t : Made) → t ≡ accessesOf (countOf xs) 0 (withRegs m lent) xs
       → (drawn : List ℕ) (timer : TimerLines) → drawn ≡ drawingIn (t .memory .regs) → timer ≡ hardwareIn (t .memory .regs)

@@ -28,7 +28,7 @@ ProbeIsStore =
     → storeOf m (probeSizeOf width) a v
     ≡ withVram m (probedOf (probeSizeOf width) (m .rom) (m .wram) (m .vram) (m .pak) a v)
 
--- a call of the probe: what it is lent beside VRAM, and what it is to write where
+-- a call of the probe: what it borrows besides VRAM, and what it is to write where
 pub record Write : Type 0 where
   pub rom : List ℕ
   pub wram : List ℕ

@@ -1,4 +1,4 @@
--- The probe's definitions over the memories as a call is lent them, for its contract.
+-- The probe's definitions over the memories that a call borrows, for its contract.
 use Prim.Native.Nat.{ℕ}
 use mathlib.Core.List.{List}
 use denote.Ref.{now}

@@ -30,7 +30,7 @@ probeVerdictAt rom wram vram pak target =
     (unless (wramOk wram) WramLength
     (unless (vramOk vram) VramLength (unless (pakOk pak) PakLength (unless (inRangesOf target) ProbeTarget Accepted))))
 
--- the verdict of a write of `size` bytes: ROM, WRAM, VRAM and pak RAM as lent, and the address
+-- the verdict of a write of `size` bytes: ROM, WRAM, VRAM and pak RAM as given, and the address
 unfoldable pub probeVerdictOf : ℕ → List ℕ → List ℕ → List ℕ → List ℕ → ℕ → Verdict
 probeVerdictOf size rom wram vram pak a =
     probeVerdictAt (length rom) (length wram) (length vram) (length pak) (targetOf (length rom) (length pak) size a)

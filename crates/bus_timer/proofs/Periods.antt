@@ -102,7 +102,7 @@ pub period : Period
 period zero h less e on clear = absurd (omega arith)
 period (suc n) h less e on clear = first n h e on clear
 
--- T-Clk-Sel is none of the bits that a tick reads or sets
+-- T-Clk-Sel is not one of the bits that a tick reads or sets
 module _ (b : ℕ) (h : TimerLines) (less : b < 2) where
   clock-zero : reachedZeroOf (withClock b h) ≡ withClock b (reachedZeroOf h)
   unfolding reachedZeroOf

@@ -46,7 +46,7 @@ abbrev pub thenOf : Verdict → Verdict → Verdict
 thenOf Accepted later = later
 thenOf (Refused n) later = Refused n
 
--- lent bytes after a call: the first where it is refused, else the second
+-- the caller's bytes after a call: the first where it is refused, else the second
 abbrev pub whenAccepted : Verdict → List ℕ → List ℕ → List ℕ
 whenAccepted Accepted refused accepted = accepted
 whenAccepted (Refused n) refused accepted = refused

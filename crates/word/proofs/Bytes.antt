@@ -1,5 +1,4 @@
--- Bytes put into a list: by the sizes that the code tells apart, the list's length, and the bytes beside them. Assumes
--- nothing.
+-- Bytes put into a list: by the sizes that the code tells apart, the list's length, and the other bytes. Assumes nothing.
 use Prim.Native.Nat.{ℕ, zero, suc, _+_, _/_, _%_, _<_, _≤_}
 use mathlib.Core.List.{List}
 use mathlib.Core.Path.{_≡_, refl, _∙_}

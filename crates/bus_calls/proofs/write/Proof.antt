@@ -1,4 +1,4 @@
--- `bus_calls::write` meets its contract: the fast path, or an access that is lent the device registers. Assumes nothing.
+-- `bus_calls::write` meets its contract: the fast path, or an access that borrows the device registers. Assumes nothing.
 use borrow.Author.Needs.{needs}
 use mathlib.Core.List.{[]}
 use mathlib.Core.Path.{refl, ap, _∙_}

@@ -1,4 +1,4 @@
--- `bus_list::access_list`: refused as the definition says, else every access with the device registers lent.
+-- `bus_list::access_list`: refused as the definition says, else every access with the device registers borrowed.
 -- Assumes nothing.
 use borrow.Author.Needs.{needs}
 use mathlib.Core.Path.{sym, _∙_}
