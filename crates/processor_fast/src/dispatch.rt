@@ -1,4 +1,4 @@
-// One instruction, by its opcode, where it is one of the common ones or of those on the system registers.
+// One instruction, by its opcode: a common one, or one on the system registers.
 use crate::Cursor;
 use crate::Fetched;
 use crate::system;

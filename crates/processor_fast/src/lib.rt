@@ -1,6 +1,6 @@
-// A stretch of the common instructions, from ROM or WRAM, in one dispatch: what a run does between the steps that need
-// more. It leaves the mode and the devices as they are, and where no interrupt is accepted before it none is after it.
-// The functions here are for the crate processor, whose calls test their arguments and refuse.
+// The fast path: a stretch of common instructions from ROM or WRAM, which a run does between steps. It does not change
+// the mode or the devices. If no interrupt is accepted before it, none is accepted after it. The functions here are for
+// the crate processor, which tests the arguments of its calls.
 mod dispatch;
 pub mod stretch;
 mod system;

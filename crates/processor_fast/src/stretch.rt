@@ -22,7 +22,7 @@ ghost use Rattle.processor_machine.specs.State.{stateOf};
 ghost use Rattle.processor_machine.specs.declared.Mode.{Mode};
 ghost use Rattle.processor_fast.specs.inner.Leads.{StretchedBy, Stretched};
 
-// Code from `base` on: as long as it stays below index `last`.
+// Code that stands from `base` on, as long as the index stays below `last`.
 fn inside(
     rom: &[u8],
     wram: &mut [u8],
@@ -107,7 +107,7 @@ fn inside(
     }
 }
 
-// The instructions at PC, as long as there are any.
+// The instructions at PC, as long as the dispatch does them.
 pub fn stretch(
     rom: &[u8],
     wram: &mut [u8],

@@ -1,5 +1,5 @@
-// The instructions that compute: Register Transfer, Arithmetic, Bitwise, SETF. Each says what it does by its row of the
-// decoder's table, for every value of what it does not touch.
+// The instructions that compute: Register Transfer, Arithmetic, Bitwise, SETF. Each contract names the instruction's row
+// of the decoder's table, and holds for every value that the function does not take.
 use crate::Fast;
 use crate::field::after_one;
 use crate::field::after_two;
@@ -58,7 +58,7 @@ fn value(regs: &mut [u32; 32], n: u32, v: u32, x: u32, flags: Flags) -> Fast
     }
 }
 
-// Two results: r30's first.
+// Two results: the first for r30, the other for register n.
 fn pair(regs: &mut [u32; 32], n: u32, p: Pair, x: u32) -> Fast
     ensures { λ r. ⌜
         (now (regs .exit) ≡ putOf (putOf (now (regs .entry)) 30 (p .r30)) n (packedValueOf (p .flags)))

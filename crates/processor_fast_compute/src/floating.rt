@@ -1,4 +1,4 @@
-// The floating instructions, where they end with no trap and no underflow; any other is left to the step.
+// The floating instructions that end without a trap and without underflow; others are left to the step.
 use crate::Fast;
 use crate::field::after_two;
 use crate::field::reg1;

@@ -1,11 +1,11 @@
-// The common instructions that compute, for the loop of the crate processor_fast: by their values and flags, and the
-// fields of an instruction that they read. The functions here are for that crate alone.
+// The common instructions that compute, for the fast path (crate processor_fast), and the fields of an instruction. The
+// functions here are for the fast path's crates alone.
 pub mod arithmetic;
 pub mod field;
 pub mod floating;
 
-// What the dispatch did: the instruction, which goes on at index x with these flags, or at the following one with this
-// PSW above its flags; or nothing.
+// What the dispatch did. Done: the instruction; the next one is at index x, with these flags. Masked: SEI or CLI; the
+// next one follows, with this PSW above its flags. NotHere: nothing; the step does the instruction.
 pub enum Fast {
     Done { x: u32, addition: u64, value: u32 },
     Masked { psw: u32 },

@@ -29,8 +29,7 @@ pub record Stretched (budget : ℕ) (s₀ : State) (m₀ : Memory) (n : ℕ) (s 
   pub leads : Leads s₀ m₀ n s m
   pub stays : Stays s₀ m₀ s m
 
--- the same put together from the lent registers and memories and what the code returns, which is what is left of the
--- budget
+-- the same for the borrowed registers and memories and what the code returns: what is left of the budget, PC and PSW
 pub record StretchedBy (budget : ℕ) (s₀ : State) (m₀ : Memory) (regs sys : List ℕ) (r : Rest) (m : Memory)
     : Type 0 where
   pub within : r .left ≤ budget

@@ -1,6 +1,6 @@
--- What the dispatch of a common instruction answers (paper 01, "Instructions"): where it goes on, as an index x of code
--- that stands from the address `base` on, and the flags after it, kept as processor_lazy_flags has them; or that the
--- instruction is left to the step, with nothing changed.
+-- What the dispatch of a common instruction answers (paper 01, "Instructions"). Either the index x of the next
+-- instruction, in code that stands from the address `base` on, and the lazy flags; or that the instruction is left to
+-- the step, with nothing changed.
 use Prim.Native.Nat.{ℕ, _+_, _%_, _^_}
 use mathlib.Core.Bool.{Bool, true}
 use mathlib.Core.List.{List}

@@ -27,7 +27,7 @@ sumIn g = g .addition / 2 ^ 32
 abbrev pub otherIn : Flags → ℕ
 otherIn g = (sumIn g + (2 ^ 32 - partIn g)) % 2 ^ 32
 
--- CY: the sum wrapped around. OV: that of the signed readings is no signed word
+-- CY: the sum wrapped around. OV: the sum of the signed readings is not a signed word
 abbrev pub carryOf : Flags → ℕ
 carryOf g = bitOf (ltb (sumIn g) (partIn g))
 

@@ -1,6 +1,7 @@
 -- `processor_fast_compute::arithmetic::andi`: its own case.
+use mathlib.Core.Bool.{true}
 use Rattle.processor_execute.specs.Execute.{executeOf}
-use Rattle.processor_fast_compute.proofs.Results.{after-two, two-even, result-does}
+use Rattle.processor_fast_compute.proofs.Results.{result-does}
 use borrow.Author.Needs.{needs}
 use Rattle.processor_fast_compute.proofs.arithmetic.andi.Statement.{statement}
 use Rattle.processor_fast_compute.proofs.arithmetic.andi.Tie as tie
@@ -9,9 +10,8 @@ returns : tie.Need-returns
 unfolding executeOf
 returns c = λ m base psw sys even aligned.
     let a = c .before .before .before .before .before .before .args in
-    rw (c .result .ensures .1, c .before .after-two .ensures)
-    (result-does base (a .x) psw _ _ _ sys (a .flags) m _ _ (after-two base (a .x)) (two-even (a .x) aligned) _ _
-    (rw (c .before .before .before .before .reg1 .ensures) at (c .before .before .before .and .ensures psw)) (c .result .ensures .0))
+    result-does true base (a .x) psw _ _ _ sys (a .flags) m _ _ aligned (c .before .after-two .ensures) _ _
+    (rw (c .before .before .before .before .reg1 .ensures) at (c .before .before .before .and .ensures psw)) (c .result .ensures)
 
 pub andi-spec : {M : Type 1} → statement M
 andi-spec =

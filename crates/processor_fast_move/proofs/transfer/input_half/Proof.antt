@@ -1,6 +1,7 @@
 -- `processor_fast_move::transfer::input_half`: its own case.
+use mathlib.Core.Bool.{true}
 use Rattle.processor_execute.specs.Execute.{executeOf}
-use Rattle.processor_fast_compute.proofs.Results.{after-two, two-even, value-does}
+use Rattle.processor_fast_compute.proofs.Results.{value-does}
 use borrow.Author.Needs.{needs}
 use Rattle.processor_fast_move.proofs.transfer.input_half.Statement.{statement}
 use Rattle.processor_fast_move.proofs.transfer.input_half.Tie as tie
@@ -9,9 +10,8 @@ returns : tie.Need-returns
 unfolding executeOf
 returns c = λ base psw sys even aligned.
     let a = c .before .before .before .before .before .before .before .before .before .before .args in
-    rw (c .loaded .ensures .1, c .before .after-two .ensures)
-    (value-does base (a .x) psw _ _ _ sys (a .flags) _ _ _ (after-two base (a .x)) (two-even (a .x) aligned) _
-    (rw (c .before .before .before .half .ensures .means, c .before .before .before .before .address .ensures) at (c .loaded .ensures .0)))
+    value-does true base (a .x) psw _ _ _ sys (a .flags) _ _ _ aligned (c .before .after-two .ensures) _
+    (rw (c .before .before .before .half .ensures .means, c .before .before .before .before .address .ensures) at (c .loaded .ensures))
 
 pub input-half-spec : {M : Type 1} → statement M
 input-half-spec =
