@@ -5,13 +5,16 @@ use Rattle.saved_salvage.proofs.compare.entry_differs.Statement.{statem
 use Rattle.saved_salvage.proofs.compare.entry_differs.Tie as tie
 
 returns : tie.Need-returns
-unfolding entryDiffers
-returns c = rw ((c .before .if1 .taken)) ((c .part-differs .ensures))
+returns c = rw (c .if1 .taken)
 
 returns-2 : tie.Need-returns-2
 unfolding entryDiffers
-returns-2 c = rw ((c .before .if1 .left)) ((c .part-differs2 .ensures))
+returns-2 c = rw (c .before .before .if1 .left, c .before .if2 .taken) (c .part-differs .ensures)
+
+returns-3 : tie.Need-returns-3
+unfolding entryDiffers
+returns-3 c = rw (c .before .before .if1 .left, c .before .if2 .left) (c .part-differs2 .ensures)
 
 pub entry-differs-spec : {M : Type 1} → statement M
 entry-differs-spec =
-    tie.close (tie.spec (λ c κs. search needs) returns (λ c κs. search needs) returns-2)
+    tie.close (tie.spec returns (λ c κs. search needs) returns-2 (λ c κs. search needs) returns-3)
