@@ -8,7 +8,7 @@ use mathlib.Core.Path.{_≡_, refl, sym, ap, _∙_}
 use lib.Dec.{eqb}
 use lib.Bits.{bitAnd, bitXor, xor-zero-r}
 use Rattle.word.specs.Choose.{pick}
-use Rattle.drawing_pixel.specs.Flags.{bitSet}
+use Rattle.word.specs.Bit.{isSet}
 use Rattle.drawing_pixel.specs.Character.{twoBitsOf, shadeOf, flippedOf, pixelValueOf}
 use Rattle.drawing_pixel.specs.inner.Buffer.{repaintedOf}
 use Rattle.drawing_pixel.proofs.Pairs.{below-eight, pair-lt}
@@ -36,8 +36,8 @@ bits-small true = omega arith
 bits-small false = omega arith
 
 -- the value at a turned position is the cell's
-pub value-turned : (cell row k : ℕ) → twoBitsOf row (flippedOf (bitSet 13 cell) k) ≡ pixelValueOf cell row k
-value-turned cell row k = picked-value cell (bits-picked row k (bitSet 13 cell))
+pub value-turned : (cell row k : ℕ) → twoBitsOf row (flippedOf (isSet 13 cell) k) ≡ pixelValueOf cell row k
+value-turned cell row k = picked-value cell (bits-picked row k (isSet 13 cell))
 
 -- three shades at any row fit a word of 64 bits
 pub inks-fit : (a b c : ℕ) → a < 4 → b < 4 → c < 4 → (r : ℕ) → r < 8

@@ -1,12 +1,11 @@
 -- The tests that decide whether a cell column and row lie in a background, and the cell that is used then. Assumes nothing.
 use Prim.Native.Nat.{ℕ, _+_, _*_, _/_, _%_, _^_, _<_, _≤_}
-use native.Mathlib.Omega.{arith}
-use mathlib.Core.Path.{_≡_, sym, _∙_}
-use mathlib.Core.Bool.{Bool, true, false, and-false}
+use mathlib.Core.Path.{_≡_}
+use mathlib.Core.Bool.{Bool, true, false, _&&_, not, and-false}
 use mathlib.Core.List.{List}
 use lib.ListN.{getD}
 use lib.Dec.{ltb}
-use borrow.Author.Tests.{lt-leb, le-leb, le-ltb, lt-ltb, eq-eqb, ne-eqb}
+use borrow.Author.Tests.{lt-leb, le-leb, le-ltb, lt-ltb}
 use Rattle.drawing_pixel.specs.World.{scxOf, scyOf, overOf}
 use Rattle.drawing_pixel.specs.inner.BiasedCell.{insideBiased, cellAddressBiased, mapCellAddressBiased}
 use Rattle.drawing_pixel.specs.Background.{mapNumberOf, mapsAcrossOf}
@@ -29,23 +28,15 @@ pub inside-down : (w : List ℕ) (u v a d : ℕ) → a ≡ 2 ^ (6 + scxOf w) →
 unfolding insideBiased
 inside-down w u v a d e f l h m = rw (← e, ← f) (simp (le-leb _ _ l, lt-ltb _ _ h, le-leb _ _ m))
 
--- OVER clear, or inside: the cell of the map; else the overplane's
-pub cell-wrapped : (w : List ℕ) (u v : ℕ) → getD w 0 0 / 128 % 2 ≡ 0 → mapCellAddressBiased w u v ≡ cellAddressBiased w u v
+-- the overplane's cell where it is used ..
+pub cell-overplane : (w : List ℕ) (u v : ℕ) → (overOf w && not (insideBiased w u v)) ≡ true → 131072 + 2 * getD w 10 0 ≡ cellAddressBiased w u v
 unfolding cellAddressBiased
-cell-wrapped w u v e = simp (ne-eqb (getD w 0 0 / 128 % 2) 1 (λ f. omega arith))
+cell-overplane w u v e = rw e
 
--- .. by what the maps of a world are
-pub cell-arranged : (w : List ℕ) (u v : ℕ) {over : Bool} {first beside across down : ℕ} → MapsOf w over first beside across down → over ≡ false
+-- .. else that of a map, by what the maps of a world are
+pub cell-arranged : (w : List ℕ) (u v : ℕ) {over : Bool} {first beside across down : ℕ} → MapsOf w over first beside across down
+    → (overOf w && not (insideBiased w u v)) ≡ false
     → 131072 + 8192 * ((first + (v % 2 ^ down / 64 * 2 ^ beside + u % 2 ^ across / 64 % 2 ^ beside)) % 16) + 2 * (64 * (v % 64) + u % 64)
     ≡ cellAddressBiased w u v
 unfolding cellAddressBiased mapCellAddressBiased mapNumberOf mapsAcrossOf
-cell-arranged w u v m e = rw (sym (m .overplane) ∙ e, m .first, m .repeats, m .width, m .height)
-
-pub cell-inside : (w : List ℕ) (u v : ℕ) → insideBiased w u v ≡ true → mapCellAddressBiased w u v ≡ cellAddressBiased w u v
-unfolding cellAddressBiased
-cell-inside w u v e = rw e (simp and-false)
-
-pub cell-outside : (w : List ℕ) (u v : ℕ) → (getD w 0 0 / 128 % 2 ≡ 0 → ⊥) → insideBiased w u v ≡ false
-    → 131072 + 2 * getD w 10 0 ≡ cellAddressBiased w u v
-unfolding cellAddressBiased
-cell-outside w u v n e = rw e (simp (eq-eqb (getD w 0 0 / 128 % 2) 1 (omega arith)))
+cell-arranged w u v m e = rw (e, m .first, m .repeats, m .width, m .height)

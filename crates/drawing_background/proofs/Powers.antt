@@ -1,20 +1,15 @@
 -- What the machine's shifts and masks by the size of a background are as powers of two. Assumes nothing.
-use Prim.Native.Nat.{ℕ, zero, suc, _+_, _-_, _*_, _%_, _^_, _<_, _≤_}
+use Prim.Native.Nat.{ℕ, zero, suc, _-_, _*_, _%_, _^_, _<_, _≤_}
 use native.Mathlib.Omega.{arith}
 use native.Mathlib.Nat.{one-mul, mod-eq-of-lt, mod-lt, lt-of-le-of-lt, le-of-lt, mul-le-mul-left, mul-lt-mul-of-pos-right}
-use mathlib.Core.Path.{_≡_, refl}
+use mathlib.Core.Path.{_≡_}
 use lib.Bits.{bitAnd, and-mask}
 use lib.Pow.{pow-pos, pow-mono, pow-lt}
 use lib.Dec.{lit<}
-use Rattle.drawing_pixel.proofs.Pairs.{below-eight}
-
--- 64 shifted by an exponent below 8
-pub shifted-cells : (k : ℕ) → k < 8 → (64 * 2 ^ k) % 2 ^ 64 ≡ 2 ^ (6 + k)
-shifted-cells = below-eight (λ k. (64 * 2 ^ k) % 2 ^ 64 ≡ 2 ^ (6 + k)) refl refl refl refl refl refl refl refl
 
 -- the size of a background of at most eight maps a side, in cells
-pub cells-le : (k : ℕ) → k < 4 → 2 ^ (6 + k) ≤ 512
-cells-le k h = pow-mono {i = 6 + k} {j = 9} (omega arith)
+pub cells-le : (k : ℕ) → k < 10 → 2 ^ k ≤ 512
+cells-le k h = pow-mono {i = k} {j = 9} (omega arith)
 
 -- a number below 8 shifted by an exponent below 4
 pub shifted-maps : (r : ℕ) → r < 8 → (k : ℕ) → k < 4 → ((r * 2 ^ k) % 2 ^ 64 ≡ r * 2 ^ k) × (r * 2 ^ k < 64)

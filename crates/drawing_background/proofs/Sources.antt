@@ -8,7 +8,7 @@ use mathlib.Core.List.{List}
 use lib.ListN.{getD}
 use Rattle.word.specs.LittleEndian.{halfAt}
 use Rattle.bus.specs.Registers.{gpltOf}
-use Rattle.drawing_pixel.specs.Flags.{bitSet}
+use Rattle.word.specs.Bit.{isSet}
 use Rattle.drawing_pixel.specs.Character.{shadeOf, pixelValueOf, flippedOf, rowAddressOf, cellPixelOf, twoBitsOf}
 use Rattle.drawing_pixel.specs.inner.BiasedCell.{cellAddressBiased, sourceCellAddressBiased, sourcePixelBiased}
 use Rattle.drawing_pixel.specs.inner.BiasedSource.{affineFloorBiased}
@@ -74,12 +74,12 @@ module _ (vram regs w : List ℕ) (top bottom from to sx sy half address cell pa
 -- a column painted by a pixel of the cell there, from its palette and where its character begins
 pub source-repainted : (vram regs w : List ℕ) (q sx sy u v cell palette character h : ℕ) → u ≡ sx / 8 → v ≡ sy / 8
     → CellAt vram regs w u v cell palette character
-    → repaintedOf q (shadeOf palette (pixelValueOf cell (halfAt vram (character + 2 * flippedOf (bitSet 12 cell) (sy % 8))) (sx % 8))) h
+    → repaintedOf q (shadeOf palette (pixelValueOf cell (halfAt vram (character + 2 * flippedOf (isSet 12 cell) (sy % 8))) (sx % 8))) h
     ≡ repaintedOf q (sourcePixelBiased vram regs w sx sy) h
 unfolding sourcePixelBiased sourceCellAddressBiased cellPixelOf rowAddressOf
 source-repainted vram regs w q sx sy u v cell palette character h e f c =
     repainted-change q
-    (shadeOf palette (pixelValueOf cell (halfAt vram (character + 2 * flippedOf (bitSet 12 cell) (sy % 8))) (sx % 8)))
+    (shadeOf palette (pixelValueOf cell (halfAt vram (character + 2 * flippedOf (isSet 12 cell) (sy % 8))) (sx % 8)))
     (sourcePixelBiased vram regs w sx sy) h (λ p. rw (c .shades, c .begins, c .same, e, f))
 
 -- the sum of an affine row: its bounds, and one step further

@@ -2,15 +2,17 @@
 use bus::DrawingRegisters;
 ghost use mathlib.Core.Path.{_≡_};
 ghost use Prim.Native.Nat.{_+_, _-_, _*_, _/_, _%_, _<_, _≤_};
+ghost use mathlib.Core.Bool.{true};
 ghost use lib.ListN.{length};
 ghost use Rattle.bus.specs.Refusal.{vramBytes};
 ghost use Rattle.word.specs.LittleEndian.{halfAt};
 ghost use Rattle.drawing_pixel.specs.Character.{flippedOf, pixelValueOf, shadeOf};
-ghost use Rattle.drawing_pixel.specs.Flags.{bitSet};
+ghost use Rattle.word.specs.Bit.{isSet};
 ghost use Rattle.drawing_pixel.specs.inner.BiasedCell.{sourcePixelBiased};
 ghost use Rattle.drawing_pixel.specs.inner.BiasedSource.{affineFloorBiased};
 ghost use Rattle.drawing_pixel.specs.inner.Buffer.{repaintedOf, Span};
 ghost use Rattle.drawing_background.specs.inner.Row.{inksOf, MapsOf, CellAt, Inked};
+ghost use Rattle.drawing_pixel.specs.inner.Halfwords.{halfwordsOf};
 use crate::cell::Maps;
 use crate::cell::address_in;
 use crate::cell::maps_of;
@@ -56,7 +58,7 @@ pub struct CellRead {
 pub fn read(
     vram: &[u8],
     registers: &DrawingRegisters,
-    w: &World,
+    w: World,
     maps: Maps,
     r: usize,
     u: usize,
@@ -65,12 +67,12 @@ pub fn read(
     requires { ⌜
         (length (now vram) ≡ vramBytes)
         × ((r < 8)
-        × MapsOf (now w) (maps .over) (maps .first) (maps .beside) (maps .across) (maps .down))
+        × MapsOf (halfwordsOf w) (maps .over) (maps .first) (maps .beside) (maps .across) (maps .down))
         ⌝ }
     ensures { λ h. ⌜
         (h .u ≡ u)
         × ((h .v ≡ v)
-        × (CellAt (now (vram .entry)) (now (registers .entry)) (now (w .entry)) (h .u) (h .v) (h .cell)
+        × (CellAt (now (vram .entry)) (now (registers .entry)) (halfwordsOf w) (h .u) (h .v) (h .cell)
         (h .palette) (h .character)
         × Inked r (h .cell) (h .palette) (h .across) (h .down) (h .inks)))
         ⌝ }
@@ -93,11 +95,21 @@ pub fn read(
     }
 }
 
+// Whether a cell was read for a cell column and row.
+pub fn is_of(c: CellRead, u: usize, v: usize) -> bool
+    ensures { λ r. ⌜ (r ≡ true → (c .u ≡ u) × (c .v ≡ v)) ⌝ }
+{
+    if c.u != u {
+        return false;
+    }
+    c.v == v
+}
+
 // The cell at a cell column and row; it is read only where it is not the last one.
 pub fn held(
     vram: &[u8],
     registers: &DrawingRegisters,
-    w: &World,
+    w: World,
     maps: Maps,
     r: usize,
     last: CellRead,
@@ -107,25 +119,22 @@ pub fn held(
     requires { ⌜
         (length (now vram) ≡ vramBytes)
         × ((r < 8)
-        × (MapsOf (now w) (maps .over) (maps .first) (maps .beside) (maps .across) (maps .down)
-        × (CellAt (now vram) (now registers) (now w) (last .u) (last .v) (last .cell) (last .palette) (last .character)
+        × (MapsOf (halfwordsOf w) (maps .over) (maps .first) (maps .beside) (maps .across) (maps .down)
+        × (CellAt (now vram) (now registers) (halfwordsOf w) (last .u) (last .v) (last .cell) (last .palette) (last .character)
         × Inked r (last .cell) (last .palette) (last .across) (last .down) (last .inks))))
         ⌝ }
     ensures { λ h. ⌜
         (h .u ≡ u)
         × ((h .v ≡ v)
-        × (CellAt (now (vram .entry)) (now (registers .entry)) (now (w .entry)) (h .u) (h .v) (h .cell)
+        × (CellAt (now (vram .entry)) (now (registers .entry)) (halfwordsOf w) (h .u) (h .v) (h .cell)
         (h .palette) (h .character)
         × Inked r (h .cell) (h .palette) (h .across) (h .down) (h .inks)))
         ⌝ }
 {
-    if last.u != u {
-        return read(vram, registers, w, maps, r, u, v);
+    if is_of(last, u, v) {
+        return last;
     }
-    if last.v != v {
-        return read(vram, registers, w, maps, r, u, v);
-    }
-    last
+    read(vram, registers, w, maps, r, u, v)
 }
 
 // A column of the strip, its row r painted over by the pixel of a cell at source pixel (sx, sy). The mask has both bits
@@ -149,7 +158,7 @@ pub fn cell_shaded(
         n ≡ repaintedOf r
         (shadeOf (c .palette)
         (pixelValueOf (c .cell)
-        (halfAt (now (vram .entry)) (c .character + 2 * flippedOf (bitSet 12 (c .cell)) (sy % 8))) (sx % 8)))
+        (halfAt (now (vram .entry)) (c .character + 2 * flippedOf (isSet 12 (c .cell)) (sy % 8))) (sx % 8)))
         h
         ⌝ }
 {
@@ -162,7 +171,7 @@ pub fn cell_shaded(
 pub fn affine_span(
     vram: &[u8],
     registers: &DrawingRegisters,
-    w: &World,
+    w: World,
     buffer: &mut [u16; 384],
     run: Run,
     course: Course,
@@ -179,7 +188,7 @@ pub fn affine_span(
         ⌝ }
     ensures { λ _. ⌜
         Span (run .row) (run .from) (run .to)
-        (λ x. sourcePixelBiased (now (vram .entry)) (now (registers .entry)) (now (w .entry))
+        (λ x. sourcePixelBiased (now (vram .entry)) (now (registers .entry)) (halfwordsOf w)
         (affineFloorBiased (course .mx) (course .dx) (course .n + (x - run .from)))
         (affineFloorBiased (course .my) (course .dy) (course .n + (x - run .from))))
         (now (buffer .entry)) (now (buffer .exit))
@@ -207,7 +216,7 @@ pub fn affine_span(
 pub fn level_span(
     vram: &[u8],
     registers: &DrawingRegisters,
-    w: &World,
+    w: World,
     buffer: &mut [u16; 384],
     run: Run,
     course: Course,
@@ -224,7 +233,7 @@ pub fn level_span(
         ⌝ }
     ensures { λ _. ⌜
         Span (run .row) (run .from) (run .to)
-        (λ x. sourcePixelBiased (now (vram .entry)) (now (registers .entry)) (now (w .entry))
+        (λ x. sourcePixelBiased (now (vram .entry)) (now (registers .entry)) (halfwordsOf w)
         (affineFloorBiased (course .mx) (course .dx) (course .n + (x - run .from)))
         (affineFloorBiased (course .my) (course .dy) (course .n + (x - run .from))))
         (now (buffer .entry)) (now (buffer .exit))
@@ -239,7 +248,7 @@ pub fn level_span(
 pub fn along_span(
     vram: &[u8],
     registers: &DrawingRegisters,
-    w: &World,
+    w: World,
     buffer: &mut [u16; 384],
     run: Run,
     course: Course,
@@ -256,7 +265,7 @@ pub fn along_span(
         ⌝ }
     ensures { λ _. ⌜
         Span (run .row) (run .from) (run .to)
-        (λ x. sourcePixelBiased (now (vram .entry)) (now (registers .entry)) (now (w .entry))
+        (λ x. sourcePixelBiased (now (vram .entry)) (now (registers .entry)) (halfwordsOf w)
         (affineFloorBiased (course .mx) (course .dx) (course .n + (x - run .from)))
         (affineFloorBiased (course .my) (course .dy) (course .n + (x - run .from))))
         (now (buffer .entry)) (now (buffer .exit))

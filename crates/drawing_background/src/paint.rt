@@ -8,6 +8,7 @@ ghost use Rattle.word.specs.LittleEndian.{halfAt};
 ghost use Rattle.drawing_pixel.specs.Character.{rowAddressOf, pixelValueOf, shadeOf};
 ghost use Rattle.drawing_pixel.specs.inner.BiasedCell.{cellAddressBiased, sourcePixelBiased};
 ghost use Rattle.drawing_pixel.specs.inner.Buffer.{Span, Block};
+ghost use Rattle.drawing_pixel.specs.inner.Halfwords.{halfwordsOf};
 use crate::cell::cell_address;
 use drawing_pixel::character::row_address;
 use drawing_pixel::field::half;
@@ -41,10 +42,10 @@ pub struct Fetched {
 }
 
 // What source pixel (sx, sy) is picked from.
-pub fn fetch(vram: &[u8], registers: &DrawingRegisters, w: &World, sx: usize, sy: usize) -> Fetched
+pub fn fetch(vram: &[u8], registers: &DrawingRegisters, w: World, sx: usize, sy: usize) -> Fetched
     requires { ⌜ length (now vram) ≡ vramBytes ⌝ }
     ensures { λ r. ⌜
-        (r .cell ≡ halfAt (now (vram .entry)) (cellAddressBiased (now (w .entry)) (sx / 8) (sy / 8)))
+        (r .cell ≡ halfAt (now (vram .entry)) (cellAddressBiased (halfwordsOf w) (sx / 8) (sy / 8)))
         × ((r .row ≡ halfAt (now (vram .entry)) (rowAddressOf (r .cell) (sy % 8)))
         × (r .palette ≡ getD (now (registers .entry)) (4 + r .cell / 16384) 0))
         ⌝ }
@@ -59,7 +60,7 @@ pub fn fetch(vram: &[u8], registers: &DrawingRegisters, w: &World, sx: usize, sy
 pub fn cell_span(
     vram: &[u8],
     registers: &DrawingRegisters,
-    w: &World,
+    w: World,
     buffer: &mut [u16; 384],
     run: Run,
     source: Source,
@@ -72,7 +73,7 @@ pub fn cell_span(
         ⌝ }
     ensures { λ _. ⌜
         Span (run .row) (run .from) (run .to)
-        (λ x. sourcePixelBiased (now (vram .entry)) (now (registers .entry)) (now (w .entry))
+        (λ x. sourcePixelBiased (now (vram .entry)) (now (registers .entry)) (halfwordsOf w)
         (source .x + (x - run .from)) (source .y))
         (now (buffer .entry)) (now (buffer .exit))
         ⌝ }
@@ -85,7 +86,7 @@ pub fn cell_span(
 pub fn plain_span(
     vram: &[u8],
     registers: &DrawingRegisters,
-    w: &World,
+    w: World,
     buffer: &mut [u16; 384],
     run: Run,
     source: Source,
@@ -97,7 +98,7 @@ pub fn plain_span(
         ⌝ }
     ensures { λ _. ⌜
         Span (run .row) (run .from) (run .to)
-        (λ x. sourcePixelBiased (now (vram .entry)) (now (registers .entry)) (now (w .entry))
+        (λ x. sourcePixelBiased (now (vram .entry)) (now (registers .entry)) (halfwordsOf w)
         (source .x + (x - run .from)) (source .y))
         (now (buffer .entry)) (now (buffer .exit))
         ⌝ }
@@ -198,7 +199,7 @@ pub fn part_rows(
 pub fn cell_block(
     vram: &[u8],
     registers: &DrawingRegisters,
-    w: &World,
+    w: World,
     buffer: &mut [u16; 384],
     area: Area,
     source: Source,
@@ -214,7 +215,7 @@ pub fn cell_block(
         ⌝ }
     ensures { λ _. ⌜
         Block (area .top) (area .bottom) (area .from) (area .to)
-        (λ x r. sourcePixelBiased (now (vram .entry)) (now (registers .entry)) (now (w .entry))
+        (λ x r. sourcePixelBiased (now (vram .entry)) (now (registers .entry)) (halfwordsOf w)
         (source .x + (x - area .from)) (source .y + (r - area .top)))
         (now (buffer .entry)) (now (buffer .exit))
         ⌝ }
@@ -240,7 +241,7 @@ pub fn cell_block(
 pub fn cells_block(
     vram: &[u8],
     registers: &DrawingRegisters,
-    w: &World,
+    w: World,
     buffer: &mut [u16; 384],
     area: Area,
     source: Source,
@@ -256,7 +257,7 @@ pub fn cells_block(
         ⌝ }
     ensures { λ _. ⌜
         Block (area .top) (area .bottom) (area .from) (area .to)
-        (λ x r. sourcePixelBiased (now (vram .entry)) (now (registers .entry)) (now (w .entry))
+        (λ x r. sourcePixelBiased (now (vram .entry)) (now (registers .entry)) (halfwordsOf w)
         (source .x + (x - area .from)) (source .y + (r - area .top)))
         (now (buffer .entry)) (now (buffer .exit))
         ⌝ }
@@ -288,7 +289,7 @@ pub fn cells_block(
 pub fn plain_block(
     vram: &[u8],
     registers: &DrawingRegisters,
-    w: &World,
+    w: World,
     buffer: &mut [u16; 384],
     area: Area,
     source: Source,
@@ -304,7 +305,7 @@ pub fn plain_block(
         ⌝ }
     ensures { λ _. ⌜
         Block (area .top) (area .bottom) (area .from) (area .to)
-        (λ x r. sourcePixelBiased (now (vram .entry)) (now (registers .entry)) (now (w .entry))
+        (λ x r. sourcePixelBiased (now (vram .entry)) (now (registers .entry)) (halfwordsOf w)
         (source .x + (x - area .from)) (source .y + (r - area .top)))
         (now (buffer .entry)) (now (buffer .exit))
         ⌝ }

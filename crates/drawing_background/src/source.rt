@@ -7,12 +7,9 @@ ghost use Rattle.drawing_pixel.specs.Background.{parameterAddressOf, parameterO
 ghost use Rattle.drawing_pixel.specs.inner.BiasedSource.{plainLeftBiased, normalYBiased, affineShiftBiased};
 ghost use Rattle.drawing_pixel.specs.inner.BiasedSource.{affineFloorBiased, affineParameterBiased};
 ghost use Rattle.drawing_background.specs.inner.Row.{affineSumOf};
+ghost use Rattle.drawing_pixel.specs.inner.Halfwords.{halfwordsOf};
 use drawing_pixel::field::half;
 use drawing_pixel::field::wide;
-use drawing_pixel::world::MP;
-use drawing_pixel::world::MX;
-use drawing_pixel::world::MY;
-use drawing_pixel::world::PARAMETERS;
 use drawing_pixel::world::World;
 
 // Source x and y are kept plus 2^23, a multiple of every background's size, so that wrapping needs no correction. What a
@@ -29,27 +26,27 @@ const DOWN_BIAS: usize = 8384512;
 const AFFINE_BIAS: usize = 4292870144;
 
 // Where parameter k of a world lies; its index wraps at 16 bits.
-pub fn parameter_address(w: &World, k: usize) -> usize
-    ensures { λ r. ⌜ (r ≡ parameterAddressOf (now (w .entry)) k) × (r < 262143) ⌝ }
+pub fn parameter_address(w: World, k: usize) -> usize
+    ensures { λ r. ⌜ (r ≡ parameterAddressOf (halfwordsOf w) k) × (r < 262143) ⌝ }
 {
-    let index = std::num::wrapping_add_u16(w[PARAMETERS], (k % 65536) as u16);
+    let index = std::num::wrapping_add_u16(w.parameters, (k % 65536) as u16);
     131072 + 2 * wide(index)
 }
 
 // Parameter k of a world.
-pub fn parameter(vram: &[u8], w: &World, k: usize) -> usize
+pub fn parameter(vram: &[u8], w: World, k: usize) -> usize
     requires { ⌜ length (now vram) ≡ vramBytes ⌝ }
-    ensures { λ r. ⌜ (r ≡ parameterOf (now (vram .entry)) (now (w .entry)) k) × (r < 65536) ⌝ }
+    ensures { λ r. ⌜ (r ≡ parameterOf (now (vram .entry)) (halfwordsOf w) k) × (r < 65536) ⌝ }
 {
     wide(half(vram, parameter_address(w, k)))
 }
 
 // MX less MP for the left eye, plus MP for the right one.
-pub fn plain_left(w: &World, eye: usize) -> usize
-    ensures { λ r. ⌜ (r ≡ plainLeftBiased (now (w .entry)) eye) × ((8368128 ≤ r) × (r < 8409088)) ⌝ }
+pub fn plain_left(w: World, eye: usize) -> usize
+    ensures { λ r. ⌜ (r ≡ plainLeftBiased (halfwordsOf w) eye) × ((8368128 ≤ r) × (r < 8409088)) ⌝ }
 {
-    let mx = (wide(w[MX]) + 4096) % 8192;
-    let mp = (wide(w[MP]) + 16384) % 32768;
+    let mx = (wide(w.mx) + 4096) % 8192;
+    let mp = (wide(w.mp) + 16384) % 32768;
     if eye == 0 {
         return mx + LEFT_BIAS - mp;
     }
@@ -57,11 +54,11 @@ pub fn plain_left(w: &World, eye: usize) -> usize
 }
 
 // The source row of a normal or H-bias world's row j.
-pub fn normal_y(w: &World, j: usize) -> usize
+pub fn normal_y(w: World, j: usize) -> usize
     requires { ⌜ j < 65536 ⌝ }
-    ensures { λ r. ⌜ (r ≡ normalYBiased (now (w .entry)) j) × (r < 16777216) ⌝ }
+    ensures { λ r. ⌜ (r ≡ normalYBiased (halfwordsOf w) j) × (r < 16777216) ⌝ }
 {
-    (wide(w[MY]) + 4096) % 8192 + DOWN_BIAS + j
+    (wide(w.my) + 4096) % 8192 + DOWN_BIAS + j
 }
 
 // The index of an H-bias parameter.
@@ -76,9 +73,9 @@ pub fn bias_index(eye: usize, j: usize) -> usize
 }
 
 // Parameter k of row j of an affine world, biased by 32,768.
-pub fn affine_parameter(vram: &[u8], w: &World, j: usize, k: usize) -> usize
+pub fn affine_parameter(vram: &[u8], w: World, j: usize, k: usize) -> usize
     requires { ⌜ (length (now vram) ≡ vramBytes) × ((j < 65536) × (k < 8)) ⌝ }
-    ensures { λ r. ⌜ (r ≡ affineParameterBiased (now (vram .entry)) (now (w .entry)) j k) × (r < 65536) ⌝ }
+    ensures { λ r. ⌜ (r ≡ affineParameterBiased (now (vram .entry)) (halfwordsOf w) j k) × (r < 65536) ⌝ }
 {
     (parameter(vram, w, 8 * j + k) + 32768) % 65536
 }

@@ -11,6 +11,7 @@ ghost use Rattle.drawing_pixel.specs.inner.BiasedCell.{sourcePixelBiased, backg
 ghost use Rattle.drawing_pixel.specs.inner.BiasedSource.{sourceXBiased, sourceYBiased};
 ghost use Rattle.drawing_pixel.specs.inner.Buffer.{Span, Block, Strip};
 ghost use Rattle.drawing_background.specs.inner.Row.{rowBiasOf};
+ghost use Rattle.drawing_pixel.specs.inner.Halfwords.{halfwordsOf};
 use crate::affine::Course;
 use crate::affine::along_span;
 use crate::paint::Area;
@@ -29,8 +30,6 @@ use drawing_pixel::field::least;
 use drawing_pixel::field::wide;
 use drawing_pixel::paint::Run;
 use drawing_pixel::paint::View;
-use drawing_pixel::world::FLAGS;
-use drawing_pixel::world::GY;
 use drawing_pixel::world::World;
 use drawing_pixel::world::columns;
 use drawing_pixel::world::rows;
@@ -46,7 +45,7 @@ pub struct Offsets {
 pub fn affine_row(
     vram: &[u8],
     registers: &DrawingRegisters,
-    w: &World,
+    w: World,
     buffer: &mut [u16; 384],
     run: Run,
     eye: usize,
@@ -57,13 +56,13 @@ pub fn affine_row(
         (length (now vram) ≡ vramBytes)
         × ((run .from ≤ run .to)
         × ((run .to ≤ 384)
-        × ((run .row < 8) × ((offsets .i < 2048) × ((offsets .j < 65536) × (2 ≤ bgmOf (now w)))))))
+        × ((run .row < 8) × ((offsets .i < 2048) × ((offsets .j < 65536) × (2 ≤ bgmOf (halfwordsOf w)))))))
         ⌝ }
     ensures { λ _. ⌜
         Span (run .row) (run .from) (run .to)
-        (λ x. sourcePixelBiased (now (vram .entry)) (now (registers .entry)) (now (w .entry))
-        (sourceXBiased (now (vram .entry)) (now (w .entry)) eye (offsets .i + (x - run .from)) (offsets .j))
-        (sourceYBiased (now (vram .entry)) (now (w .entry)) eye (offsets .i + (x - run .from)) (offsets .j)))
+        (λ x. sourcePixelBiased (now (vram .entry)) (now (registers .entry)) (halfwordsOf w)
+        (sourceXBiased (now (vram .entry)) (halfwordsOf w) eye (offsets .i + (x - run .from)) (offsets .j))
+        (sourceYBiased (now (vram .entry)) (halfwordsOf w) eye (offsets .i + (x - run .from)) (offsets .j)))
         (now (buffer .entry)) (now (buffer .exit))
         ⌝ }
 {
@@ -84,11 +83,11 @@ pub fn affine_row(
 }
 
 // How far an H-bias world's row j is moved, plus 4,096; other worlds' rows are not.
-pub fn row_bias(vram: &[u8], w: &World, eye: usize, j: usize) -> usize
+pub fn row_bias(vram: &[u8], w: World, eye: usize, j: usize) -> usize
     requires { ⌜ (length (now vram) ≡ vramBytes) × (j < 65536) ⌝ }
-    ensures { λ b. ⌜ (b ≡ rowBiasOf (now (vram .entry)) (now (w .entry)) eye j) × (b < 8192) ⌝ }
+    ensures { λ b. ⌜ (b ≡ rowBiasOf (now (vram .entry)) (halfwordsOf w) eye j) × (b < 8192) ⌝ }
 {
-    if w[FLAGS] / 4096 % 4 == 1 {
+    if w.flags / 4096 % 4 == 1 {
         return (parameter(vram, w, bias_index(eye, j)) + 4096) % 8192;
     }
     4096
@@ -98,7 +97,7 @@ pub fn row_bias(vram: &[u8], w: &World, eye: usize, j: usize) -> usize
 pub fn row(
     vram: &[u8],
     registers: &DrawingRegisters,
-    w: &World,
+    w: World,
     buffer: &mut [u16; 384],
     run: Run,
     eye: usize,
@@ -112,13 +111,13 @@ pub fn row(
         ⌝ }
     ensures { λ _. ⌜
         Span (run .row) (run .from) (run .to)
-        (λ x. sourcePixelBiased (now (vram .entry)) (now (registers .entry)) (now (w .entry))
-        (sourceXBiased (now (vram .entry)) (now (w .entry)) eye (offsets .i + (x - run .from)) (offsets .j))
-        (sourceYBiased (now (vram .entry)) (now (w .entry)) eye (offsets .i + (x - run .from)) (offsets .j)))
+        (λ x. sourcePixelBiased (now (vram .entry)) (now (registers .entry)) (halfwordsOf w)
+        (sourceXBiased (now (vram .entry)) (halfwordsOf w) eye (offsets .i + (x - run .from)) (offsets .j))
+        (sourceYBiased (now (vram .entry)) (halfwordsOf w) eye (offsets .i + (x - run .from)) (offsets .j)))
         (now (buffer .entry)) (now (buffer .exit))
         ⌝ }
 {
-    if 2 <= w[FLAGS] / 4096 % 4 {
+    if 2 <= w.flags / 4096 % 4 {
         affine_row(vram, registers, w, buffer, run, eye, offsets);
         return;
     }
@@ -131,7 +130,7 @@ pub fn row(
 pub fn strip_row(
     vram: &[u8],
     registers: &DrawingRegisters,
-    w: &World,
+    w: World,
     buffer: &mut [u16; 384],
     run: Run,
     view: View,
@@ -142,18 +141,18 @@ pub fn strip_row(
         × ((run .from ≤ run .to) × ((run .to ≤ 384) × ((run .row < 8) × (view .strip < 28))))
         ⌝ }
     requires { ⌜
-        (worldShownOf (now w) (view .eye) ≡ true)
-        × ((windowLeftBiased (now w) (view .eye) ≤ run .from + 1024)
-        × (run .to + 1024 ≤ windowLeftBiased (now w) (view .eye) + columnsBiased (now w)))
+        (worldShownOf (halfwordsOf w) (view .eye) ≡ true)
+        × ((windowLeftBiased (halfwordsOf w) (view .eye) ≤ run .from + 1024)
+        × (run .to + 1024 ≤ windowLeftBiased (halfwordsOf w) (view .eye) + columnsBiased (halfwordsOf w)))
         ⌝ }
     ensures { λ _. ⌜
         Span (run .row) (run .from) (run .to)
-        (λ x. backgroundPixelBiased (now (vram .entry)) (now (registers .entry)) (now (w .entry)) (view .eye)
+        (λ x. backgroundPixelBiased (now (vram .entry)) (now (registers .entry)) (halfwordsOf w) (view .eye)
         x (8 * view .strip + run .row))
         (now (buffer .entry)) (now (buffer .exit))
         ⌝ }
 {
-    let top = (wide(w[GY]) + 32768) % 65536;
+    let top = (wide(w.gy) + 32768) % 65536;
     let y = 8 * view.strip + run.row + 32768;
     if y < top {
         return;
@@ -180,7 +179,7 @@ pub fn past(a: usize, b: usize) -> usize
 pub fn normal_block(
     vram: &[u8],
     registers: &DrawingRegisters,
-    w: &World,
+    w: World,
     buffer: &mut [u16; 384],
     from: usize,
     to: usize,
@@ -188,21 +187,21 @@ pub fn normal_block(
 )
     requires { ⌜ length (now buffer) ≡ 384 ⌝ }
     requires { ⌜
-        (length (now vram) ≡ vramBytes) × ((from ≤ to) × ((to ≤ 384) × ((view .strip < 28) × (bgmOf (now w) ≡ 0))))
+        (length (now vram) ≡ vramBytes) × ((from ≤ to) × ((to ≤ 384) × ((view .strip < 28) × (bgmOf (halfwordsOf w) ≡ 0))))
         ⌝ }
     requires { ⌜
-        (worldShownOf (now w) (view .eye) ≡ true)
-        × ((windowLeftBiased (now w) (view .eye) ≤ from + 1024)
-        × (to + 1024 ≤ windowLeftBiased (now w) (view .eye) + columnsBiased (now w)))
+        (worldShownOf (halfwordsOf w) (view .eye) ≡ true)
+        × ((windowLeftBiased (halfwordsOf w) (view .eye) ≤ from + 1024)
+        × (to + 1024 ≤ windowLeftBiased (halfwordsOf w) (view .eye) + columnsBiased (halfwordsOf w)))
         ⌝ }
     ensures { λ _. ⌜
         Block 0 8 from to
-        (λ x r. backgroundPixelBiased (now (vram .entry)) (now (registers .entry)) (now (w .entry)) (view .eye)
+        (λ x r. backgroundPixelBiased (now (vram .entry)) (now (registers .entry)) (halfwordsOf w) (view .eye)
         x (8 * view .strip + r))
         (now (buffer .entry)) (now (buffer .exit))
         ⌝ }
 {
-    let top = (wide(w[GY]) + 32768) % 65536;
+    let top = (wide(w.gy) + 32768) % 65536;
     let y = 8 * view.strip + 32768;
     let first = least(8, past(top, y));
     let last = least(8, past(top + rows(w), y));
@@ -224,7 +223,7 @@ pub fn normal_block(
 pub fn strip(
     vram: &[u8],
     registers: &DrawingRegisters,
-    w: &World,
+    w: World,
     buffer: &mut [u16; 384],
     eye: usize,
     strip: usize,
@@ -233,12 +232,12 @@ pub fn strip(
     requires { ⌜ (length (now vram) ≡ vramBytes) × (strip < 28) ⌝ }
     ensures { λ _. ⌜
         Strip
-        (λ x r. backgroundPixelBiased (now (vram .entry)) (now (registers .entry)) (now (w .entry)) eye
+        (λ x r. backgroundPixelBiased (now (vram .entry)) (now (registers .entry)) (halfwordsOf w) eye
         x (8 * strip + r))
         (now (buffer .entry)) (now (buffer .exit))
         ⌝ }
 {
-    if !flag(eye, w[FLAGS]) {
+    if !flag(eye, w.flags) {
         return;
     }
     let left = window_left(w, eye);
@@ -247,7 +246,7 @@ pub fn strip(
     if to <= from {
         return;
     }
-    if w[FLAGS] / 4096 % 4 == 0 {
+    if w.flags / 4096 % 4 == 0 {
         normal_block(vram, registers, w, buffer, from, to, View { eye, strip });
         return;
     }

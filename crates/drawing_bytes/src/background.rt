@@ -10,6 +10,7 @@ ghost use Rattle.drawing_laws.specs.PixelBytes.{affineBytesOf, parameterBytesOf
 ghost use Rattle.drawing_laws.specs.inner.SourceBytes.{cellBytesBiased};
 ghost use Rattle.drawing_laws.specs.inner.SourceBytes.{backgroundBytesBiased, worldBytesBiased, worldsBytesBiased};
 ghost use Rattle.drawing_bytes.specs.inner.Room.{Lists};
+ghost use Rattle.drawing_pixel.specs.inner.Halfwords.{halfwordsOf};
 use crate::room::put_half;
 use drawing_background::cell::cell_address;
 use drawing_background::source::affine_floor;
@@ -24,23 +25,21 @@ use drawing_pixel::character::row_address;
 use drawing_pixel::field::flag;
 use drawing_pixel::field::half;
 use drawing_pixel::field::wide;
-use drawing_pixel::world::FLAGS;
-use drawing_pixel::world::GY;
 use drawing_pixel::world::World;
 use drawing_pixel::world::columns;
 use drawing_pixel::world::rows;
 use drawing_pixel::world::window_left;
-use drawing_pixel::world::world;
+use drawing_pixel::world::world_at;
 
 // Whether a background world covers a pixel.
-pub fn covers(w: &World, eye: usize, x: usize, y: usize) -> bool
+pub fn covers(w: World, eye: usize, x: usize, y: usize) -> bool
     requires { ⌜ (x < 384) × (y < 224) ⌝ }
-    ensures { λ r. ⌜ r ≡ worldCoversBiased (now (w .entry)) eye x y ⌝ }
+    ensures { λ r. ⌜ r ≡ worldCoversBiased (halfwordsOf w) eye x y ⌝ }
 {
-    if !flag(eye, w[FLAGS]) {
+    if !flag(eye, w.flags) {
         return false;
     }
-    let top = (wide(w[GY]) + 32768) % 65536;
+    let top = (wide(w.gy) + 32768) % 65536;
     if y + 32768 < top {
         return false;
     }
@@ -55,11 +54,11 @@ pub fn covers(w: &World, eye: usize, x: usize, y: usize) -> bool
 }
 
 // The source x of a window's offsets.
-pub fn source_x(vram: &[u8], w: &World, eye: usize, i: usize, j: usize) -> usize
+pub fn source_x(vram: &[u8], w: World, eye: usize, i: usize, j: usize) -> usize
     requires { ⌜ (length (now vram) ≡ vramBytes) × ((i < 2048) × (j < 65536)) ⌝ }
-    ensures { λ r. ⌜ r ≡ sourceXBiased (now (vram .entry)) (now (w .entry)) eye i j ⌝ }
+    ensures { λ r. ⌜ r ≡ sourceXBiased (now (vram .entry)) (halfwordsOf w) eye i j ⌝ }
 {
-    let bgm = w[FLAGS] / 4096 % 4;
+    let bgm = w.flags / 4096 % 4;
     if bgm == 0 {
         return plain_left(w, eye) + i;
     }
@@ -76,11 +75,11 @@ pub fn source_x(vram: &[u8], w: &World, eye: usize, i: usize, j: usize) -> usize
 }
 
 // The source y of a window's offsets.
-pub fn source_y(vram: &[u8], w: &World, eye: usize, i: usize, j: usize) -> usize
+pub fn source_y(vram: &[u8], w: World, eye: usize, i: usize, j: usize) -> usize
     requires { ⌜ (length (now vram) ≡ vramBytes) × ((i < 2048) × (j < 65536)) ⌝ }
-    ensures { λ r. ⌜ r ≡ sourceYBiased (now (vram .entry)) (now (w .entry)) eye i j ⌝ }
+    ensures { λ r. ⌜ r ≡ sourceYBiased (now (vram .entry)) (halfwordsOf w) eye i j ⌝ }
 {
-    let bgm = w[FLAGS] / 4096 % 4;
+    let bgm = w.flags / 4096 % 4;
     if bgm < 2 {
         return normal_y(w, j);
     }
@@ -93,9 +92,9 @@ pub fn source_y(vram: &[u8], w: &World, eye: usize, i: usize, j: usize) -> usize
 }
 
 // The five parameters of row j of an affine world.
-pub fn list_affine(room: &mut [u32], n: usize, w: &World, j: usize) -> usize
+pub fn list_affine(room: &mut [u32], n: usize, w: World, j: usize) -> usize
     requires { ⌜ (n < 4096) × (j < 65536) ⌝ }
-    ensures { λ r. ⌜ Lists room n (affineBytesOf (now (w .entry)) j) r ⌝ }
+    ensures { λ r. ⌜ Lists room n (affineBytesOf (halfwordsOf w) j) r ⌝ }
 {
     let mut next = put_half(room, n, parameter_address(w, 8 * j));
     next = put_half(room, next, parameter_address(w, 8 * j + 1));
@@ -105,12 +104,12 @@ pub fn list_affine(room: &mut [u32], n: usize, w: &World, j: usize) -> usize
 }
 
 // The parameters of row j of a background world, by BGM.
-pub fn list_parameters(room: &mut [u32], n: usize, w: &World, eye: usize, j: usize) -> usize
+pub fn list_parameters(room: &mut [u32], n: usize, w: World, eye: usize, j: usize) -> usize
     requires { ⌜ (n < 4096) × (j < 65536) ⌝ }
-    ensures { λ r. ⌜ Lists room n (parameterBytesOf (now (w .entry)) eye j) r ⌝ }
+    ensures { λ r. ⌜ Lists room n (parameterBytesOf (halfwordsOf w) eye j) r ⌝ }
     ensures { λ r. ⌜ r ≤ n + 10 ⌝ }
 {
-    let bgm = w[FLAGS] / 4096 % 4;
+    let bgm = w.flags / 4096 % 4;
     if bgm == 0 {
         return n;
     }
@@ -121,9 +120,9 @@ pub fn list_parameters(room: &mut [u32], n: usize, w: &World, eye: usize, j: usi
 }
 
 // The cell of a source pixel and the character row that it leads to.
-pub fn list_cell(vram: &[u8], room: &mut [u32], n: usize, w: &World, sx: usize, sy: usize) -> usize
+pub fn list_cell(vram: &[u8], room: &mut [u32], n: usize, w: World, sx: usize, sy: usize) -> usize
     requires { ⌜ (length (now vram) ≡ vramBytes) × (n < 8192) ⌝ }
-    ensures { λ r. ⌜ Lists room n (cellBytesBiased (now (vram .entry)) (now (w .entry)) sx sy) r ⌝ }
+    ensures { λ r. ⌜ Lists room n (cellBytesBiased (now (vram .entry)) (halfwordsOf w) sx sy) r ⌝ }
 {
     let at = cell_address(w, sx / 8, sy / 8);
     let cell = wide(half(vram, at));
@@ -136,20 +135,20 @@ pub fn list_background(
     vram: &[u8],
     room: &mut [u32],
     n: usize,
-    w: &World,
+    w: World,
     eye: usize,
     x: usize,
     y: usize,
 ) -> usize
     requires { ⌜ (length (now vram) ≡ vramBytes) × ((n < 4096) × ((x < 384) × (y < 224))) ⌝ }
-    ensures { λ r. ⌜ Lists room n (backgroundBytesBiased (now (vram .entry)) (now (w .entry)) eye x y) r ⌝ }
+    ensures { λ r. ⌜ Lists room n (backgroundBytesBiased (now (vram .entry)) (halfwordsOf w) eye x y) r ⌝ }
     ensures { λ r. ⌜ r ≤ n + 14 ⌝ }
 {
     if !covers(w, eye, x, y) {
         return n;
     }
     let i = x + 1024 - window_left(w, eye);
-    let j = y + 32768 - (wide(w[GY]) + 32768) % 65536;
+    let j = y + 32768 - (wide(w.gy) + 32768) % 65536;
     let next = list_parameters(room, n, w, eye, j);
     list_cell(
         vram,
@@ -175,15 +174,15 @@ pub fn list_world(
     ensures { λ r. ⌜ Lists room n (worldBytesBiased (now (vram .entry)) (worldOf (now (vram .entry)) k) eye x y) r ⌝ }
     ensures { λ r. ⌜ r ≤ n + 14 ⌝ }
 {
-    let w = world(vram, k);
-    let flags = wide(w[FLAGS]);
+    let w = world_at(vram, k);
+    let flags = wide(w.flags);
     if flags < 16384 {
         return n;
     }
     if flags / 4096 % 4 == 3 {
         return n;
     }
-    list_background(vram, room, n, &w, eye, x, y)
+    list_background(vram, room, n, w, eye, x, y)
 }
 
 // The bytes of worlds 31 to 0; END stops.

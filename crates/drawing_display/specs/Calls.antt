@@ -10,7 +10,7 @@ use Rattle.refusal.specs.declared.Verdict.{Verdict}
 use Rattle.refusal.specs.declared.Verdict.the-variants.{Accepted, Refused}
 use Rattle.refusal.specs.declared.Refusal.the-variants.{VramLength, Frame, Display}
 use Rattle.bus.specs.Refusal.{vramOk}
-use Rattle.drawing_pixel.specs.Strip.{listOf}
+use Rattle.drawing_pixel.specs.Lists.{listOf}
 use Rattle.drawing_display.specs.Brightness.{brightnessOf}
 use Rattle.drawing_display.specs.ColumnTable.{tableLoadedOf}
 use Rattle.drawing_display.specs.declared.View.{View}

@@ -6,7 +6,7 @@ use mathlib.Core.List.{List, [], _∷_, _++_}
 use lib.ListN.{length, getD}
 use lib.Dec.{ltb, leb}
 use Rattle.word.specs.Choose.{pick}
-use Rattle.drawing_pixel.specs.Strip.{listOf}
+use Rattle.drawing_pixel.specs.Lists.{listOf}
 
 -- rows joined to one list
 unfoldable pub joinedRows : List (List ℕ) → List ℕ

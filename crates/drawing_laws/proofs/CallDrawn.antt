@@ -2,9 +2,9 @@
 -- `byte-kept` and `length-kept`, every other byte is as it was; `column-bytes` and `other-bytes`, the bytes of a strip by 01's
 -- formula. Assumes nothing.
 use Prim.Native.Nat.{ℕ, zero, suc, _+_, _*_, _/_, _%_, _<_, _≤_}
-use mathlib.Core.Bool.{Bool, true, false, _&&_, and-false, and-assoc}
+use mathlib.Core.Bool.{Bool, true, false, _&&_, and-false}
 use mathlib.Core.List.{List}
-use mathlib.Core.Path.{_≡_, refl, sym, ap, _∙_}
+use mathlib.Core.Path.{_≡_, refl, ap, _∙_}
 use native.Mathlib.Decide.{ℕ-discrete}
 use native.Mathlib.Omega.{arith}
 use lib.ListN.{length, getD}
@@ -19,7 +19,8 @@ use Rattle.refusal.specs.declared.Verdict.{Verdict}
 use Rattle.refusal.specs.declared.Verdict.the-variants.{Accepted, Refused}
 use Rattle.drawing.specs.Calls.{stripVerdictOf, drawStripOf, frameVerdictOf, drawFrameOf}
 use Rattle.refusal.specs.Number.{whenAccepted}
-use Rattle.drawing_laws.specs.Drawn.{frameCall, stripCall, drawsStripOf, drawnBy, inImagesOf, PixelDrawn, ByteKept, LengthKept, ColumnBytes, OtherBytes}
+use Rattle.drawing_laws.specs.Drawn.{frameCall, stripCall, drawsStripOf, drawnBy, PixelDrawn, ByteKept, LengthKept, ColumnBytes, OtherBytes}
+use Rattle.drawing_pixel.specs.Strip.{inImagesOf}
 use Rattle.drawing_laws.proofs.Verdicts.{stripTest, accepted-given}
 use Rattle.drawing_laws.proofs.Registers.{bkcol-below}
 use Rattle.drawing_laws.proofs.Images.{pixel-outside-images}
@@ -29,9 +30,8 @@ use Rattle.drawing_laws.proofs.StripPixel.{byte-drawn, pixel-of-strip, 
 
 -- a strip's bytes are those of the images whose halfword in the column is the strip's
 pub in-strip-is : (frame s a : ℕ) → inStripOf frame s a ≡ (inImagesOf frame a && eqb (a % 64 / 2) s)
-unfolding inStripOf inImagesOf
-in-strip-is frame s a =
-    sym (and-assoc (ltb a 0x20000 && eqb (a / 0x8000 % 2) frame) (ltb (a % 0x8000) 0x6000) (eqb (a % 64 / 2) s))
+unfolding inStripOf
+in-strip-is frame s a = refl
 
 pub outside-strip : (frame s a : ℕ) → inImagesOf frame a ≡ false → inStripOf frame s a ≡ false
 outside-strip frame s a e = in-strip-is frame s a ∙ rw e
@@ -143,14 +143,14 @@ column-bytes vram regs frame strip eye x b l f s e c h =
 -- where a byte of a strip stands
 strip-place : (frame s a : ℕ) → inStripOf frame s a ≡ true
     → (a < 0x20000) × (a / 0x8000 % 2 ≡ frame) × (a % 0x8000 < 0x6000) × (a % 64 / 2 ≡ s)
-unfolding inStripOf
+unfolding inStripOf inImagesOf
 strip-place frame s a e =
-    let image = and-left (ltb a 0x20000 && eqb (a / 0x8000 % 2) frame) _ e in
-    let offset = and-right (ltb a 0x20000 && eqb (a / 0x8000 % 2) frame) _ e in (
+    let within = and-left (inImagesOf frame a) _ e in
+    let image = and-left (ltb a 0x20000 && eqb (a / 0x8000 % 2) frame) _ within in (
       ltb-true a 0x20000 (and-left (ltb a 0x20000) _ image),
       eqb-true (a / 0x8000 % 2) frame (and-right (ltb a 0x20000) _ image),
-      ltb-true (a % 0x8000) 0x6000 (and-left (ltb (a % 0x8000) 0x6000) _ offset),
-      eqb-true (a % 64 / 2) s (and-right (ltb (a % 0x8000) 0x6000) _ offset),
+      ltb-true (a % 0x8000) 0x6000 (and-right (ltb a 0x20000 && eqb (a / 0x8000 % 2) frame) _ within),
+      eqb-true (a % 64 / 2) s (and-right (inImagesOf frame a) _ e),
     )
 
 -- the address put together again

@@ -7,7 +7,7 @@ use lib.Dec.{eqb, ltb}
 use native.Mathlib.Omega.{arith}
 use borrow.Author.Tests.{ltb-true, le-ltb}
 use Rattle.drawing_laws.specs.Demand3.{SameByte, SameTables, PixelOutsideImages}
-use Rattle.drawing_laws.specs.Drawn.{inImagesOf}
+use Rattle.drawing_pixel.specs.Strip.{inImagesOf}
 use Rattle.drawing_laws.specs.PixelBytes.{pixelBytesOf}
 use Rattle.drawing_laws.proofs.Each.{each-map}
 use Rattle.drawing_laws.proofs.PixelBytes.{listed-formula}

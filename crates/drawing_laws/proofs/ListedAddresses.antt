@@ -6,8 +6,9 @@ use mathlib.Core.List.{List}
 use lib.ListN.{getD}
 use native.Mathlib.Omega.{arith}
 use Rattle.word.specs.Choose.{pick}
-use Rattle.drawing_pixel.specs.Flags.{bitSet}
+use Rattle.word.specs.Bit.{isSet}
 use Rattle.drawing_pixel.specs.Character.{characterAddressOf, flippedOf, rowAddressOf}
+use Rattle.drawing_pixel.specs.Lists.{listOf}
 use Rattle.drawing_pixel.specs.World.{worldOf, overOf, scxOf, scyOf}
 use Rattle.drawing_pixel.specs.Background.{parameterAddressOf, mapNumberOf}
 use Rattle.drawing_pixel.specs.inner.BiasedCell.{insideBiased, mapCellAddressBiased, cellAddressBiased, sourceCellAddressBiased}
@@ -26,11 +27,11 @@ flipped-below false r h = h
 
 row-clear : (cell r : ℕ) → r < 8 → Each Clear (halfBytesOf (rowAddressOf cell r))
 unfolding rowAddressOf characterAddressOf
-row-clear cell r h = let f : flippedOf (bitSet 12 cell) r < 8 = flipped-below (bitSet 12 cell) r h in omega arith
+row-clear cell r h = let f : flippedOf (isSet 12 cell) r < 8 = flipped-below (isSet 12 cell) r h in omega arith
 
 row-in-vram : (cell r : ℕ) → r < 8 → Each (λ a. a < 262144) (halfBytesOf (rowAddressOf cell r))
 unfolding rowAddressOf characterAddressOf
-row-in-vram cell r h = let f : flippedOf (bitSet 12 cell) r < 8 = flipped-below (bitSet 12 cell) r h in omega arith
+row-in-vram cell r h = let f : flippedOf (isSet 12 cell) r < 8 = flipped-below (isSet 12 cell) r h in omega arith
 
 parameter-clear : (w : List ℕ) (k : ℕ) → Each Clear (halfBytesOf (parameterAddressOf w k))
 unfolding parameterAddressOf
@@ -74,7 +75,7 @@ listed-clear vram regs eye x y =
 
 -- the overplane's number is a halfword where memory holds bytes
 overplane-below : (vram : List ℕ) (n : ℕ) → ((a : ℕ) → getD vram a 0 < 256) → getD (worldOf vram n) 10 0 < 65536
-unfolding worldOf
+unfolding worldOf listOf
 overplane-below vram n h = omega (arith, h (0x3D800 + 32 * n + 20), h (0x3D800 + 32 * n + 20 + 1))
 
 cell-in-vram : (vram : List ℕ) (n sx sy : ℕ) → ((a : ℕ) → getD vram a 0 < 256)

@@ -9,7 +9,7 @@ use lib.IntN.{ℤ, pos, _+ℤ_}
 use lib.ListN.{getD}
 use native.Mathlib.Omega.{arith}
 use Rattle.word.specs.Choose.{pick}
-use Rattle.drawing_pixel.specs.Flags.{bitSet}
+use Rattle.word.specs.Bit.{isSet}
 use Rattle.word.proofs.Choices.{and-left}
 use Rattle.drawing_pixel.specs.Flags.{eyeFlagOf}
 use Rattle.drawing_pixel.specs.World.{worldOf, endOf, skippedOf, worldShownOf, bgmOf}
@@ -74,8 +74,8 @@ hidden false false false s c = false≢true c
 skipped-hidden : (w : List ℕ) (eye x y : ℕ) → skippedOf w ≡ true → worldCoversBiased w eye x y ≡ true → ⊥
 unfolding skippedOf worldCoversBiased worldShownOf eyeFlagOf
 skipped-hidden w eye x y s c =
-    hidden (eqb eye 0) (bitSet 15 (getD w 0 0)) (bitSet 14 (getD w 0 0)) s
-    (and-left (pick (eqb eye 0) (bitSet 15 (getD w 0 0)) (bitSet 14 (getD w 0 0))) _ c)
+    hidden (eqb eye 0) (isSet 15 (getD w 0 0)) (isSet 14 (getD w 0 0)) s
+    (and-left (pick (eqb eye 0) (isSet 15 (getD w 0 0)) (isSet 14 (getD w 0 0))) _ c)
 
 -- a background world's bytes, none where it does not cover the pixel
 chosen : (skipped objects covers : Bool) (u v : List ℕ) → (covers ≡ true → u ≡ v)

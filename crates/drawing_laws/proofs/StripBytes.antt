@@ -1,27 +1,14 @@
 -- The bytes of VRAM after a strip was drawn: their number, the byte at an address, and those outside the strip.
 -- Assumes nothing.
-use Prim.Native.Nat.{ℕ, zero, suc, _+_, _*_, _/_, _%_, _<_, _≤_}
+use Prim.Native.Nat.{ℕ, _+_, _*_, _/_, _%_, _<_, _≤_}
 use mathlib.Core.Bool.{true, false}
 use mathlib.Core.List.{List}
-use mathlib.Core.Path.{_≡_, refl, sym, ap, _∙_}
-use native.Mathlib.Nat.{add-zero, zero-add}
+use mathlib.Core.Path.{_≡_, sym, _∙_}
 use native.Mathlib.Decide.{decLt}
 use native.Mathlib.Omega.{arith}
 use lib.ListN.{length, getD, List·getD-eq-default}
-use Rattle.drawing_pixel.specs.Strip.{inStripOf, stripByteOf, fourPixelsOf, listOf, stripOf}
-
-pub length-list : (n a : ℕ) (f : ℕ → ℕ) → length (listOf n a f) ≡ n
-unfolding listOf
-length-list zero a f = refl
-length-list (suc n) a f = ap suc (length-list n (suc a) f)
-
-list-at : (n a : ℕ) (f : ℕ → ℕ) (i : ℕ) → i < n → getD (listOf n a f) i 0 ≡ f (a + i)
-unfolding listOf
-list-at zero a f i h = absurd (omega arith)
-list-at (suc n) a f zero h = ap f (sym (add-zero a))
-list-at (suc n) a f (suc i) h =
-    let e : suc a + i ≡ a + suc i = omega arith in
-    list-at n (suc a) f i (omega arith) ∙ ap f e
+use Rattle.drawing_pixel.proofs.Lists.{length-list, getD-list}
+use Rattle.drawing_pixel.specs.Strip.{inStripOf, stripByteOf, fourPixelsOf, stripOf}
 
 pub length-strip : (vram regs : List ℕ) (frame s : ℕ) → length (stripOf vram regs frame s) ≡ length vram
 unfolding stripOf
@@ -30,7 +17,7 @@ length-strip vram regs frame s = length-list (length vram) 0 (stripByteOf vram r
 pub strip-at : (vram regs : List ℕ) (frame s a : ℕ) → a < length vram → getD (stripOf vram regs frame s) a 0 ≡ stripByteOf vram regs frame s a
 unfolding stripOf
 strip-at vram regs frame s a h =
-    list-at (length vram) 0 (stripByteOf vram regs frame s) a h ∙ ap (stripByteOf vram regs frame s) (zero-add a)
+    getD-list (length vram) 0 (stripByteOf vram regs frame s) a h
 
 -- a byte that holds no pixel of the strip
 pub strip-kept : (vram regs : List ℕ) (frame s a : ℕ) → inStripOf frame s a ≡ false → getD (stripOf vram regs frame s) a 0 ≡ getD vram a 0

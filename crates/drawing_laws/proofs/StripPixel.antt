@@ -1,17 +1,17 @@
 -- A pixel read back after a strip was drawn: one of the strip's rows, and one of another row. Assumes nothing.
 use Prim.Native.Nat.{ℕ, _+_, _*_, _/_, _%_, _^_, _<_}
-use mathlib.Core.Bool.{true, false, and-false}
+use mathlib.Core.Bool.{true, false}
 use mathlib.Core.List.{List}
 use mathlib.Core.Path.{_≡_, refl, ap, ap₂, _∙_}
 use native.Mathlib.Omega.{arith}
 use lib.ListN.{length, getD}
-use borrow.Author.Tests.{lt-ltb, eq-eqb, ne-eqb}
 use Rattle.word.specs.LittleEndian.{halfAt}
 use Rattle.drawing_pixel.specs.Character.{twoBitsOf}
 use Rattle.drawing_pixel.specs.Pixel.{pixelOf}
+use Rattle.drawing_pixel.proofs.Strips.{other-strip}
+use Rattle.drawing_pixel.proofs.Strips as Strips
 use Rattle.drawing_pixel.specs.Strip.{imageOf, storedPixelOf, inStripOf, fourPixelsOf, stripOf}
 use Rattle.drawing_pixel.proofs.Pairs.{below-eight}
-use Rattle.word.proofs.Choices.{and-both}
 use Rattle.drawing_laws.proofs.StripBytes.{strip-kept, strip-drawn}
 
 -- eight values of two bits, four to a byte, are read back one by one
@@ -32,19 +32,10 @@ addressOf frame eye x s = 0x8000 * frame + 0x10000 * eye + (64 * x + 2 * s)
 module _ (frame eye x s : ℕ) (f : frame < 2) (e : eye < 2) (c : x < 384) (r : s < 32) where
   -- both bytes of that halfword hold pixels of the strip, and of no other
   in-strip : (b : ℕ) → b < 2 → inStripOf frame s (addressOf frame eye x s + b) ≡ true
-  unfolding inStripOf
-  in-strip b h =
-      and-both _ _
-      (and-both _ _ (lt-ltb (addressOf frame eye x s + b) 0x20000 (omega arith))
-      (eq-eqb ((addressOf frame eye x s + b) / 0x8000 % 2) frame (omega arith)))
-      (and-both _ _ (lt-ltb ((addressOf frame eye x s + b) % 0x8000) 0x6000 (omega arith))
-      (eq-eqb ((addressOf frame eye x s + b) % 64 / 2) s (omega arith)))
+  in-strip b h = Strips.in-strip frame s (addressOf frame eye x s + b) (omega arith) (omega arith) (omega arith) (omega arith)
 
   not-in-strip : (b t : ℕ) → b < 2 → (s ≡ t → ⊥) → inStripOf frame t (addressOf frame eye x s + b) ≡ false
-  unfolding inStripOf
-  not-in-strip b t h n =
-      rw (ne-eqb ((addressOf frame eye x s + b) % 64 / 2) t (λ q. n (omega arith)))
-      (simp and-false)
+  not-in-strip b t h n = other-strip frame t (addressOf frame eye x s + b) (λ q. n (omega arith))
 
 module _ (vram regs : List ℕ) (frame eye x s : ℕ) (l : length vram ≡ 262144) (f : frame < 2) (e : eye < 2) (c : x < 384)
     (r : s < 28)

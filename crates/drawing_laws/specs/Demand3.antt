@@ -15,7 +15,8 @@ use Rattle.drawing_pixel.specs.World.{worldOf, worldTable, bgmOf}
 use Rattle.drawing_pixel.specs.Object.{objectTable}
 use Rattle.drawing_pixel.specs.Pixel.{pixelOf}
 use Rattle.drawing_pixel.specs.Strip.{storedPixelOf}
-use Rattle.drawing_laws.specs.Drawn.{Call, callVerdictOf, drawsStripOf, drawnBy, inImagesOf}
+use Rattle.drawing_laws.specs.Drawn.{Call, callVerdictOf, drawsStripOf, drawnBy}
+use Rattle.drawing_pixel.specs.Strip.{inImagesOf}
 use Rattle.drawing_laws.specs.Covers.{coveringWorldsOf, coveringObjectsOf}
 use Rattle.drawing_laws.specs.PixelBytes.{pixelBytesOf}
 

@@ -11,7 +11,7 @@ use Rattle.refusal.specs.declared.Verdict.{Verdict}
 use Rattle.refusal.specs.declared.Verdict.the-variants.{Accepted}
 use Rattle.drawing_pixel.specs.Pixel.{pixelOf}
 use Rattle.bus.specs.Refusal.{vramBytes}
-use Rattle.drawing_pixel.specs.Strip.{imageOf, pixelOffsetOf, storedPixelOf, fourPixelsOf, stripOf}
+use Rattle.drawing_pixel.specs.Strip.{imageOf, pixelOffsetOf, storedPixelOf, inImagesOf, fourPixelsOf, stripOf}
 use Rattle.drawing.specs.Calls.{stripVerdictOf, frameVerdictOf, drawStripOf, drawFrameOf}
 
 -- a call that draws: the frame call, or the strip call with its strip number
@@ -33,10 +33,6 @@ drawsStripOf (stripCall own) s = eqb s own
 unfoldable pub drawnBy : List ℕ → List ℕ → ℕ → Call → List ℕ
 drawnBy vram regs frame frameCall = drawFrameOf vram regs frame
 drawnBy vram regs frame (stripCall own) = drawStripOf vram regs frame own
-
--- whether an address lies in one of a frame's two images
-unfoldable pub inImagesOf : ℕ → ℕ → Bool
-inImagesOf frame a = (ltb a 0x20000 && eqb (a / 0x8000 % 2) frame) && ltb (a % 0x8000) 0x6000
 
 -- a drawn pixel, as it stands after the call, is the pixel of memory as it was before it
 abbrev pub PixelDrawn : Type 0

@@ -10,6 +10,7 @@ use lib.ListN.{getD}
 use Rattle.word.specs.LittleEndian.{halfAt}
 use Rattle.bus.specs.Registers.{jpltOf}
 use Rattle.drawing_pixel.specs.Character.{shadeOf, pixelValueOf, rowAddressOf, cellPixelOf}
+use Rattle.drawing_pixel.specs.Lists.{listOf}
 use Rattle.drawing_pixel.specs.Object.{objectOf, objectShownOf}
 use Rattle.drawing_pixel.specs.inner.BiasedObject.{objectRowBiased, objectLeftBiased, objectPixelBiased}
 use Rattle.drawing_pixel.proofs.Windows.{object-inside, object-left, object-right, object-outside-rows}
@@ -50,5 +51,5 @@ square-empty vram regs o eye x y v from to h e f n =
 pub square-far : (vram regs : List ℕ) (k eye x v strip r jy : ℕ) → strip < 28 → r < 8
     → jy ≡ halfAt vram (253952 + 8 * k + 4) % 256 → 15 ≤ (8 * strip + 263 - jy) % 256
     → objectPixelBiased vram regs (objectOf vram k) eye x (8 * strip + r) v ≡ v
-unfolding objectRowBiased objectOf
+unfolding objectRowBiased objectOf listOf
 square-far vram regs k eye x v strip r jy h l e f = object-outside-rows vram regs (objectOf vram k) eye x (8 * strip + r) v (omega arith)

@@ -14,7 +14,8 @@ use borrow.Author.Tests.{ltb-true, eqb-true, lt-ltb, eq-eqb}
 use Rattle.word.specs.Choose.{pick, member}
 use Rattle.drawing.specs.Calls.{drawStripOf, drawFrameOf}
 use Rattle.drawing_laws.specs.Demand3.{SameByte}
-use Rattle.drawing_laws.specs.Drawn.{frameCall, stripCall, drawsStripOf, drawnBy, inImagesOf}
+use Rattle.drawing_laws.specs.Drawn.{frameCall, stripCall, drawsStripOf, drawnBy}
+use Rattle.drawing_pixel.specs.Strip.{inImagesOf}
 use Rattle.drawing_laws.proofs.Verdicts.{stripTest}
 use Rattle.drawing_laws.proofs.CallDrawn.{byte-kept, length-kept}
 use Rattle.drawing_order.specs.Order.{afterStripsOf, NamesEach, AnyOrder}

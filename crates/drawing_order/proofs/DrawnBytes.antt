@@ -19,7 +19,8 @@ use Rattle.drawing_pixel.specs.Pixel.{pixelOf}
 use Rattle.drawing_pixel.specs.Strip.{inStripOf, fourPixelsOf, stripOf, stripsOf, frameOf}
 use Rattle.drawing.specs.Calls.{stripVerdictOf, drawStripOf, frameVerdictOf, drawFrameOf}
 use Rattle.drawing_laws.specs.Demand3.{SameByte}
-use Rattle.drawing_laws.specs.Drawn.{Call, frameCall, stripCall, drawsStripOf, drawnBy, inImagesOf}
+use Rattle.drawing_laws.specs.Drawn.{Call, frameCall, stripCall, drawsStripOf, drawnBy}
+use Rattle.drawing_pixel.specs.Strip.{inImagesOf}
 use Rattle.drawing_laws.proofs.Verdicts.{stripTest}
 use Rattle.drawing_laws.proofs.CallDrawn.{in-strip-is, outside-strip, strips-length, strips-kept, frame-accepted, strip-accepted, byte-kept}
 use Rattle.drawing_laws.proofs.Images.{pixel-outside-images}

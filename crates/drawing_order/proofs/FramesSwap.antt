@@ -9,7 +9,8 @@ use lib.ListN.{length, getD}
 use lib.Seq.{ext-getD}
 use lib.Dec.{eqb, ltb}
 use borrow.Author.Tests.{eqb-true, ne-eqb}
-use Rattle.drawing_laws.specs.Drawn.{inImagesOf, drawsStripOf}
+use Rattle.drawing_laws.specs.Drawn.{drawsStripOf}
+use Rattle.drawing_pixel.specs.Strip.{inImagesOf}
 use Rattle.drawing_laws.proofs.CallDrawn.{byte-kept, length-kept}
 use Rattle.drawing_order.specs.Order.{Drawing, stripsDrawnOf, allDrawnOf, Differ, FramesSwap, ListsSwap}
 use Rattle.drawing_order.proofs.DrawnBytes.{pixelsAtOf, pixels-same, drawsByteOf, Draws, draws, byte-drawn, byte-left}

@@ -3,7 +3,7 @@ use Prim.Native.Nat.{ℕ, zero, suc, _+_, _<_}
 use native.Mathlib.Omega.{arith}
 use mathlib.Core.Path.{_≡_, refl, ap, _∙_}
 use lib.ListN.{length, getD}
-use Rattle.drawing_pixel.specs.Strip.{listOf}
+use Rattle.drawing_pixel.specs.Lists.{listOf}
 
 pub length-list : (n a : ℕ) (f : ℕ → ℕ) → length (listOf n a f) ≡ n
 unfolding listOf

@@ -6,7 +6,7 @@ use mathlib.Core.Bool.{Bool, true, false}
 use mathlib.Core.Path.{_≡_, refl, sym, ap, _∙_}
 use lib.Bits.{bitAnd, bitXor}
 use Rattle.word.specs.Choose.{pick}
-use Rattle.drawing_pixel.specs.Flags.{bitSet}
+use Rattle.word.specs.Bit.{isSet}
 use Rattle.drawing_pixel.specs.Character.{twoBitsOf, flippedOf, pixelValueOf}
 use Rattle.drawing_pixel.specs.inner.Places.{PlaceUnit}
 use Rattle.drawing_pixel.proofs.RowBits.{bits-picked, picked-value}
@@ -45,16 +45,16 @@ low-pair row =
     (omega arith) (omega arith) (omega arith) (omega arith) (omega arith) (omega arith) (omega arith) (omega arith)
 
 -- the value of a column of a row, at its place in the row's low sixteen bits
-pub value-placed : (cell row k : ℕ) → k < 8 → pixelValueOf cell row k ≡ twoBitsOf (row % 65536) (flippedOf (bitSet 13 cell) k)
+pub value-placed : (cell row k : ℕ) → k < 8 → pixelValueOf cell row k ≡ twoBitsOf (row % 65536) (flippedOf (isSet 13 cell) k)
 value-placed cell row k l =
-    let flip = bitSet 13 cell in
+    let flip = isSet 13 cell in
     sym (picked-value cell (bits-picked row k flip))
     ∙ sym (low-pair row (flippedOf flip k) (flipped-small flip k l))
 
 -- .. and the place of its unit, by the mask of the cell
-pub unit-placed : (cell k : ℕ) {u m : ℕ} → k < 8 → m ≡ pick (bitSet 13 cell) 65535 0
+pub unit-placed : (cell k : ℕ) {u m : ℕ} → k < 8 → m ≡ pick (isSet 13 cell) 65535 0
     → ((flip : Bool) → m ≡ pick flip 65535 0 → u ≡ 2 ^ (2 * flippedOf flip k))
     → PlaceUnit u
 unit-placed cell k l e f =
-    let flip = bitSet 13 cell in
+    let flip = isSet 13 cell in
     record { place = flippedOf flip k; inRow = flipped-small flip k l; is = f flip e }

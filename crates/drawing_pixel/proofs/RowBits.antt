@@ -5,7 +5,7 @@ use native.Mathlib.Omega.{arith}
 use native.Mathlib.Numerals.{add-one}
 use mathlib.Core.Path.{_≡_, sym, ap, _∙_}
 use mathlib.Core.Bool.{Bool}
-use Rattle.drawing_pixel.specs.Flags.{bitSet}
+use Rattle.word.specs.Bit.{isSet}
 use Rattle.drawing_pixel.specs.Character.{twoBitsOf, flippedOf, pixelValueOf}
 use Rattle.drawing_pixel.specs.RowBits.{Picked, BitsPicked}
 
@@ -36,6 +36,6 @@ picked-same {row} {column} {flip} {v} {w} s t =
     omega arith
 
 -- a picked value is the definition's
-pub picked-value : {row column v : ℕ} (cell : ℕ) → Picked row column (bitSet 13 cell) v → v ≡ pixelValueOf cell row column
+pub picked-value : {row column v : ℕ} (cell : ℕ) → Picked row column (isSet 13 cell) v → v ≡ pixelValueOf cell row column
 unfolding pixelValueOf
 picked-value cell s = picked-same s (bits-picked _ _ _)

@@ -1,4 +1,5 @@
 pub mod Flags
+pub mod Lists
 pub mod Character
 pub mod RowBits
 pub mod World

@@ -2,10 +2,11 @@
 -- and how many objects a group has.
 use Prim.Native.Nat.{ℕ, zero, suc, _+_, _-_, _*_, _%_}
 use mathlib.Core.Bool.{Bool}
-use mathlib.Core.List.{List, [], _∷_}
+use mathlib.Core.List.{List}
 use lib.ListN.{getD}
 use Rattle.word.specs.LittleEndian.{halfAt}
 use Rattle.bus.specs.Registers.{sptOf}
+use Rattle.drawing_pixel.specs.Lists.{listOf}
 use Rattle.drawing_pixel.specs.Flags.{eyeFlagOf}
 
 -- where the 1,024 objects begin in VRAM
@@ -14,12 +15,7 @@ objectTable = 0x3E000
 
 -- object k: 8 bytes at 0x3E000 + 8k
 unfoldable pub objectOf : List ℕ → ℕ → List ℕ
-objectOf vram k =
-    halfAt vram (objectTable + 8 * k)
-    ∷ halfAt vram (objectTable + 8 * k + 2)
-    ∷ halfAt vram (objectTable + 8 * k + 4)
-    ∷ halfAt vram (objectTable + 8 * k + 6)
-    ∷ []
+objectOf vram k = listOf 4 0 (λ i. halfAt vram (objectTable + 8 * k + 2 * i))
 
 -- whether an object is shown to an eye: by JLON or JRON; its world's own flags hide nothing (reading R7)
 unfoldable pub objectShownOf : List ℕ → ℕ → Bool

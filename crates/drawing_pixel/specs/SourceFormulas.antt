@@ -28,20 +28,18 @@ affineParameter vram w j k = fieldOf 32768 (parameterOf vram w (8 * j + k))
 abbrev pub affineShift : ℕ → ℤ → ℤ
 affineShift eye mp = pick (eqb eye 0) (pick (ltZ mp (pos 0)) (negℤ mp) (pos 0)) (pick (ltZ mp (pos 0)) (pos 0) mp)
 
+-- floor((64 M + D(i + p)) / 512), M and D by their numbers among the parameters
+abbrev pub affineAt : (vram w : List ℕ) (eye i j m d : ℕ) → ℤ
+affineAt vram w eye i j m d =
+    let p = affineShift eye (affineParameter vram w j 1) in
+    shrZ (pos 64 *ℤ affineParameter vram w j m +ℤ affineParameter vram w j d *ℤ (pos i +ℤ p)) 512
+
 -- source x = floor((64 MX + DX(i + p)) / 512), y = floor((64 MY + DY(i + p)) / 512)
 abbrev pub affineX : (vram w : List ℕ) (eye i j : ℕ) → ℤ
-affineX vram w eye i j =
-    shrZ
-    (pos 64 *ℤ affineParameter vram w j 0 +ℤ affineParameter vram w j 3 *ℤ
-    (pos i +ℤ affineShift eye (affineParameter vram w j 1)))
-    512
+affineX vram w eye i j = affineAt vram w eye i j 0 3
 
 abbrev pub affineY : (vram w : List ℕ) (eye i j : ℕ) → ℤ
-affineY vram w eye i j =
-    shrZ
-    (pos 64 *ℤ affineParameter vram w j 2 +ℤ affineParameter vram w j 4 *ℤ
-    (pos i +ℤ affineShift eye (affineParameter vram w j 1)))
-    512
+affineY vram w eye i j = affineAt vram w eye i j 2 4
 
 -- the source of a window's offsets, by BGM
 abbrev pub sourceX : (vram w : List ℕ) (eye i j : ℕ) → ℤ

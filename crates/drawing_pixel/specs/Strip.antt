@@ -2,11 +2,12 @@
 -- or a frame was drawn. The crate drawing_laws says in theorems what the two lists hold (Drawn).
 use Prim.Native.Nat.{ℕ, zero, suc, _+_, _*_, _/_, _%_}
 use mathlib.Core.Bool.{Bool, _&&_}
-use mathlib.Core.List.{List, [], _∷_}
+use mathlib.Core.List.{List}
 use lib.ListN.{length, getD}
 use lib.Dec.{eqb, ltb}
 use Rattle.word.specs.Choose.{pick}
 use Rattle.word.specs.LittleEndian.{halfAt}
+use Rattle.drawing_pixel.specs.Lists.{listOf}
 use Rattle.drawing_pixel.specs.Character.{twoBitsOf}
 use Rattle.drawing_pixel.specs.Pixel.{pixelOf}
 
@@ -25,10 +26,13 @@ pixelPairOf y = y % 8
 unfoldable pub storedPixelOf : (vram : List ℕ) (frame eye x y : ℕ) → ℕ
 storedPixelOf vram frame eye x y = twoBitsOf (halfAt vram (imageOf frame eye + pixelOffsetOf x y)) (pixelPairOf y)
 
--- whether an address holds pixels of a strip of a frame: in the image of either eye, at a halfword of those eight rows
+-- whether an address lies in one of a frame's two images
+unfoldable pub inImagesOf : ℕ → ℕ → Bool
+inImagesOf frame a = (ltb a 0x20000 && eqb (a / 0x8000 % 2) frame) && ltb (a % 0x8000) 0x6000
+
+-- whether it holds pixels of a strip there: a column is 32 halfwords, one a strip
 unfoldable pub inStripOf : ℕ → ℕ → ℕ → Bool
-inStripOf frame strip a =
-    (ltb a 0x20000 && eqb (a / 0x8000 % 2) frame) && (ltb (a % 0x8000) 0x6000 && eqb (a % 64 / 2) strip)
+inStripOf frame strip a = inImagesOf frame a && eqb (a % 64 / 2) strip
 
 -- four pixels of a column, from row y down, as a byte
 unfoldable pub fourPixelsOf : (vram regs : List ℕ) (eye x y : ℕ) → ℕ
@@ -44,11 +48,6 @@ stripByteOf vram regs frame strip a =
     pick (inStripOf frame strip a)
     (fourPixelsOf vram regs (a / 0x10000) (a % 0x8000 / 64) (8 * strip + 4 * (a % 2)))
     (getD vram a 0)
-
--- the numbers f a, f (a + 1), .., n of them
-unfoldable pub listOf : ℕ → ℕ → (ℕ → ℕ) → List ℕ
-listOf zero a f = []
-listOf (suc n) a f = f a ∷ listOf n (suc a) f
 
 -- VRAM after a strip was drawn, worked out whole from VRAM as it was
 unfoldable pub stripOf : List ℕ → List ℕ → ℕ → ℕ → List ℕ

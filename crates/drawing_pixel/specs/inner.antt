@@ -1,4 +1,5 @@
 -- Forms made for the code: no public contract and no public theorem rests on them.
+pub mod Halfwords
 pub mod BiasedFields
 pub mod BiasedWindow
 pub mod BiasedSource

@@ -5,7 +5,7 @@ ghost use lib.ListN.{length};
 ghost use lib.Dec.{eqb};
 ghost use Rattle.word.specs.Choose.{pick};
 ghost use mathlib.Core.Bool.{Bool};
-ghost use Rattle.drawing_pixel.specs.Flags.{bitSet};
+ghost use Rattle.word.specs.Bit.{isSet};
 ghost use Rattle.drawing_pixel.specs.Character.{twoBitsOf, flippedOf, pixelValueOf, shadeOf};
 ghost use Rattle.drawing_pixel.specs.inner.Places.{PlaceUnit};
 ghost use Rattle.drawing_pixel.specs.inner.Buffer.{repaintedOf, Span};
@@ -57,7 +57,7 @@ pub fn shaded(h: u16, r: usize, palette: usize, v: usize) -> u16
 
 // The mask of a cell: all bits where it is flipped horizontally.
 pub fn mirror(cell: usize) -> u16
-    ensures { λ m. ⌜ m ≡ pick (bitSet 13 cell) 65535 0 ⌝ }
+    ensures { λ m. ⌜ m ≡ pick (isSet 13 cell) 65535 0 ⌝ }
 {
     choice(cell / 8192 % 2 == 1, 65535, 0)
 }

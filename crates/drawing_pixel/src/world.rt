@@ -6,65 +6,55 @@ ghost use Rattle.bus.specs.Refusal.{vramBytes};
 ghost use Rattle.drawing_pixel.specs.World.{worldOf};
 ghost use Rattle.drawing_pixel.specs.inner.BiasedWindow.{columnsBiased, heightBiased, rowsBiased};
 ghost use Rattle.drawing_pixel.specs.inner.BiasedWindow.{windowLeftBiased};
+ghost use Rattle.drawing_pixel.specs.inner.Halfwords.{halfwordsOf};
 use crate::field::edge;
 use crate::field::greatest;
 use crate::field::half;
 use crate::field::wide;
 
-// The eleven halfwords of a world.
-pub type World = [u16; 11];
-
-// Where each stands (paper 01, "World n"). FLAGS has LON, RON, BGM, SCX, SCY, OVER, END and the first map; PARAMETERS is
-// the base of the world's parameters.
-pub const FLAGS: usize = 0;
-
-pub const GX: usize = 1;
-
-pub const GP: usize = 2;
-
-pub const GY: usize = 3;
-
-pub const MX: usize = 4;
-
-pub const MP: usize = 5;
-
-pub const MY: usize = 6;
-
-pub const WIDTH: usize = 7;
-
-pub const HEIGHT: usize = 8;
-
-pub const PARAMETERS: usize = 9;
-
-pub const OVERPLANE: usize = 10;
+// A world's halfwords by paper 01's names ("World n"). `flags` has LON, RON, BGM, SCX, SCY, OVER, END and the first map;
+// `parameters` is the base of the world's parameters.
+pub struct World {
+    pub flags: u16,
+    pub gx: u16,
+    pub gp: u16,
+    pub gy: u16,
+    pub mx: u16,
+    pub mp: u16,
+    pub my: u16,
+    pub width: u16,
+    pub height: u16,
+    pub parameters: u16,
+    pub overplane: u16,
+}
 
 // World n.
-pub fn world(vram: &[u8], n: usize) -> World
+pub fn world_at(vram: &[u8], n: usize) -> World
     requires { ⌜ (length (now vram) ≡ vramBytes) × (n < 32) ⌝ }
-    ensures { λ r. ⌜ r ≡ worldOf (now (vram .entry)) n ⌝ }
+    ensures { λ r. ⌜ halfwordsOf r ≡ worldOf (now (vram .entry)) n ⌝ }
 {
     let a = 251904 + 32 * n;
-    [
-        half(vram, a),
-        half(vram, a + 2),
-        half(vram, a + 4),
-        half(vram, a + 6),
-        half(vram, a + 8),
-        half(vram, a + 10),
-        half(vram, a + 12),
-        half(vram, a + 14),
-        half(vram, a + 16),
-        half(vram, a + 18),
-        half(vram, a + 20),
-    ]
+    World {
+        flags: half(vram, a),
+        gx: half(vram, a + 2),
+        gp: half(vram, a + 4),
+        gy: half(vram, a + 6),
+        mx: half(vram, a + 8),
+        mp: half(vram, a + 10),
+        my: half(vram, a + 12),
+        width: half(vram, a + 14),
+        height: half(vram, a + 16),
+        parameters: half(vram, a + 18),
+        overplane: half(vram, a + 20),
+    }
 }
 
 // The columns of a world.
-pub fn columns(w: &World) -> usize
-    ensures { λ r. ⌜ (r ≡ columnsBiased (now (w .entry))) × (r ≤ 4096) ⌝ }
+pub fn columns(w: World) -> usize
+    ensures { λ r. ⌜ (r ≡ columnsBiased (halfwordsOf w)) × (r ≤ 4096) ⌝ }
 {
-    let width = wide(w[WIDTH]);
-    if w[FLAGS] / 4096 % 4 == 2 {
+    let width = wide(w.width);
+    if w.flags / 4096 % 4 == 2 {
         return width % 1024 + 1;
     }
     let biased = (width + 4096) % 8192;
@@ -75,10 +65,10 @@ pub fn columns(w: &World) -> usize
 }
 
 // H + 1, and 0 where that is not above 0.
-pub fn height(w: &World) -> usize
-    ensures { λ r. ⌜ (r ≡ heightBiased (now (w .entry))) × (r ≤ 32768) ⌝ }
+pub fn height(w: World) -> usize
+    ensures { λ r. ⌜ (r ≡ heightBiased (halfwordsOf w)) × (r ≤ 32768) ⌝ }
 {
-    let biased = (wide(w[HEIGHT]) + 32768) % 65536;
+    let biased = (wide(w.height) + 32768) % 65536;
     if biased < 32768 {
         return 0;
     }
@@ -87,15 +77,15 @@ pub fn height(w: &World) -> usize
 
 // The rows of a world. GY is signed: as a halfword it is below 224 exactly where it is from 0 to 223, so that a strip
 // of the image holds it.
-pub fn rows(w: &World) -> usize
-    ensures { λ r. ⌜ (r ≡ rowsBiased (now (w .entry))) × (r ≤ 32768) ⌝ }
+pub fn rows(w: World) -> usize
+    ensures { λ r. ⌜ (r ≡ rowsBiased (halfwordsOf w)) × (r ≤ 32768) ⌝ }
 {
     let stored = height(w);
-    let bgm = w[FLAGS] / 4096 % 4;
+    let bgm = w.flags / 4096 % 4;
     if bgm == 2 {
         return stored;
     }
-    let top = wide(w[GY]);
+    let top = wide(w.gy);
     if top < 224 {
         return greatest(stored, 8 - top % 8);
     }
@@ -103,8 +93,8 @@ pub fn rows(w: &World) -> usize
 }
 
 // The left edge of a world's window for an eye, plus 1,024.
-pub fn window_left(w: &World, eye: usize) -> usize
-    ensures { λ r. ⌜ (r ≡ windowLeftBiased (now (w .entry)) eye) × (r < 2048) ⌝ }
+pub fn window_left(w: World, eye: usize) -> usize
+    ensures { λ r. ⌜ (r ≡ windowLeftBiased (halfwordsOf w) eye) × (r < 2048) ⌝ }
 {
-    edge(eye, (wide(w[GX]) + 512) % 1024, (wide(w[GP]) + 512) % 1024)
+    edge(eye, (wide(w.gx) + 512) % 1024, (wide(w.gp) + 512) % 1024)
 }

@@ -1,6 +1,7 @@
 -- What a world makes of a pixel and of the object counter by its flags, and that what is left of the loop over worlds, applied
 -- to what was painted so far, is the whole loop. Assumes nothing.
 use Prim.Native.Nat.{ℕ, zero, suc, _+_, _-_, _*_, _/_, _%_, _<_, _≤_}
+use native.Mathlib.Nat.{add-zero}
 use native.Mathlib.Omega.{arith}
 use native.Mathlib.Decide.{decLt}
 use mathlib.Core.Path.{_≡_, refl, sym, _∙_}
@@ -10,6 +11,7 @@ use lib.ListN.{getD, length}
 use borrow.Author.Tests.{eq-eqb, ne-eqb}
 use Rattle.word.specs.LittleEndian.{halfAt}
 use Rattle.drawing_pixel.specs.Character.{twoBitsOf}
+use Rattle.drawing_pixel.specs.Lists.{listOf}
 use Rattle.drawing_pixel.specs.World.{worldOf, skippedOf, bgmOf, endOf}
 use Rattle.drawing_pixel.specs.inner.BiasedCell.{backgroundPixelBiased}
 use Rattle.drawing_pixel.specs.inner.BiasedObject.{groupPixelBiased}
@@ -19,8 +21,8 @@ use Rattle.drawing_pixel.specs.inner.Buffer.{Strip}
 
 -- the flags of a world are its first halfword
 pub world-flags : (vram : List ℕ) (n : ℕ) → halfAt vram (251904 + 32 * n) ≡ getD (worldOf vram n) 0 0
-unfolding worldOf
-world-flags vram n = refl
+unfolding worldOf listOf
+world-flags vram n = rw add-zero
 
 pub flags-skipped : (w : List ℕ) → getD w 0 0 < 16384 → skippedOf w ≡ true
 unfolding skippedOf

@@ -14,7 +14,7 @@ ghost use Rattle.drawing_pixel.specs.inner.Buffer.{Strip};
 ghost use Rattle.drawing_strip.specs.inner.Stored.{Stored};
 use drawing_pixel::field::half;
 use drawing_pixel::field::wide;
-use drawing_pixel::world::world;
+use drawing_pixel::world::world_at;
 
 // What world n shows an eye of a strip, painted over what is there; answers the object counter after it.
 pub fn paint_world(
@@ -48,8 +48,8 @@ pub fn paint_world(
         }
         return counter - 1;
     }
-    let w = world(vram, n);
-    drawing_background::world::strip(vram, registers, &w, buffer, eye, strip);
+    let w = world_at(vram, n);
+    drawing_background::world::strip(vram, registers, w, buffer, eye, strip);
     counter
 }
 

@@ -8,7 +8,7 @@ use Rattle.word.specs.Choose.{pick}
 use Rattle.word.specs.LittleEndian.{halfAt}
 use Rattle.bus.specs.Registers.{gpltOf}
 use Rattle.drawing_pixel.specs.inner.BiasedFields.{biasedOf}
-use Rattle.drawing_pixel.specs.Flags.{bitSet}
+use Rattle.word.specs.Bit.{isSet}
 use Rattle.drawing_pixel.specs.Character.{twoBitsOf, characterAddressOf}
 use Rattle.drawing_pixel.specs.World.{bgmOf, scxOf, scyOf, overOf, baseOf}
 use Rattle.drawing_pixel.specs.Background.{parameterOf, biasIndexOf}
@@ -47,6 +47,6 @@ pub record CellAt (vram regs w : List ℕ) (u v cell palette character : ℕ) : 
 
 -- how a cell and its palette are painted over row r: the bits of a position that its flips turn, and its inks
 pub record Inked (r cell palette across down inks : ℕ) : Type 0 where
-  pub mirrored : across ≡ pick (bitSet 13 cell) 7 0
-  pub turned : down ≡ pick (bitSet 12 cell) 7 0
+  pub mirrored : across ≡ pick (isSet 13 cell) 7 0
+  pub turned : down ≡ pick (isSet 12 cell) 7 0
   pub shades : inks ≡ inksOf palette r

@@ -47,17 +47,17 @@ returns-3 c = let a = c .before .before .before .before .before .before .before 
     ((counter-after-more (a .counter) (c .if3 .left) ∙ counter-objects (worldOf (a .vram .now) (a .n)) (a .counter) s g, omega arith), p)
 
 returns-4 : tie.Need-returns-4
-returns-4 c = let a = c .before .before .before .before .before .before .before .before .before .args in
-    let f : c .before .before .before .before .before .before .wide .result ≡ getD (worldOf (a .vram .now)
-    (a .n)) 0 0 = c .before .before .before .before .before .before .wide .ensures .0 ∙
-    (c .before .before .before .before .before .before .before .half .ensures ∙ world-flags (a .vram .now)
+returns-4 c = let a = c .before .before .before .before .before .before .before .before .args in
+    let f : c .before .before .before .before .before .wide .result ≡ getD (worldOf (a .vram .now)
+    (a .n)) 0 0 = c .before .before .before .before .before .wide .ensures .0 ∙
+    (c .before .before .before .before .before .before .half .ensures ∙ world-flags (a .vram .now)
     (a .n)) in
     let s = flags-shown (worldOf (a .vram .now) (a .n)) (omega arith) (omega arith) in
-    let g : (bgmOf (worldOf (a .vram .now) (a .n)) ≡ 3 → ⊥) = (λ e. c .before .before .before .before .if2 .left (omega arith)) in (
+    let g : (bgmOf (worldOf (a .vram .now) (a .n)) ≡ 3 → ⊥) = (λ e. c .before .before .before .if2 .left (omega arith)) in (
       (counter-background (worldOf (a .vram .now) (a .n)) (a .counter) s g, omega arith),
       strip-change _ _ _ _ (λ x r v u q. pixel-background (a .vram .now) (a .registers .now) (worldOf (a .vram .now)
           (a .n)) (a .counter) (a .eye) x (8 * a .strip + r) v s g) (rw
-          (c .before .before .before .world .ensures) at (c .strip .ensures)),
+          (c .before .before .world-at .ensures) at (c .strip .ensures)),
     )
 
 pub paint-world-spec : {M : Type 1} → statement M

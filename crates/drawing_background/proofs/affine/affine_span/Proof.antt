@@ -12,14 +12,15 @@ use Rattle.drawing_pixel.specs.inner.Buffer.{repaintedOf, Span}
 use Rattle.drawing_pixel.proofs.Spans.{span-none, span-more}
 use Rattle.drawing_background.specs.inner.Row.{affineSumOf, CellAt, Inked}
 use Rattle.drawing_background.proofs.Sources.{source-repainted, sum-least, sum-most, sum-on, floor-sum}
+use Rattle.drawing_pixel.specs.inner.Halfwords.{halfwordsOf}
 
 abbrev Inv-loop : tie.InvT-loop
 Inv-loop vram registers w buffer₀ run course mask maps last₀ px₀ py₀ x₀ buffer last px py x =
     (run .from ≤ x)
     × ((x ≤ run .to)
-    × ((CellAt vram registers w (last .u) (last .v) (last .cell) (last .palette) (last .character)
+    × ((CellAt vram registers (halfwordsOf w) (last .u) (last .v) (last .cell) (last .palette) (last .character)
     × Inked (run .row) (last .cell) (last .palette) (last .across) (last .down) (last .inks))
-    × (Span (run .row) (run .from) x (λ y. sourcePixelBiased vram registers w (affineFloorBiased (course .mx) (course .dx)
+    × (Span (run .row) (run .from) x (λ y. sourcePixelBiased vram registers (halfwordsOf w) (affineFloorBiased (course .mx) (course .dx)
     (course .n + (y - run .from))) (affineFloorBiased (course .my) (course .dy) (course .n +
     (y - run .from)))) buffer₀ buffer
     × ((px ≡ affineSumOf (course .mx) (course .dx) (course .n + (x - run .from))) × (py ≡ affineSumOf (course .my)
@@ -77,8 +78,7 @@ held-requires c κs = let pre = c .before .before .before .before .before .befor
     pre .1 .1 .1 .1 .0,
     (
       c .before .before .before .before .before .before .maps-of .ensures,
-      c .before
-          .before .loop .inv .1 .1 .0,
+      c .before .before .loop .inv .1 .1 .0,
     ),
   ),
 )
@@ -89,8 +89,7 @@ mul-cell-shaded c = omega (arith, c .before .before .before .before .before .bef
 element-copy-out-cell-shaded : tie.Need-element-copy-out-cell-shaded Inv-loop μ-loop
 element-copy-out-cell-shaded c = omega (
   arith,
-  c .before .before .before .before .before .before .before .before .before
-      .before .pre .0,
+  c .before .before .before .before .before .before .before .before .before .before .pre .0,
   c .before .before .before .before .before .before .before .before .before .before .pre .1 .1 .1 .0,
   c .before .if1 .taken,
   c .before .before .before .loop .inv .1 .1 .1 .0 .size,
@@ -160,8 +159,8 @@ loop-again c =
     let fx : l .px / 512 ≡ affineFloorBiased (a .course .mx) (a .course .dx) k = floor-sum (a .course .mx) (a .course .dx) k (l .px) (inv .1 .1 .1 .1 .0) in
     let fy : l .py / 512 ≡ affineFloorBiased (a .course .my) (a .course .dy) k = floor-sum (a .course .my) (a .course .dy) k (l .py) (inv .1 .1 .1 .1 .1) in
     let e : c .before .before .cell-shaded .result ≡ repaintedOf (a .run .row) (sourcePixelBiased (a .vram .now)
-    (a .registers .now) (a .w .now) (l .px / 512) (l .py / 512)) (getD (l .buffer) (l .x) 0) =
-    c .before .before .cell-shaded .ensures ∙ source-repainted (a .vram .now) (a .registers .now) (a .w .now)
+    (a .registers .now) (halfwordsOf (a .w)) (l .px / 512) (l .py / 512)) (getD (l .buffer) (l .x) 0) =
+    c .before .before .cell-shaded .ensures ∙ source-repainted (a .vram .now) (a .registers .now) (halfwordsOf (a .w))
     (a .run .row) _ _ _ _ _ _ _ _ (h .0) (h .1 .0) (h .1 .1 .0)
     in (
       omega arith,

@@ -8,18 +8,18 @@ use mathlib.Core.Path.{_≡_, ap, _∙_}
 use Prim.Native.Nat.{_+_, _*_, _%_, _≤_}
 use lib.Bits.{and-le-l}
 use Rattle.word.specs.LittleEndian.{halfAt}
-use Rattle.drawing_pixel.specs.Flags.{bitSet}
+use Rattle.word.specs.Bit.{isSet}
 use Rattle.drawing_pixel.specs.Character.{twoBitsOf, flippedOf, pixelValueOf}
 use Rattle.drawing_background.proofs.Inks.{bits-small, value-turned, inked-of, inked-fits}
 
 turned-requires : tie.Need-turned-requires
 turned-requires c κs =
-    (omega arith, rw (c .before .pre .1 .1 .1 .1 .turned) (bits-small (bitSet 12 (c .before .args .c .cell))))
+    (omega arith, rw (c .before .pre .1 .1 .1 .1 .turned) (bits-small (isSet 12 (c .before .args .c .cell))))
 
 turned-requires-2 : tie.Need-turned-requires-2
 turned-requires-2 c κs = (
   omega arith,
-  rw (c .before .before .before .before .before .pre .1 .1 .1 .1 .mirrored) (bits-small (bitSet 13
+  rw (c .before .before .before .before .before .pre .1 .1 .1 .1 .mirrored) (bits-small (isSet 13
       (c .before .before .before .before .before .args .c .cell))),
 )
 
@@ -31,16 +31,15 @@ returns c =
     let a = c .before .before .before .before .before .before .before .before .before .args in
     let pre = c .before .before .before .before .before .before .before .before .before .pre in
     let value : c .before .before .pair .result ≡ pixelValueOf (a .c .cell) (halfAt (a .vram .now)
-    (a .c .character + 2 * flippedOf (bitSet 12 (a .c .cell)) (a .sy % 8))) (a .sx % 8) =
+    (a .c .character + 2 * flippedOf (isSet 12 (a .c .cell)) (a .sy % 8))) (a .sx % 8) =
     c .before .before .pair .ensures .0
     ∙ rw (
-      c .before .before .before .turned2 .ensures .1 (bitSet 13 (a .c .cell))
+      c .before .before .before .turned2 .ensures .1 (isSet 13 (a .c .cell))
           (pre .1 .1 .1 .1 .mirrored),
       c .before .before .before .before .wide .ensures .0,
-      c .before .before .before
-          .before .before .half .ensures,
+      c .before .before .before .before .before .half .ensures,
       c .before .before .before .before .before .before .before .turned .ensures .1
-          (bitSet 12 (a .c .cell)) (pre .1 .1 .1 .1 .turned),
+          (isSet 12 (a .c .cell)) (pre .1 .1 .1 .1 .turned),
     )
     (value-turned (a .c .cell) _ (a .sx % 8))
     in

@@ -8,28 +8,27 @@ returns : tie.Need-returns
 returns c = outside-left _ _ _ (c .if1 .taken)
 
 returns-2 : tie.Need-returns-2
-returns-2 c = outside-right _ _ _ _ (rw (c .before .before .before .before .wide .ensures .0) at (c .before .before .before .cells .ensures .0)) (c .if2 .taken)
+returns-2 c = outside-right _ _ _ _ (rw (c .before .before .before .pre .width) at (c .before .cells .ensures .0)) (c .if2 .taken)
 
 returns-3 : tie.Need-returns-3
 returns-3 c = outside-above _ _ _ (c .if3 .taken)
 
 returns-4 : tie.Need-returns-4
-returns-4 c = inside-down _ _ _ _ _ (rw (c .before .before .before .before .before .wide .ensures .0) at
-    (c .before .before .before .before .cells .ensures .0)) (rw
-    (c .before .before .before .before .before .wide .ensures .0) at (c .before .before .before .cells2 .ensures .0))
-    (c .before .before .if1 .left) (c .before .if2 .left) (c .if3 .left)
+returns-4 c =
+    let maps = c .before .before .before .before .before .pre in
+    inside-down _ _ _ _ _ (rw (maps .width) at (c .before .before .before .cells .ensures .0))
+    (rw (maps .height) at (c .cells2 .ensures .0)) (c .before .before .before .before .if1 .left)
+    (c .before .before .if2 .left) (c .before .if3 .left)
 
 pub inside-spec : {M : Type 1} → statement M
 inside-spec =
     tie.close
     (tie.spec
-    (λ c. search needs)
-    (λ c κs. search needs)
-    (λ c κs. search needs)
-    (λ c κs. search needs)
     returns
+    (λ c κs. search needs)
     (λ c. search needs)
     returns-2
     returns-3
+    (λ c κs. search needs)
     (λ c. search needs)
     returns-4)

@@ -8,11 +8,12 @@ use borrow.Author.Needs.{needs}
 use Rattle.drawing_pixel.specs.inner.BiasedCell.{sourcePixelBiased}
 use Rattle.drawing_pixel.specs.inner.Buffer.{Block}
 use Rattle.drawing_pixel.proofs.Blocks.{block-no-column, block-beside, block-change}
+use Rattle.drawing_pixel.specs.inner.Halfwords.{halfwordsOf}
 
 abbrev Inv-loop : tie.InvT-loop
 Inv-loop vram registers w buffer₀ area source x₀ buffer x =
     (area .from ≤ x)
-    × ((x ≤ area .to) × Block (area .top) (area .bottom) (area .from) x (λ z r. sourcePixelBiased vram registers w
+    × ((x ≤ area .to) × Block (area .top) (area .bottom) (area .from) x (λ z r. sourcePixelBiased vram registers (halfwordsOf w)
     (source .x + (z - area .from)) (source .y + (r - area .top))) buffer₀ buffer)
 
 abbrev μ-loop : tie.MeasureT-loop
@@ -54,7 +55,7 @@ loop-again c =
             (block-change _ _ _ _ _ _ _ _
             (λ z r v l h t u.
             let e : a .source .x + (x - a .area .from) + (z - x) ≡ a .source .x + (z - a .area .from) = omega arith in
-            ap (λ s. sourcePixelBiased (a .vram .now) (a .registers .now) (a .w .now) s (a .source .y + (r - a .area .top)) v) e)
+            ap (λ s. sourcePixelBiased (a .vram .now) (a .registers .now) (halfwordsOf (a .w)) s (a .source .y + (r - a .area .top)) v) e)
             (c .cell-block .ensures)),
       ),
     )

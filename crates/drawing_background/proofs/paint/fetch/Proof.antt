@@ -7,8 +7,7 @@ returns : tie.Need-returns
 returns c = (
   rw (
     c .before .before .before .before .before .wide .ensures .0,
-    c .before .before .before .before .before .before
-        .half .ensures,
+    c .before .before .before .before .before .before .half .ensures,
     c .before .before .before .before .before .before .before .cell-address .ensures .0,
   ),
   (

@@ -7,6 +7,7 @@ use native.Mathlib.Omega.{arith}
 use mathlib.Core.Path.{_≡_, ap}
 use Rattle.drawing_pixel.specs.inner.BiasedCell.{sourcePixelBiased}
 use Rattle.drawing_pixel.proofs.Blocks.{block-under, block-change}
+use Rattle.drawing_pixel.specs.inner.Halfwords.{halfwordsOf}
 
 returns : tie.Need-returns
 returns c = rw (c .if1 .taken) at (c .before .before .cells-block .ensures)
@@ -23,7 +24,7 @@ returns-2 c =
     (block-change _ _ _ _ _ _ _ _
     (λ x r v l h t u.
     let e : a .source .y + (mid - a .area .top) + (r - mid) ≡ a .source .y + (r - a .area .top) = omega (arith, t, pre .1 .1 .1 .1 .0, below) in
-    ap (λ y. sourcePixelBiased (a .vram .now) (a .registers .now) (a .w .now) (a .source .x + (x - a .area .from)) y v) e)
+    ap (λ y. sourcePixelBiased (a .vram .now) (a .registers .now) (halfwordsOf (a .w)) (a .source .x + (x - a .area .from)) y v) e)
     (c .cells-block2 .ensures))
 
 pub plain-block-spec : {M : Type 1} → statement M

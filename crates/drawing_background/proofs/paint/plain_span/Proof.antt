@@ -8,10 +8,11 @@ use Rattle.drawing_pixel.specs.inner.BiasedCell.{sourcePixelBiased}
 use Rattle.drawing_pixel.specs.inner.Buffer.{Span}
 use Rattle.drawing_pixel.proofs.Spans.{span-none, span-join, span-change}
 use borrow.Author.Needs.{needs}
+use Rattle.drawing_pixel.specs.inner.Halfwords.{halfwordsOf}
 
 abbrev Inv-loop : tie.InvT-loop
 Inv-loop vram registers w buffer₀ run source x₀ buffer x = (run .from ≤ x) × ((x ≤ run .to) × Span (run .row)
-    (run .from) x (λ y. sourcePixelBiased vram registers w (source .x + (y - run .from)) (source .y)) buffer₀ buffer)
+    (run .from) x (λ y. sourcePixelBiased vram registers (halfwordsOf w) (source .x + (y - run .from)) (source .y)) buffer₀ buffer)
 
 abbrev μ-loop : tie.MeasureT-loop
 μ-loop vram registers w buffer₀ run source x₀ buffer x = run .to - x
@@ -51,7 +52,7 @@ loop-again c = let a = c .before .before .before .before .before .before .before
             (span-change _ _ _ _ _ _ _
             (λ y v l h.
             let e : a .source .x + (x - a .run .from) + (y - x) ≡ a .source .x + (y - a .run .from) = omega arith in
-            ap (λ s. sourcePixelBiased (a .vram .now) (a .registers .now) (a .w .now) s (a .source .y) v) e)
+            ap (λ s. sourcePixelBiased (a .vram .now) (a .registers .now) (halfwordsOf (a .w)) s (a .source .y) v) e)
             (c .cell-span .ensures)),
       ),
     )

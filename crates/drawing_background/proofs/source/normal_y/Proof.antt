@@ -12,4 +12,9 @@ returns c = (rw (c .wide .ensures .0), omega arith)
 pub normal-y-spec : {M : Type 1} → statement M
 normal-y-spec =
     tie.close
-    (tie.spec (λ c. search needs) (λ c κs. search needs) (λ c. search needs) (λ c. search needs) (λ c. search needs) returns)
+    (tie.spec
+    (λ c κs. search needs)
+    (λ c. search needs)
+    (λ c. search needs)
+    (λ c. search needs)
+    returns)

@@ -18,9 +18,7 @@ pub plain-left-spec : {M : Type 1} → statement M
 plain-left-spec =
     tie.close
     (tie.spec
-    (λ c. search needs)
     (λ c κs. search needs)
-    (λ c. search needs)
     (λ c. search needs)
     (λ c κs. search needs)
     (λ c. search needs)

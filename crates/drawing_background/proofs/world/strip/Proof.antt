@@ -16,24 +16,22 @@ use Rattle.drawing_pixel.proofs.Small.{background-small}
 use Rattle.drawing_pixel.proofs.Windows.{background-hidden}
 use Rattle.drawing_background.proofs.Clipping.{clipped-outside, clipped-empty}
 use mathlib.Core.Path.{_≡_}
+use Rattle.drawing_pixel.specs.inner.Halfwords.{halfwordsOf}
 
 abbrev Inv-loop : tie.InvT-loop
 Inv-loop vram registers w buffer₀ eye strip left from to r₀ buffer r = (r ≤ 8) × Rows r
-    (λ x q. backgroundPixelBiased vram registers w eye x (8 * strip + q)) buffer₀ buffer
+    (λ x q. backgroundPixelBiased vram registers (halfwordsOf w) eye x (8 * strip + q)) buffer₀ buffer
 
 abbrev μ-loop : tie.MeasureT-loop
 μ-loop vram registers w buffer₀ eye strip left from to r₀ buffer r = 8 - r
-
-element-copy-out-flag : tie.Need-element-copy-out-flag Inv-loop μ-loop
-element-copy-out-flag c = search needs
 
 flag-requires : tie.Need-flag-requires Inv-loop μ-loop
 flag-requires c κs = search needs
 
 returns : tie.Need-returns Inv-loop μ-loop
 unfolding worldShownOf
-returns c = let a = c .before .before .before .before .args in
-    strip-kept _ _ (λ x r v u q. background-hidden (a .vram .now) (a .registers .now) (a .w .now) (a .eye) x
+returns c = let a = c .before .before .before .args in
+    strip-kept _ _ (λ x r v u q. background-hidden (a .vram .now) (a .registers .now) (halfwordsOf (a .w)) (a .eye) x
     (8 * a .strip + r) v (sym (c .before .flag .ensures) ∙ not-true _ (c .if1 .taken)))
 
 window-left-requires : tie.Need-window-left-requires Inv-loop μ-loop
@@ -52,12 +50,9 @@ clipped-requires-2 : tie.Need-clipped-requires-2 Inv-loop μ-loop
 clipped-requires-2 c κs = omega arith
 
 returns-2 : tie.Need-returns-2 Inv-loop μ-loop
-returns-2 c = let a = c .before .before .before .before .before .before .before .before .before .args in
-    strip-kept _ _ (λ x r v u q. clipped-empty (a .vram .now) (a .registers .now) (a .w .now) (a .eye) x (8 * a .strip + r) v _ _ u
+returns-2 c = let a = c .before .before .before .before .before .before .before .before .args in
+    strip-kept _ _ (λ x r v u q. clipped-empty (a .vram .now) (a .registers .now) (halfwordsOf (a .w)) (a .eye) x (8 * a .strip + r) v _ _ u
     (omega (arith, c .before .before .before .clipped .ensures)) (omega (arith, c .before .clipped2 .ensures)) (c .if2 .taken))
-
-element-copy-out-if3 : tie.Need-element-copy-out-if3 Inv-loop μ-loop
-element-copy-out-if3 c = search needs
 
 normal-block-requires : tie.Need-normal-block-requires Inv-loop μ-loop
 unfolding worldShownOf
@@ -75,9 +70,9 @@ normal-block-requires c κs = (
 
 returns-3 : tie.Need-returns-3 Inv-loop μ-loop
 returns-3 c =
-    let a = c .before .before .before .before .before .before .before .before .before .before .before .before .before .args in
+    let a = c .before .before .before .before .before .before .before .before .before .before .before .before .args in
     block-strip _ _ _ _ _
-    (λ x r v u. clipped-outside (a .vram .now) (a .registers .now) (a .w .now) (a .eye) x (8 * a .strip + r) v _ _ u
+    (λ x r v u. clipped-outside (a .vram .now) (a .registers .now) (halfwordsOf (a .w)) (a .eye) x (8 * a .strip + r) v _ _ u
     (omega (arith, c .before .before .before .before .before .before .before .clipped .ensures)) (omega
     (arith, c .before .before .before .before .before .clipped2 .ensures)))
     (c .normal-block .ensures)
@@ -106,11 +101,11 @@ loop-less : tie.Need-loop-less Inv-loop μ-loop
 loop-less c = omega arith
 
 loop-again : tie.Need-loop-again Inv-loop μ-loop
-loop-again c = let a = c .before .before .before .before .before .before .before .before .before .before .before .before .before .before .before .args in (
+loop-again c = let a = c .before .before .before .before .before .before .before .before .before .before .before .before .before .before .args in (
   omega arith,
   rows-more _ _ _ _ _ _ _ (c .before .before .loop-test .taken)
-      (λ x v h. background-small (a .vram .now) (a .registers .now) (a .w .now) (a .eye) x _ v h)
-      (λ x v u. clipped-outside (a .vram .now) (a .registers .now) (a .w .now) (a .eye) x _ v _ _ u
+      (λ x v h. background-small (a .vram .now) (a .registers .now) (halfwordsOf (a .w)) (a .eye) x _ v h)
+      (λ x v u. clipped-outside (a .vram .now) (a .registers .now) (halfwordsOf (a .w)) (a .eye) x _ v _ _ u
       (omega (arith, c .before .before .before .before .before .before .before .before .before .clipped .ensures))
       (omega (arith, c .before .before .before .before .before .before .before .clipped2 .ensures)))
       (c .before .before .before .loop .inv .1) (c .strip-row .ensures),
@@ -126,7 +121,6 @@ strip-spec =
     (tie.spec
     Inv-loop
     μ-loop
-    element-copy-out-flag
     flag-requires
     returns
     window-left-requires
@@ -135,7 +129,6 @@ strip-spec =
     add-clipped
     clipped-requires-2
     returns-2
-    element-copy-out-if3
     normal-block-requires
     returns-3
     loop-holds

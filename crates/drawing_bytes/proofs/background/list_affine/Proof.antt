@@ -3,12 +3,13 @@ use borrow.Author.Needs.{needs}
 use Rattle.drawing_bytes.proofs.background.list_affine.Statement.{statement}
 use Rattle.drawing_bytes.proofs.background.list_affine.Tie as tie
 use Rattle.drawing_bytes.proofs.Sources.{affine-listing}
+use Rattle.drawing_pixel.specs.inner.Halfwords.{halfwordsOf}
 
 returns : tie.Need-returns
 returns c =
-    affine-listing (c .before .before .before .before .before .before .before .before .before .before .before .before
-    .before .before .before .before .before .before .before .before .before .before .before .before .before .before
-    .args .w .now) (c .before .before .before .before .before .before .before .before .before .before .before
+    affine-listing (halfwordsOf (c .before .before .before .before .before .before .before .before .before .before .before .before
+    .before .before .before .before .before .before .before .before .before .before .before .before .before .before .args .w))
+    (c .before .before .before .before .before .before .before .before .before .before .before
     .before .before .before .before .before .before .before .before .before .before .before .before .before .before
     .before .args .j) _ _ _ _ _ _ _ _ _ _ _ _ _ _ _ _ _
     (c .before .before .before .before .before .before .before .before .before .before .before .before .before .before

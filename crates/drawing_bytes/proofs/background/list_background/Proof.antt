@@ -9,11 +9,12 @@ use borrow.Author.Tests.{not-true, not-false}
 use Rattle.drawing_bytes.proofs.Listings.{listing-none, listing-more, listing-as}
 use Rattle.drawing_bytes.proofs.Covering.{world-left, world-top}
 use Rattle.drawing_bytes.proofs.Sources.{background-none, background-there, cell-length}
+use Rattle.drawing_pixel.specs.inner.Halfwords.{halfwordsOf}
 
 returns : tie.Need-returns
 returns c = (
   listing-as _ _ _ _ _ _ (background-none (c .before .before .before .before .args .vram .now)
-      (c .before .before .before .before .args .w .now) (c .before .before .before .before .args .eye)
+      (halfwordsOf (c .before .before .before .before .args .w)) (c .before .before .before .before .args .eye)
       (c .before .before .before .before .args .x) (c .before .before .before .before .args .y) (sym
       (c .before .covers .ensures) ∙ not-true _ (c .if1 .taken))) (listing-none _ _),
   omega arith,
@@ -22,7 +23,7 @@ returns c = (
 sub-i : tie.Need-sub-i
 sub-i c = omega (
   arith,
-  world-left (c .before .before .before .before .before .args .w .now)
+  world-left (halfwordsOf (c .before .before .before .before .before .args .w))
       (c .before .before .before .before .before .args .eye) (c .before .before .before .before .before .args .x)
       (c .before .before .before .before .before .args .y) (sym (c .before .before .covers .ensures) ∙ not-false _
       (c .before .if1 .left)),
@@ -32,29 +33,27 @@ sub-i c = omega (
 sub-j : tie.Need-sub-j
 sub-j c = omega (
   arith,
-  world-top (c .before .before .before .before .before .before .before .args .w .now)
-      (c .before .before .before .before .before .before .before .args .eye)
-      (c .before .before .before .before .before .before .before .args .x)
-      (c .before .before .before .before .before .before .before .args .y) (sym
-      (c .before .before .before .before .covers .ensures) ∙ not-false _
-      (c .before .before .before .if1 .left)),
+  world-top (halfwordsOf (c .before .before .before .before .before .before .args .w))
+      (c .before .before .before .before .before .before .args .eye)
+      (c .before .before .before .before .before .before .args .x)
+      (c .before .before .before .before .before .before .args .y) (sym
+      (c .before .before .before .covers .ensures) ∙ not-false _
+      (c .before .before .if1 .left)),
   c .wide .ensures .0,
 )
 
 returns-2 : tie.Need-returns-2
 returns-2 c =
-    let a = c .before .before .before .before .before .before .before .before .before .before .before .before .before .before .before .before .before .args in
-    let i = a .x + 1024 - c .before .before .before .before .before .before .before .before .before .before .before .before .window-left .result in
+    let a = c .before .before .before .before .before .before .before .before .before .before .before .before .before .before .before .before .args in
+    let i = a .x + 1024 - c .before .before .before .before .before .before .before .before .before .before .before .window-left .result in
     let j = a .y + 32768 - (c .before .before .before .before .before .before .before .before .before .before .wide .result + 32768) % 65536 in
-    let covered = sym (c .before .before .before .before .before .before .before .before .before .before .before .before
-    .before .before .covers .ensures) ∙ not-false _
-    (c .before .before .before .before .before .before .before .before .before .before .before .before .before .if1
+    let covered = sym (c .before .before .before .before .before .before .before .before .before .before .before .before .before .covers .ensures) ∙ not-false _
+    (c .before .before .before .before .before .before .before .before .before .before .before .before .if1
     .left) in (
       listing-as _ _ _ _ _ _
-          (background-there (a .vram .now) (a .w .now) (a .eye) (a .x) (a .y) i j _ _ covered (omega (
+          (background-there (a .vram .now) (halfwordsOf (a .w)) (a .eye) (a .x) (a .y) i j _ _ covered (omega (
             arith,
-            c .before .before .before .before .before .before .before .before .before .before .before .before
-                .window-left .ensures .0,
+            c .before .before .before .before .before .before .before .before .before .before .before .window-left .ensures .0,
           )) (omega (
             arith,
             c .before .before .before .before .before .before .before
@@ -66,7 +65,7 @@ returns-2 c =
       omega (
         arith,
         c .before .before .list-cell .ensures .count,
-        cell-length (a .vram .now) (a .w .now)
+        cell-length (a .vram .now) (halfwordsOf (a .w))
             (c .before .before .before .before .source-x .result)
             (c .before .before .before .source-y .result),
         c .before .before .before .before .before .before .before
@@ -83,7 +82,6 @@ list-background-spec =
     (λ c. search needs)
     (λ c κs. search needs)
     sub-i
-    (λ c. search needs)
     (λ c. search needs)
     (λ c κs. search needs)
     (λ c. search needs)

@@ -4,12 +4,13 @@ use Rattle.drawing_bytes.proofs.background.list_cell.Statement.{stateme
 use Rattle.drawing_bytes.proofs.background.list_cell.Tie as tie
 use mathlib.Core.Path.{_∙_}
 use Rattle.drawing_bytes.proofs.Sources.{cell-listing}
+use Rattle.drawing_pixel.specs.inner.Halfwords.{halfwordsOf}
 
 returns : tie.Need-returns
 returns c =
     cell-listing (c .before .before .before .before .before .before .before .before .before .before .before .before
-    .before .before .args .vram .now) (c .before .before .before .before .before .before .before .before .before
-    .before .before .before .before .before .args .w .now)
+    .before .before .args .vram .now) (halfwordsOf (c .before .before .before .before .before .before .before .before .before
+    .before .before .before .before .before .args .w))
     (c .before .before .before .before .before .before .before .before .before .before .before .before .before
     .before .args .sx) (c .before .before .before .before .before .before .before .before .before .before .before
     .before .before .before .args .sy) _ _ _ _ _ _ _ _ _

@@ -16,7 +16,7 @@ returns : tie.Need-returns
 returns c =
     let a = c .before .before .before .before .before .args in
     let f : c .before .wide .result ≡ getD (worldOf (a .vram .now) (a .k)) 0 0 = c .before .wide .ensures .0 ∙ ap (λ
-    (w : List ℕ). getD w 0 0) (c .before .before .world .ensures) in
+    (w : List ℕ). getD w 0 0) (c .before .before .world-at .ensures) in
     let s = flags-skipped (worldOf (a .vram .now) (a .k)) (omega arith) in
     (listing-as _ _ _ _ _ _ (world-skipped (a .vram .now) (worldOf (a .vram .now) (a .k)) (a .eye) (a .x) (a .y) s) (listing-none _ _), omega arith)
 
@@ -25,20 +25,20 @@ returns-2 c =
     let a = c .before .before .before .before .before .before .args in
     let f : c .before .before .wide .result ≡ getD (worldOf (a .vram .now)
     (a .k)) 0 0 = c .before .before .wide .ensures .0 ∙ ap (λ (w : List ℕ). getD w 0 0)
-    (c .before .before .before .world .ensures) in
+    (c .before .before .before .world-at .ensures) in
     let s = flags-shown (worldOf (a .vram .now) (a .k)) (omega arith) (omega arith) in
     let g : bgmOf (worldOf (a .vram .now) (a .k)) ≡ 3 = omega arith in
     (listing-as _ _ _ _ _ _ (world-objects (a .vram .now) (worldOf (a .vram .now) (a .k)) (a .eye) (a .x) (a .y) s g) (listing-none _ _), omega arith)
 
 returns-3 : tie.Need-returns-3
 returns-3 c =
-    let a = c .before .before .before .before .before .before .before .before .before .before .before .args in
-    let f : c .before .before .before .before .before .before .before .wide .result ≡ getD (worldOf (a .vram .now)
-    (a .k)) 0 0 = c .before .before .before .before .before .before .before .wide .ensures .0 ∙ ap (λ
-    (w : List ℕ). getD w 0 0) (c .before .before .before .before .before .before .before .before .world .ensures) in
+    let a = c .before .before .before .before .before .before .before .before .before .before .args in
+    let f : c .before .before .before .before .before .before .wide .result ≡ getD (worldOf (a .vram .now)
+    (a .k)) 0 0 = c .before .before .before .before .before .before .wide .ensures .0 ∙ ap (λ
+    (w : List ℕ). getD w 0 0) (c .before .before .before .before .before .before .before .world-at .ensures) in
     let s = flags-shown (worldOf (a .vram .now) (a .k)) (omega arith) (omega arith) in
-    let g : (bgmOf (worldOf (a .vram .now) (a .k)) ≡ 3 → ⊥) = (λ e. c .before .before .before .before .before .if2 .left (omega arith)) in
-    let done = rw (c .before .before .before .before .before .before .before .before .world .ensures) at (c .before .before .list-background .ensures) in
+    let g : (bgmOf (worldOf (a .vram .now) (a .k)) ≡ 3 → ⊥) = (λ e. c .before .before .before .before .if2 .left (omega arith)) in
+    let done = rw (c .before .before .before .before .before .before .before .world-at .ensures) at (c .before .before .list-background .ensures) in
     (listing-as _ _ _ _ _ _ (world-background (a .vram .now) (worldOf (a .vram .now) (a .k)) (a .eye) (a .x) (a .y) s g) (done .0), done .1)
 
 pub list-world-spec : {M : Type 1} → statement M
@@ -46,7 +46,6 @@ list-world-spec =
     tie.close
     (tie.spec
     (λ c κs. search needs)
-    (λ c. search needs)
     (λ c κs. search needs)
     returns
     returns-2

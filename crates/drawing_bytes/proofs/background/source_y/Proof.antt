@@ -4,10 +4,11 @@ use Rattle.drawing_bytes.proofs.background.source_y.Statement.{statemen
 use Rattle.drawing_bytes.proofs.background.source_y.Tie as tie
 use mathlib.Core.Path.{_∙_}
 use Rattle.drawing_bytes.proofs.Sources.{plain-y, affine-y}
+use Rattle.drawing_pixel.specs.inner.Halfwords.{halfwordsOf}
 
 returns : tie.Need-returns
 returns c = c .normal-y .ensures .0 ∙ plain-y (c .before .before .before .before .args .vram .now)
-    (c .before .before .before .before .args .w .now) (c .before .before .before .before .args .eye)
+    (halfwordsOf (c .before .before .before .before .args .w)) (c .before .before .before .before .args .eye)
     (c .before .before .before .before .args .i) (c .before .before .before .before .args .j) (c .before .if1 .taken)
 
 returns-2 : tie.Need-returns-2
@@ -22,7 +23,7 @@ returns-2 c =
           .affine-parameter .ensures .0,
     )
     (affine-y (c .before .before .before .before .before .before .before .before .args .vram .now)
-    (c .before .before .before .before .before .before .before .before .args .w .now)
+    (halfwordsOf (c .before .before .before .before .before .before .before .before .args .w))
     (c .before .before .before .before .before .before .before .before .args .eye)
     (c .before .before .before .before .before .before .before .before .args .i)
     (c .before .before .before .before .before .before .before .before .args .j)
@@ -32,7 +33,6 @@ pub source-y-spec : {M : Type 1} → statement M
 source-y-spec =
     tie.close
     (tie.spec
-    (λ c. search needs)
     (λ c κs. search needs)
     returns
     (λ c κs. search needs)
