@@ -1,4 +1,4 @@
--- What the C boundary gives for an instruction and for halfwords (include/vb.h): the papers' refusal number, how many
+-- What the C boundary gives for an instruction and for halfwords (include/vb.h): the refusal's number, how many
 -- halfwords there are, and the halfwords or the fields, 0 where there are none.
 use Prim.Native.Nat.{ℕ}
 use mathlib.Core.Bool.{Bool, true, false}

@@ -8,7 +8,8 @@ use Rattle.processor_undefined.specs.Reads.{noneOf}
 use Rattle.processor.specs.Calls.{Done, Ran, checkedStepOf, checkedRunOf}
 use Rattle.processor.specs.declared.Processor.{Processor}
 use Rattle.processor_replay.specs.Calls.{Replayed, checkedReplayOf}
-use Rattle.capi_processor.specs.Execution.{undefinedOut, stepGives, stepDone, stepAt, runGives, runDone, runAt}
+use Rattle.capi_processor.specs.Execution.{stepGives, stepDone, stepAt, runGives, runDone, runAt}
+use Rattle.capi_processor.specs.Undefined.{undefinedOut}
 use Rattle.capi_processor.specs.inner.Misuse.{misuseAt}
 use Rattle.capi_processor.specs.Record.{processorIn}
 use Rattle.capi_processor.specs.Replays.{replayGives, replayDone, replayAt}

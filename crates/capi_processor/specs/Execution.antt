@@ -9,45 +9,11 @@ use Rattle.processor_machine.specs.declared.Answer.the-variants.{Ended, Trapped
 use Rattle.processor_machine.specs.declared.Answer.the-variants.{WasFatal, Refused}
 use Rattle.processor_interrupt.specs.Interrupt.{interruptCodeOf}
 use Rattle.processor_undefined.specs.Reads.{noneOf}
-use Rattle.processor_undefined.specs.declared.Undefined.{Undefined}
 use Rattle.processor.specs.Calls.{Done, Ran, checkedStepOf, checkedRunOf}
+use Rattle.capi_processor.specs.Undefined.{undefinedOut}
 use Rattle.capi_processor.specs.Record.{processorIn, processorOut, unlessMisused}
 use Rattle.capi_processor.specs.declared.record.VbProcessor.{VbProcessor}
-use Rattle.capi_processor.specs.declared.execution.VbUndefined.{VbUndefined}
-
--- the refusal of a step's answer
-abbrev pub answerRefusal : Answer → ℕ
-answerRefusal Ended = 0
-answerRefusal (Trapped cause) = 0
-answerRefusal (Interrupted level) = 0
-answerRefusal (TurnedFatal cause) = 0
-answerRefusal WasHalted = 0
-answerRefusal WasFatal = 0
-answerRefusal (Refused n) = numberOf n
-
--- the number of a step's answer
-abbrev pub answerNumber : Answer → ℕ
-answerNumber Ended = 0
-answerNumber (Trapped cause) = 1
-answerNumber (Interrupted level) = 5
-answerNumber (TurnedFatal cause) = 2
-answerNumber WasHalted = 3
-answerNumber WasFatal = 4
-answerNumber (Refused n) = 0
-
--- the code of the exception that a step raised, or of the interrupt that it accepted
-abbrev pub answerCode : Answer → ℕ
-answerCode Ended = 0
-answerCode (Trapped cause) = codeOf cause
-answerCode (Interrupted level) = interruptCodeOf level
-answerCode (TurnedFatal cause) = codeOf cause
-answerCode WasHalted = 0
-answerCode WasFatal = 0
-answerCode (Refused n) = 0
-
--- the masks of a step, field by field
-abbrev pub undefinedOut : Undefined → VbUndefined
-undefinedOut u = record { first = u .first; second = u .second; load = u .load }
+use Rattle.capi_processor.specs.declared.undefined.VbUndefined.{VbUndefined}
 
 -- what vb_step gives: refusal, answer, code and masks, the record and the memory afterwards
 pub record StepAtBoundary : Type 0 where
@@ -62,10 +28,20 @@ abbrev pub stepGives : (refusal answer code : ℕ) (u : VbUndefined) (p : VbProc
 stepGives refusal answer code u p m =
     record { refusal = refusal; answer = answer; code = code; undefined = u; processor = p; memory = m }
 
+-- by a step's answer: the refusal's number, the answer's number, and the code of the exception that it raised or of the
+-- interrupt that it accepted
+abbrev pub stepAnswered : Answer → VbUndefined → VbProcessor → Memory → StepAtBoundary
+stepAnswered Ended u p m = stepGives 0 0 0 u p m
+stepAnswered (Trapped cause) u p m = stepGives 0 1 (codeOf cause) u p m
+stepAnswered (TurnedFatal cause) u p m = stepGives 0 2 (codeOf cause) u p m
+stepAnswered WasHalted u p m = stepGives 0 3 0 u p m
+stepAnswered WasFatal u p m = stepGives 0 4 0 u p m
+stepAnswered (Interrupted level) u p m = stepGives 0 5 (interruptCodeOf level) u p m
+stepAnswered (Refused n) u p m = stepGives (numberOf n) 0 0 u p m
+
 abbrev pub stepDone : Done → StepAtBoundary
 stepDone d =
-    stepGives (answerRefusal (d .answer)) (answerNumber (d .answer)) (answerCode (d .answer))
-    (undefinedOut (d .undefined)) (processorOut (d .processor)) (d .memory)
+    stepAnswered (d .answer) (undefinedOut (d .undefined)) (processorOut (d .processor)) (d .memory)
 
 unfoldable pub stepAt : VbProcessor → Memory → StepAtBoundary
 stepAt p m =

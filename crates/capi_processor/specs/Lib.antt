@@ -1,3 +1,4 @@
+pub mod Undefined
 pub mod Execution
 pub mod Record
 pub mod Replays

@@ -1,4 +1,4 @@
--- What the C boundary gives for a replay (include/vb.h): the papers' refusal number or VB_MISUSE, which comes after 1
+-- What the C boundary gives for a replay (include/vb.h): the refusal's number or VB_MISUSE, which comes after 1
 -- to 5 and before 14, how it ended as a number, and the first wrong word where it differed.
 use Prim.Native.Nat.{ℕ}
 use mathlib.Core.List.{List}

@@ -3,28 +3,21 @@ use crate::misuse::misuse;
 use crate::record::VbProcessor;
 use crate::record::processor_in;
 use crate::record::processor_out;
+use crate::undefined::VbUndefined;
+use crate::undefined::undefined_out;
 use bus::Drawing;
 use capi_bus::accesses::VbDrawing;
 use processor_machine::Answer;
-use processor_undefined::Undefined;
 use refusal::number;
 use refusal::verdict_number;
 ghost use mathlib.Core.Path.{_≡_};
 ghost use Prim.Native.Nat.{_<_};
+ghost use Rattle.bus.specs.Memory.{Memory};
 ghost use Rattle.bus.specs.Lent.{enteringWith, leavingWith};
 ghost use Rattle.processor.specs.Calls.{resetOf};
 ghost use Rattle.capi_processor.specs.Record.{processorOut};
-ghost use Rattle.capi_processor.specs.Execution.{answerRefusal, answerNumber, answerCode, undefinedOut, stepGives};
-ghost use Rattle.capi_processor.specs.Execution.{stepAt, runGives, runAt};
+ghost use Rattle.capi_processor.specs.Execution.{stepGives, stepAnswered, stepAt, runGives, runAt};
 ghost use Rattle.capi_processor.specs.inner.Level.{answerLevel};
-
-// Which bytes that a step read are undefined: of its first halfword, of its second, and of its load.
-#[repr(C)]
-pub struct VbUndefined {
-    pub first: u32,
-    pub second: u32,
-    pub load: u32,
-}
 
 #[repr(C)]
 pub struct VbStepped {
@@ -50,57 +43,39 @@ pub struct VbMachine {
     pub drawing: VbDrawing,
 }
 
-fn undefined_out(u: Undefined) -> VbUndefined
-    ensures { λ r. ⌜ r ≡ undefinedOut u ⌝ }
-{
-    VbUndefined {
-        first: u.first,
-        second: u.second,
-        load: u.load,
-    }
+// The three numbers of a step's answer.
+struct StepNumbers {
+    refusal: u32,
+    answer: u32,
+    code: u32,
 }
 
-fn answer_refusal(answer: Answer) -> u32
-    ensures { λ r. ⌜ r ≡ answerRefusal answer ⌝ }
+fn numbers(refusal: u32, answer: u32, code: u32) -> StepNumbers
+    ensures { λ r. ⌜ (r .refusal ≡ refusal) × (r .answer ≡ answer) × (r .code ≡ code) ⌝ }
 {
-    match answer {
-        Answer::Ended => 0,
-        Answer::Trapped(_) => 0,
-        Answer::Interrupted(_) => 0,
-        Answer::TurnedFatal(_) => 0,
-        Answer::WasHalted => 0,
-        Answer::WasFatal => 0,
-        Answer::Refused(n) => number(n),
-    }
-}
-
-fn answer_number(answer: Answer) -> u32
-    ensures { λ r. ⌜ r ≡ answerNumber answer ⌝ }
-{
-    match answer {
-        Answer::Ended => 0,
-        Answer::Trapped(_) => 1,
-        Answer::Interrupted(_) => 5,
-        Answer::TurnedFatal(_) => 2,
-        Answer::WasHalted => 3,
-        Answer::WasFatal => 4,
-        Answer::Refused(_) => 0,
+    StepNumbers {
+        refusal,
+        answer,
+        code,
     }
 }
 
 // An interrupt's code is 0xFE00 and 16 times its level.
-fn answer_code(answer: Answer) -> u32
+fn answered(answer: Answer) -> StepNumbers
     requires { ⌜ answerLevel answer < 5 ⌝ }
-    ensures { λ r. ⌜ r ≡ answerCode answer ⌝ }
+    ensures { λ r. ⌜
+        ((u : VbUndefined) (p : VbProcessor) (m : Memory)
+        → stepGives (r .refusal) (r .answer) (r .code) u p m ≡ stepAnswered answer u p m)
+        ⌝ }
 {
     match answer {
-        Answer::Ended => 0,
-        Answer::Trapped(cause) => processor_machine::exception::code(cause),
-        Answer::Interrupted(level) => 0xFE00 + 16 * level,
-        Answer::TurnedFatal(cause) => processor_machine::exception::code(cause),
-        Answer::WasHalted => 0,
-        Answer::WasFatal => 0,
-        Answer::Refused(_) => 0,
+        Answer::Ended => numbers(0, 0, 0),
+        Answer::Trapped(cause) => numbers(0, 1, processor_machine::exception::code(cause)),
+        Answer::TurnedFatal(cause) => numbers(0, 2, processor_machine::exception::code(cause)),
+        Answer::WasHalted => numbers(0, 3, 0),
+        Answer::WasFatal => numbers(0, 4, 0),
+        Answer::Interrupted(level) => numbers(0, 5, 0xFE00 + 16 * level),
+        Answer::Refused(n) => numbers(number(n), 0, 0),
     }
 }
 
@@ -140,10 +115,11 @@ pub fn step(
     let undefined = s.undefined;
     let after = s.processor;
     let device = s.drawing.regs;
+    let reported = answered(answer);
     VbStepped {
-        refusal: answer_refusal(answer),
-        answer: answer_number(answer),
-        code: answer_code(answer),
+        refusal: reported.refusal,
+        answer: reported.answer,
+        code: reported.code,
         undefined: undefined_out(undefined),
         processor: processor_out(after),
         drawing: VbDrawing { regs: device },

@@ -3,3 +3,4 @@ pub mod execution;
 pub mod misuse;
 pub mod record;
 pub mod replays;
+pub mod undefined;

@@ -14,7 +14,8 @@ use Rattle.processor_machine.specs.State.{stateOf, steppedOf}
 use Rattle.processor_machine.specs.declared.Mode.the-variants.{Running}
 use Rattle.processor_machine.specs.declared.Answer.the-variants.{Ended}
 use Rattle.processor_execute.specs.Execute.{executeOf}
-use Rattle.processor_step.specs.Step.{secondOf, nextOf, acceptsIn, runningStepOf, instructionStepOf, stepOf}
+use Rattle.processor_step.specs.Interrupted.{acceptsIn}
+use Rattle.processor_step.specs.Step.{secondOf, nextOf, runningStepOf, instructionStepOf, stepOf}
 use Rattle.examples.specs.Branches.{BranchesToItself, NeverBranches}
 
 module _ (regs sys : List ℕ) (pc psw : ℕ) (m : Memory) (quiet : acceptsIn (stateOf regs sys pc psw Running) m ≡ false) where

@@ -8,7 +8,8 @@ use Rattle.bus.specs.Memory.{Memory, loadOf}
 use Rattle.processor_machine.specs.State.{stateOf, steppedOf}
 use Rattle.processor_machine.specs.declared.Mode.the-variants.{Running}
 use Rattle.processor_machine.specs.declared.Answer.the-variants.{Ended}
-use Rattle.processor_step.specs.Step.{acceptsIn, stepOf}
+use Rattle.processor_step.specs.Interrupted.{acceptsIn}
+use Rattle.processor_step.specs.Step.{stepOf}
 
 -- 0x8A00 branches to itself: the step leaves the machine as it was
 abbrev pub BranchesToItself : Type 0

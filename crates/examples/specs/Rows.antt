@@ -1,5 +1,5 @@
--- Paper 01, "Checks worth a day each": its table of worked examples. A row is what the definitions that the contracts
--- name give, and what the paper prints; `RowsHold` is the one statement about the list.
+-- Paper 01, "Checks worth a day each": its table of worked examples. A row says that the definitions that the contracts
+-- name give what the paper prints; `RowsHold` is the one statement about their list.
 use Prim.Native.Nat.{ℕ, zero, suc, _+_, _-_, _*_, _/_, _%_, _^_}
 use mathlib.Core.List.{List, [], _∷_}
 use mathlib.Core.Path.{_≡_}
@@ -7,22 +7,17 @@ use lib.ListN.{replicate}
 use Rattle.word.specs.Bit.{bitAt}
 use Rattle.word.specs.Choose.{pick}
 use Rattle.bus.specs.TimerLines.{deviceLength}
-use Rattle.bus.specs.Place.{Place, wramAt, vramAt, romAt, placeOf}
+use Rattle.bus.specs.Place.{wramAt, vramAt, romAt, placeOf}
 use Rattle.bus.specs.Memory.{Memory, memoryOf, alignedOf}
 use Rattle.processor_arithmetic.specs.Flag.{zFlag, sFlag, ovFlag, cyFlag}
 use Rattle.processor_arithmetic.specs.Sum.{sumOf}
 use Rattle.processor_arithmetic.specs.Quotient.{divideOf}
-use Rattle.processor_machine.specs.State.{State, stateOf}
+use Rattle.processor_machine.specs.State.{stateOf}
 use Rattle.processor_machine.specs.declared.Mode.the-variants.{Running}
 use Rattle.processor_step.specs.Step.{stepOf}
 use Rattle.drawing_pixel.specs.Character.{characterAddressOf, shadeOf}
 use Rattle.drawing_pixel.specs.Pixel.{worldCovers}
 use Rattle.drawing_pixel.specs.Strip.{pixelOffsetOf, pixelPairOf}
-
--- a row: what the definitions give, and what the paper prints
-pub data Row : Type 0 where
-  places : List Place → List Place → Row
-  numbers : List ℕ → List ℕ → Row
 
 -- a normal world of a width, position and parallax, shown to both eyes, all else 0
 unfoldable pub worldWith : ℕ → ℕ → ℕ → List ℕ
@@ -44,57 +39,43 @@ memoryWith f =
     memoryOf (f % 256 ∷ f / 256 ∷ replicate 1022 0) (replicate 65536 0) (replicate 262144 0) []
     (replicate deviceLength 0)
 
-abbrev pub stateWith : ℕ → State
-stateWith psw = stateOf (replicate 32 0) (replicate 8 0) pcBefore psw Running
-
 -- PC after a step
 unfoldable pub pcAfter : ℕ → ℕ → ℕ
-pcAfter f psw = stepOf (stateWith psw) (memoryWith f) .state .pc
-
--- the same for the n settings of the flags from psw on
-unfoldable pub pcsFrom : ℕ → ℕ → ℕ → List ℕ
-pcsFrom f psw zero = []
-pcsFrom f psw (suc n) = pcAfter f psw ∷ pcsFrom f (suc psw) n
+pcAfter f psw = stepOf (stateOf (replicate 32 0) (replicate 8 0) pcBefore psw Running) (memoryWith f) .state .pc
 
 -- OV, S, CY and Z of a PSW
 unfoldable pub flagsIn : ℕ → List ℕ
 flagsIn psw = bitAt ovFlag psw ∷ bitAt sFlag psw ∷ bitAt cyFlag psw ∷ bitAt zFlag psw ∷ []
 
--- the table, in its order. An instruction of one halfword is stepped in each of the sixteen settings of the four flags.
--- The last two are one row of the table: the image columns of a window, by W, GX and GP, to the left eye and to the
--- right
-unfoldable pub exampleRows : List Row
+-- the table, in its order
+unfoldable pub exampleRows : List (Type 0)
 exampleRows =
-    places (placeOf 1024 0 0xFFFFFFF0 ∷ []) (romAt 0x3F0 ∷ [])
-    ∷ places (placeOf 1024 0 0x05012345 ∷ []) (wramAt 0x2345 ∷ [])
-    ∷ places (placeOf 1024 0 0x000FA010 ∷ []) (vramAt 0xE010 ∷ [])
+    (placeOf 1024 0 0xFFFFFFF0 ≡ romAt 0x3F0)
+    ∷ (placeOf 1024 0 0x05012345 ≡ wramAt 0x2345)
+    ∷ (placeOf 1024 0 0x000FA010 ≡ vramAt 0xE010)
     -- where a character's bytes begin
-    ∷ places (vramAt (characterAddressOf 513) ∷ []) (vramAt 0xE010 ∷ [])
+    ∷ (characterAddressOf 513 ≡ 0xE010)
     -- the bytes of a halfword access
-    ∷ places (placeOf 1024 0 (alignedOf 2 0x05000001) ∷ placeOf 1024 0 (alignedOf 2 0x05000001 + 1) ∷ [])
-    (wramAt 0 ∷ wramAt 1 ∷ [])
+    ∷ ((placeOf 1024 0 (alignedOf 2 0x05000001) ≡ wramAt 0) × (placeOf 1024 0 (alignedOf 2 0x05000001 + 1) ≡ wramAt 1))
     -- a pixel's offset in its image, and there its first and its last bit; `pixel-drawn` (drawing_laws) ties the place to
     -- the lists that contracts name
-    ∷ numbers (pixelOffsetOf 1 9 ∷ (2 * pixelPairOf 9) ∷ (2 * pixelPairOf 9 + 1) ∷ []) (66 ∷ 2 ∷ 3 ∷ [])
+    ∷ ((pixelOffsetOf 1 9 ∷ (2 * pixelPairOf 9) ∷ (2 * pixelPairOf 9 + 1) ∷ []) ≡ (66 ∷ 2 ∷ 3 ∷ []))
     -- what values 1, 2 and 3 become in a palette
-    ∷ numbers (shadeOf 0xE4 1 0 ∷ shadeOf 0xE4 2 0 ∷ shadeOf 0xE4 3 0 ∷ []) (1 ∷ 2 ∷ 3 ∷ [])
-    ∷ numbers (flagsIn (sumOf 0x7FFFFFFF 1 0 .psw)) (1 ∷ 1 ∷ 0 ∷ 0 ∷ [])
+    ∷ ((shadeOf 0xE4 1 0 ∷ shadeOf 0xE4 2 0 ∷ shadeOf 0xE4 3 0 ∷ []) ≡ (1 ∷ 2 ∷ 3 ∷ []))
+    ∷ (flagsIn (sumOf 0x7FFFFFFF 1 0 .psw) ≡ (1 ∷ 1 ∷ 0 ∷ 0 ∷ []))
     -- the quotient in reg2, the remainder in r30
-    ∷ numbers (divideOf (2 ^ 32 - 7) 2 0 .reg2 ∷ divideOf (2 ^ 32 - 7) 2 0 .r30 ∷ []) ((2 ^ 32 - 3) ∷ (2 ^ 32 - 1) ∷ [])
-    ∷ numbers (pcsFrom 0x8A00 0 16) (replicate 16 pcBefore)
-    ∷ numbers (pcsFrom 0x9A00 0 16) (replicate 16 (pcBefore + 2))
-    ∷ numbers (shownFrom (worldWith 0 383 1) 0 0 384) (382 ∷ [])
-    ∷ numbers (shownFrom (worldWith 0 383 1) 1 0 384) []
+    ∷ ((divideOf (2 ^ 32 - 7) 2 0 .reg2 ≡ 2 ^ 32 - 3) × (divideOf (2 ^ 32 - 7) 2 0 .r30 ≡ 2 ^ 32 - 1))
+    -- with every PSW
+    ∷ ((psw : ℕ) → pcAfter 0x8A00 psw ≡ pcBefore)
+    ∷ ((psw : ℕ) → pcAfter 0x9A00 psw ≡ pcBefore + 2)
+    -- the image columns of a window, by W, GX and GP, to the left eye and to the right
+    ∷ ((shownFrom (worldWith 0 383 1) 0 0 384 ≡ (382 ∷ [])) × (shownFrom (worldWith 0 383 1) 1 0 384 ≡ []))
     ∷ []
 
--- what the definitions give is what the paper prints: in a row, and in every row of a list
-abbrev pub RowHolds : Row → Type 0
-RowHolds (places given printed) = given ≡ printed
-RowHolds (numbers given printed) = given ≡ printed
-
-abbrev pub EachHolds : List Row → Type 0
+-- every row of a list holds
+abbrev pub EachHolds : List (Type 0) → Type 0
 EachHolds [] = Unit {0}
-EachHolds (row ∷ rows) = RowHolds row × EachHolds rows
+EachHolds (row ∷ rows) = row × EachHolds rows
 
 abbrev pub RowsHold : Type 0
 RowsHold = EachHolds exampleRows

@@ -12,7 +12,8 @@ use Rattle.processor_step.specs.Step.{stepOf, fetchedOf}
 use Rattle.processor_step.specs.declared.step.Fetched.{Fetched}
 use Rattle.processor_undefined.specs.Reads.{readOf, undefinedWhen, undefinedStepOf}
 use Rattle.processor_undefined.specs.declared.Undefined.{Undefined}
-use Rattle.processor.specs.Record.{systemIn, lentOf, processorOf}
+use Rattle.processor.specs.Record.{systemIn, processorOf}
+use Rattle.processor.specs.Lines.{lentOf}
 use Rattle.processor.specs.Acceptance.{acceptanceAt, acceptanceIn}
 use Rattle.processor.specs.Run.{Run, runOf}
 use Rattle.processor.specs.Calls.{doneOf, ranOf, checkedStepOf, checkedRunOf}

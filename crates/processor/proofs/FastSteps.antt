@@ -7,7 +7,8 @@ use native.Mathlib.Omega.{arith}
 use Rattle.bus.specs.Memory.{Memory}
 use Rattle.processor_machine.specs.State.{State, steppedOf}
 use Rattle.processor_machine.specs.declared.Answer.the-variants.{Ended}
-use Rattle.processor_step.specs.Step.{acceptsIn, runningStepOf, instructionStepOf, stepOf}
+use Rattle.processor_step.specs.Interrupted.{acceptsIn}
+use Rattle.processor_step.specs.Step.{runningStepOf, instructionStepOf, stepOf}
 use Rattle.processor_fast.specs.inner.Leads.{Stays, Leads, none, more}
 use Rattle.processor.specs.inner.Follows.{Follows}
 use Rattle.processor.proofs.Follows.{follows-start, follows-counted}

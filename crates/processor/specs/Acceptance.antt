@@ -13,7 +13,8 @@ use Rattle.refusal.specs.declared.Verdict.the-variants.{Accepted, Refused}
 use Rattle.refusal.specs.declared.Refusal as refusal
 use Rattle.processor_machine.specs.State.{State, eipcPlace, eipswPlace, fepcPlace, fepswPlace, sr25Place, sr31Place}
 use Rattle.processor_machine.specs.System.{pswBitsOf}
-use Rattle.processor.specs.Record.{stateIn, busOf}
+use Rattle.processor.specs.Record.{stateIn}
+use Rattle.processor.specs.Lines.{busOf}
 use Rattle.processor.specs.declared.Processor.{Processor}
 
 -- both tests hold

@@ -12,7 +12,8 @@ use Rattle.processor_undefined.specs.declared.Undefined.{Undefined}
 use Rattle.processor_machine.specs.declared.Mode.the-variants.{Running}
 use Rattle.processor_machine.specs.declared.Answer.{Answer}
 use Rattle.processor_machine.specs.declared.Answer.the-variants.{Refused}
-use Rattle.processor.specs.Record.{stateIn, busOf, lentOf, processorOf}
+use Rattle.processor.specs.Record.{stateIn, processorOf}
+use Rattle.processor.specs.Lines.{busOf, lentOf}
 use Rattle.processor.specs.Acceptance.{acceptanceIn}
 use Rattle.processor.specs.Run.{runOf}
 use Rattle.processor.specs.declared.Processor.{Processor}

@@ -1,4 +1,5 @@
 pub mod Record
+pub mod Lines
 pub mod Acceptance
 pub mod Run
 pub mod Calls

@@ -1,12 +1,8 @@
--- The processor's record as the public calls have it, and what it stands for: a state (machine, State), and the request
--- lines and the timer among the device registers of the memory (bus, Registers). The caller's memories have the
--- drawing registers alone.
+-- The processor's record as the public calls have it, and the state that it stands for (machine, State).
 use Prim.Native.Nat.{ℕ}
 use mathlib.Core.List.{List, [], _∷_}
 use lib.ListN.{getD}
-use Rattle.bus.specs.Registers.{drawingIn}
-use Rattle.bus.specs.TimerLines.{hardwareIn, deviceOf}
-use Rattle.bus.specs.Memory.{Memory, withRegs}
+use Rattle.bus.specs.TimerLines.{hardwareIn}
 use Rattle.processor_machine.specs.State.{State, stateOf, eipcPlace, eipswPlace, fepcPlace, fepswPlace, ecrPlace}
 use Rattle.processor_machine.specs.State.{sr25Place, sr29Place, sr31Place}
 use Rattle.processor.specs.declared.Processor.{Processor}
@@ -18,14 +14,6 @@ systemIn p = p .eipc ∷ p .eipsw ∷ p .fepc ∷ p .fepsw ∷ p .ecr ∷ p .sr2
 -- the state that a record stands for
 abbrev pub stateIn : Processor → State
 stateIn p = stateOf (p .regs) (systemIn p) (p .pc) (p .psw) (p .mode)
-
--- the memory that a step has: the record's lines and timer follow the drawing registers
-abbrev pub busOf : Processor → Memory → Memory
-busOf p m = withRegs m (deviceOf (m .regs) (p .hardware))
-
--- the caller's memory ("lent" in paper 01): the drawing registers alone
-abbrev pub lentOf : Memory → Memory
-lentOf m = withRegs m (drawingIn (m .regs))
 
 -- the record of a state and of the device registers
 abbrev pub processorOf : State → List ℕ → Processor

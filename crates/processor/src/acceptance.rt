@@ -36,8 +36,7 @@ fn formats_ok(sys: &[u32; 8], psw: u32) -> bool
     processor_machine::system::psw_bits(fepsw) == fepsw
 }
 
-// Whether the processor state is valid (refusal 5). It is `pub` for the crate saved_kinds, and no call of the
-// library's users.
+// Whether the processor state is valid (refusal 5). Internal: `pub` for the crate saved_kinds.
 pub fn state_ok(regs: &[u32; 32], sys: &[u32; 8], pc: u32, psw: u32) -> bool
     ensures { λ r. ⌜ r ≡ stateOk (now (regs .entry)) (now (sys .entry)) pc psw ⌝ }
 {

@@ -20,8 +20,8 @@ ghost use Rattle.bus.specs.Lent.{enteringWith, leavingWith};
 ghost use Rattle.processor.specs.Acceptance.{acceptanceIn};
 ghost use Rattle.processor.specs.Calls.{doneOf, ranOf, checkedStepOf, checkedRunOf, resetOf};
 
-// The lowest of refusals 1 to 5 that a step or a run with these arguments meets. It is `pub` for the crate capi, and no
-// call of the library's users.
+// The lowest of refusals 1 to 5 that a step or a run with these arguments meets. Internal: `pub`
+// for the crates above.
 pub fn verdict(
     rom: &[u8],
     wram: &[u8],
@@ -52,7 +52,7 @@ pub fn verdict(
     )
 }
 
-// One step. Which bytes it read are undefined is worked out from what it fetched and the registers before it.
+// One step. Which bytes that it read are undefined is computed from what it fetched and the registers before it.
 pub fn step(
     rom: &[u8],
     wram: &mut [u8],

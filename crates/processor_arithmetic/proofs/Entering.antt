@@ -4,7 +4,7 @@ use mathlib.Core.Path.{_∙_}
 use mathlib.Core.Logic.{_≢_}
 use native.Mathlib.Omega.{arith}
 use Rattle.word.specs.Bit.{withoutBit, withBit}
-use Rattle.processor_arithmetic.specs.Flag.{setEpOf, setNpOf, setIdOf, clearAeOf, regularOf, duplexedOf}
+use Rattle.processor_arithmetic.specs.Flag.{regularOf, duplexedOf}
 use Rattle.processor_arithmetic.specs.Entry.{Enters, RegularEntry, DuplexedEntry}
 use Rattle.processor_arithmetic.proofs.Places.{set-flag, set-flag-others, clear-flag, clear-flag-others}
 
@@ -21,9 +21,9 @@ enters b psw i a =
     }
 
 pub regular-entry : RegularEntry
-unfolding regularOf setEpOf setIdOf clearAeOf
+unfolding regularOf
 regular-entry psw = enters 14 psw (λ e. omega (arith, e)) (λ e. omega (arith, e))
 
 pub duplexed-entry : DuplexedEntry
-unfolding duplexedOf setNpOf setIdOf clearAeOf
+unfolding duplexedOf
 duplexed-entry psw = enters 15 psw (λ e. omega (arith, e)) (λ e. omega (arith, e))

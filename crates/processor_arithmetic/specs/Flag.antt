@@ -17,22 +17,6 @@ ovFlag = 2
 abbrev pub cyFlag : ℕ
 cyFlag = 3
 
--- FUD, FOV, FZD, FIV and FRO of the floating instructions
-abbrev pub fudFlag : ℕ
-fudFlag = 5
-
-abbrev pub fovFlag : ℕ
-fovFlag = 6
-
-abbrev pub fzdFlag : ℕ
-fzdFlag = 7
-
-abbrev pub fivFlag : ℕ
-fivFlag = 8
-
-abbrev pub froFlag : ℕ
-froFlag = 9
-
 -- ID, AE, EP and NP of interrupts and exceptions
 abbrev pub idFlag : ℕ
 idFlag = 12
@@ -74,20 +58,10 @@ setIdOf psw = withBit idFlag psw
 unfoldable pub clearIdOf : ℕ → ℕ
 clearIdOf psw = withoutBit idFlag psw
 
--- EP set, NP set, AE cleared
-unfoldable pub setEpOf : ℕ → ℕ
-setEpOf psw = withBit epFlag psw
-
-unfoldable pub setNpOf : ℕ → ℕ
-setNpOf psw = withBit npFlag psw
-
-unfoldable pub clearAeOf : ℕ → ℕ
-clearAeOf psw = withoutBit aeFlag psw
-
 -- PSW as a regular exception enters: "EP and ID set, AE cleared"
 unfoldable pub regularOf : ℕ → ℕ
-regularOf psw = clearAeOf (setIdOf (setEpOf psw))
+regularOf psw = withoutBit aeFlag (withBit idFlag (withBit epFlag psw))
 
 -- PSW as a duplexed exception enters: "NP and ID set, AE cleared"
 unfoldable pub duplexedOf : ℕ → ℕ
-duplexedOf psw = clearAeOf (setIdOf (setNpOf psw))
+duplexedOf psw = withoutBit aeFlag (withBit idFlag (withBit npFlag psw))

@@ -1,4 +1,5 @@
 pub mod Flag
+pub mod FloatFlag
 pub mod Sign
 pub mod Integer
 pub mod Sum

@@ -19,23 +19,18 @@ rightOutOf a n = pick (eqb n 0) 0 (bitAt (n - 1) a)
 unfoldable pub arithmeticRightOf : ℕ → ℕ → ℕ
 arithmeticRightOf a n = complementOf (2 ^ 32) (shrZ (signed a) (2 ^ n))
 
+-- the outcome of a shift: the value, and the last bit out in CY
+abbrev pub shiftedOf : (value out psw : ℕ) → Outcome
+shiftedOf value out psw = record { value = value; psw = flagsOf psw out 0 value }
+
 -- SHL
 unfoldable pub shiftLeftOf : ℕ → ℕ → ℕ → Outcome
-shiftLeftOf a b psw =
-    let n = b % 32 in
-    let v = a * 2 ^ n % 2 ^ 32 in
-    record { value = v; psw = flagsOf psw (leftOutOf a n) 0 v }
+shiftLeftOf a b psw = shiftedOf (a * 2 ^ (b % 32) % 2 ^ 32) (leftOutOf a (b % 32)) psw
 
 -- SHR
 unfoldable pub shiftRightOf : ℕ → ℕ → ℕ → Outcome
-shiftRightOf a b psw =
-    let n = b % 32 in
-    let v = a / 2 ^ n in
-    record { value = v; psw = flagsOf psw (rightOutOf a n) 0 v }
+shiftRightOf a b psw = shiftedOf (a / 2 ^ (b % 32)) (rightOutOf a (b % 32)) psw
 
 -- SAR
 unfoldable pub shiftArithmeticOf : ℕ → ℕ → ℕ → Outcome
-shiftArithmeticOf a b psw =
-    let n = b % 32 in
-    let v = arithmeticRightOf a n in
-    record { value = v; psw = flagsOf psw (rightOutOf a n) 0 v }
+shiftArithmeticOf a b psw = shiftedOf (arithmeticRightOf a (b % 32)) (rightOutOf a (b % 32)) psw

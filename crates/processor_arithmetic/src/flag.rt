@@ -1,8 +1,9 @@
 // The flags of PSW: CY, OV, S and Z in bits 3 to 0, ID in bit 12. `pub` for the crates above alone.
 ghost use mathlib.Core.Path.{_≡_};
 ghost use Prim.Native.Nat.{_<_};
-ghost use Rattle.processor_arithmetic.specs.Flag.{bitOf, flagsOf, keepCarryOf, setIdOf, clearIdOf, setEpOf};
-ghost use Rattle.processor_arithmetic.specs.Flag.{setNpOf, clearAeOf, regularOf, duplexedOf};
+ghost use Rattle.processor_arithmetic.specs.Flag.{bitOf, flagsOf, keepCarryOf, setIdOf, clearIdOf, regularOf};
+ghost use Rattle.processor_arithmetic.specs.Flag.{duplexedOf, aeFlag, epFlag, npFlag};
+ghost use Rattle.word.specs.Bit.{withBit, withoutBit};
 
 // 1 for true and 0 for false.
 pub fn bit(b: bool) -> u32
@@ -43,19 +44,19 @@ pub fn clear_id(psw: u32) -> u32
 
 // EP set, NP set, AE cleared.
 fn set_ep(psw: u32) -> u32
-    ensures { λ r. ⌜ r ≡ setEpOf psw ⌝ }
+    ensures { λ r. ⌜ r ≡ withBit epFlag psw ⌝ }
 {
     psw - psw / 16384 % 2 * 16384 + 16384
 }
 
 fn set_np(psw: u32) -> u32
-    ensures { λ r. ⌜ r ≡ setNpOf psw ⌝ }
+    ensures { λ r. ⌜ r ≡ withBit npFlag psw ⌝ }
 {
     psw - psw / 32768 % 2 * 32768 + 32768
 }
 
 fn clear_ae(psw: u32) -> u32
-    ensures { λ r. ⌜ r ≡ clearAeOf psw ⌝ }
+    ensures { λ r. ⌜ r ≡ withoutBit aeFlag psw ⌝ }
 {
     psw - psw / 8192 % 2 * 8192
 }

@@ -1,19 +1,20 @@
 -- Document 000's "List of Instructions by Opcode": one row for each of the 64 opcodes, in order, each with its format
--- and mnemonic as there. f is the first halfword and s the second. Paper 01's Illegal opcodes are `Modelled Illegal`,
+-- and mnemonic as there. f is the first halfword and s the second; an immediate is sign-extended by `extendOf`, or
+-- zero-extended as it stands, MOVHI's too, which its execution shifts. Paper 01's Illegal opcodes are `Modelled Illegal`,
 -- those that it leaves out `NotModelled`.
 use Prim.Native.Nat.{ℕ}
 use mathlib.Core.List.{List, [], _∷_, _++_}
 use lib.ListN.{getD, replicate}
-use Rattle.processor_decode.specs.Format.{lowOf, reg2Of, register, signedImmediate, unsigned, setf, ldsr, stsr}
-use Rattle.processor_decode.specs.Format.{opcodeOf, branch, jr}
-use Rattle.processor_decode.specs.Format.{jal, longSigned, longUnsigned, load, input, store, output}
+use Rattle.word.specs.Extend.{extendOf}
+use Rattle.processor_decode.specs.Format.{lowOf, reg2Of, register, immediate, setf, ldsr, stsr}
+use Rattle.processor_decode.specs.Format.{opcodeOf, branch, dispOf, long, transfer}
 use Rattle.processor_decode.specs.SubOpcode.{extendedOf}
 use Rattle.processor_decode.specs.declared.RegisterOperation.{RegisterOperation}
 use Rattle.processor_decode.specs.declared.ImmediateOperation.{ImmediateOperation}
 use Rattle.processor_decode.specs.declared.LongOperation.{LongOperation}
 use Rattle.processor_decode.specs.declared.Width.{Width}
 use Rattle.processor_decode.specs.declared.Instruction.the-variants.{Mul, Div, Mulu, Divu, Jmp, Cli, Sei, Trap}
-use Rattle.processor_decode.specs.declared.Instruction.the-variants.{Reti, Halt, Illegal}
+use Rattle.processor_decode.specs.declared.Instruction.the-variants.{Reti, Halt, Jr, Jal, Load, In, Store, Out, Illegal}
 use Rattle.processor_decode.specs.declared.Decoded.{Decoded}
 use Rattle.processor_decode.specs.declared.Decoded.the-variants.{Modelled, NotModelled}
 
@@ -53,21 +54,21 @@ shortRows f =
     -- 001111 I NOT
     register RegisterOperation.Not f ∷
     -- 010000 II MOV
-    signedImmediate ImmediateOperation.Mov f ∷
+    immediate ImmediateOperation.Mov (extendOf 16 (lowOf f)) f ∷
     -- 010001 II ADD
-    signedImmediate ImmediateOperation.Add f ∷
+    immediate ImmediateOperation.Add (extendOf 16 (lowOf f)) f ∷
     -- 010010 II SETF
     setf f ∷
     -- 010011 II CMP
-    signedImmediate ImmediateOperation.Cmp f ∷
+    immediate ImmediateOperation.Cmp (extendOf 16 (lowOf f)) f ∷
     -- 010100 II SHL
-    unsigned ImmediateOperation.Shl f ∷
+    immediate ImmediateOperation.Shl (lowOf f) f ∷
     -- 010101 II SHR
-    unsigned ImmediateOperation.Shr f ∷
+    immediate ImmediateOperation.Shr (lowOf f) f ∷
     -- 010110 II CLI
     Modelled Cli ∷
     -- 010111 II SAR
-    unsigned ImmediateOperation.Sar f ∷
+    immediate ImmediateOperation.Sar (lowOf f) f ∷
     -- 011000 II TRAP
     Modelled (Trap (lowOf f)) ∷
     -- 011001 II RETI
@@ -94,53 +95,53 @@ branchRows f = replicate 8 (branch f)
 unfoldable pub longRows : ℕ → ℕ → List Decoded
 longRows f s =
     -- 101000 V MOVEA
-    longSigned LongOperation.Movea f s ∷
+    long LongOperation.Movea (extendOf 32768 s) f ∷
     -- 101001 V ADDI
-    longSigned LongOperation.Addi f s ∷
+    long LongOperation.Addi (extendOf 32768 s) f ∷
     -- 101010 IV JR
-    jr f s ∷
+    Modelled (Jr (dispOf f s)) ∷
     -- 101011 IV JAL
-    jal f s ∷
+    Modelled (Jal (dispOf f s)) ∷
     -- 101100 V ORI
-    longUnsigned LongOperation.Ori f s ∷
+    long LongOperation.Ori s f ∷
     -- 101101 V ANDI
-    longUnsigned LongOperation.Andi f s ∷
+    long LongOperation.Andi s f ∷
     -- 101110 V XORI
-    longUnsigned LongOperation.Xori f s ∷
+    long LongOperation.Xori s f ∷
     -- 101111 V MOVHI
-    longUnsigned LongOperation.Movhi f s ∷
+    long LongOperation.Movhi s f ∷
     -- 110000 VI LD.B
-    load Width.Byte f s ∷
+    transfer Load Width.Byte f s ∷
     -- 110001 VI LD.H
-    load Width.Half f s ∷
+    transfer Load Width.Half f s ∷
     -- 110010 - Invalid
     Modelled Illegal ∷
     -- 110011 VI LD.W
-    load Width.Word f s ∷
+    transfer Load Width.Word f s ∷
     -- 110100 VI ST.B
-    store Width.Byte f s ∷
+    transfer Store Width.Byte f s ∷
     -- 110101 VI ST.H
-    store Width.Half f s ∷
+    transfer Store Width.Half f s ∷
     -- 110110 - Invalid
     Modelled Illegal ∷
     -- 110111 VI ST.W
-    store Width.Word f s ∷
+    transfer Store Width.Word f s ∷
     -- 111000 VI IN.B
-    input Width.Byte f s ∷
+    transfer In Width.Byte f s ∷
     -- 111001 VI IN.H
-    input Width.Half f s ∷
+    transfer In Width.Half f s ∷
     -- 111010 VI CAXI
     NotModelled ∷
     -- 111011 VI IN.W
-    input Width.Word f s ∷
+    transfer In Width.Word f s ∷
     -- 111100 VI OUT.B
-    output Width.Byte f s ∷
+    transfer Out Width.Byte f s ∷
     -- 111101 VI OUT.H
-    output Width.Half f s ∷
+    transfer Out Width.Half f s ∷
     -- 111110 VII floating-point and Nintendo, by sub-opcode
     extendedOf f s ∷
     -- 111111 VI OUT.W
-    output Width.Word f s ∷
+    transfer Out Width.Word f s ∷
     []
 
 -- the row of the opcode, the top six bits of the first halfword

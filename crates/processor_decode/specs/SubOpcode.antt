@@ -4,12 +4,26 @@
 use Prim.Native.Nat.{ℕ, _/_}
 use mathlib.Core.List.{List, [], _∷_}
 use lib.ListN.{getD}
-use Rattle.processor_decode.specs.Format.{cmpf, floating, nintendo, exchange}
-use Rattle.processor_decode.specs.declared.FloatingOperation.{FloatingOperation}
-use Rattle.processor_decode.specs.declared.NintendoOperation.{NintendoOperation}
-use Rattle.processor_decode.specs.declared.Instruction.the-variants.{Illegal}
+use Rattle.processor_decode.specs.Format.{lowOf, reg2Of}
+use Rattle.processor_decode.specs.declared.sub_opcode.FloatingOperation.{FloatingOperation}
+use Rattle.processor_decode.specs.declared.sub_opcode.NintendoOperation.{NintendoOperation}
+use Rattle.processor_decode.specs.declared.Instruction.the-variants.{Illegal, Cmpf, Floating, Nintendo}
 use Rattle.processor_decode.specs.declared.Decoded.{Decoded}
 use Rattle.processor_decode.specs.declared.Decoded.the-variants.{Modelled}
+
+-- Format VII: the other bits of s are "RFU"
+abbrev pub cmpf : ℕ → Decoded
+cmpf f = Modelled (Cmpf (lowOf f) (reg2Of f))
+
+abbrev pub floating : FloatingOperation → ℕ → Decoded
+floating op f = Modelled (Floating op (lowOf f) (reg2Of f))
+
+abbrev pub nintendo : NintendoOperation → ℕ → Decoded
+nintendo op f = Modelled (Nintendo op (lowOf f) (reg2Of f))
+
+-- XB and XH name reg2 alone: the bits of reg1 are unused, and reg1 is 0
+abbrev pub exchange : NintendoOperation → ℕ → Decoded
+exchange op f = Modelled (Nintendo op 0 (reg2Of f))
 
 unfoldable pub subRows : ℕ → List Decoded
 subRows f =

@@ -7,51 +7,36 @@ use crate::RegisterOperation;
 use crate::Width;
 ghost use mathlib.Core.Path.{_≡_};
 ghost use Prim.Native.Nat.{_<_};
-ghost use Rattle.processor_decode.specs.Format.{register, signedImmediate, unsigned, long};
-ghost use Rattle.processor_decode.specs.Format.{longSigned, longUnsigned, load};
-ghost use Rattle.processor_decode.specs.Format.{input, store, output, ldsr, stsr, setf, branch, jr, jal, dispOf};
+ghost use Rattle.word.specs.Extend.{extendOf};
+ghost use Rattle.processor_decode.specs.Format.{lowOf, register, immediate, long, transfer};
+ghost use Rattle.processor_decode.specs.Format.{ldsr, stsr, setf, branch, dispOf};
 
 // Format I: reg1 and reg2.
 pub fn register(op: RegisterOperation, f: u32) -> Decoded
     ensures { λ r. ⌜ r ≡ register op f ⌝ }
 {
-    Decoded::Modelled(Instruction::Register {
-        op,
-        reg1: f % 32,
-        reg2: f / 32 % 32,
-    })
+    Decoded::Modelled(Instruction::Register(op, f % 32, f / 32 % 32))
 }
 
 // Format II: a five-bit immediate, sign-extended, and reg2.
 pub fn signed(op: ImmediateOperation, f: u32) -> Decoded
-    ensures { λ r. ⌜ r ≡ signedImmediate op f ⌝ }
+    ensures { λ r. ⌜ r ≡ immediate op (extendOf 16 (lowOf f)) f ⌝ }
 {
-    Decoded::Modelled(Instruction::Immediate {
-        op,
-        imm: word::extend(16, f % 32),
-        reg2: f / 32 % 32,
-    })
+    Decoded::Modelled(Instruction::Immediate(op, word::extend(16, f % 32), f / 32 % 32))
 }
 
 // Format II: a five-bit immediate, zero-extended, and reg2.
 pub fn unsigned(op: ImmediateOperation, f: u32) -> Decoded
-    ensures { λ r. ⌜ r ≡ unsigned op f ⌝ }
+    ensures { λ r. ⌜ r ≡ immediate op (lowOf f) f ⌝ }
 {
-    Decoded::Modelled(Instruction::Immediate {
-        op,
-        imm: f % 32,
-        reg2: f / 32 % 32,
-    })
+    Decoded::Modelled(Instruction::Immediate(op, f % 32, f / 32 % 32))
 }
 
 // Format II with a condition, of which the top bit is ignored.
 pub fn setf(f: u32) -> Decoded
     ensures { λ r. ⌜ r ≡ setf f ⌝ }
 {
-    Decoded::Modelled(Instruction::Setf {
-        cond: f % 16,
-        reg2: f / 32 % 32,
-    })
+    Decoded::Modelled(Instruction::Setf(f % 16, f / 32 % 32))
 }
 
 // LDSR, but for register 24, the cache control word.
@@ -61,10 +46,7 @@ pub fn ldsr(f: u32) -> Decoded
     if f % 32 == 24 {
         return Decoded::NotModelled;
     }
-    Decoded::Modelled(Instruction::Ldsr {
-        reg2: f / 32 % 32,
-        id: f % 32,
-    })
+    Decoded::Modelled(Instruction::Ldsr(f / 32 % 32, f % 32))
 }
 
 // STSR, but for register 24, the cache control word.
@@ -74,10 +56,7 @@ pub fn stsr(f: u32) -> Decoded
     if f % 32 == 24 {
         return Decoded::NotModelled;
     }
-    Decoded::Modelled(Instruction::Stsr {
-        id: f % 32,
-        reg2: f / 32 % 32,
-    })
+    Decoded::Modelled(Instruction::Stsr(f % 32, f / 32 % 32))
 }
 
 // Format III: a condition and a nine-bit displacement, bit 0 cleared.
@@ -85,10 +64,7 @@ pub fn branch(f: u32) -> Decoded
     ensures { λ r. ⌜ r ≡ branch f ⌝ }
 {
     let disp = word::extend(256, f % 512 / 2 * 2);
-    Decoded::Modelled(Instruction::Bcond {
-        cond: f / 512 % 16,
-        disp,
-    })
+    Decoded::Modelled(Instruction::Bcond(f / 512 % 16, disp))
 }
 
 // Format IV: a 26-bit displacement, its high ten bits in the first halfword, bit 0 cleared.
@@ -101,43 +77,34 @@ fn displacement(f: u32, s: u32) -> u32
 
 pub fn jr(f: u32, s: u32) -> Decoded
     requires { ⌜ s < 65536 ⌝ }
-    ensures { λ r. ⌜ r ≡ jr f s ⌝ }
+    ensures { λ r. ⌜ r ≡ Decoded.Modelled (Instruction.Jr (dispOf f s)) ⌝ }
 {
-    Decoded::Modelled(Instruction::Jr {
-        disp: displacement(f, s),
-    })
+    Decoded::Modelled(Instruction::Jr(displacement(f, s)))
 }
 
 pub fn jal(f: u32, s: u32) -> Decoded
     requires { ⌜ s < 65536 ⌝ }
-    ensures { λ r. ⌜ r ≡ jal f s ⌝ }
+    ensures { λ r. ⌜ r ≡ Decoded.Modelled (Instruction.Jal (dispOf f s)) ⌝ }
 {
-    Decoded::Modelled(Instruction::Jal {
-        disp: displacement(f, s),
-    })
+    Decoded::Modelled(Instruction::Jal(displacement(f, s)))
 }
 
 // Format V: a sixteen-bit immediate, reg1 and reg2.
 fn long(op: LongOperation, imm: u32, f: u32) -> Decoded
     ensures { λ r. ⌜ r ≡ long op imm f ⌝ }
 {
-    Decoded::Modelled(Instruction::Long {
-        op,
-        imm,
-        reg1: f % 32,
-        reg2: f / 32 % 32,
-    })
+    Decoded::Modelled(Instruction::Long(op, imm, f % 32, f / 32 % 32))
 }
 
 pub fn long_signed(op: LongOperation, f: u32, s: u32) -> Decoded
     requires { ⌜ s < 65536 ⌝ }
-    ensures { λ r. ⌜ r ≡ longSigned op f s ⌝ }
+    ensures { λ r. ⌜ r ≡ long op (extendOf 32768 s) f ⌝ }
 {
     long(op, word::extend(32768, s), f)
 }
 
 pub fn long_unsigned(op: LongOperation, f: u32, s: u32) -> Decoded
-    ensures { λ r. ⌜ r ≡ longUnsigned op f s ⌝ }
+    ensures { λ r. ⌜ r ≡ long op s f ⌝ }
 {
     long(op, s, f)
 }
@@ -145,52 +112,32 @@ pub fn long_unsigned(op: LongOperation, f: u32, s: u32) -> Decoded
 // Format VI: a sixteen-bit displacement, the base register reg1 and the data register reg2.
 pub fn load(width: Width, f: u32, s: u32) -> Decoded
     requires { ⌜ s < 65536 ⌝ }
-    ensures { λ r. ⌜ r ≡ load width f s ⌝ }
+    ensures { λ r. ⌜ r ≡ transfer Instruction.Load width f s ⌝ }
 {
     let disp = word::extend(32768, s);
-    Decoded::Modelled(Instruction::Load {
-        width,
-        disp,
-        reg1: f % 32,
-        reg2: f / 32 % 32,
-    })
+    Decoded::Modelled(Instruction::Load(width, disp, f % 32, f / 32 % 32))
 }
 
 pub fn input(width: Width, f: u32, s: u32) -> Decoded
     requires { ⌜ s < 65536 ⌝ }
-    ensures { λ r. ⌜ r ≡ input width f s ⌝ }
+    ensures { λ r. ⌜ r ≡ transfer Instruction.In width f s ⌝ }
 {
     let disp = word::extend(32768, s);
-    Decoded::Modelled(Instruction::In {
-        width,
-        disp,
-        reg1: f % 32,
-        reg2: f / 32 % 32,
-    })
+    Decoded::Modelled(Instruction::In(width, disp, f % 32, f / 32 % 32))
 }
 
 pub fn store(width: Width, f: u32, s: u32) -> Decoded
     requires { ⌜ s < 65536 ⌝ }
-    ensures { λ r. ⌜ r ≡ store width f s ⌝ }
+    ensures { λ r. ⌜ r ≡ transfer Instruction.Store width f s ⌝ }
 {
     let disp = word::extend(32768, s);
-    Decoded::Modelled(Instruction::Store {
-        width,
-        disp,
-        reg1: f % 32,
-        reg2: f / 32 % 32,
-    })
+    Decoded::Modelled(Instruction::Store(width, disp, f % 32, f / 32 % 32))
 }
 
 pub fn output(width: Width, f: u32, s: u32) -> Decoded
     requires { ⌜ s < 65536 ⌝ }
-    ensures { λ r. ⌜ r ≡ output width f s ⌝ }
+    ensures { λ r. ⌜ r ≡ transfer Instruction.Out width f s ⌝ }
 {
     let disp = word::extend(32768, s);
-    Decoded::Modelled(Instruction::Out {
-        width,
-        disp,
-        reg1: f % 32,
-        reg2: f / 32 % 32,
-    })
+    Decoded::Modelled(Instruction::Out(width, disp, f % 32, f / 32 % 32))
 }

@@ -3,8 +3,10 @@
 // and unused bits are absent. Immediates and displacements are words: sign- or zero-extended as 000 says for each.
 // These functions are `pub` for the crates above: internal, not calls of the library.
 mod format;
-mod sub_opcode;
+pub mod sub_opcode;
 
+use crate::sub_opcode::FloatingOperation;
+use crate::sub_opcode::NintendoOperation;
 ghost use mathlib.Core.Path.{_≡_};
 ghost use Prim.Native.Nat.{_<_, _≤_, _/_, _-_};
 ghost use mathlib.Core.Bool.{true};
@@ -47,25 +49,6 @@ pub enum LongOperation {
     Movhi,
 }
 
-// What Format VII's floating instructions do but for CMPF.S, in the order of the sub-opcodes.
-pub enum FloatingOperation {
-    CvtWs,
-    CvtSw,
-    Addf,
-    Subf,
-    Mulf,
-    Divf,
-    TrncSw,
-}
-
-// What Format VII's Nintendo instructions do, in the order of the sub-opcodes.
-pub enum NintendoOperation {
-    Xb,
-    Xh,
-    Rev,
-    Mpyhw,
-}
-
 // How much a load or store moves.
 pub enum Width {
     Byte,
@@ -73,111 +56,50 @@ pub enum Width {
     Word,
 }
 
+// The operands of an instruction, as 000 names them: registers by their numbers, the others as words.
+pub type Reg1 = u32;
+
+pub type Reg2 = u32;
+
+pub type SystemRegister = u32;
+
+pub type Cond = u32;
+
+pub type Imm = u32;
+
+pub type Disp = u32;
+
+pub type Vector = u32;
+
 // A modelled instruction. Illegal is the invalid opcode, which raises an exception.
 pub enum Instruction {
-    Register {
-        op: RegisterOperation,
-        reg1: u32,
-        reg2: u32,
-    },
-    Mul {
-        reg1: u32,
-        reg2: u32,
-    },
-    Div {
-        reg1: u32,
-        reg2: u32,
-    },
-    Mulu {
-        reg1: u32,
-        reg2: u32,
-    },
-    Divu {
-        reg1: u32,
-        reg2: u32,
-    },
-    Jmp {
-        reg1: u32,
-    },
-    Immediate {
-        op: ImmediateOperation,
-        imm: u32,
-        reg2: u32,
-    },
-    Setf {
-        cond: u32,
-        reg2: u32,
-    },
+    Register(RegisterOperation, Reg1, Reg2),
+    Mul(Reg1, Reg2),
+    Div(Reg1, Reg2),
+    Mulu(Reg1, Reg2),
+    Divu(Reg1, Reg2),
+    Jmp(Reg1),
+    Immediate(ImmediateOperation, Imm, Reg2),
+    Setf(Cond, Reg2),
     Cli,
     Sei,
-    Trap {
-        vector: u32,
-    },
+    Trap(Vector),
     Reti,
     Halt,
-    Ldsr {
-        reg2: u32,
-        id: u32,
-    },
-    Stsr {
-        id: u32,
-        reg2: u32,
-    },
-    Bcond {
-        cond: u32,
-        disp: u32,
-    },
-    Jr {
-        disp: u32,
-    },
-    Jal {
-        disp: u32,
-    },
-    Long {
-        op: LongOperation,
-        imm: u32,
-        reg1: u32,
-        reg2: u32,
-    },
-    Load {
-        width: Width,
-        disp: u32,
-        reg1: u32,
-        reg2: u32,
-    },
-    In {
-        width: Width,
-        disp: u32,
-        reg1: u32,
-        reg2: u32,
-    },
-    Store {
-        width: Width,
-        disp: u32,
-        reg1: u32,
-        reg2: u32,
-    },
-    Out {
-        width: Width,
-        disp: u32,
-        reg1: u32,
-        reg2: u32,
-    },
+    Ldsr(Reg2, SystemRegister),
+    Stsr(SystemRegister, Reg2),
+    Bcond(Cond, Disp),
+    Jr(Disp),
+    Jal(Disp),
+    Long(LongOperation, Imm, Reg1, Reg2),
+    Load(Width, Disp, Reg1, Reg2),
+    In(Width, Disp, Reg1, Reg2),
+    Store(Width, Disp, Reg1, Reg2),
+    Out(Width, Disp, Reg1, Reg2),
     Illegal,
-    Cmpf {
-        reg1: u32,
-        reg2: u32,
-    },
-    Floating {
-        op: FloatingOperation,
-        reg1: u32,
-        reg2: u32,
-    },
-    Nintendo {
-        op: NintendoOperation,
-        reg1: u32,
-        reg2: u32,
-    },
+    Cmpf(Reg1, Reg2),
+    Floating(FloatingOperation, Reg1, Reg2),
+    Nintendo(NintendoOperation, Reg1, Reg2),
 }
 
 // What the halfwords mean: an instruction, or one that the model leaves out (refusal 6).
@@ -230,24 +152,12 @@ fn short(f: u32) -> Decoded
         3 => format::register(RegisterOperation::Cmp, f),
         4 => format::register(RegisterOperation::Shl, f),
         5 => format::register(RegisterOperation::Shr, f),
-        6 => Decoded::Modelled(Instruction::Jmp { reg1: f % 32 }),
+        6 => Decoded::Modelled(Instruction::Jmp(f % 32)),
         7 => format::register(RegisterOperation::Sar, f),
-        8 => Decoded::Modelled(Instruction::Mul {
-            reg1: f % 32,
-            reg2: f / 32 % 32,
-        }),
-        9 => Decoded::Modelled(Instruction::Div {
-            reg1: f % 32,
-            reg2: f / 32 % 32,
-        }),
-        10 => Decoded::Modelled(Instruction::Mulu {
-            reg1: f % 32,
-            reg2: f / 32 % 32,
-        }),
-        11 => Decoded::Modelled(Instruction::Divu {
-            reg1: f % 32,
-            reg2: f / 32 % 32,
-        }),
+        8 => Decoded::Modelled(Instruction::Mul(f % 32, f / 32 % 32)),
+        9 => Decoded::Modelled(Instruction::Div(f % 32, f / 32 % 32)),
+        10 => Decoded::Modelled(Instruction::Mulu(f % 32, f / 32 % 32)),
+        11 => Decoded::Modelled(Instruction::Divu(f % 32, f / 32 % 32)),
         12 => format::register(RegisterOperation::Or, f),
         13 => format::register(RegisterOperation::And, f),
         14 => format::register(RegisterOperation::Xor, f),
@@ -260,7 +170,7 @@ fn short(f: u32) -> Decoded
         21 => format::unsigned(ImmediateOperation::Shr, f),
         22 => Decoded::Modelled(Instruction::Cli),
         23 => format::unsigned(ImmediateOperation::Sar, f),
-        24 => Decoded::Modelled(Instruction::Trap { vector: f % 32 }),
+        24 => Decoded::Modelled(Instruction::Trap(f % 32)),
         25 => Decoded::Modelled(Instruction::Reti),
         26 => Decoded::Modelled(Instruction::Halt),
         27 => Decoded::Modelled(Instruction::Illegal),

@@ -5,7 +5,7 @@ use Prim.Native.Nat.{ℕ, _+_, _-_, _*_, _/_, _%_, _^_}
 use mathlib.Core.Bool.{Bool}
 use lib.Dec.{ltb, eqb}
 use Rattle.word.specs.Choose.{pick}
-use Rattle.processor_decode.specs.Format.{opcodeOf, firstLong, twoOf}
+use Rattle.processor_decode.specs.Format.{opcodeOf, twoOf}
 use Rattle.processor_encode.specs.Format.{formatOf}
 use Rattle.processor_encode.specs.Place.{extendedOpcode}
 use Rattle.processor_encode.specs.declared.Encoded as encoded
@@ -28,7 +28,7 @@ firstBranch = 0x20
 unfoldable pub operationAt : ℕ → ℕ → ℕ
 operationAt f s =
     pick (ltb (opcodeOf f) firstBranch) (opcodeOf f)
-    (pick (ltb (opcodeOf f) firstLong) firstBranch
+    (pick (ltb (opcodeOf f) 0b101000) firstBranch
     (pick (eqb (opcodeOf f) extendedOpcode) (64 + s / 2 ^ 10) (opcodeOf f)))
 
 -- the first halfword without its unused bits

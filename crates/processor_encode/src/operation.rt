@@ -1,12 +1,12 @@
 // An instruction's operation number and fields.
 use crate::Fields;
-use processor_decode::FloatingOperation;
 use processor_decode::ImmediateOperation;
 use processor_decode::Instruction;
 use processor_decode::LongOperation;
-use processor_decode::NintendoOperation;
 use processor_decode::RegisterOperation;
 use processor_decode::Width;
+use processor_decode::sub_opcode::FloatingOperation;
+use processor_decode::sub_opcode::NintendoOperation;
 ghost use mathlib.Core.Path.{_≡_};
 ghost use Prim.Native.Nat.{_+_, _<_};
 ghost use Rattle.processor_encode.specs.Fields.{fieldsOf, numbers, registerNumber, immediateNumber, longNumber};
@@ -110,57 +110,56 @@ pub fn fields(i: Instruction) -> Fields
     ensures { λ r. ⌜ r ≡ fieldsOf i ⌝ }
 {
     match i {
-        Instruction::Register { op, reg1, reg2 } => numbers(register_number(op), reg1, reg2, 0, 0),
-        Instruction::Mul { reg1, reg2 } => numbers(8, reg1, reg2, 0, 0),
-        Instruction::Div { reg1, reg2 } => numbers(9, reg1, reg2, 0, 0),
-        Instruction::Mulu { reg1, reg2 } => numbers(10, reg1, reg2, 0, 0),
-        Instruction::Divu { reg1, reg2 } => numbers(11, reg1, reg2, 0, 0),
-        Instruction::Jmp { reg1 } => numbers(6, reg1, 0, 0, 0),
-        Instruction::Immediate { op, imm, reg2 } => numbers(immediate_number(op), 0, reg2, 0, imm),
-        Instruction::Setf { cond, reg2 } => numbers(18, 0, reg2, cond, 0),
+        Instruction::Register(op, reg1, reg2) => numbers(register_number(op), reg1, reg2, 0, 0),
+        Instruction::Mul(reg1, reg2) => numbers(8, reg1, reg2, 0, 0),
+        Instruction::Div(reg1, reg2) => numbers(9, reg1, reg2, 0, 0),
+        Instruction::Mulu(reg1, reg2) => numbers(10, reg1, reg2, 0, 0),
+        Instruction::Divu(reg1, reg2) => numbers(11, reg1, reg2, 0, 0),
+        Instruction::Jmp(reg1) => numbers(6, reg1, 0, 0, 0),
+        Instruction::Immediate(op, imm, reg2) => numbers(immediate_number(op), 0, reg2, 0, imm),
+        Instruction::Setf(cond, reg2) => numbers(18, 0, reg2, cond, 0),
         Instruction::Cli => numbers(22, 0, 0, 0, 0),
         Instruction::Sei => numbers(30, 0, 0, 0, 0),
-        Instruction::Trap { vector } => numbers(24, 0, 0, 0, vector),
+        Instruction::Trap(vector) => numbers(24, 0, 0, 0, vector),
         Instruction::Reti => numbers(25, 0, 0, 0, 0),
         Instruction::Halt => numbers(26, 0, 0, 0, 0),
-        Instruction::Ldsr { reg2, id } => numbers(28, 0, reg2, 0, id),
-        Instruction::Stsr { id, reg2 } => numbers(29, 0, reg2, 0, id),
-        Instruction::Bcond { cond, disp } => numbers(32, 0, 0, cond, disp),
-        Instruction::Jr { disp } => numbers(42, 0, 0, 0, disp),
-        Instruction::Jal { disp } => numbers(43, 0, 0, 0, disp),
-        Instruction::Long {
-            op,
-            imm,
+        Instruction::Ldsr(reg2, id) => numbers(28, 0, reg2, 0, id),
+        Instruction::Stsr(id, reg2) => numbers(29, 0, reg2, 0, id),
+        Instruction::Bcond(cond, disp) => numbers(32, 0, 0, cond, disp),
+        Instruction::Jr(disp) => numbers(42, 0, 0, 0, disp),
+        Instruction::Jal(disp) => numbers(43, 0, 0, 0, disp),
+        Instruction::Long(op, imm, reg1, reg2) => numbers(long_number(op), reg1, reg2, 0, imm),
+        Instruction::Load(width, disp, reg1, reg2) => numbers(
+            width_number(48, width),
             reg1,
             reg2,
-        } => numbers(long_number(op), reg1, reg2, 0, imm),
-        Instruction::Load {
-            width,
+            0,
             disp,
+        ),
+        Instruction::In(width, disp, reg1, reg2) => numbers(
+            width_number(56, width),
             reg1,
             reg2,
-        } => numbers(width_number(48, width), reg1, reg2, 0, disp),
-        Instruction::In {
-            width,
+            0,
             disp,
+        ),
+        Instruction::Store(width, disp, reg1, reg2) => numbers(
+            width_number(52, width),
             reg1,
             reg2,
-        } => numbers(width_number(56, width), reg1, reg2, 0, disp),
-        Instruction::Store {
-            width,
+            0,
             disp,
+        ),
+        Instruction::Out(width, disp, reg1, reg2) => numbers(
+            width_number(60, width),
             reg1,
             reg2,
-        } => numbers(width_number(52, width), reg1, reg2, 0, disp),
-        Instruction::Out {
-            width,
+            0,
             disp,
-            reg1,
-            reg2,
-        } => numbers(width_number(60, width), reg1, reg2, 0, disp),
+        ),
         Instruction::Illegal => numbers(255, 0, 0, 0, 0),
-        Instruction::Cmpf { reg1, reg2 } => numbers(64, reg1, reg2, 0, 0),
-        Instruction::Floating { op, reg1, reg2 } => numbers(floating_number(op), reg1, reg2, 0, 0),
-        Instruction::Nintendo { op, reg1, reg2 } => numbers(nintendo_number(op), reg1, reg2, 0, 0),
+        Instruction::Cmpf(reg1, reg2) => numbers(64, reg1, reg2, 0, 0),
+        Instruction::Floating(op, reg1, reg2) => numbers(floating_number(op), reg1, reg2, 0, 0),
+        Instruction::Nintendo(op, reg1, reg2) => numbers(nintendo_number(op), reg1, reg2, 0, 0),
     }
 }

@@ -129,7 +129,8 @@ module _ (n f s : ℕ) (hf : f < 65536) (hs : s < 65536) (at : operationAt f s �
       let e = opcode-short n f s at small in
       ap One (same e (omega arith)) ∙ sym (cleared-short t n f s known e small)
 
-  long-read : (t : format.Format) (g u : ℕ) → formatOf n ≡ t → longNumber n ≡ true → (f / 1024 ≡ n → n < 64 → (g ≡ firstWithout t f) × (u ≡ secondWithout t s)) →
+  long-read : (t : format.Format) (g u : ℕ) → formatOf n ≡ t → longNumber n ≡ true
+      → (f / 1024 ≡ n → n < 64 → (g ≡ firstWithout t f) × (u ≡ secondWithout t s)) →
       Two g u ≡ clearedOf f s
   long-read t g u known fits same =
       let l = long-number n fits in
@@ -367,7 +368,8 @@ decodes-placed x SystemRegister known number h =
     let r = system-facts (x .immediate) (w .last) in
     let small = ltb-true (x .operation) 32 number in
     let wide : x .operation < 64 = omega arith in
-    let low = low-bits (placed (x .operation) (x .reg2) (x .immediate)) (x .immediate) (r .0) (placed-low (x .operation) (x .reg2) (x .immediate) wide (w .second)) in
+    let low = low-bits (placed (x .operation) (x .reg2) (x .immediate)) (x .immediate) (r .0)
+    (placed-low (x .operation) (x .reg2) (x .immediate) wide (w .second)) in
     short-placed x SystemRegister known h (x .reg2) (x .immediate) number (w .second) (rw low (ne-eqb (x .immediate) 24 (r .1)))
     (λ f s low middle. rw (low-bits f (x .immediate) (r .0) low, middle))
 decodes-placed x Branch known number h =

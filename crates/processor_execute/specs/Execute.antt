@@ -1,13 +1,10 @@
 -- What each instruction does to the processor and the memory (document 000, "Instruction Set"; paper 01,
 -- "Instructions"), in the groups of 000. `next` is the address of the following instruction.
 use Prim.Native.Nat.{ℕ, _+_, _%_, _^_}
-use mathlib.Core.List.{List}
 use lib.Dec.{eqb}
-use lib.Ieee.{binary32, toBits}
 use lib.ListN.{getD}
 use Rattle.word.specs.Bit.{isSet}
 use Rattle.word.specs.Choose.{pick}
-use Rattle.processor_arithmetic.specs.declared.Outcome.{Outcome}
 use Rattle.processor_arithmetic.specs.declared.Pair.{Pair}
 use Rattle.processor_arithmetic.specs.Flag.{bitOf, setIdOf, clearIdOf, npFlag}
 use Rattle.processor_arithmetic.specs.Product.{multiplyOf, multiplyUnsignedOf}
@@ -20,61 +17,22 @@ use Rattle.processor_decode.specs.declared.Instruction.the-variants.{Setf, Cli,
 use Rattle.processor_decode.specs.declared.Instruction.the-variants.{Bcond, Jr, Jal, Long, Load, In, Store, Out}
 use Rattle.processor_decode.specs.declared.Instruction.the-variants.{Illegal, Cmpf, Floating, Nintendo}
 use Rattle.processor_float.specs.Comparison.{comparisonOf}
-use Rattle.processor_float.specs.Flag.{numberFlagsOf, comparisonFlagsOf, conversionFlagsOf}
-use Rattle.processor_float.specs.declared.Compared.{Compared}
-use Rattle.processor_float.specs.declared.FloatOutcome.{FloatOutcome}
-use Rattle.processor_float.specs.declared.FloatOutcome.the-variants.{Number, Word, Reserved, Invalid, ZeroDivide}
-use Rattle.processor_float.specs.declared.FloatOutcome.the-variants.{Overflow}
 use Rattle.processor_machine.specs.State.{eipcPlace, eipswPlace, fepcPlace, fepswPlace}
 use Rattle.processor_machine.specs.State.{State, Stepped, stateOf, steppedOf, regOf, putOf, evenOf}
 use Rattle.processor_machine.specs.System.{systemOf, writtenOf}
 use Rattle.processor_machine.specs.Exception.{raiseOf}
-use Rattle.processor_execute.specs.Floating.{floatingOf, nintendoOf}
+use Rattle.processor_execute.specs.Result.{goesOn, givesOf, resultOf, pairOf}
+use Rattle.processor_execute.specs.Floating.{floatingOf, settlesOf, comparesOf, nintendoOf}
 use Rattle.processor_execute.specs.Operation.{registerOf, immediateOf, longOf}
 use Rattle.processor_execute.specs.Transfer.{loadedOf, inputOf, storedOf}
 use Rattle.processor_machine.specs.declared.Cause as cause
 use Rattle.processor_machine.specs.declared.Mode.the-variants.{Halted}
 use Rattle.processor_machine.specs.declared.Answer.the-variants.{Ended}
 
--- the instruction ended with these general registers and PSW, and goes on at pc
-abbrev pub goesOn : (regs : List ℕ) (pc psw : ℕ) → State → Memory → Stepped
-goesOn regs pc psw s m = steppedOf Ended (stateOf regs (s .sys) pc psw (s .mode)) m
-
--- it gave one value, to register n
-abbrev pub givesOf : (n v next : ℕ) → State → Memory → Stepped
-givesOf n v next s m = goesOn (putOf (s .regs) n v) next (s .psw) s m
-
--- it gave a result with flags, to register n
-abbrev pub resultOf : (n : ℕ) (o : Outcome) (next : ℕ) → State → Memory → Stepped
-resultOf n o next s m = goesOn (putOf (s .regs) n (o .value)) next (o .psw) s m
-
--- it gave two results: r30's first, so that reg2's wins where reg2 is r30
-abbrev pub pairOf : (n : ℕ) (p : Pair) (next : ℕ) → State → Memory → Stepped
-pairOf n p next s m = goesOn (putOf (putOf (s .regs) 30 (p .r30)) n (p .reg2)) next (p .psw) s m
-
 -- a division, unless the divisor is zero
 abbrev pub dividesOf : (divisor n : ℕ) (p : Pair) (next : ℕ) → State → Memory → Stepped
 dividesOf divisor n p next s m =
     pick (eqb divisor 0) (raiseOf cause.the-variants.ZeroDivision next s m) (pairOf n p next s m)
-
--- it came to a floating outcome: a number goes to register n as its word, a whole number as it is, and a trap leaves
--- the general registers as found
-abbrev pub settlesOf : (n : ℕ) (o : FloatOutcome) (next : ℕ) → State → Memory → Stepped
-settlesOf n (Number v underflowed) next s m =
-    let w = toBits binary32 v in
-    goesOn (putOf (s .regs) n w) next (numberFlagsOf (s .psw) w underflowed) s m
-settlesOf n (Word w) next s m = goesOn (putOf (s .regs) n w) next (conversionFlagsOf (s .psw) w) s m
-settlesOf n Reserved next s m = raiseOf cause.the-variants.FloatReserved next s m
-settlesOf n Invalid next s m = raiseOf cause.the-variants.FloatInvalid next s m
-settlesOf n ZeroDivide next s m = raiseOf cause.the-variants.FloatZeroDivide next s m
-settlesOf n Overflow next s m = raiseOf cause.the-variants.FloatOverflow next s m
-
--- it compared two floats
-abbrev pub comparesOf : Compared → ℕ → State → Memory → Stepped
-comparesOf Compared.Lower next s m = goesOn (s .regs) next (comparisonFlagsOf (s .psw) Compared.Lower) s m
-comparesOf Compared.Equal next s m = goesOn (s .regs) next (comparisonFlagsOf (s .psw) Compared.Equal) s m
-comparesOf Compared.Higher next s m = goesOn (s .regs) next (comparisonFlagsOf (s .psw) Compared.Higher) s m
-comparesOf Compared.Reserved next s m = raiseOf cause.the-variants.FloatReserved next s m
 
 -- it goes on at another address, whose bit 0 is dropped
 abbrev pub jumpsOf : ℕ → State → Memory → Stepped
@@ -83,12 +41,6 @@ jumpsOf pc s m = goesOn (s .regs) (evenOf pc) (s .psw) s m
 -- the effective address of a load or store, and the target of a relative jump
 abbrev pub plusOf : ℕ → ℕ → ℕ
 plusOf a disp = (a + disp) % 2 ^ 32
-
--- RETI, by NP: PC and PSW from FEPC and FEPSW, or from EIPC and EIPSW
-abbrev pub returnsOf : State → Memory → Stepped
-returnsOf s m =
-    pick (isSet npFlag (s .psw)) (goesOn (s .regs) (getD (s .sys) fepcPlace 0) (getD (s .sys) fepswPlace 0) s m)
-    (goesOn (s .regs) (getD (s .sys) eipcPlace 0) (getD (s .sys) eipswPlace 0) s m)
 
 unfoldable pub executeOf : Instruction → ℕ → State → Memory → Stepped
 -- Register Transfer, Arithmetic, Bitwise
@@ -119,7 +71,10 @@ executeOf (Jal disp) next s m =
     goesOn (putOf (s .regs) 31 (plusOf (s .pc) 4)) (evenOf (plusOf (s .pc) disp)) (s .psw) s m
 -- CPU Control
 executeOf (Trap vector) next s m = raiseOf (cause.the-variants.Trap vector) next s m
-executeOf Reti next s m = returnsOf s m
+-- RETI, by NP: PC and PSW from FEPC and FEPSW, or from EIPC and EIPSW
+executeOf Reti next s m =
+    pick (isSet npFlag (s .psw)) (goesOn (s .regs) (getD (s .sys) fepcPlace 0) (getD (s .sys) fepswPlace 0) s m)
+    (goesOn (s .regs) (getD (s .sys) eipcPlace 0) (getD (s .sys) eipswPlace 0) s m)
 executeOf Halt next s m = steppedOf Ended (stateOf (s .regs) (s .sys) next (s .psw) Halted) m
 executeOf (Ldsr reg2 id) next s m =
     let w = writtenOf (s .sys) (s .psw) id (regOf s reg2) in

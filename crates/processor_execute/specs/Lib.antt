@@ -1,4 +1,5 @@
 pub mod Operation
 pub mod Transfer
+pub mod Result
 pub mod Floating
 pub mod Execute

@@ -37,50 +37,34 @@ pub fn execute(
         ⌝ }
 {
     match i {
-        Instruction::Register { op, reg1, reg2 } => compute::register(
-            regs,
-            op,
-            reg1,
-            reg2,
-            next,
-            psw,
-        ),
-        Instruction::Mul { reg1, reg2 } => compute::mul(regs, reg1, reg2, next, psw),
-        Instruction::Div { reg1, reg2 } => compute::div(regs, sys, reg1, reg2, pc, next, psw),
-        Instruction::Mulu { reg1, reg2 } => compute::mulu(regs, reg1, reg2, next, psw),
-        Instruction::Divu { reg1, reg2 } => compute::divu(regs, sys, reg1, reg2, pc, next, psw),
-        Instruction::Jmp { reg1 } => jump::jmp(regs, reg1, psw),
-        Instruction::Immediate { op, imm, reg2 } => compute::immediate(
-            regs,
-            op,
-            imm,
-            reg2,
-            next,
-            psw,
-        ),
-        Instruction::Setf { cond, reg2 } => compute::setf(regs, cond, reg2, next, psw),
+        Instruction::Register(op, reg1, reg2) => compute::register(regs, op, reg1, reg2, next, psw),
+        Instruction::Mul(reg1, reg2) => compute::mul(regs, reg1, reg2, next, psw),
+        Instruction::Div(reg1, reg2) => compute::div(regs, sys, reg1, reg2, pc, next, psw),
+        Instruction::Mulu(reg1, reg2) => compute::mulu(regs, reg1, reg2, next, psw),
+        Instruction::Divu(reg1, reg2) => compute::divu(regs, sys, reg1, reg2, pc, next, psw),
+        Instruction::Jmp(reg1) => jump::jmp(regs, reg1, psw),
+        Instruction::Immediate(op, imm, reg2) => compute::immediate(regs, op, imm, reg2, next, psw),
+        Instruction::Setf(cond, reg2) => compute::setf(regs, cond, reg2, next, psw),
         Instruction::Cli => control::cli(next, psw),
         Instruction::Sei => control::sei(next, psw),
-        Instruction::Trap { vector } => control::trap(sys, vector, pc, next, psw),
+        Instruction::Trap(vector) => control::trap(sys, vector, pc, next, psw),
         Instruction::Reti => control::reti(sys, psw),
         Instruction::Halt => control::halt(next, psw),
-        Instruction::Ldsr { reg2, id } => control::ldsr(regs, sys, reg2, id, next, psw),
-        Instruction::Stsr { id, reg2 } => control::stsr(regs, sys, id, reg2, next, psw),
-        Instruction::Bcond { cond, disp } => jump::bcond(cond, disp, pc, next, psw),
-        Instruction::Jr { disp } => jump::jr(disp, pc, psw),
-        Instruction::Jal { disp } => jump::jal(regs, disp, pc, psw),
-        Instruction::Long {
+        Instruction::Ldsr(reg2, id) => control::ldsr(regs, sys, reg2, id, next, psw),
+        Instruction::Stsr(id, reg2) => control::stsr(regs, sys, id, reg2, next, psw),
+        Instruction::Bcond(cond, disp) => jump::bcond(cond, disp, pc, next, psw),
+        Instruction::Jr(disp) => jump::jr(disp, pc, psw),
+        Instruction::Jal(disp) => jump::jal(regs, disp, pc, psw),
+        Instruction::Long(op, imm, reg1, reg2) => compute::long(
+            regs,
             op,
             imm,
             reg1,
             reg2,
-        } => compute::long(regs, op, imm, reg1, reg2, next, psw),
-        Instruction::Load {
-            width,
-            disp,
-            reg1,
-            reg2,
-        } => {
+            next,
+            psw,
+        ),
+        Instruction::Load(width, disp, reg1, reg2) => {
             let access = Access {
                 width,
                 disp,
@@ -89,12 +73,7 @@ pub fn execute(
             };
             memory::load(rom, wram, vram, pak, device, regs, access, next, psw)
         }
-        Instruction::In {
-            width,
-            disp,
-            reg1,
-            reg2,
-        } => {
+        Instruction::In(width, disp, reg1, reg2) => {
             let access = Access {
                 width,
                 disp,
@@ -103,12 +82,7 @@ pub fn execute(
             };
             memory::input(rom, wram, vram, pak, device, regs, access, next, psw)
         }
-        Instruction::Store {
-            width,
-            disp,
-            reg1,
-            reg2,
-        } => {
+        Instruction::Store(width, disp, reg1, reg2) => {
             let access = Access {
                 width,
                 disp,
@@ -117,12 +91,7 @@ pub fn execute(
             };
             memory::store(rom, wram, vram, pak, device, regs, access, next, psw)
         }
-        Instruction::Out {
-            width,
-            disp,
-            reg1,
-            reg2,
-        } => {
+        Instruction::Out(width, disp, reg1, reg2) => {
             let access = Access {
                 width,
                 disp,
@@ -132,8 +101,8 @@ pub fn execute(
             memory::output(rom, wram, vram, pak, device, regs, access, next, psw)
         }
         Instruction::Illegal => control::illegal(sys, pc, next, psw),
-        Instruction::Cmpf { reg1, reg2 } => floating::cmpf(regs, sys, reg1, reg2, pc, next, psw),
-        Instruction::Floating { op, reg1, reg2 } => floating::floating(
+        Instruction::Cmpf(reg1, reg2) => floating::cmpf(regs, sys, reg1, reg2, pc, next, psw),
+        Instruction::Floating(op, reg1, reg2) => floating::floating(
             regs,
             sys,
             op,
@@ -143,7 +112,7 @@ pub fn execute(
             next,
             psw,
         ),
-        Instruction::Nintendo { op, reg1, reg2 } => floating::nintendo(
+        Instruction::Nintendo(op, reg1, reg2) => floating::nintendo(
             regs,
             op,
             reg1,

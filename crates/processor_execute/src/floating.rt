@@ -1,8 +1,8 @@
 // The instructions of 000's groups "Floating-Point" and "Nintendo". Each says what it does by its own case of
 // executeOf, for every value of what it does not touch. A trap leaves the general registers as they were.
-use processor_decode::FloatingOperation;
 use processor_decode::Instruction;
-use processor_decode::NintendoOperation;
+use processor_decode::sub_opcode::FloatingOperation;
+use processor_decode::sub_opcode::NintendoOperation;
 use processor_float::Compared;
 use processor_float::FloatOutcome;
 use processor_float::Operation;
@@ -15,6 +15,7 @@ use processor_machine::Control;
 use processor_machine::Mode;
 use processor_machine::ended;
 use processor_machine::exception::raise;
+use processor_machine::floating::FloatCause;
 use processor_machine::register::get;
 use processor_machine::register::put;
 ghost use mathlib.Core.Path.{_≡_};
@@ -22,8 +23,8 @@ ghost use mathlib.Core.List.{List};
 ghost use Prim.Native.Nat.{ℕ};
 ghost use Rattle.bus.specs.Memory.{Memory};
 ghost use Rattle.processor_machine.specs.State.{stateOf, leaves};
-ghost use Rattle.processor_execute.specs.Floating.{floatingOf, nintendoOf};
-ghost use Rattle.processor_execute.specs.Execute.{settlesOf, comparesOf, executeOf};
+ghost use Rattle.processor_execute.specs.Floating.{floatingOf, settlesOf, comparesOf, nintendoOf};
+ghost use Rattle.processor_execute.specs.Execute.{executeOf};
 
 // What an operation comes to: a is reg2 and b is reg1.
 fn outcome(op: FloatingOperation, a: u32, b: u32) -> FloatOutcome
@@ -84,10 +85,10 @@ fn settle(
     match o {
         FloatOutcome::Number(v, underflowed) => number(regs, n, v, underflowed, next, psw),
         FloatOutcome::Word(w) => whole(regs, n, w, next, psw),
-        FloatOutcome::Reserved => raise(sys, Cause::FloatReserved, pc, next, psw),
-        FloatOutcome::Invalid => raise(sys, Cause::FloatInvalid, pc, next, psw),
-        FloatOutcome::ZeroDivide => raise(sys, Cause::FloatZeroDivide, pc, next, psw),
-        FloatOutcome::Overflow => raise(sys, Cause::FloatOverflow, pc, next, psw),
+        FloatOutcome::Reserved => raise(sys, Cause::Float(FloatCause::Reserved), pc, next, psw),
+        FloatOutcome::Invalid => raise(sys, Cause::Float(FloatCause::Invalid), pc, next, psw),
+        FloatOutcome::ZeroDivide => raise(sys, Cause::Float(FloatCause::ZeroDivide), pc, next, psw),
+        FloatOutcome::Overflow => raise(sys, Cause::Float(FloatCause::Overflow), pc, next, psw),
     }
 }
 
@@ -125,7 +126,7 @@ fn compares(sys: &mut [u32; 8], c: Compared, pc: u32, next: u32, psw: u32) -> Co
         Compared::Lower => ended(next, flag::comparison_flags(psw, c)),
         Compared::Equal => ended(next, flag::comparison_flags(psw, c)),
         Compared::Higher => ended(next, flag::comparison_flags(psw, c)),
-        Compared::Reserved => raise(sys, Cause::FloatReserved, pc, next, psw),
+        Compared::Reserved => raise(sys, Cause::Float(FloatCause::Reserved), pc, next, psw),
     }
 }
 

@@ -7,7 +7,6 @@ use lib.Dec.{eqb, ltb}
 use lib.ListN.{getD}
 use Rattle.word.specs.Choose.{pick}
 use Rattle.bus.specs.Memory.{Memory}
-use Rattle.processor_decode.specs.Format.{firstLong, illegalLoad, illegalStore}
 use Rattle.processor_decode.specs.Opcode.{decodeOf, shortRows, branchRows, longRows}
 use Rattle.processor_decode.specs.declared.Decoded.{Decoded}
 use Rattle.processor_decode.specs.declared.Decoded.the-variants.{NotModelled}
@@ -19,7 +18,7 @@ use Rattle.processor_fast.proofs.Turning.{turned}
 
 -- whether opcode k has two halfwords, and its row
 abbrev pub twoAt : ℕ → Bool
-twoAt k = pick (ltb k firstLong) false (pick (eqb k illegalLoad) false (pick (eqb k illegalStore) false true))
+twoAt k = pick (ltb k 0b101000) false (pick (eqb k 0b110010) false (pick (eqb k 0b110110) false true))
 
 abbrev pub rowAt : ℕ → ℕ → ℕ → Decoded
 rowAt k f s = getD (shortRows f ++ (branchRows f ++ longRows f (pick (twoAt k) s 0))) k NotModelled

@@ -6,7 +6,7 @@ use mathlib.Core.Path.{_≡_, refl, sym, ap, _∙_}
 use lib.Dec.{eqb, ltb}
 use Rattle.bus.specs.Memory.{Memory}
 use Rattle.processor_arithmetic.specs.Bitwise.{bitsOf}
-use Rattle.processor_execute.specs.Execute.{goesOn}
+use Rattle.processor_execute.specs.Result.{goesOn}
 use Rattle.processor_float.specs.Flag.{orderFlagsOf, underflowOf, numberFlagsOf, conversionFlagsOf}
 use Rattle.processor_lazy_flags.specs.inner.Packed.{packedOf, orderedOf, Gives}
 use Rattle.processor_lazy_flags.specs.declared.Flags.{Flags}

@@ -14,7 +14,7 @@ use Rattle.bus.specs.Memory.{Memory}
 use Rattle.processor_arithmetic.specs.Sum.{differenceOf, compareOf}
 use Rattle.processor_arithmetic.specs.declared.Outcome.{Outcome}
 use Rattle.processor_arithmetic.specs.declared.Pair as arithmetic
-use Rattle.processor_execute.specs.Execute.{goesOn, givesOf, resultOf, pairOf}
+use Rattle.processor_execute.specs.Result.{goesOn, givesOf, resultOf, pairOf}
 use Rattle.processor_lazy_flags.specs.inner.Packed.{packedValueOf, packedOf, Gives, GivesPair}
 use Rattle.processor_lazy_flags.specs.declared.Flags.{Flags}
 use Rattle.processor_lazy_flags.specs.declared.Pair.{Pair}

@@ -22,6 +22,7 @@ use processor_machine::register::put;
 ghost use mathlib.Core.Path.{_≡_};
 ghost use mathlib.Core.Bool.{true, false};
 ghost use Prim.Native.Nat.{_/_, _%_, _<_};
+ghost use Rattle.word.specs.Extend.{extendOf};
 ghost use Rattle.processor_decode.specs.Format as format;
 ghost use Rattle.processor_decode.specs.declared.Decoded as decoded;
 ghost use Rattle.processor_decode.specs.declared.Instruction as instruction;
@@ -253,7 +254,7 @@ pub fn divu(regs: &mut [u32; 32], f: u32, x: u32, flags: Flags) -> Fast
 
 pub fn mov_immediate(regs: &mut [u32; 32], f: u32, x: u32, flags: Flags) -> Fast
     ensures { λ r. ⌜
-        Computes false (format.signedImmediate ImmediateOperation.Mov f) r x flags
+        Computes false (format.immediate ImmediateOperation.Mov (extendOf 16 (format.lowOf f)) f) r x flags
         (now (regs .entry)) (now (regs .exit))
         ⌝ }
 {
@@ -263,7 +264,7 @@ pub fn mov_immediate(regs: &mut [u32; 32], f: u32, x: u32, flags: Flags) -> Fast
 
 pub fn add_immediate(regs: &mut [u32; 32], f: u32, x: u32, flags: Flags) -> Fast
     ensures { λ r. ⌜
-        Computes false (format.signedImmediate ImmediateOperation.Add f) r x flags
+        Computes false (format.immediate ImmediateOperation.Add (extendOf 16 (format.lowOf f)) f) r x flags
         (now (regs .entry)) (now (regs .exit))
         ⌝ }
 {
@@ -275,7 +276,7 @@ pub fn add_immediate(regs: &mut [u32; 32], f: u32, x: u32, flags: Flags) -> Fast
 
 pub fn cmp_immediate(regs: &[u32; 32], f: u32, x: u32, flags: Flags) -> Fast
     ensures { λ r. ⌜
-        Computes false (format.signedImmediate ImmediateOperation.Cmp f) r x flags
+        Computes false (format.immediate ImmediateOperation.Cmp (extendOf 16 (format.lowOf f)) f) r x flags
         (now (regs .entry)) (now (regs .entry))
         ⌝ }
 {
@@ -298,7 +299,7 @@ pub fn setf(regs: &mut [u32; 32], f: u32, x: u32, flags: Flags) -> Fast
 
 pub fn shl_immediate(regs: &mut [u32; 32], f: u32, x: u32, flags: Flags) -> Fast
     ensures { λ r. ⌜
-        Computes false (format.unsigned ImmediateOperation.Shl f) r x flags (now (regs .entry)) (now (regs .exit))
+        Computes false (format.immediate ImmediateOperation.Shl (format.lowOf f) f) r x flags (now (regs .entry)) (now (regs .exit))
         ⌝ }
 {
     let a = reg2(regs, f);
@@ -308,7 +309,7 @@ pub fn shl_immediate(regs: &mut [u32; 32], f: u32, x: u32, flags: Flags) -> Fast
 
 pub fn shr_immediate(regs: &mut [u32; 32], f: u32, x: u32, flags: Flags) -> Fast
     ensures { λ r. ⌜
-        Computes false (format.unsigned ImmediateOperation.Shr f) r x flags (now (regs .entry)) (now (regs .exit))
+        Computes false (format.immediate ImmediateOperation.Shr (format.lowOf f) f) r x flags (now (regs .entry)) (now (regs .exit))
         ⌝ }
 {
     let a = reg2(regs, f);
@@ -318,7 +319,7 @@ pub fn shr_immediate(regs: &mut [u32; 32], f: u32, x: u32, flags: Flags) -> Fast
 
 pub fn sar_immediate(regs: &mut [u32; 32], f: u32, x: u32, flags: Flags) -> Fast
     ensures { λ r. ⌜
-        Computes false (format.unsigned ImmediateOperation.Sar f) r x flags (now (regs .entry)) (now (regs .exit))
+        Computes false (format.immediate ImmediateOperation.Sar (format.lowOf f) f) r x flags (now (regs .entry)) (now (regs .exit))
         ⌝ }
 {
     let a = reg2(regs, f);
@@ -329,7 +330,7 @@ pub fn sar_immediate(regs: &mut [u32; 32], f: u32, x: u32, flags: Flags) -> Fast
 pub fn movea(regs: &mut [u32; 32], f: u32, s: u32, x: u32, flags: Flags) -> Fast
     requires { ⌜ s < 65536 ⌝ }
     ensures { λ r. ⌜
-        Computes true (format.longSigned LongOperation.Movea f s) r x flags (now (regs .entry)) (now (regs .exit))
+        Computes true (format.long LongOperation.Movea (extendOf 32768 s) f) r x flags (now (regs .entry)) (now (regs .exit))
         ⌝ }
 {
     let a = reg1(regs, f);
@@ -340,7 +341,7 @@ pub fn movea(regs: &mut [u32; 32], f: u32, s: u32, x: u32, flags: Flags) -> Fast
 pub fn movhi(regs: &mut [u32; 32], f: u32, s: u32, x: u32, flags: Flags) -> Fast
     requires { ⌜ s < 65536 ⌝ }
     ensures { λ r. ⌜
-        Computes true (format.longUnsigned LongOperation.Movhi f s) r x flags (now (regs .entry)) (now (regs .exit))
+        Computes true (format.long LongOperation.Movhi s f) r x flags (now (regs .entry)) (now (regs .exit))
         ⌝ }
 {
     let a = reg1(regs, f);
@@ -351,7 +352,7 @@ pub fn movhi(regs: &mut [u32; 32], f: u32, s: u32, x: u32, flags: Flags) -> Fast
 pub fn addi(regs: &mut [u32; 32], f: u32, s: u32, x: u32, flags: Flags) -> Fast
     requires { ⌜ s < 65536 ⌝ }
     ensures { λ r. ⌜
-        Computes true (format.longSigned LongOperation.Addi f s) r x flags (now (regs .entry)) (now (regs .exit))
+        Computes true (format.long LongOperation.Addi (extendOf 32768 s) f) r x flags (now (regs .entry)) (now (regs .exit))
         ⌝ }
 {
     let a = reg1(regs, f);
@@ -362,7 +363,7 @@ pub fn addi(regs: &mut [u32; 32], f: u32, s: u32, x: u32, flags: Flags) -> Fast
 pub fn ori(regs: &mut [u32; 32], f: u32, s: u32, x: u32, flags: Flags) -> Fast
     requires { ⌜ s < 65536 ⌝ }
     ensures { λ r. ⌜
-        Computes true (format.longUnsigned LongOperation.Ori f s) r x flags (now (regs .entry)) (now (regs .exit))
+        Computes true (format.long LongOperation.Ori s f) r x flags (now (regs .entry)) (now (regs .exit))
         ⌝ }
 {
     let a = reg1(regs, f);
@@ -373,7 +374,7 @@ pub fn ori(regs: &mut [u32; 32], f: u32, s: u32, x: u32, flags: Flags) -> Fast
 pub fn andi(regs: &mut [u32; 32], f: u32, s: u32, x: u32, flags: Flags) -> Fast
     requires { ⌜ s < 65536 ⌝ }
     ensures { λ r. ⌜
-        Computes true (format.longUnsigned LongOperation.Andi f s) r x flags (now (regs .entry)) (now (regs .exit))
+        Computes true (format.long LongOperation.Andi s f) r x flags (now (regs .entry)) (now (regs .exit))
         ⌝ }
 {
     let a = reg1(regs, f);
@@ -384,7 +385,7 @@ pub fn andi(regs: &mut [u32; 32], f: u32, s: u32, x: u32, flags: Flags) -> Fast
 pub fn xori(regs: &mut [u32; 32], f: u32, s: u32, x: u32, flags: Flags) -> Fast
     requires { ⌜ s < 65536 ⌝ }
     ensures { λ r. ⌜
-        Computes true (format.longUnsigned LongOperation.Xori f s) r x flags (now (regs .entry)) (now (regs .exit))
+        Computes true (format.long LongOperation.Xori s f) r x flags (now (regs .entry)) (now (regs .exit))
         ⌝ }
 {
     let a = reg1(regs, f);

@@ -3,7 +3,7 @@ use crate::Fast;
 use crate::field::after_two;
 use crate::field::reg1;
 use crate::field::reg2;
-use processor_decode::FloatingOperation;
+use processor_decode::sub_opcode::FloatingOperation;
 use processor_float::Compared;
 use processor_float::FloatOutcome;
 use processor_float::Operation;
@@ -17,7 +17,7 @@ use processor_machine::register::put;
 ghost use mathlib.Core.Path.{_≡_};
 ghost use mathlib.Core.Bool.{true, false};
 ghost use Prim.Native.Nat.{_+_, _%_, _^_};
-ghost use Rattle.processor_decode.specs.Format as format;
+ghost use Rattle.processor_decode.specs.SubOpcode.{cmpf, floating};
 ghost use Rattle.processor_decode.specs.SubOpcode.{extendedOf};
 ghost use Rattle.processor_fast_compute.specs.inner.Fast.{Computes, Settles};
 
@@ -67,7 +67,7 @@ fn ordered(g: Flags, x: u32) -> Fast
 }
 
 fn cmpf(regs: &[u32; 32], f: u32, x: u32, flags: Flags) -> Fast
-    ensures { λ r. ⌜ Computes true (format.cmpf f) r x flags (now (regs .entry)) (now (regs .entry)) ⌝ }
+    ensures { λ r. ⌜ Computes true (cmpf f) r x flags (now (regs .entry)) (now (regs .entry)) ⌝ }
 {
     let a = reg2(regs, f);
     let b = reg1(regs, f);
@@ -81,7 +81,7 @@ fn cmpf(regs: &[u32; 32], f: u32, x: u32, flags: Flags) -> Fast
 
 fn addf(regs: &mut [u32; 32], f: u32, x: u32, flags: Flags) -> Fast
     ensures { λ r. ⌜
-        Computes true (format.floating FloatingOperation.Addf f) r x flags (now (regs .entry)) (now (regs .exit))
+        Computes true (floating FloatingOperation.Addf f) r x flags (now (regs .entry)) (now (regs .exit))
         ⌝ }
 {
     let a = reg2(regs, f);
@@ -92,7 +92,7 @@ fn addf(regs: &mut [u32; 32], f: u32, x: u32, flags: Flags) -> Fast
 
 fn subf(regs: &mut [u32; 32], f: u32, x: u32, flags: Flags) -> Fast
     ensures { λ r. ⌜
-        Computes true (format.floating FloatingOperation.Subf f) r x flags (now (regs .entry)) (now (regs .exit))
+        Computes true (floating FloatingOperation.Subf f) r x flags (now (regs .entry)) (now (regs .exit))
         ⌝ }
 {
     let a = reg2(regs, f);
@@ -103,7 +103,7 @@ fn subf(regs: &mut [u32; 32], f: u32, x: u32, flags: Flags) -> Fast
 
 fn mulf(regs: &mut [u32; 32], f: u32, x: u32, flags: Flags) -> Fast
     ensures { λ r. ⌜
-        Computes true (format.floating FloatingOperation.Mulf f) r x flags (now (regs .entry)) (now (regs .exit))
+        Computes true (floating FloatingOperation.Mulf f) r x flags (now (regs .entry)) (now (regs .exit))
         ⌝ }
 {
     let a = reg2(regs, f);
@@ -114,7 +114,7 @@ fn mulf(regs: &mut [u32; 32], f: u32, x: u32, flags: Flags) -> Fast
 
 fn divf(regs: &mut [u32; 32], f: u32, x: u32, flags: Flags) -> Fast
     ensures { λ r. ⌜
-        Computes true (format.floating FloatingOperation.Divf f) r x flags (now (regs .entry)) (now (regs .exit))
+        Computes true (floating FloatingOperation.Divf f) r x flags (now (regs .entry)) (now (regs .exit))
         ⌝ }
 {
     let a = reg2(regs, f);
@@ -125,7 +125,7 @@ fn divf(regs: &mut [u32; 32], f: u32, x: u32, flags: Flags) -> Fast
 
 fn cvt_ws(regs: &mut [u32; 32], f: u32, x: u32, flags: Flags) -> Fast
     ensures { λ r. ⌜
-        Computes true (format.floating FloatingOperation.CvtWs f) r x flags (now (regs .entry)) (now (regs .exit))
+        Computes true (floating FloatingOperation.CvtWs f) r x flags (now (regs .entry)) (now (regs .exit))
         ⌝ }
 {
     let b = reg1(regs, f);
@@ -135,7 +135,7 @@ fn cvt_ws(regs: &mut [u32; 32], f: u32, x: u32, flags: Flags) -> Fast
 
 fn cvt_sw(regs: &mut [u32; 32], f: u32, x: u32, flags: Flags) -> Fast
     ensures { λ r. ⌜
-        Computes true (format.floating FloatingOperation.CvtSw f) r x flags (now (regs .entry)) (now (regs .exit))
+        Computes true (floating FloatingOperation.CvtSw f) r x flags (now (regs .entry)) (now (regs .exit))
         ⌝ }
 {
     let b = reg1(regs, f);
@@ -145,7 +145,7 @@ fn cvt_sw(regs: &mut [u32; 32], f: u32, x: u32, flags: Flags) -> Fast
 
 fn trnc_sw(regs: &mut [u32; 32], f: u32, x: u32, flags: Flags) -> Fast
     ensures { λ r. ⌜
-        Computes true (format.floating FloatingOperation.TrncSw f) r x flags (now (regs .entry)) (now (regs .exit))
+        Computes true (floating FloatingOperation.TrncSw f) r x flags (now (regs .entry)) (now (regs .exit))
         ⌝ }
 {
     let b = reg1(regs, f);

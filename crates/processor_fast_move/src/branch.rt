@@ -80,7 +80,10 @@ fn target(f: u32, s: u32, x: u32) -> u32
 
 pub fn jr(f: u32, s: u32, x: u32, flags: Flags) -> Fast
     requires { ⌜ s < 65536 ⌝ }
-    ensures { λ r. ⌜ ((regs : List ℕ) → Computes true (format.jr f s) r x flags regs regs) ⌝ }
+    ensures { λ r. ⌜
+        ((regs : List ℕ)
+        → Computes true (decoded.Decoded.Modelled (instruction.Instruction.Jr (format.dispOf f s))) r x flags regs regs)
+        ⌝ }
 {
     let to = target(f, s, x);
     Fast::Done {
@@ -93,7 +96,9 @@ pub fn jr(f: u32, s: u32, x: u32, flags: Flags) -> Fast
 pub fn jal(regs: &mut [u32; 32], base: u32, f: u32, s: u32, x: u32, flags: Flags) -> Fast
     requires { ⌜ s < 65536 ⌝ }
     ensures { λ r. ⌜
-        ((m : Memory) → PerformsAt base true (format.jal f s) r x flags (now (regs .entry)) m (now (regs .exit)) m)
+        ((m : Memory)
+        → PerformsAt base true (decoded.Decoded.Modelled (instruction.Instruction.Jal (format.dispOf f s))) r x flags
+        (now (regs .entry)) m (now (regs .exit)) m)
         ⌝ }
 {
     let link = std::num::wrapping_add_u32(base, after_two(x));

@@ -19,6 +19,7 @@ ghost use Rattle.word.specs.Extend.{extendOf};
 ghost use Rattle.bus.specs.Memory.{memoryOf, Lengths};
 ghost use Rattle.bus.specs.Lent.{entering};
 ghost use Rattle.processor_decode.specs.Format as format;
+ghost use Rattle.processor_decode.specs.declared.Instruction as instruction;
 ghost use Rattle.processor_execute.specs.Execute.{plusOf};
 ghost use Rattle.processor_machine.specs.State.{putOf};
 ghost use Rattle.processor_fast_compute.specs.inner.Fast.{Performs};
@@ -60,7 +61,8 @@ pub fn load_byte(
 ) -> Fast
     requires { ⌜ Lengths (length (now rom)) (length (now wram)) (length (now vram)) (length (now pak)) × (s < 65536) ⌝ }
     ensures { λ r. ⌜
-        Performs true (format.load Width.Byte f s) r x flags (now (regs .entry)) (entering rom wram vram pak device)
+        Performs true (format.transfer instruction.Instruction.Load Width.Byte f s) r x flags
+        (now (regs .entry)) (entering rom wram vram pak device)
         (now (regs .exit)) (entering rom wram vram pak device)
         ⌝ }
 {
@@ -84,7 +86,8 @@ pub fn load_half(
 ) -> Fast
     requires { ⌜ Lengths (length (now rom)) (length (now wram)) (length (now vram)) (length (now pak)) × (s < 65536) ⌝ }
     ensures { λ r. ⌜
-        Performs true (format.load Width.Half f s) r x flags (now (regs .entry)) (entering rom wram vram pak device)
+        Performs true (format.transfer instruction.Instruction.Load Width.Half f s) r x flags
+        (now (regs .entry)) (entering rom wram vram pak device)
         (now (regs .exit)) (entering rom wram vram pak device)
         ⌝ }
 {
@@ -108,11 +111,13 @@ pub fn load_word(
 ) -> Fast
     requires { ⌜ Lengths (length (now rom)) (length (now wram)) (length (now vram)) (length (now pak)) × (s < 65536) ⌝ }
     ensures loads { λ r. ⌜
-        Performs true (format.load Width.Word f s) r x flags (now (regs .entry)) (entering rom wram vram pak device)
+        Performs true (format.transfer instruction.Instruction.Load Width.Word f s) r x flags
+        (now (regs .entry)) (entering rom wram vram pak device)
         (now (regs .exit)) (entering rom wram vram pak device)
         ⌝ }
     ensures inputs { λ r. ⌜
-        Performs true (format.input Width.Word f s) r x flags (now (regs .entry)) (entering rom wram vram pak device)
+        Performs true (format.transfer instruction.Instruction.In Width.Word f s) r x flags
+        (now (regs .entry)) (entering rom wram vram pak device)
         (now (regs .exit)) (entering rom wram vram pak device)
         ⌝ }
 {
@@ -136,7 +141,8 @@ pub fn input_byte(
 ) -> Fast
     requires { ⌜ Lengths (length (now rom)) (length (now wram)) (length (now vram)) (length (now pak)) × (s < 65536) ⌝ }
     ensures { λ r. ⌜
-        Performs true (format.input Width.Byte f s) r x flags (now (regs .entry)) (entering rom wram vram pak device)
+        Performs true (format.transfer instruction.Instruction.In Width.Byte f s) r x flags
+        (now (regs .entry)) (entering rom wram vram pak device)
         (now (regs .exit)) (entering rom wram vram pak device)
         ⌝ }
 {
@@ -160,7 +166,8 @@ pub fn input_half(
 ) -> Fast
     requires { ⌜ Lengths (length (now rom)) (length (now wram)) (length (now vram)) (length (now pak)) × (s < 65536) ⌝ }
     ensures { λ r. ⌜
-        Performs true (format.input Width.Half f s) r x flags (now (regs .entry)) (entering rom wram vram pak device)
+        Performs true (format.transfer instruction.Instruction.In Width.Half f s) r x flags
+        (now (regs .entry)) (entering rom wram vram pak device)
         (now (regs .exit)) (entering rom wram vram pak device)
         ⌝ }
 {
@@ -182,13 +189,13 @@ pub fn store_byte(
     requires { ⌜ (length (now wram) ≡ 65536) × (length (now vram) ≡ vramBytes) × (s < 65536) ⌝ }
     ensures stores { λ r. ⌜
         ((rom pak device : List ℕ)
-        → Performs true (format.store Width.Byte f s) r x flags (now (regs .entry))
+        → Performs true (format.transfer instruction.Instruction.Store Width.Byte f s) r x flags (now (regs .entry))
         (memoryOf rom (now (wram .entry)) (now (vram .entry)) pak device) (now (regs .entry))
         (memoryOf rom (now (wram .exit)) (now (vram .exit)) pak device))
         ⌝ }
     ensures outputs { λ r. ⌜
         ((rom pak device : List ℕ)
-        → Performs true (format.output Width.Byte f s) r x flags (now (regs .entry))
+        → Performs true (format.transfer instruction.Instruction.Out Width.Byte f s) r x flags (now (regs .entry))
         (memoryOf rom (now (wram .entry)) (now (vram .entry)) pak device) (now (regs .entry))
         (memoryOf rom (now (wram .exit)) (now (vram .exit)) pak device))
         ⌝ }
@@ -217,13 +224,13 @@ pub fn store_half(
     requires { ⌜ (length (now wram) ≡ 65536) × (length (now vram) ≡ vramBytes) × (s < 65536) ⌝ }
     ensures stores { λ r. ⌜
         ((rom pak device : List ℕ)
-        → Performs true (format.store Width.Half f s) r x flags (now (regs .entry))
+        → Performs true (format.transfer instruction.Instruction.Store Width.Half f s) r x flags (now (regs .entry))
         (memoryOf rom (now (wram .entry)) (now (vram .entry)) pak device) (now (regs .entry))
         (memoryOf rom (now (wram .exit)) (now (vram .exit)) pak device))
         ⌝ }
     ensures outputs { λ r. ⌜
         ((rom pak device : List ℕ)
-        → Performs true (format.output Width.Half f s) r x flags (now (regs .entry))
+        → Performs true (format.transfer instruction.Instruction.Out Width.Half f s) r x flags (now (regs .entry))
         (memoryOf rom (now (wram .entry)) (now (vram .entry)) pak device) (now (regs .entry))
         (memoryOf rom (now (wram .exit)) (now (vram .exit)) pak device))
         ⌝ }
@@ -252,13 +259,13 @@ pub fn store_word(
     requires { ⌜ (length (now wram) ≡ 65536) × (length (now vram) ≡ vramBytes) × (s < 65536) ⌝ }
     ensures stores { λ r. ⌜
         ((rom pak device : List ℕ)
-        → Performs true (format.store Width.Word f s) r x flags (now (regs .entry))
+        → Performs true (format.transfer instruction.Instruction.Store Width.Word f s) r x flags (now (regs .entry))
         (memoryOf rom (now (wram .entry)) (now (vram .entry)) pak device) (now (regs .entry))
         (memoryOf rom (now (wram .exit)) (now (vram .exit)) pak device))
         ⌝ }
     ensures outputs { λ r. ⌜
         ((rom pak device : List ℕ)
-        → Performs true (format.output Width.Word f s) r x flags (now (regs .entry))
+        → Performs true (format.transfer instruction.Instruction.Out Width.Word f s) r x flags (now (regs .entry))
         (memoryOf rom (now (wram .entry)) (now (vram .entry)) pak device) (now (regs .entry))
         (memoryOf rom (now (wram .exit)) (now (vram .exit)) pak device))
         ⌝ }

@@ -5,7 +5,8 @@ use mathlib.Core.Bool.{Bool, true, false}
 use lib.Dec.{ltb, eqb}
 use Rattle.word.specs.Bit.{withBit}
 use Rattle.word.specs.Choose.{pick}
-use Rattle.processor_arithmetic.specs.Flag.{bitOf, keepCarryOf, sFlag, cyFlag, fudFlag}
+use Rattle.processor_arithmetic.specs.Flag.{bitOf, keepCarryOf, sFlag, cyFlag}
+use Rattle.processor_arithmetic.specs.FloatFlag.{fudFlag}
 use Rattle.processor_float.specs.Operand.{isZero}
 use Rattle.processor_float.specs.declared.Compared.{Compared}
 use Rattle.processor_float.specs.declared.Compared.the-variants.{Lower, Equal, Higher, Reserved}

@@ -5,7 +5,7 @@ use mathlib.Core.Bool.{true, false}
 use native.Mathlib.Omega.{arith}
 use lib.Dec.{ltb}
 use Rattle.word.specs.Bit.{withBit}
-use Rattle.processor_arithmetic.specs.Flag.{fudFlag}
+use Rattle.processor_arithmetic.specs.FloatFlag.{fudFlag}
 use Rattle.processor_arithmetic.proofs.Bits.{same-above}
 use Rattle.processor_arithmetic.proofs.Places.{keep-carry-placed, set-flag, set-flag-others}
 use Rattle.processor_float.specs.Operand.{isZero}

@@ -4,7 +4,7 @@ use mathlib.Core.Bool.{Bool, true, false}
 use mathlib.Core.List.{List, [], _∷_, map}
 use mathlib.Core.Path.{_≡_, refl}
 use lib.ListN.{getD, replicate}
-use Rattle.processor_arithmetic.specs.Flag.{setEpOf, setIdOf, clearAeOf, regularOf}
+use Rattle.processor_arithmetic.specs.Flag.{regularOf}
 use Rattle.processor_machine.specs.State.{stateOf, eipcPlace, eipswPlace, ecrPlace}
 use Rattle.processor_machine.specs.declared.Mode.{Mode}
 use Rattle.processor_machine.specs.declared.Mode.the-variants.{Running, Halted, Fatal}
@@ -39,7 +39,7 @@ pub entered-rows : map enteredOf acceptedRows
     ∷ (0xFFFFFE20 ∷ 0x00035000 ∷ 0x07000100 ∷ 0x20000 ∷ 0xFE20 ∷ [])
     ∷ (0xFFFFFE00 ∷ 0x00015000 ∷ 0x07000100 ∷ 0x2000 ∷ 0xFE00 ∷ [])
     ∷ []
-unfolding interruptedOf levelOf withLevelOf regularOf setEpOf setIdOf clearAeOf
+unfolding interruptedOf levelOf withLevelOf regularOf
 entered-rows = refl
 
 abbrev pub maskedRows : List InterruptRow

@@ -8,7 +8,8 @@ use Rattle.processor_machine.specs.State.{State, Stepped}
 use Rattle.processor_interrupt.specs.Interrupt.{levelOf}
 use Rattle.processor_interrupt.specs.Accepted.{Acceptable}
 use Rattle.processor_interrupt.proofs.Exactly.{accepts-taken}
-use Rattle.processor_step.specs.Step.{linesIn, acceptsIn, instructionStepOf, stepOf}
+use Rattle.processor_step.specs.Interrupted.{linesIn, acceptsIn}
+use Rattle.processor_step.specs.Step.{instructionStepOf, stepOf}
 use Rattle.processor_step.proofs.Choosing.{step-instruction, fetched-instruction}
 use Rattle.processor.specs.Run.{Run, afterOf, afterStep, runOf}
 use Rattle.processor_laws.specs.Steps.{stepsOf}

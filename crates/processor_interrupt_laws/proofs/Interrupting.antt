@@ -7,7 +7,8 @@ use Rattle.processor_machine.specs.State.{State, Stepped}
 use Rattle.processor_machine.specs.declared.Answer.{Answer}
 use Rattle.processor_interrupt.specs.Interrupt.{levelOf, acceptsOf}
 use Rattle.processor_interrupt.proofs.Exactly.{accepts-taken, acceptable-accepts, entry-regular}
-use Rattle.processor_step.specs.Step.{linesIn, acceptsIn, interruptStepOf, stepOf}
+use Rattle.processor_step.specs.Interrupted.{linesIn, acceptsIn, interruptStepOf}
+use Rattle.processor_step.specs.Step.{stepOf}
 use Rattle.processor_step.proofs.Choosing.{step-interrupt, fetched-interrupt}
 use Rattle.processor_interrupt_laws.specs.Interrupts.{AcceptsAsSaid, StepInterrupted, StepIndependent}
 

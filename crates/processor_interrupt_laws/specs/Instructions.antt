@@ -9,7 +9,8 @@ use Rattle.bus.specs.Memory.{Memory}
 use Rattle.refusal.specs.declared.Verdict.the-variants.{Accepted}
 use Rattle.processor_machine.specs.State.{State}
 use Rattle.processor_interrupt.specs.Accepted.{Acceptable}
-use Rattle.processor_step.specs.Step.{linesIn, acceptsIn, instructionStepOf, stepOf, fetchedInOf, fetchedOf}
+use Rattle.processor_step.specs.Interrupted.{linesIn, acceptsIn}
+use Rattle.processor_step.specs.Step.{instructionStepOf, stepOf, fetchedInOf, fetchedOf}
 use Rattle.processor.specs.Run.{Run, runWith, afterOf, afterStep, runOf}
 use Rattle.processor_laws.specs.Steps.{stepsOf}
 

@@ -11,7 +11,8 @@ use Rattle.processor_machine.specs.declared.Mode.the-variants.{Halted}
 use Rattle.processor_machine.specs.declared.Answer.the-variants.{Interrupted}
 use Rattle.processor_interrupt.specs.Interrupt.{levelOf, interruptCodeOf, interruptHandlerOf}
 use Rattle.processor_interrupt.specs.Accepted.{Acceptable, Taken, wokenOf}
-use Rattle.processor_step.specs.Step.{linesIn, acceptsIn, stepOf, notFetched, fetchedOf}
+use Rattle.processor_step.specs.Interrupted.{linesIn, acceptsIn}
+use Rattle.processor_step.specs.Step.{stepOf, notFetched, fetchedOf}
 use Rattle.processor.specs.Run.{runOf}
 
 -- "accepted exactly if some raised line's level is at least I while NP, EP and ID are all clear; the highest such level

@@ -8,7 +8,8 @@ use Rattle.bus.specs.TimerLines.{deviceLength}
 use Rattle.bus.specs.Memory.{Memory}
 use Rattle.processor_machine.specs.State.{State}
 use Rattle.processor_interrupt.specs.Interrupt.{lineOf}
-use Rattle.processor_step.specs.Step.{linesIn, stepOf}
+use Rattle.processor_step.specs.Interrupted.{linesIn}
+use Rattle.processor_step.specs.Step.{stepOf}
 use Rattle.processor.specs.Run.{runOf}
 
 -- the lines of levels 0, 2, 3 and 4 do not change, and that of level 1 does not rise

@@ -4,8 +4,8 @@ use mathlib.Core.Bool.{Bool}
 use mathlib.Core.Path.{sym, _∙_}
 use native.Mathlib.Omega.{arith}
 use lib.ListN.{length}
+use Rattle.word.proofs.Choices.{pick-cases, pick-each}
 use Rattle.bus_timer.proofs.Accepting as hardware
-use Rattle.word.proofs.Choices.{pick-each, pick-cases}
 use Rattle.bus.specs.TimerLines.{hardwareIn}
 use Rattle.bus.specs.Memory.{Memory, loadOf}
 use Rattle.bus.proofs.Accepted.{accepted-registers, lengths-accepted}
@@ -17,7 +17,8 @@ use Rattle.processor_decode.specs.declared.Decoded.{Decoded}
 use Rattle.processor_decode.specs.declared.Decoded.the-variants.{Modelled, NotModelled}
 use Rattle.processor_machine.specs.State.{State, Stepped}
 use Rattle.processor_step.specs.Step.{firstOf, secondOf, nextOf, performOf, runningStepOf, stepInOf, instructionStepOf}
-use Rattle.processor_step.specs.Step.{linesIn, acceptsIn, interruptStepOf, stepOf}
+use Rattle.processor_step.specs.Interrupted.{linesIn, acceptsIn, interruptStepOf}
+use Rattle.processor_step.specs.Step.{stepOf}
 use Rattle.processor_interrupt.specs.Interrupt.{levelOf}
 use Rattle.processor_interrupt.proofs.Exactly.{accepts-taken}
 use Rattle.processor_machine.specs.System.{pswBitsOf}

@@ -17,7 +17,8 @@ use Rattle.processor_machine.specs.State.{State}
 use Rattle.processor_machine.specs.System.{pswBitsOf}
 use Rattle.processor_step.specs.Step.{stepOf}
 use Rattle.processor.specs.Acceptance.{evenOk, formatsOk, stateOk, acceptanceAt, acceptanceOf}
-use Rattle.processor.specs.Record.{systemIn, stateIn, busOf, lentOf, processorOf}
+use Rattle.processor.specs.Record.{systemIn, stateIn, processorOf}
+use Rattle.processor.specs.Lines.{busOf, lentOf}
 use Rattle.processor.specs.Run.{runOf}
 use Rattle.processor.specs.Calls.{checkedStepOf, checkedRunOf, resetOf}
 use Rattle.processor_laws.specs.Accepted.{Below, Machine}

@@ -4,14 +4,17 @@ use mathlib.Core.Path.{refl}
 use native.Mathlib.Omega.{arith}
 use lib.Dec.{ltb, eqb}
 use lib.ListN.{getD, set}
-use Rattle.word.specs.Bit.{bitAt, withBit}
 use Rattle.word.proofs.Choices.{pick-each}
-use Rattle.processor_arithmetic.specs.Flag.{regularOf, fovFlag, fzdFlag, fivFlag, froFlag, epFlag, npFlag}
+use Rattle.word.specs.Bit.{bitAt, withBit}
+use Rattle.processor_arithmetic.specs.Flag.{regularOf, epFlag, npFlag}
+use Rattle.processor_arithmetic.specs.FloatFlag.{fovFlag, fzdFlag, fivFlag, froFlag}
 use Rattle.bus.specs.Memory.{Memory}
 use Rattle.processor_machine.specs.State.{State, Stepped, steppedOf}
-use Rattle.processor_machine.specs.Exception.{codeOf, handlerOf, restoreOf, savedOf, fatalOf, duplexedEntryOf, regularEntryOf, enterOf, raiseOf}
+use Rattle.processor_machine.specs.Exception.{codeOf, handlerOf, restoreOf, fatalOf, duplexedEntryOf, regularEntryOf, enterOf, raiseOf}
+use Rattle.processor_machine.specs.FloatCause.{floatCodeOf, floatFlagOf, savedOf}
 use Rattle.processor_machine.specs.declared.Cause.{Cause}
-use Rattle.processor_machine.specs.declared.Cause.the-variants.{ZeroDivision, Illegal, Trap, FloatReserved, FloatInvalid, FloatZeroDivide, FloatOverflow}
+use Rattle.processor_machine.specs.declared.Cause.the-variants.{ZeroDivision, Illegal, Trap, Float}
+use Rattle.processor_machine.specs.declared.floating.FloatCause.{FloatCause}
 use Rattle.processor_machine.specs.declared.Answer.the-variants.{Interrupted}
 use Rattle.processor_interrupt.specs.Interrupt.{interruptCodeOf, interruptHandlerOf, interruptedOf}
 use Rattle.processor_laws.proofs.Invariant.{Format, Systems, Address, Good}
@@ -22,14 +25,17 @@ use Rattle.processor_laws.proofs.Registers.{set-systems, eipc-system, e
 abbrev pub Left : Stepped → Type 0
 Left t = Good (t .state) (t .memory)
 
+float-code-small : (c : FloatCause) → floatCodeOf c < 65536
+float-code-small FloatCause.Reserved = omega arith
+float-code-small FloatCause.Invalid = omega arith
+float-code-small FloatCause.ZeroDivide = omega arith
+float-code-small FloatCause.Overflow = omega arith
+
 pub code-small : (c : Cause) → codeOf c < 65536
 code-small ZeroDivision = omega arith
 code-small Illegal = omega arith
 code-small (Trap vector) = omega arith
-code-small FloatReserved = omega arith
-code-small FloatInvalid = omega arith
-code-small FloatZeroDivide = omega arith
-code-small FloatOverflow = omega arith
+code-small (Float cause) = float-code-small cause
 
 handler-address : (c : Cause) → Address (handlerOf c)
 handler-address ZeroDivision = record { word = omega arith; even = refl }
@@ -37,29 +43,26 @@ handler-address Illegal = record { word = omega arith; even = refl }
 handler-address (Trap vector) =
     pick-each Address (ltb (vector % 32) 16) 0xFFFFFFA0 0xFFFFFFB0
     record { word = omega arith; even = refl } record { word = omega arith; even = refl }
-handler-address FloatReserved = record { word = omega arith; even = refl }
-handler-address FloatInvalid = record { word = omega arith; even = refl }
-handler-address FloatZeroDivide = record { word = omega arith; even = refl }
-handler-address FloatOverflow = record { word = omega arith; even = refl }
+handler-address (Float cause) = record { word = omega arith; even = refl }
 
 restore-address : (c : Cause) (pc next : ℕ) → Address pc → Address next → Address (restoreOf c pc next)
 restore-address ZeroDivision pc next p q = p
 restore-address Illegal pc next p q = p
 restore-address (Trap vector) pc next p q = q
-restore-address FloatReserved pc next p q = p
-restore-address FloatInvalid pc next p q = p
-restore-address FloatZeroDivide pc next p q = p
-restore-address FloatOverflow pc next p q = p
+restore-address (Float cause) pc next p q = p
+
+flagged-format : (c : FloatCause) (psw : ℕ) → Format psw → Format (withBit (floatFlagOf c) psw)
+flagged-format FloatCause.Reserved psw h = low-format psw (withBit froFlag psw) (psw % 1024 - psw / 512 % 2 * 512 + 512) h (omega arith) (omega arith)
+flagged-format FloatCause.Invalid psw h = low-format psw (withBit fivFlag psw) (psw % 1024 - psw / 256 % 2 * 256 + 256) h (omega arith) (omega arith)
+flagged-format FloatCause.ZeroDivide psw h = low-format psw (withBit fzdFlag psw) (psw % 1024 - psw / 128 % 2 * 128 + 128) h (omega arith) (omega arith)
+flagged-format FloatCause.Overflow psw h = low-format psw (withBit fovFlag psw) (psw % 1024 - psw / 64 % 2 * 64 + 64) h (omega arith) (omega arith)
 
 -- the PSW that is saved is a PSW format
 saved-format : (c : Cause) (psw : ℕ) → Format psw → Format (savedOf c psw)
 saved-format ZeroDivision psw h = h
 saved-format Illegal psw h = h
 saved-format (Trap vector) psw h = h
-saved-format FloatReserved psw h = low-format psw (withBit froFlag psw) (psw % 1024 - psw / 512 % 2 * 512 + 512) h (omega arith) (omega arith)
-saved-format FloatInvalid psw h = low-format psw (withBit fivFlag psw) (psw % 1024 - psw / 256 % 2 * 256 + 256) h (omega arith) (omega arith)
-saved-format FloatZeroDivide psw h = low-format psw (withBit fzdFlag psw) (psw % 1024 - psw / 128 % 2 * 128 + 128) h (omega arith) (omega arith)
-saved-format FloatOverflow psw h = low-format psw (withBit fovFlag psw) (psw % 1024 - psw / 64 % 2 * 64 + 64) h (omega arith) (omega arith)
+saved-format (Float cause) psw h = flagged-format cause psw h
 
 module _ (c : Cause) (s : State) (m : Memory) (g : Good s m) where
   fatal-left : Left (fatalOf c s m)

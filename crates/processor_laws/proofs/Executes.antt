@@ -7,8 +7,8 @@ use native.Mathlib.Omega.{arith}
 use lib.Dec.{eqb}
 use lib.ListN.{getD}
 use lib.Ieee.{binary32, toBits}
-use Rattle.word.specs.Bit.{bitAt}
 use Rattle.word.proofs.Choices.{pick-each}
+use Rattle.word.specs.Bit.{bitAt}
 use Rattle.processor_arithmetic.specs.declared.Outcome.{Outcome}
 use Rattle.processor_arithmetic.specs.declared.Pair.{Pair}
 use Rattle.processor_arithmetic.specs.Flag.{bitOf, setIdOf, clearIdOf, npFlag}
@@ -33,8 +33,11 @@ use Rattle.processor_machine.specs.Exception.{raiseOf}
 use Rattle.processor_execute.specs.Floating.{floatingOf, nintendoOf}
 use Rattle.processor_execute.specs.Operation.{registerOf, immediateOf, longOf}
 use Rattle.processor_execute.specs.Transfer.{loadedOf, inputOf, storedOf}
-use Rattle.processor_execute.specs.Execute.{goesOn, givesOf, resultOf, pairOf, dividesOf, settlesOf, comparesOf, jumpsOf, plusOf, returnsOf, executeOf}
+use Rattle.processor_execute.specs.Result.{goesOn, givesOf, resultOf, pairOf}
+use Rattle.processor_execute.specs.Floating.{settlesOf, comparesOf}
+use Rattle.processor_execute.specs.Execute.{dividesOf, jumpsOf, plusOf, executeOf}
 use Rattle.processor_machine.specs.declared.Cause as cause
+use Rattle.processor_machine.specs.declared.floating.FloatCause.{FloatCause}
 use Rattle.processor_laws.proofs.Invariant.{Format, Generals, Address, Memories, Good}
 use Rattle.processor_laws.proofs.Psw.{order-format, number-format, conversion-format, set-id-format, clear-id-format}
 use Rattle.processor_laws.proofs.Floats.{Kept, number-word, floating-kept, nintendo-word}
@@ -86,10 +89,10 @@ module _ (s : State) (m : Memory) (g : Good s m) where
   settles n (Word w) next k hn =
       goes-on (putOf (s .regs) n w) next (conversionFlagsOf (s .psw) w) m (put-generals (s .regs) n w k (g .generals)) hn
       (conversion-format (s .psw) w (g .format) k) (g .memories)
-  settles n Reserved next k hn = raise-left cause.the-variants.FloatReserved next s m hn g
-  settles n Invalid next k hn = raise-left cause.the-variants.FloatInvalid next s m hn g
-  settles n ZeroDivide next k hn = raise-left cause.the-variants.FloatZeroDivide next s m hn g
-  settles n Overflow next k hn = raise-left cause.the-variants.FloatOverflow next s m hn g
+  settles n Reserved next k hn = raise-left (cause.the-variants.Float FloatCause.Reserved) next s m hn g
+  settles n Invalid next k hn = raise-left (cause.the-variants.Float FloatCause.Invalid) next s m hn g
+  settles n ZeroDivide next k hn = raise-left (cause.the-variants.Float FloatCause.ZeroDivide) next s m hn g
+  settles n Overflow next k hn = raise-left (cause.the-variants.Float FloatCause.Overflow) next s m hn g
 
   compares : (c : Compared) (next : ℕ) → Address next → Left (comparesOf c next s m)
   compares Compared.Lower next hn =
@@ -98,7 +101,7 @@ module _ (s : State) (m : Memory) (g : Good s m) where
       goes-on (s .regs) next (orderFlagsOf (s .psw) true false) m (g .generals) hn (order-format (s .psw) true false (g .format)) (g .memories)
   compares Compared.Higher next hn =
       goes-on (s .regs) next (orderFlagsOf (s .psw) false false) m (g .generals) hn (order-format (s .psw) false false (g .format)) (g .memories)
-  compares Compared.Reserved next hn = raise-left cause.the-variants.FloatReserved next s m hn g
+  compares Compared.Reserved next hn = raise-left (cause.the-variants.Float FloatCause.Reserved) next s m hn g
 
   jumps : (pc : ℕ) → pc < 2 ^ 32 → Left (jumpsOf pc s m)
   jumps pc h = goes-on (s .regs) (evenOf pc) (s .psw) m (g .generals) (even-address pc h) (g .format) (g .memories)
@@ -109,8 +112,9 @@ module _ (s : State) (m : Memory) (g : Good s m) where
   plus-word : (a disp : ℕ) → plusOf a disp < 2 ^ 32
   plus-word a disp = omega arith
 
-  returns : Left (returnsOf s m)
-  returns =
+  returns : (next : ℕ) → Left (executeOf Reti next s m)
+  unfolding executeOf
+  returns next =
       let q = g .systems in
       pick-each Left (eqb (bitAt npFlag (s .psw)) 1) (goesOn (s .regs) (getD (s .sys) 2 0) (getD (s .sys) 3 0) s m)
       (goesOn (s .regs) (getD (s .sys) 0 0) (getD (s .sys) 1 0) s m)
@@ -165,7 +169,7 @@ module _ (s : State) (m : Memory) (g : Good s m) where
         (put-generals (s .regs) 31 (plusOf (s .pc) 4) (plus-word (s .pc) 4) (g .generals))
         (even-address (plusOf (s .pc) disp) (plus-word (s .pc) disp)) (g .format) (g .memories)
     execute-left (Trap vector) f = raise-left (cause.the-variants.Trap vector) next s m hn g
-    execute-left Reti f = returns
+    execute-left Reti f = returns next
     execute-left Halt f =
         record {
           generals = g .generals;

@@ -10,8 +10,8 @@ use lib.Dec.{ltb, eqb}
 use lib.ListN.{getD, set}
 use lib.Seq.{getD-set-other}
 use lib.Ieee.{Float, binary32, toBits, ofInt}
-use Rattle.word.specs.Bit.{bitAt}
 use Rattle.word.proofs.Choices.{pick-each}
+use Rattle.word.specs.Bit.{bitAt}
 use Rattle.processor_arithmetic.specs.Integer.{signed}
 use Rattle.processor_arithmetic.proofs.Places.{set-flag, set-flag-others}
 use Rattle.bus.specs.Memory.{Memory}
@@ -20,7 +20,7 @@ use Rattle.processor_decode.specs.Opcode.{shortRows, branchRows, longRows, deco
 use Rattle.processor_decode.specs.declared.Decoded.{Decoded}
 use Rattle.processor_decode.specs.declared.Decoded.the-variants.{Modelled, NotModelled}
 use Rattle.processor_decode.specs.declared.Instruction.the-variants.{Illegal}
-use Rattle.processor_decode.specs.declared.FloatingOperation.{FloatingOperation}
+use Rattle.processor_decode.specs.declared.sub_opcode.FloatingOperation.{FloatingOperation}
 use Rattle.processor_float.specs.Operand.{isZero}
 use Rattle.processor_float.specs.Arithmetic.{outcomeOf}
 use Rattle.processor_float.specs.Conversion.{nearestSizeOf, truncatedSizeOf, convertedOf, nearestOf, truncatedOf}
@@ -33,8 +33,11 @@ use Rattle.processor_float.specs.declared.FloatOutcome.the-variants.{Number, Wo
 use Rattle.processor_float_laws.proofs.Flagged.{order-placed, number-placed, conversion-placed}
 use Rattle.processor_machine.specs.State.{State, Stepped, regOf, putOf}
 use Rattle.processor_machine.specs.declared.Cause.the-variants as cause
+use Rattle.processor_machine.specs.declared.floating.FloatCause.{FloatCause}
 use Rattle.processor_execute.specs.Floating.{floatingOf, nintendoOf}
-use Rattle.processor_execute.specs.Execute.{goesOn, settlesOf, comparesOf, executeOf}
+use Rattle.processor_execute.specs.Result.{goesOn}
+use Rattle.processor_execute.specs.Floating.{settlesOf, comparesOf}
+use Rattle.processor_execute.specs.Execute.{executeOf}
 use Rattle.processor_laws.specs.Trapping.{Outside}
 use Rattle.processor_laws.specs.Extended.{FlagsSaved, Decodes, Changes, Traps, floatingFlags, CmpfChanges, FloatingChanges, NintendoChanges}
 use Rattle.processor_laws.proofs.Lists.{each-at}
@@ -165,16 +168,16 @@ module _ (reg2 next : ℕ) (s : State) (m : Memory) where
       let w = toBits binary32 v in
       inl (gives flags w (numberFlagsOf (s .psw) w underflowed) h)
   settles flags (Word w) h = inl (gives flags w (conversionFlagsOf (s .psw) w) h)
-  settles flags Reserved h = inr (record { cause = cause.FloatReserved; floating = refl; raised = refl })
-  settles flags Invalid h = inr (record { cause = cause.FloatInvalid; floating = refl; raised = refl })
-  settles flags ZeroDivide h = inr (record { cause = cause.FloatZeroDivide; floating = refl; raised = refl })
-  settles flags Overflow h = inr (record { cause = cause.FloatOverflow; floating = refl; raised = refl })
+  settles flags Reserved h = inr (record { cause = cause.Float FloatCause.Reserved; floating = refl; raised = refl })
+  settles flags Invalid h = inr (record { cause = cause.Float FloatCause.Invalid; floating = refl; raised = refl })
+  settles flags ZeroDivide h = inr (record { cause = cause.Float FloatCause.ZeroDivide; floating = refl; raised = refl })
+  settles flags Overflow h = inr (record { cause = cause.Float FloatCause.Overflow; floating = refl; raised = refl })
 
   compares : (c : Compared) → Does [] (0 ∷ 1 ∷ 2 ∷ 3 ∷ []) (comparesOf c next s m)
   compares Compared.Lower = inl (stays false true)
   compares Compared.Equal = inl (stays true false)
   compares Compared.Higher = inl (stays false false)
-  compares Compared.Reserved = inr (record { cause = cause.FloatReserved; floating = refl; raised = refl })
+  compares Compared.Reserved = inr (record { cause = cause.Float FloatCause.Reserved; floating = refl; raised = refl })
 
 pub cmpf-changes : CmpfChanges
 unfolding executeOf

@@ -10,12 +10,12 @@ use lib.IntN.{ℤ, pos}
 use lib.Ieee.{Float, nan, inf, fin, binary32, fits, toBits, ofInt}
 use lib.Ieee.Bits.{toBits-lt}
 use lib.Ieee.Fits.{add-fits, sub-fits, mul-fits, div-fits, ofInt-fits}
-use Rattle.word.specs.Choose.{pick}
 use Rattle.word.proofs.Choices.{pick-each}
+use Rattle.word.specs.Choose.{pick}
 use Rattle.processor_arithmetic.specs.Sign.{negativeOf}
 use Rattle.processor_arithmetic.specs.Integer.{signed, outside}
-use Rattle.processor_decode.specs.declared.FloatingOperation.{FloatingOperation}
-use Rattle.processor_decode.specs.declared.NintendoOperation.{NintendoOperation}
+use Rattle.processor_decode.specs.declared.sub_opcode.FloatingOperation.{FloatingOperation}
+use Rattle.processor_decode.specs.declared.sub_opcode.NintendoOperation.{NintendoOperation}
 use Rattle.processor_float.specs.Operand.{reservedOf, isZero, floatOf, signedBy}
 use Rattle.processor_float.specs.Arithmetic.{computedOf, isDivide, vanishesOf, isTiny, settledOf, floatResultOf, outcomeOf}
 use Rattle.processor_float.specs.Conversion.{nearestSizeOf, truncatedSizeOf, signedWordOf, convertedOf, nearestOf, truncatedOf}

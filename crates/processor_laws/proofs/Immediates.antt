@@ -3,9 +3,9 @@ use Prim.Native.Nat.{ℕ, _*_, _/_, _%_, _^_, _<_}
 use mathlib.Core.List.{_++_}
 use native.Mathlib.Omega.{arith}
 use lib.Dec.{eqb}
+use Rattle.word.proofs.Choices.{pick-each}
 use Rattle.word.specs.Extend.{extendOf}
 use Rattle.word.proofs.Extended.{extend-word}
-use Rattle.word.proofs.Choices.{pick-each}
 use Rattle.processor_decode.specs.Format.{lowOf, reg2Of, ldsr, stsr}
 use Rattle.processor_decode.specs.SubOpcode.{subRows, extendedOf}
 use Rattle.processor_decode.specs.Opcode.{shortRows, branchRows, longRows, decodeOf}

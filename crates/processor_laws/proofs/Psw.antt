@@ -5,9 +5,10 @@ use mathlib.Core.Path.{_≡_, subst, _∙_}
 use mathlib.Core.Bool.{Bool, true, false}
 use native.Mathlib.Omega.{arith}
 use lib.Dec.{ltb, eqb}
-use Rattle.word.specs.Bit.{withBit}
-use Rattle.processor_arithmetic.specs.Flag.{bitOf, signOf, zeroOf, flagsOf, keepCarryOf, setIdOf, clearIdOf, setEpOf}
-use Rattle.processor_arithmetic.specs.Flag.{setNpOf, clearAeOf, regularOf, duplexedOf, fudFlag}
+use Rattle.word.specs.Bit.{withBit, withoutBit}
+use Rattle.processor_arithmetic.specs.Flag.{bitOf, signOf, zeroOf, flagsOf, keepCarryOf, setIdOf, clearIdOf}
+use Rattle.processor_arithmetic.specs.Flag.{regularOf, duplexedOf, aeFlag, epFlag, npFlag}
+use Rattle.processor_arithmetic.specs.FloatFlag.{fudFlag}
 use Rattle.processor_arithmetic.proofs.Bits.{bit-small}
 use Rattle.processor_float.specs.Operand.{isZero}
 use Rattle.processor_float.specs.Flag.{orderFlagsOf, underflowOf, numberFlagsOf, conversionFlagsOf}
@@ -92,67 +93,50 @@ pub conversion-format : (psw w : ℕ) → Format psw → w < 2 ^ 32 → Format (
 unfolding conversionFlagsOf
 conversion-format psw w h hw = keep-carry-format psw 0 w h (omega arith) hw
 
+-- bits from 12 on are cleared, then others set
+changed : (psw u v : ℕ) → Format psw → u ≤ psw / 4096 → psw / 4096 - u + v < 256 → Format (psw - u * 4096 + v * 4096)
+changed psw u v h b d =
+    let p = parted psw h in
+    joined (psw - u * 4096 + v * 4096) (psw / 4096 - u + v) (psw % 1024) (omega arith) d (omega arith)
+
 pub set-id-format : (psw : ℕ) → Format psw → Format (setIdOf psw)
 unfolding setIdOf
-set-id-format psw h = go (psw / 4096) (psw % 1024) (psw / 4096 % 2) (parted psw h) (omega arith) (high-small psw h) (omega arith)
-  where
-    go : (high low t : ℕ) → psw ≡ high * 4096 + low → t ≡ high / 1 % 2 → high < 256 → low < 1024 → Format (psw - t * 4096 + 4096)
-    go high low t e f hh hl =
-        let b : t * 1 ≤ high = omega arith in
-        let d : high - t * 1 + 1 < 256 = omega arith in
-        let g : psw - t * 4096 + 4096 ≡ (high - t * 1 + 1) * 4096 + low = omega arith in
-        joined (psw - t * 4096 + 4096) (high - t * 1 + 1) low g d hl
+set-id-format psw h =
+    let u = psw / 4096 % 2 * 1 in
+    let e : psw - u * 4096 + 1 * 4096 ≡ psw - psw / 4096 % 2 * 4096 + 4096 = omega arith in
+    subst Format e (changed psw u 1 h (omega arith) (omega (arith, high-small psw h)))
 
 pub clear-id-format : (psw : ℕ) → Format psw → Format (clearIdOf psw)
 unfolding clearIdOf
-clear-id-format psw h = go (psw / 4096) (psw % 1024) (psw / 4096 % 2) (parted psw h) (omega arith) (high-small psw h) (omega arith)
-  where
-    go : (high low t : ℕ) → psw ≡ high * 4096 + low → t ≡ high / 1 % 2 → high < 256 → low < 1024 → Format (psw - t * 4096)
-    go high low t e f hh hl =
-        let b : t * 1 ≤ high = omega arith in
-        let d : high - t * 1 < 256 = omega arith in
-        let g : psw - t * 4096 ≡ (high - t * 1) * 4096 + low = omega arith in
-        joined (psw - t * 4096) (high - t * 1) low g d hl
+clear-id-format psw h =
+    let u = psw / 4096 % 2 * 1 in
+    let e : psw - u * 4096 + 0 * 4096 ≡ psw - psw / 4096 % 2 * 4096 = omega arith in
+    subst Format e (changed psw u 0 h (omega arith) (omega (arith, high-small psw h)))
 
-set-ep-format : (psw : ℕ) → Format psw → Format (setEpOf psw)
-unfolding setEpOf
-set-ep-format psw h = go (psw / 4096) (psw % 1024) (psw / 16384 % 2) (parted psw h) (omega arith) (high-small psw h) (omega arith)
-  where
-    go : (high low t : ℕ) → psw ≡ high * 4096 + low → t ≡ high / 4 % 2 → high < 256 → low < 1024 → Format (psw - t * 16384 + 16384)
-    go high low t e f hh hl =
-        let b : t * 4 ≤ high = omega arith in
-        let d : high - t * 4 + 4 < 256 = omega arith in
-        let g : psw - t * 16384 + 16384 ≡ (high - t * 4 + 4) * 4096 + low = omega arith in
-        joined (psw - t * 16384 + 16384) (high - t * 4 + 4) low g d hl
+set-ep-format : (psw : ℕ) → Format psw → Format (withBit epFlag psw)
+set-ep-format psw h =
+    let u = psw / 16384 % 2 * 4 in
+    let e : psw - u * 4096 + 4 * 4096 ≡ psw - psw / 16384 % 2 * 16384 + 16384 = omega arith in
+    subst Format e (changed psw u 4 h (omega arith) (omega (arith, high-small psw h)))
 
-set-np-format : (psw : ℕ) → Format psw → Format (setNpOf psw)
-unfolding setNpOf
-set-np-format psw h = go (psw / 4096) (psw % 1024) (psw / 32768 % 2) (parted psw h) (omega arith) (high-small psw h) (omega arith)
-  where
-    go : (high low t : ℕ) → psw ≡ high * 4096 + low → t ≡ high / 8 % 2 → high < 256 → low < 1024 → Format (psw - t * 32768 + 32768)
-    go high low t e f hh hl =
-        let b : t * 8 ≤ high = omega arith in
-        let d : high - t * 8 + 8 < 256 = omega arith in
-        let g : psw - t * 32768 + 32768 ≡ (high - t * 8 + 8) * 4096 + low = omega arith in
-        joined (psw - t * 32768 + 32768) (high - t * 8 + 8) low g d hl
+set-np-format : (psw : ℕ) → Format psw → Format (withBit npFlag psw)
+set-np-format psw h =
+    let u = psw / 32768 % 2 * 8 in
+    let e : psw - u * 4096 + 8 * 4096 ≡ psw - psw / 32768 % 2 * 32768 + 32768 = omega arith in
+    subst Format e (changed psw u 8 h (omega arith) (omega (arith, high-small psw h)))
 
-clear-ae-format : (psw : ℕ) → Format psw → Format (clearAeOf psw)
-unfolding clearAeOf
-clear-ae-format psw h = go (psw / 4096) (psw % 1024) (psw / 8192 % 2) (parted psw h) (omega arith) (high-small psw h) (omega arith)
-  where
-    go : (high low t : ℕ) → psw ≡ high * 4096 + low → t ≡ high / 2 % 2 → high < 256 → low < 1024 → Format (psw - t * 8192)
-    go high low t e f hh hl =
-        let b : t * 2 ≤ high = omega arith in
-        let d : high - t * 2 < 256 = omega arith in
-        let g : psw - t * 8192 ≡ (high - t * 2) * 4096 + low = omega arith in
-        joined (psw - t * 8192) (high - t * 2) low g d hl
+clear-ae-format : (psw : ℕ) → Format psw → Format (withoutBit aeFlag psw)
+clear-ae-format psw h =
+    let u = psw / 8192 % 2 * 2 in
+    let e : psw - u * 4096 + 0 * 4096 ≡ psw - psw / 8192 % 2 * 8192 = omega arith in
+    subst Format e (changed psw u 0 h (omega arith) (omega (arith, high-small psw h)))
 
 pub regular-format : (psw : ℕ) → Format psw → Format (regularOf psw)
-unfolding regularOf
+unfolding regularOf setIdOf
 regular-format psw h = clear-ae-format _ (set-id-format _ (set-ep-format psw h))
 
 pub duplexed-format : (psw : ℕ) → Format psw → Format (duplexedOf psw)
-unfolding duplexedOf
+unfolding duplexedOf setIdOf
 duplexed-format psw h = clear-ae-format _ (set-id-format _ (set-np-format psw h))
 
 -- I replaced

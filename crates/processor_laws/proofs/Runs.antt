@@ -4,43 +4,27 @@ use mathlib.Core.Bool.{Bool, false}
 use mathlib.Core.Path.{_≡_, refl, sym, ap}
 use native.Mathlib.Omega.{arith}
 use lib.Dec.{eqb}
-use Rattle.word.specs.Bit.{bitAt}
-use Rattle.word.proofs.Choices.{pick-each}
-use Rattle.processor_arithmetic.specs.Flag.{epFlag, npFlag}
-use Rattle.processor_arithmetic.specs.Condition.{conditionOf}
-use Rattle.processor_arithmetic.specs.Quotient.{divideOf, divideUnsignedOf}
 use Rattle.bus.specs.Memory.{Memory}
-use Rattle.refusal.specs.declared.Verdict.the-variants as verdict
 use Rattle.processor_decode.specs.Format.{twoOf}
 use Rattle.processor_decode.specs.Opcode.{decodeOf}
 use Rattle.processor_decode.specs.declared.Decoded.{Decoded}
 use Rattle.processor_decode.specs.declared.Decoded.the-variants.{Modelled, NotModelled}
-use Rattle.processor_decode.specs.declared.Instruction.{Instruction}
-use Rattle.processor_decode.specs.declared.Instruction.the-variants.{Register, Mul, Div, Mulu, Divu, Jmp, Immediate}
-use Rattle.processor_decode.specs.declared.Instruction.the-variants.{Setf, Cli, Sei, Trap, Reti, Halt, Ldsr, Stsr}
-use Rattle.processor_decode.specs.declared.Instruction.the-variants.{Bcond, Jr, Jal, Long, Load, In, Store, Out}
-use Rattle.processor_decode.specs.declared.Instruction.the-variants.{Illegal, Cmpf, Floating, Nintendo}
-use Rattle.processor_machine.specs.State.{State, Stepped, stateOf, steppedOf, regOf}
-use Rattle.processor_machine.specs.Exception.{fatalOf, duplexedEntryOf, regularEntryOf, enterOf, raiseOf, codeOf, handlerOf, restoreOf, savedOf}
-use Rattle.processor_execute.specs.Execute.{goesOn, pairOf, settlesOf, comparesOf, jumpsOf, plusOf, executeOf}
-use Rattle.processor_execute.specs.Floating.{floatingOf}
-use Rattle.processor_float.specs.Comparison.{comparisonOf}
-use Rattle.processor_float.specs.declared.Compared.{Compared}
-use Rattle.processor_float.specs.declared.FloatOutcome.{FloatOutcome}
-use Rattle.processor_float.specs.declared.FloatOutcome.the-variants.{Number, Word, Reserved, Invalid, ZeroDivide, Overflow}
+use Rattle.processor_machine.specs.State.{State, Stepped, stateOf, steppedOf}
 use Rattle.processor_step.specs.Step.{firstOf, secondOf, nextOf, performOf, runningStepOf, stepInOf, instructionStepOf}
-use Rattle.processor_step.specs.Step.{linesIn, acceptsIn, interruptStepOf, stepOf}
+use Rattle.processor_step.specs.Interrupted.{linesIn, acceptsIn, interruptStepOf}
+use Rattle.processor_step.specs.Step.{stepOf}
 use Rattle.processor_step.proofs.Choosing.{step-instruction}
 use Rattle.processor_interrupt.specs.Interrupt.{acceptsOf}
-use Rattle.processor_machine.specs.declared.Cause as cause
 use Rattle.processor_machine.specs.declared.Mode.{Mode}
 use Rattle.processor_machine.specs.declared.Mode.the-variants.{Running, Halted, Fatal}
 use Rattle.processor_machine.specs.declared.Answer.{Answer}
 use Rattle.processor_machine.specs.declared.Answer.the-variants.{Ended, Trapped, Interrupted, TurnedFatal, WasHalted, WasFatal, Refused}
-use Rattle.processor.specs.Run.{Run, afterOf, afterStep, runOf}
+use Rattle.processor.specs.Run.{Run, oneMore, afterOf, afterStep, runOf}
 use Rattle.processor.specs.declared.After.{After}
 use Rattle.processor.specs.declared.After.the-variants.{Counted, Stopped}
 use Rattle.processor_laws.specs.Steps.{stepsOf, RunSteps, Counts, RunCounted, stepEndOf, Ends, RunEnds}
+use Rattle.processor_execute.proofs.Every as every
+use Rattle.word.proofs.Choices.{pick-each}
 
 -- what a step leaves as it was, by its answer
 abbrev pub Leaves : Answer → Stepped → State → Memory → Type 0
@@ -56,66 +40,12 @@ module _ (s : State) (m : Memory) where
   abbrev Idle : Stepped → Type 0
   Idle t = Leaves (t .answer) t s m
 
-  raise-idle : (c : cause.Cause) (next : ℕ) → Idle (raiseOf c next s m)
-  unfolding raiseOf enterOf
-  raise-idle c next =
-      pick-each Idle (eqb (bitAt npFlag (s .psw)) 1) (fatalOf c s m) _ (refl, refl)
-      (pick-each Idle (eqb (bitAt epFlag (s .psw)) 1) (duplexedEntryOf c (codeOf c) (restoreOf c (s .pc) next) (savedOf c (s .psw)) s m)
-      (regularEntryOf c (codeOf c) (handlerOf c) (restoreOf c (s .pc) next) (savedOf c (s .psw)) s m) tt tt)
-
-  settles-idle : (n : ℕ) (o : FloatOutcome) (next : ℕ) → Idle (settlesOf n o next s m)
-  settles-idle n (Number v underflowed) next = tt
-  settles-idle n (Word w) next = tt
-  settles-idle n Reserved next = raise-idle cause.the-variants.FloatReserved next
-  settles-idle n Invalid next = raise-idle cause.the-variants.FloatInvalid next
-  settles-idle n ZeroDivide next = raise-idle cause.the-variants.FloatZeroDivide next
-  settles-idle n Overflow next = raise-idle cause.the-variants.FloatOverflow next
-
-  compares-idle : (c : Compared) (next : ℕ) → Idle (comparesOf c next s m)
-  compares-idle Compared.Lower next = tt
-  compares-idle Compared.Equal next = tt
-  compares-idle Compared.Higher next = tt
-  compares-idle Compared.Reserved next = raise-idle cause.the-variants.FloatReserved next
-
-  execute-idle : (i : Instruction) (next : ℕ) → Idle (executeOf i next s m)
-  unfolding executeOf
-  execute-idle (Register op reg1 reg2) next = tt
-  execute-idle (Immediate op imm reg2) next = tt
-  execute-idle (Long op imm reg1 reg2) next = tt
-  execute-idle (Mul reg1 reg2) next = tt
-  execute-idle (Mulu reg1 reg2) next = tt
-  execute-idle (Div reg1 reg2) next =
-      pick-each Idle (eqb (regOf s reg1) 0) (raiseOf cause.the-variants.ZeroDivision next s m)
-      (pairOf reg2 (divideOf (regOf s reg2) (regOf s reg1) (s .psw)) next s m)
-      (raise-idle cause.the-variants.ZeroDivision next) tt
-  execute-idle (Divu reg1 reg2) next =
-      pick-each Idle (eqb (regOf s reg1) 0) (raiseOf cause.the-variants.ZeroDivision next s m)
-      (pairOf reg2 (divideUnsignedOf (regOf s reg2) (regOf s reg1) (s .psw)) next s m)
-      (raise-idle cause.the-variants.ZeroDivision next) tt
-  execute-idle (Setf cond reg2) next = tt
-  execute-idle (Load width disp reg1 reg2) next = tt
-  execute-idle (In width disp reg1 reg2) next = tt
-  execute-idle (Store width disp reg1 reg2) next = tt
-  execute-idle (Out width disp reg1 reg2) next = tt
-  execute-idle (Bcond cond disp) next =
-      pick-each Idle (conditionOf cond (s .psw)) (jumpsOf (plusOf (s .pc) disp) s m) (goesOn (s .regs) next (s .psw) s m) tt tt
-  execute-idle (Jmp reg1) next = tt
-  execute-idle (Jr disp) next = tt
-  execute-idle (Jal disp) next = tt
-  execute-idle (Trap vector) next = raise-idle (cause.the-variants.Trap vector) next
-  execute-idle Reti next = pick-each Idle (eqb (bitAt npFlag (s .psw)) 1) _ _ tt tt
-  execute-idle Halt next = tt
-  execute-idle (Ldsr reg2 id) next = tt
-  execute-idle (Stsr id reg2) next = tt
-  execute-idle Cli next = tt
-  execute-idle Sei next = tt
-  execute-idle Illegal next = raise-idle cause.the-variants.Illegal next
-  execute-idle (Cmpf reg1 reg2) next = compares-idle (comparisonOf (regOf s reg2) (regOf s reg1)) next
-  execute-idle (Floating op reg1 reg2) next = settles-idle reg2 (floatingOf op (regOf s reg2) (regOf s reg1)) next
-  execute-idle (Nintendo op reg1 reg2) next = tt
+  idle : (next : ℕ) → every.Leaves Idle next s m
+  idle next =
+      record { ended = λ regs sys pc psw. tt; halted = tt; trapped = λ c sys pc psw. tt; fatal = λ c. (refl, refl) }
 
   perform-idle : (d : Decoded) (next : ℕ) → Idle (performOf d next s m)
-  perform-idle (Modelled i) next = execute-idle i next
+  perform-idle (Modelled i) next = every.execute-every Idle next s m (idle next) i (λ width disp reg1 reg2. (λ e. tt, λ e. tt))
   perform-idle NotModelled next = (refl, refl)
 
   step-in-idle : (mode : Mode) → Idle (stepInOf mode s m)
@@ -204,40 +134,28 @@ same-counts r s m e f =
     }
 
 module _ (s : State) (m : Memory) where
+  -- one counted step more
+  counted : (rest : Run) → Counts rest (stepsOf (rest .count) (stepOf s m .state) (stepOf s m .memory))
+      → Counts (oneMore rest) (stepsOf (suc (rest .count)) s m)
+  unfolding stepsOf
+  counted rest e =
+      record {
+        same-memory = e .same-memory;
+        same-regs = e .same-regs;
+        same-sys = e .same-sys;
+        same-pc = e .same-pc;
+        same-psw = e .same-psw;
+        not-fatal = e .not-fatal;
+        refused = e .refused;
+      }
+
   after-counts : (a : Answer) (rest : Run) → Leaves a (stepOf s m) s m
       → Counts rest (stepsOf (rest .count) (stepOf s m .state) (stepOf s m .memory))
       → Counts (afterStep (afterOf a) (stepOf s m) rest) (stepsOf (afterStep (afterOf a) (stepOf s m) rest .count) s m)
   unfolding stepsOf
-  after-counts Ended rest h e =
-      record {
-        same-memory = e .same-memory;
-        same-regs = e .same-regs;
-        same-sys = e .same-sys;
-        same-pc = e .same-pc;
-        same-psw = e .same-psw;
-        not-fatal = e .not-fatal;
-        refused = e .refused;
-      }
-  after-counts (Trapped c) rest h e =
-      record {
-        same-memory = e .same-memory;
-        same-regs = e .same-regs;
-        same-sys = e .same-sys;
-        same-pc = e .same-pc;
-        same-psw = e .same-psw;
-        not-fatal = e .not-fatal;
-        refused = e .refused;
-      }
-  after-counts (Interrupted level) rest h e =
-      record {
-        same-memory = e .same-memory;
-        same-regs = e .same-regs;
-        same-sys = e .same-sys;
-        same-pc = e .same-pc;
-        same-psw = e .same-psw;
-        not-fatal = e .not-fatal;
-        refused = e .refused;
-      }
+  after-counts Ended rest h e = counted rest e
+  after-counts (Trapped c) rest h e = counted rest e
+  after-counts (Interrupted level) rest h e = counted rest e
   after-counts (TurnedFatal c) rest h e =
       record {
         same-memory = h .1;

@@ -9,13 +9,14 @@ use borrow.Author.Tests.{eq-eqb, ne-eqb}
 use lib.Dec.{eqb}
 use lib.ListN.{length, getD, set, length-set}
 use lib.Seq.{getD-set-same, getD-set-other, set-out}
-use Rattle.word.specs.Bit.{bitAt}
 use Rattle.word.proofs.Choices.{pick-each}
+use Rattle.word.specs.Bit.{bitAt}
 use Rattle.processor_arithmetic.specs.Flag.{epFlag, npFlag}
 use Rattle.processor_arithmetic.proofs.Entering.{regular-entry, duplexed-entry}
 use Rattle.bus.specs.Memory.{Memory}
 use Rattle.processor_machine.specs.State.{State, Stepped}
-use Rattle.processor_machine.specs.Exception.{codeOf, handlerOf, restoreOf, savedOf, fatalOf, duplexedEntryOf, regularEntryOf, enterOf, raiseOf}
+use Rattle.processor_machine.specs.Exception.{codeOf, handlerOf, restoreOf, fatalOf, duplexedEntryOf, regularEntryOf, enterOf, raiseOf}
+use Rattle.processor_machine.specs.FloatCause.{savedOf}
 use Rattle.processor_machine.specs.declared.Cause.{Cause}
 use Rattle.processor_machine.specs.declared.Answer.the-variants.{Trapped}
 use Rattle.processor_laws.specs.Trapping.{Entered, Leaves, TrapLeaves}

@@ -5,7 +5,8 @@ use Prim.Native.Nat.{ℕ}
 use mathlib.Core.List.{List}
 use lib.ListN.{length}
 use Rattle.bus.specs.Memory.{Memory, Lengths, memoryOf}
-use Rattle.processor.specs.Record.{stateIn, busOf}
+use Rattle.processor.specs.Record.{stateIn}
+use Rattle.processor.specs.Lines.{busOf}
 use Rattle.processor.specs.Calls.{checkedStepOf, checkedRunOf, resetOf}
 use Rattle.processor.specs.declared.Processor.{Processor}
 use Rattle.processor_laws.specs.Accepted.{Below, Machine}

@@ -9,7 +9,7 @@ use mathlib.Core.Logic.{_≢_, _⊎_}
 use lib.ListN.{getD}
 use Rattle.word.specs.Bit.{bitAt}
 use Rattle.processor_arithmetic.specs.Flag.{zFlag, sFlag, ovFlag, cyFlag}
-use Rattle.processor_arithmetic.specs.Flag.{fudFlag, fovFlag, fzdFlag, fivFlag, froFlag}
+use Rattle.processor_arithmetic.specs.FloatFlag.{fudFlag, fovFlag, fzdFlag, fivFlag, froFlag}
 use Rattle.word.specs.Choose.{member}
 use Rattle.bus.specs.Memory.{Memory}
 use Rattle.processor_decode.specs.SubOpcode.{extendedOf}
@@ -17,13 +17,14 @@ use Rattle.processor_decode.specs.Opcode.{decodeOf}
 use Rattle.processor_decode.specs.declared.Decoded.the-variants.{NotModelled}
 use Rattle.processor_decode.specs.declared.Instruction.{Instruction}
 use Rattle.processor_decode.specs.declared.Instruction.the-variants.{Cmpf, Floating, Nintendo}
-use Rattle.processor_decode.specs.declared.FloatingOperation.{FloatingOperation}
-use Rattle.processor_decode.specs.declared.NintendoOperation.{NintendoOperation}
+use Rattle.processor_decode.specs.declared.sub_opcode.FloatingOperation.{FloatingOperation}
+use Rattle.processor_decode.specs.declared.sub_opcode.NintendoOperation.{NintendoOperation}
 use Rattle.processor_machine.specs.State.{State, Stepped}
-use Rattle.processor_machine.specs.Exception.{codeOf, savedOf, raiseOf}
+use Rattle.processor_machine.specs.Exception.{codeOf, raiseOf}
+use Rattle.processor_machine.specs.FloatCause.{savedOf}
 use Rattle.processor_machine.specs.declared.Cause.{Cause}
-use Rattle.processor_machine.specs.declared.Cause.the-variants.{FloatReserved, FloatInvalid, FloatZeroDivide}
-use Rattle.processor_machine.specs.declared.Cause.the-variants.{FloatOverflow}
+use Rattle.processor_machine.specs.declared.Cause.the-variants.{Float}
+use Rattle.processor_machine.specs.declared.floating.FloatCause.{FloatCause}
 use Rattle.processor_machine.specs.declared.Answer.the-variants.{Ended}
 use Rattle.processor_execute.specs.Execute.{executeOf}
 use Rattle.processor_laws.specs.Trapping.{Outside}
@@ -34,10 +35,10 @@ pub record Saves (cause : Cause) (flag : ℕ) : Type 0 where
   pub kept : (psw k : ℕ) → k ≢ flag → bitAt k (savedOf cause psw) ≡ bitAt k psw
 
 pub record FlagsSaved : Type 0 where
-  pub fro : Saves FloatReserved froFlag
-  pub fiv : Saves FloatInvalid fivFlag
-  pub fzd : Saves FloatZeroDivide fzdFlag
-  pub fov : Saves FloatOverflow fovFlag
+  pub fro : Saves (Float FloatCause.Reserved) froFlag
+  pub fiv : Saves (Float FloatCause.Invalid) fivFlag
+  pub fzd : Saves (Float FloatCause.ZeroDivide) fzdFlag
+  pub fov : Saves (Float FloatCause.Overflow) fovFlag
 
 -- 111110 is 62
 pub record Decodes (f s : ℕ) : Type 0 where

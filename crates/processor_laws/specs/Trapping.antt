@@ -12,7 +12,8 @@ use Rattle.processor_arithmetic.specs.Entry.{Enters}
 use Rattle.bus.specs.Memory.{Memory}
 use Rattle.processor_machine.specs.State.{eipcPlace, eipswPlace, fepcPlace, fepswPlace, ecrPlace}
 use Rattle.processor_machine.specs.State.{State, Stepped, stateOf}
-use Rattle.processor_machine.specs.Exception.{savedOf, raiseOf}
+use Rattle.processor_machine.specs.Exception.{raiseOf}
+use Rattle.processor_machine.specs.FloatCause.{savedOf}
 use Rattle.processor_machine.specs.declared.Cause.{Cause}
 use Rattle.processor_machine.specs.declared.Mode.the-variants.{Fatal}
 use Rattle.processor_machine.specs.declared.Answer.the-variants.{Trapped, TurnedFatal}

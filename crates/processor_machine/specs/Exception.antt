@@ -3,16 +3,16 @@
 use Prim.Native.Nat.{ℕ, _+_, _*_, _/_, _%_, _^_}
 use lib.Dec.{ltb}
 use lib.ListN.{getD, set}
-use Rattle.word.specs.Bit.{isSet, withBit}
+use Rattle.word.specs.Bit.{isSet}
 use Rattle.word.specs.Choose.{pick}
-use Rattle.processor_arithmetic.specs.Flag.{regularOf, duplexedOf, fovFlag, fzdFlag, fivFlag, froFlag, epFlag, npFlag}
+use Rattle.processor_arithmetic.specs.Flag.{regularOf, duplexedOf, epFlag, npFlag}
 use Rattle.bus.specs.Memory.{Memory}
+use Rattle.processor_machine.specs.FloatCause.{floatCodeOf, savedOf}
 use Rattle.processor_machine.specs.State.{eipcPlace, eipswPlace, fepcPlace, fepswPlace, ecrPlace}
 use Rattle.processor_machine.specs.State.{State, Stepped, stateOf, steppedOf}
 use Rattle.processor_machine.specs.declared.Mode.the-variants.{Fatal}
 use Rattle.processor_machine.specs.declared.Cause.{Cause}
-use Rattle.processor_machine.specs.declared.Cause.the-variants.{ZeroDivision, Illegal, Trap, FloatReserved}
-use Rattle.processor_machine.specs.declared.Cause.the-variants.{FloatInvalid, FloatZeroDivide, FloatOverflow}
+use Rattle.processor_machine.specs.declared.Cause.the-variants.{ZeroDivision, Illegal, Trap, Float}
 use Rattle.processor_machine.specs.declared.Answer.the-variants.{Trapped, TurnedFatal}
 
 -- the code; a vector has five bits
@@ -20,40 +20,21 @@ abbrev pub codeOf : Cause → ℕ
 codeOf ZeroDivision = 0xFF80
 codeOf Illegal = 0xFF90
 codeOf (Trap vector) = 0xFFA0 + vector % 32
-codeOf FloatReserved = 0xFF60
-codeOf FloatInvalid = 0xFF70
-codeOf FloatZeroDivide = 0xFF68
-codeOf FloatOverflow = 0xFF64
+codeOf (Float cause) = floatCodeOf cause
 
 -- the handler's address
 abbrev pub handlerOf : Cause → ℕ
 handlerOf ZeroDivision = 0xFFFFFF80
 handlerOf Illegal = 0xFFFFFF90
 handlerOf (Trap vector) = pick (ltb (vector % 32) 16) 0xFFFFFFA0 0xFFFFFFB0
-handlerOf FloatReserved = 0xFFFFFF60
-handlerOf FloatInvalid = 0xFFFFFF60
-handlerOf FloatZeroDivide = 0xFFFFFF60
-handlerOf FloatOverflow = 0xFFFFFF60
+handlerOf (Float cause) = 0xFFFFFF60
 
 -- the restore PC, of an instruction at pc whose next is at `next`
 abbrev pub restoreOf : Cause → ℕ → ℕ → ℕ
 restoreOf ZeroDivision pc next = pc
 restoreOf Illegal pc next = pc
 restoreOf (Trap vector) pc next = next
-restoreOf FloatReserved pc next = pc
-restoreOf FloatInvalid pc next = pc
-restoreOf FloatZeroDivide pc next = pc
-restoreOf FloatOverflow pc next = pc
-
--- the PSW that is saved: a floating trap sets "the corresponding flag" and keeps every other bit (ruling W4.1)
-abbrev pub savedOf : Cause → ℕ → ℕ
-savedOf ZeroDivision psw = psw
-savedOf Illegal psw = psw
-savedOf (Trap vector) psw = psw
-savedOf FloatReserved psw = withBit froFlag psw
-savedOf FloatInvalid psw = withBit fivFlag psw
-savedOf FloatZeroDivide psw = withBit fzdFlag psw
-savedOf FloatOverflow psw = withBit fovFlag psw
+restoreOf (Float cause) pc next = pc
 
 -- an exception with NP set: "mode fatal, nothing else changes"
 abbrev pub fatalOf : Cause → State → Memory → Stepped

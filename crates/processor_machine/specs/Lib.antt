@@ -2,4 +2,5 @@ pub mod State
 pub mod System
 pub mod PswMask
 pub mod AbsoluteValue
+pub mod FloatCause
 pub mod Exception

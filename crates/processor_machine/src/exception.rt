@@ -3,12 +3,14 @@ use crate::Answer;
 use crate::Cause;
 use crate::Control;
 use crate::Mode;
+use crate::floating;
 ghost use mathlib.Core.Path.{_≡_};
 ghost use mathlib.Core.List.{List};
 ghost use Prim.Native.Nat.{ℕ, _+_, _*_, _/_, _%_, _<_};
 ghost use Rattle.bus.specs.Memory.{Memory};
 ghost use Rattle.processor_machine.specs.State.{stateOf, leaves};
-ghost use Rattle.processor_machine.specs.Exception.{codeOf, handlerOf, restoreOf, savedOf, enterOf, raiseOf};
+ghost use Rattle.processor_machine.specs.Exception.{codeOf, handlerOf, restoreOf, enterOf, raiseOf};
+ghost use Rattle.processor_machine.specs.FloatCause.{savedOf};
 
 // What an exception stores, and where it goes on: `saved` is the PSW to save.
 pub struct Entry {
@@ -26,10 +28,7 @@ pub fn code(cause: Cause) -> u32
         Cause::ZeroDivision => 0xFF80,
         Cause::Illegal => 0xFF90,
         Cause::Trap(vector) => 0xFFA0 + vector % 32,
-        Cause::FloatReserved => 0xFF60,
-        Cause::FloatInvalid => 0xFF70,
-        Cause::FloatZeroDivide => 0xFF68,
-        Cause::FloatOverflow => 0xFF64,
+        Cause::Float(float) => floating::code(float),
     }
 }
 
@@ -41,10 +40,7 @@ fn handler(cause: Cause) -> u32
         Cause::ZeroDivision => 0xFFFFFF80,
         Cause::Illegal => 0xFFFFFF90,
         Cause::Trap(vector) => trap_handler(vector),
-        Cause::FloatReserved => 0xFFFFFF60,
-        Cause::FloatInvalid => 0xFFFFFF60,
-        Cause::FloatZeroDivide => 0xFFFFFF60,
-        Cause::FloatOverflow => 0xFFFFFF60,
+        Cause::Float(_) => 0xFFFFFF60,
     }
 }
 
@@ -65,14 +61,11 @@ fn restore(cause: Cause, pc: u32, next: u32) -> u32
         Cause::ZeroDivision => pc,
         Cause::Illegal => pc,
         Cause::Trap(_) => next,
-        Cause::FloatReserved => pc,
-        Cause::FloatInvalid => pc,
-        Cause::FloatZeroDivide => pc,
-        Cause::FloatOverflow => pc,
+        Cause::Float(_) => pc,
     }
 }
 
-// The PSW to save: a floating trap sets its own flag, FRO, FIV, FZD or FOV, in bits 9 to 6.
+// The PSW to save: a floating trap sets its flag.
 fn saved(cause: Cause, psw: u32) -> u32
     ensures { λ r. ⌜ r ≡ savedOf cause psw ⌝ }
 {
@@ -80,10 +73,7 @@ fn saved(cause: Cause, psw: u32) -> u32
         Cause::ZeroDivision => psw,
         Cause::Illegal => psw,
         Cause::Trap(_) => psw,
-        Cause::FloatReserved => psw - psw / 512 % 2 * 512 + 512,
-        Cause::FloatInvalid => psw - psw / 256 % 2 * 256 + 256,
-        Cause::FloatZeroDivide => psw - psw / 128 % 2 * 128 + 128,
-        Cause::FloatOverflow => psw - psw / 64 % 2 * 64 + 64,
+        Cause::Float(float) => floating::flagged(float, psw),
     }
 }
 

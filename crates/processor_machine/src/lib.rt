@@ -2,11 +2,13 @@
 // exceptions. The functions here are for the crates above; the calls that test their arguments and refuse are those of
 // the crate processor.
 pub mod exception;
+pub mod floating;
 pub mod register;
 pub mod system;
 
 ghost use mathlib.Core.Path.{_≡_};
 ghost use Rattle.processor_machine.specs.State.{endedAt};
+use crate::floating::FloatCause;
 use refusal::Refusal;
 
 // The machine's mode.
@@ -21,10 +23,7 @@ pub enum Cause {
     ZeroDivision,
     Illegal,
     Trap(u32),
-    FloatReserved,
-    FloatInvalid,
-    FloatZeroDivide,
-    FloatOverflow,
+    Float(FloatCause),
 }
 
 // What a step did; an accepted interrupt carries its level.

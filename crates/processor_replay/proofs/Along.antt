@@ -9,11 +9,11 @@ use borrow.Author.Tests.{lt-ltb, le-ltb}
 use Rattle.bus.specs.Memory.{Memory}
 use Rattle.processor_machine.specs.State.{State, Stepped}
 use Rattle.processor_step.specs.Step.{stepOf}
-use Rattle.processor_replay.specs.Replay.{recordWith, recordAt, recordOf, registerSumOf, firstDifferenceOf, tellingOf}
+use Rattle.processor_replay.specs.Replay.{recordWith, recordAt, recordOf, registerSumOf, firstDifferenceOf, progressOf}
 use Rattle.processor_replay.specs.Replay.{Replay, replayWith, oneRecordMore, afterRecord, replayOf}
 use Rattle.processor_replay.specs.declared.End.{End}
 use Rattle.processor_replay.specs.declared.End.the-variants.{Agreed, Differed}
-use Rattle.processor_replay.specs.declared.Told.the-variants.{Completed, Ends}
+use Rattle.processor_replay.specs.declared.Progress.the-variants.{Completed, Ends}
 
 -- a replay with k agreeing records before it
 abbrev pub later : ℕ → Replay → Replay
@@ -31,7 +31,7 @@ along-start n trace s m =
 module _ (n : ℕ) (trace : List ℕ) (s₀ : State) (m₀ : Memory) (k : ℕ) (s : State) (m : Memory) (before : Along n trace s₀ m₀ k s m) where
   -- the definition's next step
   turn : k < n → (t : Stepped) → t ≡ stepOf s m
-      → replayOf n 0 trace s₀ m₀ ≡ later k (afterRecord (tellingOf (t .answer)) (firstDifferenceOf (recordAt trace k)
+      → replayOf n 0 trace s₀ m₀ ≡ later k (afterRecord (progressOf (t .answer)) (firstDifferenceOf (recordAt trace k)
       (recordOf s t)) t (replayOf (n - (k + 1)) (k + 1) trace (t .state) (t .memory)))
   unfolding replayOf
   turn h t e =
@@ -39,7 +39,7 @@ module _ (n : ℕ) (trace : List ℕ) (s₀ : State) (m₀ : Memory) (k : ℕ) (
       rw e (rw f at (before .rest))
 
   -- the sum and the first wrong word as the code has them
-  module _ (h : k < n) (t : Stepped) (e : t ≡ stepOf s m) (told : tellingOf (t .answer) ≡ Completed) (sum : ℕ)
+  module _ (h : k < n) (t : Stepped) (e : t ≡ stepOf s m) (told : progressOf (t .answer) ≡ Completed) (sum : ℕ)
       (added : sum ≡ registerSumOf (t .state .regs)) (word : ℕ) (found : word ≡ firstDifferenceOf (recordAt trace k)
       (recordWith (s .pc) (t .state .pc) (t .state .psw) sum)) where
     same-word : word ≡ firstDifferenceOf (recordAt trace k) (recordOf s t)
@@ -58,7 +58,7 @@ module _ (n : ℕ) (trace : List ℕ) (s₀ : State) (m₀ : Memory) (k : ℕ) (
         let z : k + 0 ≡ k = omega arith in
         sym (rw z at (rw (lt-ltb word 4 w) at (rw (told, ← same-word) at (turn h t e))))
 
-  pub along-ended : k < n → (t : Stepped) (end : End) → t ≡ stepOf s m → tellingOf
+  pub along-ended : k < n → (t : Stepped) (end : End) → t ≡ stepOf s m → progressOf
       (t .answer) ≡ Ends end → replayWith end k (t .state) (t .memory) ≡ replayOf n 0 trace s₀ m₀
   along-ended h t end e told =
       let z : k + 0 ≡ k = omega arith in

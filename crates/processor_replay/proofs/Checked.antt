@@ -14,7 +14,8 @@ use Rattle.bus.specs.TimerLines.{deviceOf}
 use Rattle.bus.specs.Memory.{Memory, Lengths, withRegs, verdictAt}
 use Rattle.bus.proofs.Accepted.{accepted-lengths}
 use Rattle.processor_machine.specs.State.{stateOf}
-use Rattle.processor.specs.Record.{systemIn, lentOf, processorOf}
+use Rattle.processor.specs.Record.{systemIn, processorOf}
+use Rattle.processor.specs.Lines.{lentOf}
 use Rattle.processor.specs.Acceptance.{stateOk, acceptanceAt, acceptanceIn}
 use Rattle.processor.specs.declared.Processor.{Processor}
 use Rattle.processor_replay.specs.declared.End.the-variants.{Refused}

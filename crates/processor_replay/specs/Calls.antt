@@ -10,7 +10,8 @@ use Rattle.refusal.specs.declared.Verdict.{Verdict}
 use Rattle.refusal.specs.declared.Verdict.the-variants as verdict
 use Rattle.refusal.specs.declared.Refusal.the-variants.{TraceLength}
 use Rattle.bus.specs.Memory.{Memory}
-use Rattle.processor.specs.Record.{stateIn, busOf, lentOf, processorOf}
+use Rattle.processor.specs.Record.{stateIn, processorOf}
+use Rattle.processor.specs.Lines.{busOf, lentOf}
 use Rattle.processor.specs.Acceptance.{acceptanceIn}
 use Rattle.processor.specs.declared.Processor.{Processor}
 use Rattle.processor_replay.specs.declared.End.{End}

@@ -15,8 +15,8 @@ use Rattle.processor_machine.specs.declared.Answer.the-variants as answer
 use Rattle.processor_step.specs.Step.{stepOf}
 use Rattle.processor_replay.specs.declared.End.{End}
 use Rattle.processor_replay.specs.declared.End.the-variants as end
-use Rattle.processor_replay.specs.declared.Told.{Told}
-use Rattle.processor_replay.specs.declared.Told.the-variants.{Completed, Ends}
+use Rattle.processor_replay.specs.declared.Progress.{Progress}
+use Rattle.processor_replay.specs.declared.Progress.the-variants.{Completed, Ends}
 use Rattle.processor_replay.specs.declared.FinishedReplay.{FinishedReplay}
 
 -- a record of a trace
@@ -58,14 +58,14 @@ firstDifferenceOf a b =
 
 -- what a step's answer means to a replay: what counts in a run, an accepted interrupt among it, is a completed step,
 -- which has a record; "the model refused, took no step because halted or fatal, or turned fatal there" ends it
-abbrev pub tellingOf : Answer → Told
-tellingOf answer.Ended = Completed
-tellingOf (answer.Trapped cause) = Completed
-tellingOf (answer.Interrupted level) = Completed
-tellingOf (answer.TurnedFatal cause) = Ends end.TurnedFatal
-tellingOf answer.WasHalted = Ends end.WasHalted
-tellingOf answer.WasFatal = Ends end.WasFatal
-tellingOf (answer.Refused n) = Ends (end.Refused n)
+abbrev pub progressOf : Answer → Progress
+progressOf answer.Ended = Completed
+progressOf (answer.Trapped cause) = Completed
+progressOf (answer.Interrupted level) = Completed
+progressOf (answer.TurnedFatal cause) = Ends end.TurnedFatal
+progressOf answer.WasHalted = Ends end.WasHalted
+progressOf answer.WasFatal = Ends end.WasFatal
+progressOf (answer.Refused n) = Ends (end.Refused n)
 
 -- what a replay gives: how it ended, the length of the longest agreeing prefix, and the machine afterwards
 pub record Replay : Type 0 where
@@ -82,7 +82,7 @@ abbrev pub oneRecordMore : Replay → Replay
 oneRecordMore r = replayWith (r .end) (suc (r .agreed)) (r .state) (r .memory)
 
 -- after a step, whose record differs first in `word`: the replay ends, the step being made; or it goes on with the rest
-abbrev pub afterRecord : Told → ℕ → Stepped → Replay → Replay
+abbrev pub afterRecord : Progress → ℕ → Stepped → Replay → Replay
 afterRecord Completed word t rest =
     pick (ltb word 4) (replayWith (end.Differed word) 0 (t .state) (t .memory)) (oneRecordMore rest)
 afterRecord (Ends e) word t rest = replayWith e 0 (t .state) (t .memory)
@@ -92,7 +92,7 @@ unfoldable pub replayOf : (n k : ℕ) (trace : List ℕ) → State → Memory �
 replayOf zero k trace s m = replayWith end.Agreed 0 s m
 replayOf (suc n) k trace s m =
     let t = stepOf s m in
-    afterRecord (tellingOf (t .answer)) (firstDifferenceOf (recordAt trace k) (recordOf s t)) t
+    afterRecord (progressOf (t .answer)) (firstDifferenceOf (recordAt trace k) (recordOf s t)) t
     (replayOf n (k + 1) trace (t .state) (t .memory))
 
 -- the same put together from the caller's registers and memories and what the code returns

@@ -1,4 +1,4 @@
-// Replay of a recorded trace (paper 02, W10): the machine is stepped beside the trace, and the answer says where they
+// Replay of a recorded trace (paper 02, W10): the machine is stepped along the trace, and the answer says where they
 // part. A record has 16 bytes, four little-endian words: PC before, PC after, PSW after and the sum of the general
 // registers after.
 pub mod calls;
@@ -20,7 +20,7 @@ pub enum End {
 }
 
 // What a step's answer means to a replay: a record is due, or the replay ends.
-pub enum Told {
+pub enum Progress {
     Completed,
     Ends(End),
 }

@@ -1,7 +1,7 @@
 // The records of a trace, replayed over registers and memories that were accepted.
 use crate::End;
 use crate::FinishedReplay;
-use crate::Told;
+use crate::Progress;
 use bus::Device;
 use processor_machine::Answer;
 use processor_machine::Mode;
@@ -13,21 +13,21 @@ ghost use Rattle.bus.specs.Memory.{Lengths};
 ghost use Rattle.bus.specs.Lent.{entering, leaving};
 ghost use Rattle.processor_machine.specs.State.{stateOf};
 ghost use Rattle.processor_replay.specs.Replay.{recordWith, recordsOf, recordAt, registerSumOf, firstDifferenceOf};
-ghost use Rattle.processor_replay.specs.Replay.{tellingOf, replayOf, replayedBy};
+ghost use Rattle.processor_replay.specs.Replay.{progressOf, replayOf, replayedBy};
 
 // An ended or trapped instruction and an accepted interrupt are completed steps; anything else ends the replay,
 // whatever the record says.
-fn told(answer: Answer) -> Told
-    ensures { λ r. ⌜ r ≡ tellingOf answer ⌝ }
+fn progress(answer: Answer) -> Progress
+    ensures { λ r. ⌜ r ≡ progressOf answer ⌝ }
 {
     match answer {
-        Answer::Ended => Told::Completed,
-        Answer::Trapped(_) => Told::Completed,
-        Answer::Interrupted(_) => Told::Completed,
-        Answer::TurnedFatal(_) => Told::Ends(End::TurnedFatal),
-        Answer::WasHalted => Told::Ends(End::WasHalted),
-        Answer::WasFatal => Told::Ends(End::WasFatal),
-        Answer::Refused(n) => Told::Ends(End::Refused(n)),
+        Answer::Ended => Progress::Completed,
+        Answer::Trapped(_) => Progress::Completed,
+        Answer::Interrupted(_) => Progress::Completed,
+        Answer::TurnedFatal(_) => Progress::Ends(End::TurnedFatal),
+        Answer::WasHalted => Progress::Ends(End::WasHalted),
+        Answer::WasFatal => Progress::Ends(End::WasFatal),
+        Answer::Refused(n) => Progress::Ends(End::Refused(n)),
     }
 }
 
@@ -99,8 +99,8 @@ pub fn replay(
         psw = c.psw;
         mode = c.mode;
         let answer = c.answer;
-        match told(answer) {
-            Told::Completed => {
+        match progress(answer) {
+            Progress::Completed => {
                 let s = sum(regs);
                 let word = difference(trace, k, before, pc, psw, s);
                 if word < 4 {
@@ -114,7 +114,7 @@ pub fn replay(
                 }
                 k += 1;
             }
-            Told::Ends(end) => {
+            Progress::Ends(end) => {
                 return FinishedReplay {
                     pc,
                     psw,

@@ -13,7 +13,7 @@ use Rattle.processor_machine.specs.declared.Answer.{Answer}
 use Rattle.processor_machine.specs.declared.Answer.the-variants as answer
 use Rattle.processor_step.specs.Step.{stepOf}
 use Rattle.processor.specs.Run.{Run, runWith, runOf, afterOf, afterStep}
-use Rattle.processor_replay.specs.Replay.{recordAt, recordOf, firstDifferenceOf, tellingOf, Replay, replayWith, oneRecordMore, afterRecord, replayOf}
+use Rattle.processor_replay.specs.Replay.{recordAt, recordOf, firstDifferenceOf, progressOf, Replay, replayWith, oneRecordMore, afterRecord, replayOf}
 use Rattle.processor_replay.specs.declared.End.the-variants.{Agreed, Differed}
 use Rattle.processor_replay_laws.specs.Ending.{AgreedRun}
 
@@ -25,7 +25,7 @@ module _ (n : ℕ) (t : Stepped) (run : Run) (rest : Replay) (later : rest .end 
       absurd (omega arith)
   by-word false word e = rw (later e)
 
-  by-answer : (a : Answer) (word : ℕ) → let r = afterRecord (tellingOf a) word t rest in
+  by-answer : (a : Answer) (word : ℕ) → let r = afterRecord (progressOf a) word t rest in
       r .end ≡ Agreed → afterStep (afterOf a) t run ≡ runWith Accepted (suc n) (r .state) (r .memory)
   by-answer answer.Ended word e = by-word (ltb word 4) word e
   by-answer (answer.Trapped cause) word e = by-word (ltb word 4) word e

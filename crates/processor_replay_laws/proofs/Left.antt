@@ -12,7 +12,7 @@ use Rattle.processor_machine.specs.declared.Answer.the-variants as answer
 use Rattle.processor_step.specs.Step.{stepOf}
 use Rattle.processor_laws.specs.Steps.{stepsOf}
 use Rattle.processor_laws.proofs.Runs.{Leaves, step-leaves}
-use Rattle.processor_replay.specs.Replay.{recordAt, recordOf, firstDifferenceOf, tellingOf, Replay, replayWith, oneRecordMore, afterRecord, replayOf}
+use Rattle.processor_replay.specs.Replay.{recordAt, recordOf, firstDifferenceOf, progressOf, Replay, replayWith, oneRecordMore, afterRecord, replayOf}
 use Rattle.processor_replay.specs.declared.End.{End}
 use Rattle.processor_replay.specs.declared.End.the-variants.{Refused, Agreed, Differed, WasHalted, WasFatal, TurnedFatal}
 use Rattle.processor_replay_laws.specs.Ending.{leftOf, ReplaySteps}
@@ -35,7 +35,7 @@ module _ (s : State) (m : Memory) where
     by-word true word = refl
     by-word false word = later ∙ left-more (rest .end) (rest .agreed)
 
-    by-answer : (a : Answer) (word : ℕ) → Leaves a (stepOf s m) s m → let r = afterRecord (tellingOf a) word (stepOf s m) rest in
+    by-answer : (a : Answer) (word : ℕ) → Leaves a (stepOf s m) s m → let r = afterRecord (progressOf a) word (stepOf s m) rest in
         (r .state, r .memory) ≡ leftOf (r .end) (r .agreed) s m
     unfolding stepsOf
     by-answer answer.Ended word h = by-word (ltb word 4) word

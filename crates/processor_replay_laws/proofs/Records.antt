@@ -1,6 +1,7 @@
 -- The first word in which two records differ: below 4 they agree before it and differ in it, else they are equal. Assumes nothing.
 use Prim.Native.Nat.{ℕ, _<_, _≤_}
-use mathlib.Core.Path.{_≡_, refl}
+use mathlib.Core.Path.{_≡_}
+use mathlib.Core.Logic.{_⊎_, inl, inr, ⊎-elim}
 use native.Mathlib.Decide.{ℕ-discrete}
 use native.Mathlib.Omega.{arith}
 use borrow.Author.Tests.{eq-eqb, ne-eqb}
@@ -36,72 +37,45 @@ module _ (a b : Record) where
       e
 
   -- by the four tests
-  pub first-word : (word : ℕ) → word ≡ firstDifferenceOf a b → word < 4 → Differs word a b
+  compared : (word : ℕ) → word ≡ firstDifferenceOf a b → Differs word a b ⊎ ((word ≡ 4) × (a ≡ b))
   unfolding firstDifferenceOf
-  first-word word e h =
+  compared word e =
       elim (ℕ-discrete (a .before) (b .before)) [
         | no p ↦
             let z : word ≡ 0 = simp (ne-eqb (a .before) (b .before) p) at e in
-            rw z (record { which = omega arith; equal = λ w l. absurd (omega arith); different = p })
+            inl (rw z (record { which = omega arith; equal = λ w l. absurd (omega arith); different = p }))
         | yes p ↦ elim (ℕ-discrete (a .after) (b .after)) [
           | no q ↦
               let z : word ≡ 1 = simp (eq-eqb (a .before) (b .before) p, ne-eqb (a .after) (b .after) q) at e in
-              rw z (record { which = omega arith; equal = first-equal p; different = q })
+              inl (rw z (record { which = omega arith; equal = first-equal p; different = q }))
           | yes q ↦ elim (ℕ-discrete (a .psw) (b .psw)) [
             | no r ↦
                 let z : word ≡ 2 = simp (eq-eqb (a .before) (b .before) p, eq-eqb (a .after) (b .after) q, ne-eqb (a .psw) (b .psw) r) at e in
-                rw z (record { which = omega arith; equal = second-equal p q; different = r })
+                inl (rw z (record { which = omega arith; equal = second-equal p q; different = r }))
             | yes r ↦ elim (ℕ-discrete (a .sum) (b .sum)) [
               | no s ↦
                   let z : word ≡ 3 = simp (
                     eq-eqb (a .before) (b .before) p,
                     eq-eqb (a .after) (b .after) q,
-                    eq-eqb
-                        (a .psw) (b .psw) r,
+                    eq-eqb (a .psw) (b .psw) r,
                     ne-eqb (a .sum) (b .sum) s,
                   ) at e in
-                  rw z (record { which = omega arith; equal = third-equal p q r; different = s })
+                  inl (rw z (record { which = omega arith; equal = third-equal p q r; different = s }))
               | yes s ↦
                   let z : word ≡ 4 = simp (
                     eq-eqb (a .before) (b .before) p,
                     eq-eqb (a .after) (b .after) q,
-                    eq-eqb
-                        (a .psw) (b .psw) r,
+                    eq-eqb (a .psw) (b .psw) r,
                     eq-eqb (a .sum) (b .sum) s,
                   ) at e in
-                  absurd (omega arith)
+                  inr (z, all-equal p q r s)
             ]
           ]
         ]
       ]
 
+  pub first-word : (word : ℕ) → word ≡ firstDifferenceOf a b → word < 4 → Differs word a b
+  first-word word e h = ⊎-elim (λ d. d) (λ f. absurd (omega (arith, f .0))) (compared word e)
+
   pub no-word : (word : ℕ) → word ≡ firstDifferenceOf a b → 4 ≤ word → a ≡ b
-  unfolding firstDifferenceOf
-  no-word word e h =
-      elim (ℕ-discrete (a .before) (b .before)) [
-        | no p ↦
-            let z : word ≡ 0 = simp (ne-eqb (a .before) (b .before) p) at e in
-            absurd (omega arith)
-        | yes p ↦ elim (ℕ-discrete (a .after) (b .after)) [
-          | no q ↦
-              let z : word ≡ 1 = simp (eq-eqb (a .before) (b .before) p, ne-eqb (a .after) (b .after) q) at e in
-              absurd (omega arith)
-          | yes q ↦ elim (ℕ-discrete (a .psw) (b .psw)) [
-            | no r ↦
-                let z : word ≡ 2 = simp (eq-eqb (a .before) (b .before) p, eq-eqb (a .after) (b .after) q, ne-eqb (a .psw) (b .psw) r) at e in
-                absurd (omega arith)
-            | yes r ↦ elim (ℕ-discrete (a .sum) (b .sum)) [
-              | no s ↦
-                  let z : word ≡ 3 = simp (
-                    eq-eqb (a .before) (b .before) p,
-                    eq-eqb (a .after) (b .after) q,
-                    eq-eqb
-                        (a .psw) (b .psw) r,
-                    ne-eqb (a .sum) (b .sum) s,
-                  ) at e in
-                  absurd (omega arith)
-              | yes s ↦ all-equal p q r s
-            ]
-          ]
-        ]
-      ]
+  no-word word e h = ⊎-elim (λ d. absurd (omega (arith, d .which))) (λ f. f .1) (compared word e)

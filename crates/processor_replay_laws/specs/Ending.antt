@@ -15,18 +15,18 @@ use Rattle.processor_machine.specs.declared.Mode.the-variants as mode
 use Rattle.processor_step.specs.Step.{stepOf}
 use Rattle.processor.specs.Run.{runOf, runWith}
 use Rattle.processor_laws.specs.Steps.{stepsOf}
-use Rattle.processor_replay.specs.Replay.{Record, recordAt, recordOf, tellingOf, Replay, replayOf}
+use Rattle.processor_replay.specs.Replay.{Record, recordAt, recordOf, progressOf, Replay, replayOf}
 use Rattle.processor_replay.specs.declared.End.{End}
 use Rattle.processor_replay.specs.declared.End.the-variants.{Refused, Agreed, Differed, WasHalted, WasFatal, TurnedFatal}
-use Rattle.processor_replay.specs.declared.Told.{Told}
-use Rattle.processor_replay.specs.declared.Told.the-variants.{Completed, Ends}
+use Rattle.processor_replay.specs.declared.Progress.{Progress}
+use Rattle.processor_replay.specs.declared.Progress.the-variants.{Completed, Ends}
 
 -- step number i of the definition, the first being 0, and its record
 abbrev pub nthStep : ℕ → State → Memory → Stepped
 nthStep i s m = stepOf (stepsOf i s m .0) (stepsOf i s m .1)
 
-abbrev pub toldAt : ℕ → State → Memory → Told
-toldAt i s m = tellingOf (nthStep i s m .answer)
+abbrev pub progressAt : ℕ → State → Memory → Progress
+progressAt i s m = progressOf (nthStep i s m .answer)
 
 abbrev pub stepRecordAt : ℕ → State → Memory → Record
 stepRecordAt i s m = recordOf (stepsOf i s m .0) (nthStep i s m)
@@ -44,18 +44,18 @@ pub record Differs (word : ℕ) (a b : Record) : Type 0 where
 -- the step after the agreed records completes, and its record differs first in the reported word
 pub record Parts (trace : List ℕ) (s : State) (m : Memory) (r : Replay) : Type 0 where
   pub word : ℕ
-  pub told : r .end ≡ Differed word
-  pub completed : toldAt (r .agreed) s m ≡ Completed
+  pub reported : r .end ≡ Differed word
+  pub completed : progressAt (r .agreed) s m ≡ Completed
   pub differs : Differs word (recordAt trace (r .agreed)) (stepRecordAt (r .agreed) s m)
 
 -- a replay of n records: each one before the prefix's end is that of a completed step; below n the next step answers as
 -- reported, or its record differs
 pub record EndsSo (n : ℕ) (trace : List ℕ) (s : State) (m : Memory) (r : Replay) : Type 0 where
   pub within : r .agreed ≤ n
-  pub completed : (i : ℕ) → i < r .agreed → toldAt i s m ≡ Completed
+  pub completed : (i : ℕ) → i < r .agreed → progressAt i s m ≡ Completed
   pub equal : (i : ℕ) → i < r .agreed → recordAt trace i ≡ stepRecordAt i s m
   pub all : r .agreed ≡ n → r .end ≡ Agreed
-  pub next : r .agreed < n → (toldAt (r .agreed) s m ≡ Ends (r .end)) ⊎ Parts trace s m r
+  pub next : r .agreed < n → (progressAt (r .agreed) s m ≡ Ends (r .end)) ⊎ Parts trace s m r
 
 abbrev pub ReplayEnds : Type 0
 ReplayEnds = (n : ℕ) (trace : List ℕ) (s : State) (m : Memory) → EndsSo n trace s m (replayOf n 0 trace s m)

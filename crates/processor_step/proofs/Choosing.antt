@@ -4,7 +4,8 @@ use mathlib.Core.Bool.{true, false}
 use mathlib.Core.Path.{_≡_}
 use Rattle.bus.specs.Memory.{Memory}
 use Rattle.processor_machine.specs.State.{State}
-use Rattle.processor_step.specs.Step.{acceptsIn, interruptStepOf, instructionStepOf, stepOf, notFetched, fetchedInOf, fetchedOf}
+use Rattle.processor_step.specs.Interrupted.{acceptsIn, interruptStepOf}
+use Rattle.processor_step.specs.Step.{instructionStepOf, stepOf, notFetched, fetchedInOf, fetchedOf}
 
 module _ (s : State) (m : Memory) where
   pub step-interrupt : acceptsIn s m ≡ true → stepOf s m ≡ interruptStepOf s m

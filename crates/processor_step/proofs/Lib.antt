@@ -1,2 +1,2 @@
--- `Choosing` tells a step that accepts an interrupt from one that does not.
+-- `Choosing`: what a step is that accepts an interrupt, and one that does not.
 pub mod Choosing

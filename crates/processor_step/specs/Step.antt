@@ -4,8 +4,6 @@
 use Prim.Native.Nat.{ℕ, _+_, _%_, _^_}
 use mathlib.Core.Bool.{Bool}
 use Rattle.word.specs.Choose.{pick}
-use lib.ListN.{getD}
-use Rattle.bus.specs.TimerLines.{linesPlace}
 use Rattle.bus.specs.Memory.{Memory, loadOf}
 use Rattle.refusal.specs.declared.Refusal as refusal
 use Rattle.processor_decode.specs.Format.{twoOf}
@@ -16,8 +14,8 @@ use Rattle.processor_machine.specs.State.{State, Stepped, steppedOf}
 use Rattle.processor_execute.specs.Execute.{executeOf}
 use Rattle.processor_machine.specs.declared.Mode.{Mode}
 use Rattle.processor_machine.specs.declared.Mode.the-variants.{Running, Halted, Fatal}
-use Rattle.processor_machine.specs.declared.Answer.the-variants.{Interrupted, WasHalted, WasFatal, Refused}
-use Rattle.processor_interrupt.specs.Interrupt.{levelOf, acceptsOf, interruptedOf}
+use Rattle.processor_machine.specs.declared.Answer.the-variants.{WasHalted, WasFatal, Refused}
+use Rattle.processor_step.specs.Interrupted.{acceptsIn, interruptStepOf}
 use Rattle.processor_step.specs.declared.step.Fetched.{Fetched}
 
 -- the first halfword, at PC
@@ -58,20 +56,6 @@ stepInOf Fatal s m = steppedOf WasFatal s m
 
 unfoldable pub instructionStepOf : State → Memory → Stepped
 instructionStepOf s m = stepInOf (s .mode) s m
-
--- the five request lines, bit n that of level n
-abbrev pub linesIn : Memory → ℕ
-linesIn m = getD (m .regs) linesPlace 0
-
--- whether an interrupt is accepted
-abbrev pub acceptsIn : State → Memory → Bool
-acceptsIn s m = acceptsOf (linesIn m) (s .psw) (s .mode)
-
--- the step that accepts one: memory, the lines and the timer stay
-abbrev pub interruptStepOf : State → Memory → Stepped
-interruptStepOf s m =
-    let level = levelOf (linesIn m) in
-    steppedOf (Interrupted level) (interruptedOf level s) m
 
 -- a step: acceptance "is a step of its own .. and comes before the next instruction is looked at"
 unfoldable pub stepOf : State → Memory → Stepped

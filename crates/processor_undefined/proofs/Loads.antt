@@ -11,11 +11,11 @@ use Rattle.word.specs.Choose.{pick, member}
 use Rattle.word.proofs.Choices.{pick-head, pick-tail}
 use Rattle.word.proofs.Listed.{everyBelow, below-test}
 use Rattle.bus.specs.Memory.{Memory}
-use Rattle.processor_decode.specs.Format.{lowOf, reg2Of, load, input, ldsr, stsr}
+use Rattle.processor_decode.specs.Format.{lowOf, reg2Of, transfer, ldsr, stsr}
 use Rattle.processor_decode.specs.Opcode.{decodeOf, shortRows, branchRows, longRows}
 use Rattle.processor_decode.specs.SubOpcode.{subRows, extendedOf}
 use Rattle.processor_decode.specs.declared.Width.the-variants.{Byte, Half, Word}
-use Rattle.processor_decode.specs.declared.Instruction.the-variants.{Ldsr, Stsr, Illegal}
+use Rattle.processor_decode.specs.declared.Instruction.the-variants.{Load, In, Ldsr, Stsr, Illegal}
 use Rattle.processor_decode.specs.declared.Decoded.{Decoded}
 use Rattle.processor_decode.specs.declared.Decoded.the-variants.{Modelled, NotModelled}
 use Rattle.processor_machine.specs.State.{State}
@@ -23,27 +23,27 @@ use Rattle.processor_undefined.specs.Reads.{decodedLoadOf}
 
 -- the six rows that load
 module _ (f s : ℕ) where
-  pub row-48 : f / 1024 ≡ 48 → decodeOf f s ≡ load Byte f s
+  pub row-48 : f / 1024 ≡ 48 → decodeOf f s ≡ transfer Load Byte f s
   unfolding decodeOf shortRows branchRows longRows
   row-48 e = rw e
 
-  pub row-49 : f / 1024 ≡ 49 → decodeOf f s ≡ load Half f s
+  pub row-49 : f / 1024 ≡ 49 → decodeOf f s ≡ transfer Load Half f s
   unfolding decodeOf shortRows branchRows longRows
   row-49 e = rw e
 
-  pub row-51 : f / 1024 ≡ 51 → decodeOf f s ≡ load Word f s
+  pub row-51 : f / 1024 ≡ 51 → decodeOf f s ≡ transfer Load Word f s
   unfolding decodeOf shortRows branchRows longRows
   row-51 e = rw e
 
-  pub row-56 : f / 1024 ≡ 56 → decodeOf f s ≡ input Byte f s
+  pub row-56 : f / 1024 ≡ 56 → decodeOf f s ≡ transfer In Byte f s
   unfolding decodeOf shortRows branchRows longRows
   row-56 e = rw e
 
-  pub row-57 : f / 1024 ≡ 57 → decodeOf f s ≡ input Half f s
+  pub row-57 : f / 1024 ≡ 57 → decodeOf f s ≡ transfer In Half f s
   unfolding decodeOf shortRows branchRows longRows
   row-57 e = rw e
 
-  pub row-59 : f / 1024 ≡ 59 → decodeOf f s ≡ input Word f s
+  pub row-59 : f / 1024 ≡ 59 → decodeOf f s ≡ transfer In Word f s
   unfolding decodeOf shortRows branchRows longRows
   row-59 e = rw e
 

@@ -1,6 +1,6 @@
-// Which bytes that a step read are undefined (paper 02, W2): of its first halfword, of its second and of its load. It
-// is worked out from the halfwords that the step fetched and the registers before it, so that nothing is fetched again,
-// and only for the call that asks: a run does not. These functions are `pub` for the crate processor.
+// Which bytes that a step read are undefined (paper 02, W2): of its first halfword, of its second and of its load.
+// They are computed from the halfwords that the step fetched and the registers before it, so that nothing is fetched
+// again; a run skips this. These functions are `pub` for the crate processor.
 mod load;
 
 use crate::load::load;

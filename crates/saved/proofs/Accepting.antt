@@ -16,7 +16,8 @@ use Rattle.bus.specs.TimerLines.{deviceOf, registersOk}
 use Rattle.bus.specs.Memory.{Memory, verdictAt, Lengths}
 use Rattle.bus.proofs.Devices.{device-ok}
 use Rattle.bus.proofs.Accepted.{accepted-lengths, accepted-registers, lengths-accepted, unless-passed}
-use Rattle.processor.specs.Record.{systemIn, stateIn, busOf}
+use Rattle.processor.specs.Record.{systemIn, stateIn}
+use Rattle.processor.specs.Lines.{busOf}
 use Rattle.processor.specs.Acceptance.{both, stateOk, acceptanceAt, acceptanceIn}
 use Rattle.processor.specs.declared.Processor.{Processor}
 use Rattle.saved_kinds.proofs.Sizes.{pak-small}

@@ -8,7 +8,8 @@ use Rattle.bus.specs.Memory.{Memory}
 use Rattle.processor_machine.specs.State.{State, stateOf, steppedOf}
 use Rattle.processor_machine.specs.declared.Answer.the-variants.{Ended}
 use Rattle.processor_machine.specs.declared.Mode.the-variants.{Running}
-use Rattle.processor_step.specs.Step.{acceptsIn, runningStepOf}
+use Rattle.processor_step.specs.Interrupted.{acceptsIn}
+use Rattle.processor_step.specs.Step.{runningStepOf}
 use Rattle.processor_fast.specs.declared.Rest.{Rest}
 
 -- what stays

@@ -7,7 +7,7 @@ use mathlib.Core.List.{List}
 use mathlib.Core.Path.{_≡_}
 use Rattle.bus.specs.Memory.{Memory}
 use Rattle.processor_decode.specs.declared.Decoded.{Decoded}
-use Rattle.processor_execute.specs.Execute.{settlesOf}
+use Rattle.processor_execute.specs.Floating.{settlesOf}
 use Rattle.processor_float.specs.declared.FloatOutcome.{FloatOutcome}
 use Rattle.processor_lazy_flags.specs.inner.Packed.{packedOf}
 use Rattle.processor_lazy_flags.specs.declared.Flags.{Flags}

@@ -1,12 +1,10 @@
 -- `processor_arithmetic::flag::set_ep`: the definition's own arithmetic.
 use native.Mathlib.Omega.{arith}
 use borrow.Author.Needs.{needs}
-use Rattle.processor_arithmetic.specs.Flag.{setEpOf}
 use Rattle.processor_arithmetic.proofs.flag.set_ep.Statement.{statement}
 use Rattle.processor_arithmetic.proofs.flag.set_ep.Tie as tie
 
 returns : tie.Need-returns
-unfolding setEpOf
 returns c = omega arith
 
 pub set-ep-spec : {M : Type 1} → statement M

@@ -1,12 +1,10 @@
 -- `processor_arithmetic::flag::set_np`: the definition's own arithmetic.
 use native.Mathlib.Omega.{arith}
 use borrow.Author.Needs.{needs}
-use Rattle.processor_arithmetic.specs.Flag.{setNpOf}
 use Rattle.processor_arithmetic.proofs.flag.set_np.Statement.{statement}
 use Rattle.processor_arithmetic.proofs.flag.set_np.Tie as tie
 
 returns : tie.Need-returns
-unfolding setNpOf
 returns c = omega arith
 
 pub set-np-spec : {M : Type 1} → statement M

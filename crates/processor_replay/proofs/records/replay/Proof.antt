@@ -29,8 +29,8 @@ step-requires c κs =
     let i = c .before .before .before .before .before .before .before .loop .inv in
     record { rom-ok = pre .rom-ok; wram-ok = i .1 ∙ pre .wram-ok; vram-ok = i .2 ∙ pre .vram-ok; pak-ok = rw (i .3) (pre .pak-ok) }
 
-told-requires : tie.Need-told-requires Inv-loop μ-loop
-told-requires c κs = tt
+progress-requires : tie.Need-progress-requires Inv-loop μ-loop
+progress-requires c κs = tt
 
 enum-told : tie.Need-enum-told Inv-loop μ-loop
 enum-told c = c .match .keys1
@@ -69,7 +69,7 @@ returns c =
     let i = c .before .before .before .before .before .before .before .before .before .before .before .before .before
     .before .before .before .before .before .before .before .before .before .loop .inv in
     let s = c .before .before .before .before .before .before .before .before .before .before .before .before .before .before .step in
-    let told = sym (c .before .before .before .before .before .before .told .ensures) ∙ c .before .before .before .before .enum-told .given .1 in
+    let told = sym (c .before .before .before .before .before .before .progress .ensures) ∙ c .before .before .before .before .enum-told .given .1 in
     along-differed _ _ _ _ _ _ _ (i .0) (c .before .before .before .before .before .before .before .before .before
     .before .before .before .before .before .before .before .before .before .before .before .before .loop-test
     .taken) _ (s .ensures .0) told _ (c .before .before .sum .ensures) _ (c .before .difference .ensures)
@@ -97,7 +97,7 @@ loop-again c =
     let i = c .before .before .before .before .before .before .before .before .before .before .before .before .before
     .before .before .before .before .before .before .before .before .before .loop .inv in
     let s = c .before .before .before .before .before .before .before .before .before .before .before .before .before .before .step in
-    let told = sym (c .before .before .before .before .before .before .told .ensures) ∙ c .before .before .before .before .enum-told .given .1 in (
+    let told = sym (c .before .before .before .before .before .before .progress .ensures) ∙ c .before .before .before .before .enum-told .given .1 in (
       along-agreed _ _ _ _ _ _ _ (i .0) (c .before .before .before .before .before .before .before .before .before
           .before .before .before .before .before .before .before .before .before .before .before .before .loop-test
           .taken) _ (s .ensures .0) told _ (c .before .before .sum .ensures) _ (c .before .difference .ensures)
@@ -134,7 +134,7 @@ returns-2 c =
     let s = c .before .before .before .before .before .before .before .before .before .before .before .step in
     along-ended _ _ _ _ _ _ _ (i .0) (c .before .before .before .before .before .before .before .before .before .before
     .before .before .before .before .before .before .before .before .loop-test .taken) _ _ (s .ensures .0) (sym
-    (c .before .before .before .told .ensures) ∙ c .before .end .given .1)
+    (c .before .before .before .progress .ensures) ∙ c .before .end .given .1)
 
 same-length-7 : tie.Need-same-length-7 Inv-loop μ-loop
 same-length-7 c = c .before .loop .inv .1
@@ -157,7 +157,7 @@ replay-spec =
     μ-loop
     loop-holds
     step-requires
-    told-requires
+    progress-requires
     enum-told
     sum-requires
     difference-requires

@@ -1,7 +1,7 @@
--- `processor_replay::records::told`: by the answer. Assumes nothing.
+-- `processor_replay::records::progress`: by the answer. Assumes nothing.
 use borrow.Author.Needs.{needs}
-use Rattle.processor_replay.proofs.records.told.Statement.{statement}
-use Rattle.processor_replay.proofs.records.told.Tie as tie
+use Rattle.processor_replay.proofs.records.progress.Statement.{statement}
+use Rattle.processor_replay.proofs.records.progress.Tie as tie
 
 returns-4 : tie.Need-returns-4
 returns-4 c = rw (c .enum-told4 .given .1)
@@ -15,8 +15,8 @@ returns-6 c = rw (c .enum-told6 .given .1)
 returns-7 : tie.Need-returns-7
 returns-7 c = rw (c .before .answer .given .1)
 
-pub told-spec : {M : Type 1} → statement M
-told-spec =
+pub progress-spec : {M : Type 1} → statement M
+progress-spec =
     tie.close
     (tie.spec
     (λ c. search needs)
