@@ -36,8 +36,8 @@ pub fn dispatch(
         Lengths (length (now rom)) (length (now wram)) (length (now vram)) (length (now pak)) × (code .first < 65536)
         ⌝ }
     ensures { λ r. ⌜
-        Turns (getD (now (device .entry)) linesPlace 0) (at .base) (code .first) (code .word / 65536) r (at .x) psw flags
-        (now (regs .entry)) (now (sys .entry)) (entering rom wram vram pak device)
+        Turns (getD (now (device .entry)) linesPlace 0) (at .base) (code .first) (code .word / 65536) r (at .x) psw
+        flags (now (regs .entry)) (now (sys .entry)) (entering rom wram vram pak device)
         (now (regs .exit)) (now (sys .exit)) (leavingRam rom wram vram pak device)
         ⌝ }
 {

@@ -1,5 +1,5 @@
-// STSR, LDSR (not of PSW), SEI and CLI, which read or change the system registers or PSW above its flags. CLI is left to
-// the step where an interrupt is accepted after it.
+// STSR, LDSR (not of PSW), SEI and CLI, which read or change the system registers or PSW above its flags. CLI is left
+// to the step where an interrupt is accepted after it.
 use bus::Device;
 use bus::LINES_PLACE;
 use processor_arithmetic::flag;

@@ -1,5 +1,5 @@
-// The instructions that compute: Register Transfer, Arithmetic, Bitwise, SETF. Each contract names the instruction's row
-// of the decoder's table, and holds for every value that the function does not take.
+// The instructions that compute: Register Transfer, Arithmetic, Bitwise, SETF. Each contract names the instruction's
+// row of the decoder's table, and holds for every value that the function does not take.
 use crate::Fast;
 use crate::field::after_one;
 use crate::field::after_two;
