@@ -174,11 +174,45 @@ fn manifests_in_toml_and_csv_are_judged() {
         &[
             "pass     good: frame 1, left eye equal",
             "fail     worn, old: frame 1, right eye: ",
-            "invalid  line 4: b.csv: CSV error: record 3",
+            "invalid  line 4: b.csv: the line has ",
             "invalid  none: out/none.png: No such file or directory; it must be a capture",
             "4 parts: 1 pass, 1 fail, 2 invalid",
         ],
     );
+}
+
+#[test]
+fn a_wrong_value_of_a_manifest_is_named_with_what_is_allowed() {
+    let folder = Folder::with_demo("judge-values");
+    let files = "out/vram.bin,out/drawing.bin,out/frame1-left.png,out/frame1-right.png";
+    for (column, value, rule) in [
+        ("frame", "one", "frame is `one`; it must be 0 or 1"),
+        ("frame", "1_0", "frame is `1_0`; it must be 0 or 1"),
+        ("threshold", "300", "threshold is `300`; it must be 1 to 42"),
+        ("eyes", "Left", "eyes is `Left`; it must be both, left, right"),
+    ] {
+        let text = format!("name,vram,drawing,left,right,{column}\na,{files},{value}\n");
+        folder.write("lot.csv", text.as_bytes());
+        let ran = folder.vbmodel("judge lot.csv");
+        let line = format!("invalid  line 2: lot.csv: {rule}\n");
+        assert!(ran.status == 2 && ran.text.starts_with(&line), "{line}\nnot\n{}", ran.text);
+    }
+    for (key, rule) in [
+        ("frame = -1", "frame is -1; it must be 0 or 1"),
+        ("frame = '1'", "frame is \"1\"; it must be 0 or 1"),
+        ("threshold = 300", "threshold is 300; it must be 1 to 42"),
+        ("eyes = 'Left'", "eyes is \"Left\"; it must be both, left, right"),
+        ("left = 7", "left is 7; it must be a text in quotes"),
+    ] {
+        folder.write("lot.toml", format!("[[part]]\nname = 'a'\n{key}\n").as_bytes());
+        let ran = folder.vbmodel("judge lot.toml");
+        let line = format!("invalid  a: lot.toml: {rule}\n");
+        assert!(ran.status == 2 && ran.text.starts_with(&line), "{line}\nnot\n{}", ran.text);
+    }
+    folder.write("lot.csv", b"name,lift\na,b\n");
+    let message = "vbmodel: lot.csv: line 1: unknown column `lift`; the columns are name, state, vram, drawing, frame, left, \
+                   right, capture, threshold, eyes";
+    folder.refused("judge lot.csv", message);
 }
 
 #[test]

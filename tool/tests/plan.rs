@@ -339,16 +339,31 @@ fn the_list_of_parts_says_where_they_lie_and_which_there_are() {
     assert_eq!(lines[0], "invalid  die: parts.csv does not list it");
     for (list, message) in [
         (&b"name,x\na,1\n"[..], "line 1: the columns are `name,x`; one must be `part`"),
-        (b"part,x,y\ndie,1,two\n", "line 2: y is `two`; it must be a whole number from -32,767 to 32,767"),
-        (b"part,x,y\ndie,-32768,1\n", "line 2: x is `-32768`; it must be a whole number from -32,767 to 32,767"),
+        (
+            b"part,x,y\ndie,1,two\n",
+            "line 2: y is `two`; it must be a whole number from -32,767 to 32,767",
+        ),
+        (
+            b"part,x,y\ndie,-32768,1\n",
+            "line 2: x is `-32768`; it must be a whole number from -32,767 to 32,767",
+        ),
         (b"part,x,y\ndie,1,\n", "line 2: x or y is empty; a part has both or none"),
         (b"part\ndie\nb\ndie\n", "line 4: part die is on line 2 too"),
-        (b"part,wafer,x,y\ndie,W,1,2\nb,W,1,2\n", "line 3: part b lies where part die lies, x 1, y 2"),
+        (
+            b"part,wafer,x,y\ndie,W,1,2\nb,W,1,2\n",
+            "line 3: part b lies where part die lies, x 1, y 2",
+        ),
         (b"part,x,y\n,1,2\n", "line 2: part is empty; it must be a part's name"),
-        (b"part,note\ndie,\"a\nlost,b\n", "line 2: a quoted value is not closed; it must end on the line where it begins"),
-        (b"part,note\ndie,\"a\nlost,b\"\n", "line 2: a quoted value is not closed; it must end on the line where it begins"),
+        (
+            b"part,note\ndie,\"a\nlost,b\n",
+            "line 2: a quoted value is not closed; it must end on the line where it begins",
+        ),
+        (
+            b"part,note\ndie,\"a\nlost,b\"\n",
+            "line 2: a quoted value is not closed; it must end on the line where it begins",
+        ),
         (b"part,x,part\ndie,1,lost\n", "line 1: the column `part` appears twice"),
-        (b"part,x\ndie\n", "line 2: CSV error: record 1 (line: 2, byte: 7): found record with 1 fields, but the previous record has 2 fields"),
+        (b"part,x\ndie\n", "line 2: the line has 1 values; the first line names 2 columns"),
     ] {
         folder.write("parts/parts.csv", list);
         folder.refused(JUDGE, &format!("vbmodel: parts/parts.csv: {message}"));

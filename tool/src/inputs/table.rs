@@ -1,6 +1,6 @@
 //! CSV as a spreadsheet writes it: the first line names the columns, each further line is a row.
 
-use csv::{Reader, ReaderBuilder, StringRecord, Trim};
+use csv::{ErrorKind, Reader, ReaderBuilder, StringRecord, Trim};
 
 /// A reader of the rows, and the names of the columns.
 pub type Table<'a> = (Reader<&'a [u8]>, StringRecord);
@@ -25,6 +25,18 @@ pub fn table(text: &str) -> Result<Table<'_>, (u64, String)> {
         return Err((1, format!("the column `{head}` appears twice")));
     }
     Ok((reader, heads))
+}
+
+/// The line of a row that cannot be read, and what is wrong there.
+pub fn wrong_row(error: &csv::Error) -> (u64, String) {
+    let line = error.position().map_or(1, csv::Position::line);
+    match error.kind() {
+        ErrorKind::UnequalLengths { expected_len, len, .. } => (
+            line,
+            format!("the line has {len} values; the first line names {expected_len} columns"),
+        ),
+        _ => (line, error.to_string()),
+    }
 }
 
 /// Whether every quoted value of a line ends on it. One that goes on would take the rows after it for a part of itself.

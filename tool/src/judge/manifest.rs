@@ -9,9 +9,13 @@ use super::{Entry, Eyes, Lot, Part};
 use crate::failure::Failure;
 use crate::files::{printable, shown, FileRead, Input};
 use crate::inputs::capture::LARGEST_THRESHOLD;
-use crate::inputs::table::table;
+use crate::inputs::table::{table, wrong_row};
 
 const MANIFEST: &str = "a manifest, TOML or CSV";
+const EYES: [&str; 3] = ["both", "left", "right"];
+/// What a CSV may have.
+const COLUMNS: [&str; 10] =
+    ["name", "state", "vram", "drawing", "frame", "left", "right", "capture", "threshold", "eyes"];
 
 /// What stands above the parts holds for all of them.
 #[derive(Deserialize)]
@@ -62,7 +66,8 @@ pub fn toml(path: &Path) -> Result<Lot, Failure> {
             Err(error) => {
                 let name = value.get("name").and_then(|name| name.as_str()).map(str::to_string);
                 let name = name.filter(|name| !name.trim().is_empty()).unwrap_or(place);
-                Entry::wrong(name, format!("{}: {}", shown(path), printable(&error.to_string())))
+                let rule = value.as_table().and_then(wrong_key).unwrap_or(error.to_string());
+                Entry::wrong(name, format!("{}: {}", shown(path), printable(&rule)))
             }
         };
         entry.complete(&defaults);
@@ -82,25 +87,66 @@ pub fn csv(path: &Path) -> Result<Lot, Failure> {
                     capture, threshold and eyes those that are used";
         return Err(Failure::bad(input.wrong(rule)));
     }
+    if let Some(other) = heads.iter().find(|head| !COLUMNS.contains(head)) {
+        let rule = format!("unknown column `{other}`; the columns are {}", COLUMNS.join(", "));
+        return Err(Failure::bad(format!("{}: line 1: {}", shown(path), printable(&rule))));
+    }
     let mut lot = Lot { files: vec![FileRead::whole(&input)], ..Lot::default() };
     for record in reader.records() {
-        let line = |position: Option<&csv::Position>| {
-            format!("line {}", position.map_or(0, |position| position.line()))
+        let wrong = |line: u64, rule: String| {
+            Entry::wrong(format!("line {line}"), format!("{}: {}", shown(path), printable(&rule)))
         };
-        let read = record.and_then(|record| {
-            let part = record.deserialize::<Part>(Some(&heads))?;
-            Ok((part, line(record.position())))
+        let row = match record {
+            Ok(row) => row,
+            Err(error) => {
+                let (line, rule) = wrong_row(&error);
+                lot.entries.push(wrong(line, rule));
+                continue;
+            }
+        };
+        let line = row.position().map_or(0, csv::Position::line);
+        let rule = heads.iter().zip(&row).find_map(|(head, value)| wrong_value(head, value));
+        lot.entries.push(match (rule, row.deserialize::<Part>(Some(&heads))) {
+            (Some(rule), _) => wrong(line, rule),
+            (None, Err(error)) => wrong(line, error.to_string()),
+            (None, Ok(part)) => taken(part, folder, path, format!("line {line}")),
         });
-        let entry = match read {
-            Ok((part, place)) => taken(part, folder, path, place),
-            Err(error) => Entry::wrong(
-                line(error.position()),
-                format!("{}: {}", shown(path), printable(&error.to_string())),
-            ),
-        };
-        lot.entries.push(entry);
     }
     Ok(lot)
+}
+
+/// What is wrong with a value of a CSV, in place of the reader's words for it.
+fn wrong_value(head: &str, value: &str) -> Option<String> {
+    let whole = || match value.strip_prefix("0x") {
+        Some(digits) => u32::from_str_radix(digits, 16),
+        None => value.parse(),
+    };
+    let allowed = match head {
+        _ if value.is_empty() => return None,
+        "frame" if whole().is_err() => "0 or 1".to_string(),
+        "threshold" if !whole().is_ok_and(|n| n < 256) => format!("1 to {LARGEST_THRESHOLD}"),
+        "eyes" if !EYES.contains(&value) => EYES.join(", "),
+        _ => return None,
+    };
+    Some(format!("{head} is `{value}`; it must be {allowed}"))
+}
+
+/// The same of a part in TOML.
+fn wrong_key(part: &toml::value::Table) -> Option<String> {
+    part.iter().find_map(|(key, value)| {
+        let number = value.as_integer();
+        let allowed = match key.as_str() {
+            "frame" if !number.is_some_and(|n| u32::try_from(n).is_ok()) => "0 or 1".to_string(),
+            "threshold" if !number.is_some_and(|n| u8::try_from(n).is_ok()) => {
+                format!("1 to {LARGEST_THRESHOLD}")
+            }
+            "eyes" if !value.as_str().is_some_and(|eyes| EYES.contains(&eyes)) => EYES.join(", "),
+            "frame" | "threshold" | "eyes" => return None,
+            key if COLUMNS.contains(&key) && !value.is_str() => "a text in quotes".to_string(),
+            _ => return None,
+        };
+        Some(format!("{key} is {value}; it must be {allowed}"))
+    })
 }
 
 /// A part as a manifest has it, by its name; one without a name is known by its place.

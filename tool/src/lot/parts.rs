@@ -5,7 +5,7 @@ use std::path::Path;
 
 use crate::failure::Failure;
 use crate::files::{printable, read_hashed, shown};
-use crate::inputs::table::table;
+use crate::inputs::table::{table, wrong_row};
 
 const WANTED: &str =
     "a list of parts: CSV whose first line names the columns part, wafer, x, y and others";
@@ -39,7 +39,8 @@ pub fn read(path: &Path) -> Result<Vec<(String, Listed)>, Failure> {
     let mut all = Vec::new();
     for record in reader.records() {
         let record = record.map_err(|error| {
-            wrong(error.position().map_or(1, |position| position.line()), error.to_string())
+            let (line, rule) = wrong_row(&error);
+            wrong(line, rule)
         })?;
         let line = record.position().map_or(0, |position| position.line());
         let (name, listed) = listed(&heads, &record).map_err(|rule| wrong(line, rule))?;
