@@ -136,8 +136,8 @@ fn wrong_key(part: &toml::value::Table) -> Option<String> {
     part.iter().find_map(|(key, value)| {
         let number = value.as_integer();
         let allowed = match key.as_str() {
-            "frame" if !number.is_some_and(|n| u32::try_from(n).is_ok()) => "0 or 1".to_string(),
-            "threshold" if !number.is_some_and(|n| u8::try_from(n).is_ok()) => {
+            "frame" if number.is_none_or(|n| u32::try_from(n).is_err()) => "0 or 1".to_string(),
+            "threshold" if number.is_none_or(|n| u8::try_from(n).is_err()) => {
                 format!("1 to {LARGEST_THRESHOLD}")
             }
             "eyes" if !value.as_str().is_some_and(|eyes| EYES.contains(&eyes)) => EYES.join(", "),
