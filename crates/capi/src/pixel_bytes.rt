@@ -2,7 +2,7 @@
 use capi_bus::accesses::VbDrawing;
 use capi_drawing::pixel_bytes::VbListed;
 ghost use mathlib.Core.Path.{_≡_};
-ghost use Rattle.drawing_bytes.specs.Calls.{listedOf, roomOf};
+ghost use Rattle.drawing_bytes.specs.Calls.{listedOf, outputOf};
 ghost use Rattle.capi_drawing.specs.PixelBytes.{listedAt};
 
 #[no_mangle]
@@ -15,7 +15,7 @@ pub extern "C" fn vb_pixel_bytes(
     room: &mut [u32],
 ) -> VbListed
     ensures answer { λ r. ⌜ r ≡ listedAt (listedOf (now (vram .entry)) (drawing .regs) eye x y) ⌝ }
-    ensures room { λ _. ⌜ now (room .exit) ≡ roomOf (now (vram .entry)) (drawing .regs) eye x y (now (room .entry)) ⌝ }
+    ensures room { λ _. ⌜ now (room .exit) ≡ outputOf (now (vram .entry)) (drawing .regs) eye x y (now (room .entry)) ⌝ }
 {
     capi_drawing::pixel_bytes::pixel_bytes(vram, drawing, eye, x, y, room)
 }

@@ -4,7 +4,7 @@ use capi_bus::accesses::VbDrawing;
 use drawing_bytes::Listed;
 use refusal::number;
 ghost use mathlib.Core.Path.{_≡_};
-ghost use Rattle.drawing_bytes.specs.Calls.{listedOf, roomOf};
+ghost use Rattle.drawing_bytes.specs.Calls.{listedOf, outputOf};
 ghost use Rattle.capi_drawing.specs.PixelBytes.{listedAt};
 
 // How many addresses the list has.
@@ -23,7 +23,7 @@ pub fn pixel_bytes(
     room: &mut [u32],
 ) -> VbListed
     ensures answer { λ r. ⌜ r ≡ listedAt (listedOf (now (vram .entry)) (drawing .regs) eye x y) ⌝ }
-    ensures room { λ _. ⌜ now (room .exit) ≡ roomOf (now (vram .entry)) (drawing .regs) eye x y (now (room .entry)) ⌝ }
+    ensures room { λ _. ⌜ now (room .exit) ≡ outputOf (now (vram .entry)) (drawing .regs) eye x y (now (room .entry)) ⌝ }
 {
     let regs = drawing.regs;
     let listed = drawing_bytes::pixel_bytes(vram, Drawing { regs }, eye, x, y, room);

@@ -13,46 +13,46 @@ use Rattle.drawing_laws.specs.PixelBytes.{pixelBytesOf}
 use Rattle.drawing_laws.specs.inner.SourceBytes.{pixelBytesBiased}
 use Rattle.drawing_laws.proofs.PixelBytes.{listed-formula}
 use Rattle.drawing_bytes.specs.declared.Listed.the-variants.{Count, Refused, Outside}
-use Rattle.drawing_bytes.specs.inner.Room.{Listing}
-use Rattle.drawing_bytes.specs.Calls.{inImageOf, bytesVerdictOf, listedOf, roomOf}
+use Rattle.drawing_bytes.specs.inner.Output.{Listing}
+use Rattle.drawing_bytes.specs.Calls.{inImageOf, bytesVerdictOf, listedOf, outputOf}
 use Rattle.drawing_bytes.proofs.Listings.{sets-filled}
 
-module _ (v regs : List ℕ) (eye x y : ℕ) (room : List ℕ) where
-  pub list-length : (length v ≡ 262144 → ⊥) → (Refused VramLength ≡ listedOf v regs eye x y) × (room ≡ roomOf v regs eye x y room)
-  unfolding roomOf listedOf bytesVerdictOf vramOk
+module _ (v regs : List ℕ) (eye x y : ℕ) (output : List ℕ) where
+  pub list-length : (length v ≡ 262144 → ⊥) → (Refused VramLength ≡ listedOf v regs eye x y) × (output ≡ outputOf v regs eye x y output)
+  unfolding outputOf listedOf bytesVerdictOf vramOk
   list-length n = (simp (ne-eqb _ _ n), simp (ne-eqb _ _ n))
 
   module _ (e : length v ≡ 262144) where
-    pub list-state : drawingOk regs ≡ false → (Refused State ≡ listedOf v regs eye x y) × (room ≡ roomOf v regs eye x y room)
-    unfolding roomOf listedOf bytesVerdictOf vramOk
+    pub list-state : drawingOk regs ≡ false → (Refused State ≡ listedOf v regs eye x y) × (output ≡ outputOf v regs eye x y output)
+    unfolding outputOf listedOf bytesVerdictOf vramOk
     list-state r = (simp (eq-eqb _ _ e, r), simp (eq-eqb _ _ e, r))
 
     module _ (r : drawingOk regs ≡ true) where
-      outside : inImageOf eye x y ≡ false → (Outside ≡ listedOf v regs eye x y) × (room ≡ roomOf v regs eye x y room)
-      unfolding roomOf listedOf bytesVerdictOf vramOk
+      outside : inImageOf eye x y ≡ false → (Outside ≡ listedOf v regs eye x y) × (output ≡ outputOf v regs eye x y output)
+      unfolding outputOf listedOf bytesVerdictOf vramOk
       outside f = (simp (eq-eqb _ _ e, r, f), simp (eq-eqb _ _ e, r, f))
 
-      pub list-eye : 2 ≤ eye → (Outside ≡ listedOf v regs eye x y) × (room ≡ roomOf v regs eye x y room)
+      pub list-eye : 2 ≤ eye → (Outside ≡ listedOf v regs eye x y) × (output ≡ outputOf v regs eye x y output)
       unfolding inImageOf
       list-eye h = outside (simp (le-ltb _ _ h))
 
-      pub list-column : 384 ≤ x → (Outside ≡ listedOf v regs eye x y) × (room ≡ roomOf v regs eye x y room)
+      pub list-column : 384 ≤ x → (Outside ≡ listedOf v regs eye x y) × (output ≡ outputOf v regs eye x y output)
       unfolding inImageOf
       list-column h = outside (simp (le-ltb _ _ h, and-false))
 
-      pub list-row : 224 ≤ y → (Outside ≡ listedOf v regs eye x y) × (room ≡ roomOf v regs eye x y room)
+      pub list-row : 224 ≤ y → (Outside ≡ listedOf v regs eye x y) × (output ≡ outputOf v regs eye x y output)
       unfolding inImageOf
       list-row h = outside (simp (le-ltb _ _ h, and-false))
 
-      inside : inImageOf eye x y ≡ true → (n : ℕ) (after : List ℕ) → Listing 0 (pixelBytesOf v regs eye x y) n room after
-          → (Count n ≡ listedOf v regs eye x y) × (after ≡ roomOf v regs eye x y room)
-      unfolding roomOf listedOf bytesVerdictOf vramOk
+      inside : inImageOf eye x y ≡ true → (n : ℕ) (after : List ℕ) → Listing 0 (pixelBytesOf v regs eye x y) n output after
+          → (Count n ≡ listedOf v regs eye x y) × (after ≡ outputOf v regs eye x y output)
+      unfolding outputOf listedOf bytesVerdictOf vramOk
       inside f n after l = let counted : n ≡ length (pixelBytesOf v regs eye x y) = omega (arith, l .count) in (
         simp (eq-eqb _ _ e, r, f) (ap Count counted),
-        simp (eq-eqb _ _ e, r, f) (l .words ∙ sets-filled room (pixelBytesOf v regs eye x y)),
+        simp (eq-eqb _ _ e, r, f) (l .words ∙ sets-filled output (pixelBytesOf v regs eye x y)),
       )
 
-      pub list-done : eye < 2 → x < 384 → y < 224 → (n : ℕ) (after : List ℕ) → Listing 0 (pixelBytesBiased v regs eye x y) n room after
-          → (Count n ≡ listedOf v regs eye x y) × (after ≡ roomOf v regs eye x y room)
+      pub list-done : eye < 2 → x < 384 → y < 224 → (n : ℕ) (after : List ℕ) → Listing 0 (pixelBytesBiased v regs eye x y) n output after
+          → (Count n ≡ listedOf v regs eye x y) × (after ≡ outputOf v regs eye x y output)
       unfolding inImageOf
       list-done a b c n after l = inside (simp (lt-ltb _ _ a, lt-ltb _ _ b, lt-ltb _ _ c)) n after (rw (← listed-formula v regs eye x y r) l)

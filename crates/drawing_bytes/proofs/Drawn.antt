@@ -4,7 +4,7 @@ use Prim.Native.Nat.{ℕ, zero, suc, _+_, _-_, _%_, _<_}
 use native.Mathlib.Omega.{arith}
 use mathlib.Core.Bool.{Bool, true, false, _&&_, _||_, and-false}
 use mathlib.Core.List.{List, [], _++_}
-use mathlib.Core.Path.{_≡_, refl, sym, ap, _∙_}
+use mathlib.Core.Path.{_≡_, refl, ap, _∙_}
 use lib.ListN.{getD}
 use Rattle.word.specs.Choose.{pick}
 use Rattle.drawing_pixel.specs.Character.{rowAddressOf}
@@ -18,13 +18,8 @@ use Rattle.drawing_laws.specs.PixelBytes.{halfBytesOf}
 use Rattle.drawing_laws.specs.inner.SourceBytes.{amongOf, worldDrawsBiased, worldsDrawBiased, objectBytesBiased, objectsBytesBiased}
 use Rattle.drawing_laws.proofs.Groups.{in-group-among, among-in-group}
 use Rattle.drawing_laws.proofs.PixelSame.{counter-after-below}
+use Rattle.word.proofs.Choices.{test-same}
 use Rattle.drawing_bytes.specs.inner.Groups.{reachedObjectWorldsOf, inGroupsOf, objectListOf}
-
--- two tests that imply each other
-same-test : (a b : Bool) → (a ≡ true → b ≡ true) → (b ≡ true → a ≡ true) → a ≡ b
-same-test true b f g = sym (f refl)
-same-test false true f g = g refl
-same-test false false f g = refl
 
 -- the group after a group: downwards, 3 after 0
 pub group-after : (group : ℕ) → group < 4 → (group + 3) % 4 ≡ counterAfterOf group
@@ -33,7 +28,7 @@ group-after (suc c) h = omega arith
 
 module _ (vram regs : List ℕ) (spts : (g : ℕ) → g < 4 → sptOf regs g < 1024) (eye x y k : ℕ) (h : k < 1024) where
   among-same : (counter : ℕ) → counter < 4 → amongOf (groupCountOf regs counter) (sptOf regs counter) k ≡ inGroupOf regs counter k
-  among-same counter l = same-test _ _ (among-in-group regs counter k h) (in-group-among regs counter k (spts counter l) h)
+  among-same counter l = test-same _ _ (among-in-group regs counter k h) (in-group-among regs counter k (spts counter l) h)
 
   draws-world : (n counter : ℕ) → counter < 4
       → worldDrawsBiased vram regs (worldOf vram n) counter eye x y k

@@ -7,7 +7,7 @@ use mathlib.Core.List.{List, [], _∷_, _++_}
 use mathlib.Core.Path.{_≡_, refl, sym, ap, _∙_}
 use lib.ListN.{length, take, drop, set, length-append}
 use lib.Seq.{sets, drop-nil, length-sets}
-use Rattle.drawing_bytes.specs.inner.Room.{Listing}
+use Rattle.drawing_bytes.specs.inner.Output.{Listing}
 
 -- one list after the other
 sets-append : (xs ys l : List ℕ) (i : ℕ) → sets (sets l i xs) (i + length xs) ys ≡ sets l i (xs ++ ys)

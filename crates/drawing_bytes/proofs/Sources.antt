@@ -18,7 +18,7 @@ use Rattle.drawing_pixel.specs.inner.BiasedSource.{affineParameterBiased, affin
 use Rattle.drawing_pixel.specs.inner.BiasedCell.{cellAddressBiased, sourceCellAddressBiased}
 use Rattle.drawing_laws.specs.PixelBytes.{halfBytesOf, affineBytesOf, parameterBytesOf}
 use Rattle.drawing_laws.specs.inner.SourceBytes.{cellBytesBiased, backgroundBytesBiased, worldBytesBiased}
-use Rattle.drawing_bytes.specs.inner.Room.{Listing}
+use Rattle.drawing_bytes.specs.inner.Output.{Listing}
 use Rattle.drawing_bytes.proofs.Listings.{listing-more, listing-as}
 
 module _ (vram w : List ℕ) (eye i j : ℕ) where

@@ -37,15 +37,15 @@ listedOf vram regs eye x y =
 
 -- an output buffer whose first words are a list, as far as it reaches; the words after the list are kept
 abbrev pub filledOf : List ℕ → List ℕ → List ℕ
-filledOf list room = take (length room) list ++ drop (length list) room
+filledOf list output = take (length output) list ++ drop (length list) output
 
 -- the output buffer by the answer: filled where there is a count, else as it was
 abbrev pub whenListed : Listed → List ℕ → List ℕ → List ℕ
-whenListed (Count n) room filled = filled
-whenListed (Refused n) room filled = room
-whenListed Outside room filled = room
+whenListed (Count n) output filled = filled
+whenListed (Refused n) output filled = output
+whenListed Outside output filled = output
 
 -- the output buffer after the call
-unfoldable pub roomOf : (vram regs : List ℕ) (eye x y : ℕ) (room : List ℕ) → List ℕ
-roomOf vram regs eye x y room =
-    whenListed (listedOf vram regs eye x y) room (filledOf (pixelBytesOf vram regs eye x y) room)
+unfoldable pub outputOf : (vram regs : List ℕ) (eye x y : ℕ) (output : List ℕ) → List ℕ
+outputOf vram regs eye x y output =
+    whenListed (listedOf vram regs eye x y) output (filledOf (pixelBytesOf vram regs eye x y) output)

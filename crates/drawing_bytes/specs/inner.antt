@@ -1,3 +1,3 @@
 -- Forms made for the code: no public contract and no public theorem rests on them.
 pub mod Groups
-pub mod Room
+pub mod Output

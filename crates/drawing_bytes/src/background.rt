@@ -9,9 +9,9 @@ ghost use Rattle.drawing_pixel.specs.inner.BiasedSource.{sourceXBiased, sourceY
 ghost use Rattle.drawing_laws.specs.PixelBytes.{affineBytesOf, parameterBytesOf};
 ghost use Rattle.drawing_laws.specs.inner.SourceBytes.{cellBytesBiased};
 ghost use Rattle.drawing_laws.specs.inner.SourceBytes.{backgroundBytesBiased, worldBytesBiased, worldsBytesBiased};
-ghost use Rattle.drawing_bytes.specs.inner.Room.{Lists};
+ghost use Rattle.drawing_bytes.specs.inner.Output.{Lists};
 ghost use Rattle.drawing_pixel.specs.inner.Halfwords.{halfwordsOf};
-use crate::room::put_half;
+use crate::output::put_half;
 use drawing_background::cell::cell_address;
 use drawing_background::source::affine_floor;
 use drawing_background::source::affine_parameter;
@@ -92,21 +92,21 @@ pub fn source_y(vram: &[u8], w: World, eye: usize, i: usize, j: usize) -> usize
 }
 
 // The five parameters of row j of an affine world.
-pub fn list_affine(room: &mut [u32], n: usize, w: World, j: usize) -> usize
+pub fn list_affine(output: &mut [u32], n: usize, w: World, j: usize) -> usize
     requires { ⌜ (n < 4096) × (j < 65536) ⌝ }
-    ensures { λ r. ⌜ Lists room n (affineBytesOf (halfwordsOf w) j) r ⌝ }
+    ensures { λ r. ⌜ Lists output n (affineBytesOf (halfwordsOf w) j) r ⌝ }
 {
-    let mut next = put_half(room, n, parameter_address(w, 8 * j));
-    next = put_half(room, next, parameter_address(w, 8 * j + 1));
-    next = put_half(room, next, parameter_address(w, 8 * j + 2));
-    next = put_half(room, next, parameter_address(w, 8 * j + 3));
-    put_half(room, next, parameter_address(w, 8 * j + 4))
+    let mut next = put_half(output, n, parameter_address(w, 8 * j));
+    next = put_half(output, next, parameter_address(w, 8 * j + 1));
+    next = put_half(output, next, parameter_address(w, 8 * j + 2));
+    next = put_half(output, next, parameter_address(w, 8 * j + 3));
+    put_half(output, next, parameter_address(w, 8 * j + 4))
 }
 
 // The parameters of row j of a background world, by BGM.
-pub fn list_parameters(room: &mut [u32], n: usize, w: World, eye: usize, j: usize) -> usize
+pub fn list_parameters(output: &mut [u32], n: usize, w: World, eye: usize, j: usize) -> usize
     requires { ⌜ (n < 4096) × (j < 65536) ⌝ }
-    ensures { λ r. ⌜ Lists room n (parameterBytesOf (halfwordsOf w) eye j) r ⌝ }
+    ensures { λ r. ⌜ Lists output n (parameterBytesOf (halfwordsOf w) eye j) r ⌝ }
     ensures { λ r. ⌜ r ≤ n + 10 ⌝ }
 {
     let bgm = w.flags / 4096 % 4;
@@ -114,26 +114,26 @@ pub fn list_parameters(room: &mut [u32], n: usize, w: World, eye: usize, j: usiz
         return n;
     }
     if bgm == 1 {
-        return put_half(room, n, parameter_address(w, bias_index(eye, j)));
+        return put_half(output, n, parameter_address(w, bias_index(eye, j)));
     }
-    list_affine(room, n, w, j)
+    list_affine(output, n, w, j)
 }
 
 // The cell of a source pixel and the character row that it leads to.
-pub fn list_cell(vram: &[u8], room: &mut [u32], n: usize, w: World, sx: usize, sy: usize) -> usize
+pub fn list_cell(vram: &[u8], output: &mut [u32], n: usize, w: World, sx: usize, sy: usize) -> usize
     requires { ⌜ (length (now vram) ≡ vramBytes) × (n < 8192) ⌝ }
-    ensures { λ r. ⌜ Lists room n (cellBytesBiased (now (vram .entry)) (halfwordsOf w) sx sy) r ⌝ }
+    ensures { λ r. ⌜ Lists output n (cellBytesBiased (now (vram .entry)) (halfwordsOf w) sx sy) r ⌝ }
 {
     let at = cell_address(w, sx / 8, sy / 8);
     let cell = wide(half(vram, at));
-    let next = put_half(room, n, at);
-    put_half(room, next, row_address(cell, sy % 8))
+    let next = put_half(output, n, at);
+    put_half(output, next, row_address(cell, sy % 8))
 }
 
 // A background world's bytes, none where it does not cover the pixel.
 pub fn list_background(
     vram: &[u8],
-    room: &mut [u32],
+    output: &mut [u32],
     n: usize,
     w: World,
     eye: usize,
@@ -141,7 +141,7 @@ pub fn list_background(
     y: usize,
 ) -> usize
     requires { ⌜ (length (now vram) ≡ vramBytes) × ((n < 4096) × ((x < 384) × (y < 224))) ⌝ }
-    ensures { λ r. ⌜ Lists room n (backgroundBytesBiased (now (vram .entry)) (halfwordsOf w) eye x y) r ⌝ }
+    ensures { λ r. ⌜ Lists output n (backgroundBytesBiased (now (vram .entry)) (halfwordsOf w) eye x y) r ⌝ }
     ensures { λ r. ⌜ r ≤ n + 14 ⌝ }
 {
     if !covers(w, eye, x, y) {
@@ -149,10 +149,10 @@ pub fn list_background(
     }
     let i = x + 1024 - window_left(w, eye);
     let j = y + 32768 - (wide(w.gy) + 32768) % 65536;
-    let next = list_parameters(room, n, w, eye, j);
+    let next = list_parameters(output, n, w, eye, j);
     list_cell(
         vram,
-        room,
+        output,
         next,
         w,
         source_x(vram, w, eye, i, j),
@@ -163,7 +163,7 @@ pub fn list_background(
 // World k's bytes, those of its objects aside.
 pub fn list_world(
     vram: &[u8],
-    room: &mut [u32],
+    output: &mut [u32],
     n: usize,
     k: usize,
     eye: usize,
@@ -171,7 +171,7 @@ pub fn list_world(
     y: usize,
 ) -> usize
     requires { ⌜ (length (now vram) ≡ vramBytes) × ((n < 4096) × ((k < 32) × ((x < 384) × (y < 224)))) ⌝ }
-    ensures { λ r. ⌜ Lists room n (worldBytesBiased (now (vram .entry)) (worldOf (now (vram .entry)) k) eye x y) r ⌝ }
+    ensures { λ r. ⌜ Lists output n (worldBytesBiased (now (vram .entry)) (worldOf (now (vram .entry)) k) eye x y) r ⌝ }
     ensures { λ r. ⌜ r ≤ n + 14 ⌝ }
 {
     let w = world_at(vram, k);
@@ -182,13 +182,13 @@ pub fn list_world(
     if flags / 4096 % 4 == 3 {
         return n;
     }
-    list_background(vram, room, n, w, eye, x, y)
+    list_background(vram, output, n, w, eye, x, y)
 }
 
 // The bytes of worlds 31 to 0; END stops.
-pub fn list_worlds(vram: &[u8], room: &mut [u32], eye: usize, x: usize, y: usize) -> usize
+pub fn list_worlds(vram: &[u8], output: &mut [u32], eye: usize, x: usize, y: usize) -> usize
     requires { ⌜ (length (now vram) ≡ vramBytes) × ((x < 384) × (y < 224)) ⌝ }
-    ensures { λ r. ⌜ Lists room 0 (worldsBytesBiased (now (vram .entry)) eye x y 32) r ⌝ }
+    ensures { λ r. ⌜ Lists output 0 (worldsBytesBiased (now (vram .entry)) eye x y 32) r ⌝ }
     ensures { λ r. ⌜ r ≤ 448 ⌝ }
 {
     let mut n = 0;
@@ -197,7 +197,7 @@ pub fn list_worlds(vram: &[u8], room: &mut [u32], eye: usize, x: usize, y: usize
         if wide(half(vram, 251904 + 32 * (k - 1))) / 64 % 2 == 1 {
             return n;
         }
-        n = list_world(vram, room, n, k - 1, eye, x, y);
+        n = list_world(vram, output, n, k - 1, eye, x, y);
         k -= 1;
     }
     n

@@ -1,7 +1,7 @@
 // The bytes a pixel answers to: how many there are, and their addresses in the caller's output buffer.
 mod background;
 mod objects;
-mod room;
+mod output;
 
 use crate::objects::Pixel;
 use bus::Drawing;
@@ -14,8 +14,8 @@ ghost use lib.ListN.{length};
 ghost use Rattle.bus.specs.Refusal.{vramBytes};
 ghost use Rattle.bus.specs.Registers.{sptOf};
 ghost use Rattle.drawing_laws.specs.inner.SourceBytes.{pixelBytesBiased};
-ghost use Rattle.drawing_bytes.specs.inner.Room.{Lists};
-ghost use Rattle.drawing_bytes.specs.Calls.{listedOf, roomOf};
+ghost use Rattle.drawing_bytes.specs.inner.Output.{Lists};
+ghost use Rattle.drawing_bytes.specs.Calls.{listedOf, outputOf};
 
 // How many addresses the list has, why it was refused, or that no image has the pixel, for which the specification has
 // no number.
@@ -29,33 +29,33 @@ pub enum Listed {
 fn list(
     vram: &[u8],
     registers: &DrawingRegisters,
-    room: &mut [u32],
+    output: &mut [u32],
     eye: usize,
     x: usize,
     y: usize,
 ) -> usize
     requires { ⌜ (length (now vram) ≡ vramBytes) × ((x < 384) × (y < 224)) ⌝ }
     requires { ⌜ ((g : ℕ) → g < 4 → sptOf (now registers) g < 1024) ⌝ }
-    ensures { λ r. ⌜ Lists room 0 (pixelBytesBiased (now (vram .entry)) (now (registers .entry)) eye x y) r ⌝ }
+    ensures { λ r. ⌜ Lists output 0 (pixelBytesBiased (now (vram .entry)) (now (registers .entry)) eye x y) r ⌝ }
 {
-    let n = background::list_worlds(vram, room, eye, x, y);
+    let n = background::list_worlds(vram, output, eye, x, y);
     let worlds = objects::object_worlds(vram);
     let pixel = Pixel { eye, x, y };
-    objects::list_objects(vram, registers, room, n, worlds, pixel)
+    objects::list_objects(vram, registers, output, n, worlds, pixel)
 }
 
 // The bytes that pixel (x, y) of an eye's image answers to: how many there are, and their addresses in VRAM in the first
-// words of the output buffer (`room`), as far as it reaches.
+// words of the output buffer (paper 02: "room"), as far as it reaches.
 pub fn pixel_bytes(
     vram: &[u8],
     drawing: Drawing,
     eye: u32,
     x: u32,
     y: u32,
-    room: &mut [u32],
+    output: &mut [u32],
 ) -> Listed
     ensures answer { λ r. ⌜ r ≡ listedOf (now (vram .entry)) (drawing .regs) eye x y ⌝ }
-    ensures room { λ _. ⌜ now (room .exit) ≡ roomOf (now (vram .entry)) (drawing .regs) eye x y (now (room .entry)) ⌝ }
+    ensures output { λ _. ⌜ now (output .exit) ≡ outputOf (now (vram .entry)) (drawing .regs) eye x y (now (output .entry)) ⌝ }
 {
     let regs = drawing.regs;
     if vram.len() != 262144 {
@@ -73,5 +73,5 @@ pub fn pixel_bytes(
     if 223 < y {
         return Listed::Outside;
     }
-    Listed::Count(list(vram, &regs, room, eye as usize, x as usize, y as usize))
+    Listed::Count(list(vram, &regs, output, eye as usize, x as usize, y as usize))
 }

@@ -12,9 +12,9 @@ ghost use Rattle.drawing_pixel.specs.inner.BiasedObject.{objectCoversBiased};
 ghost use Rattle.drawing_pixel.specs.Pixel.{drawsObjectsOf};
 ghost use Rattle.drawing_laws.specs.Covers.{inGroupOf};
 ghost use Rattle.drawing_laws.specs.inner.SourceBytes.{objectsBytesBiased};
-ghost use Rattle.drawing_bytes.specs.inner.Room.{Lists};
+ghost use Rattle.drawing_bytes.specs.inner.Output.{Lists};
 ghost use Rattle.drawing_bytes.specs.inner.Groups.{reachedObjectWorldsOf, inGroupsOf, objectListOf};
-use crate::room::put_half;
+use crate::output::put_half;
 use drawing_objects::group_count;
 use drawing_objects::object_row;
 use drawing_pixel::character::row_address;
@@ -113,7 +113,7 @@ pub struct Pixel {
 pub fn list_object(
     vram: &[u8],
     registers: &DrawingRegisters,
-    room: &mut [u32],
+    output: &mut [u32],
     n: usize,
     k: usize,
     worlds: usize,
@@ -125,7 +125,7 @@ pub fn list_object(
     requires { ⌜ (worlds ≡ reachedObjectWorldsOf (now vram) 32) × (worlds ≤ 32) ⌝ }
     requires { ⌜ ((g : ℕ) → g < 4 → sptOf (now registers) g < 1024) ⌝ }
     ensures { λ r. ⌜
-        Lists room n
+        Lists output n
         (objectListOf (now (vram .entry)) (now (registers .entry)) (pixel .eye) (pixel .x) (pixel .y) k) r
         ⌝ }
     ensures { λ r. ⌜ r ≤ n + 2 ⌝ }
@@ -137,14 +137,18 @@ pub fn list_object(
     if !in_groups(registers, worlds, k) {
         return n;
     }
-    put_half(room, n, row_address(wide(o[CELL]), object_row(&o, pixel.y)))
+    put_half(
+        output,
+        n,
+        row_address(wide(o[CELL]), object_row(&o, pixel.y)),
+    )
 }
 
 // The bytes of objects 1,023 to 0.
 pub fn list_objects(
     vram: &[u8],
     registers: &DrawingRegisters,
-    room: &mut [u32],
+    output: &mut [u32],
     start: usize,
     worlds: usize,
     pixel: Pixel,
@@ -153,14 +157,14 @@ pub fn list_objects(
     requires { ⌜ (worlds ≡ reachedObjectWorldsOf (now vram) 32) × (worlds ≤ 32) ⌝ }
     requires { ⌜ ((g : ℕ) → g < 4 → sptOf (now registers) g < 1024) ⌝ }
     ensures { λ r. ⌜
-        Lists room start
+        Lists output start
         (objectsBytesBiased (now (vram .entry)) (now (registers .entry)) (pixel .eye) (pixel .x) (pixel .y) 1024) r
         ⌝ }
 {
     let mut n = start;
     let mut k = 1024;
     while 0 < k {
-        n = list_object(vram, registers, room, n, k - 1, worlds, pixel);
+        n = list_object(vram, registers, output, n, k - 1, worlds, pixel);
         k -= 1;
     }
     n

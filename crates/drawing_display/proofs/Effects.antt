@@ -34,7 +34,7 @@ high-byte vram a i h e = rw e (omega arith)
 
 pub brightness-at : BrightnessAt
 unfolding displayOf brightnessOf lampLevelOf repeatsOf tableEntryOf columnEntryOf
-brightness-at vram room view d x y e b h l =
+brightness-at vram output view d x y e b h l =
     rw e
     (shown-at vram view d x y h l
     ∙ rw (high-byte vram (0x3DC00 + 0x200 * view .eye + 2 * (view .start - x / 4)) (0x3DC01 + 0x200 * view .eye + 2 *

@@ -13,7 +13,7 @@ use Rattle.drawing_pixel.proofs.Pairs.{pair-lt}
 use Rattle.drawing_pixel.proofs.Lists.{length-list, getD-list}
 use Rattle.drawing_display.specs.Brightness.{tableEntryOf, repeatsOf, lampLevelOf, columnEntryOf, brightnessOf}
 use Rattle.drawing_display.specs.Calls.{shownOf}
-use Rattle.drawing_display.specs.inner.Room.{Levels, Column, Columns, Strips, pixelIn}
+use Rattle.drawing_display.specs.inner.Output.{Levels, Column, Columns, Strips, pixelIn}
 use Rattle.drawing_display.specs.declared.View.{View}
 use Rattle.drawing_display.specs.declared.Durations.{Durations}
 

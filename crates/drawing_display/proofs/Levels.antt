@@ -9,7 +9,7 @@ use lib.ListN.{length, getD, set, replicate, length-set, length-replicate}
 use lib.Seq.{getD-set-same, getD-set-other}
 use Rattle.word.specs.LittleEndian.{halfAt}
 use Rattle.drawing_display.specs.Brightness.{timeOf, repeatsOf, lampLevelOf}
-use Rattle.drawing_display.specs.inner.Room.{Levels}
+use Rattle.drawing_display.specs.inner.Output.{Levels}
 use Rattle.drawing_display.specs.declared.Durations.{Durations}
 
 -- 765 times 256

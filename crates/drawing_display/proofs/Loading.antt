@@ -10,7 +10,7 @@ use lib.Seq.{getD-set-same, getD-set-other, ext-getD}
 use borrow.Author.Tests.{lt-ltb, le-ltb, le-leb, lt-leb}
 use Rattle.drawing_pixel.proofs.Lists.{length-list, getD-list}
 use Rattle.drawing_display.specs.ColumnTable.{columnTable, tableByteOf, inTablesOf, loadedByteOf, tableLoadedOf}
-use Rattle.drawing_display.specs.inner.Room.{Loaded}
+use Rattle.drawing_display.specs.inner.Output.{Loaded}
 
 -- which addresses lie in the tables
 pub in-tables : (a : ℕ) → 252928 ≤ a → a < 253952 → inTablesOf a ≡ true

@@ -14,21 +14,21 @@ use Rattle.drawing_display.specs.Calls.{displayOk, displayVerdictOf, sho
 use Rattle.drawing_display.specs.declared.View.{View}
 use Rattle.drawing_display.specs.declared.Durations.{Durations}
 
-module _ (vram room : List ℕ) (view : View) (d : Durations) where
+module _ (vram output : List ℕ) (view : View) (d : Durations) where
   pub display-length : (length vram ≡ 262144 → ⊥)
-      → (Refused VramLength ≡ displayVerdictOf vram view room) × (room ≡ displayOf vram view d room)
+      → (Refused VramLength ≡ displayVerdictOf vram view output) × (output ≡ displayOf vram view d output)
   unfolding displayOf displayVerdictOf vramOk
   display-length n = (simp (ne-eqb _ _ n), simp (ne-eqb _ _ n))
 
   module _ (l : length vram ≡ 262144) where
     pub display-frame : 1 < view .frame
-        → (Refused Frame ≡ displayVerdictOf vram view room) × (room ≡ displayOf vram view d room)
+        → (Refused Frame ≡ displayVerdictOf vram view output) × (output ≡ displayOf vram view d output)
     unfolding displayOf displayVerdictOf vramOk
     display-frame h = (simp (eq-eqb _ _ l, le-ltb _ _ h), simp (eq-eqb _ _ l, le-ltb _ _ h))
 
     module _ (f : view .frame < 2) where
       abbrev Refuses : Type 0
-      Refuses = (Refused Display ≡ displayVerdictOf vram view room) × (room ≡ displayOf vram view d room)
+      Refuses = (Refused Display ≡ displayVerdictOf vram view output) × (output ≡ displayOf vram view d output)
 
       pub display-eye : 1 < view .eye → Refuses
       unfolding displayOf displayVerdictOf vramOk displayOk
@@ -42,12 +42,12 @@ module _ (vram room : List ℕ) (view : View) (d : Durations) where
       unfolding displayOf displayVerdictOf vramOk displayOk
       display-high h = (simp (eq-eqb _ _ l, lt-ltb _ _ f, le-ltb _ _ h, and-false), simp (eq-eqb _ _ l, lt-ltb _ _ f, le-ltb _ _ h, and-false))
 
-      pub display-room : (length room ≡ 86016 → ⊥) → Refuses
+      pub display-output : (length output ≡ 86016 → ⊥) → Refuses
       unfolding displayOf displayVerdictOf vramOk displayOk
-      display-room n = (simp (eq-eqb _ _ l, lt-ltb _ _ f, ne-eqb _ _ n, and-false), simp (eq-eqb _ _ l, lt-ltb _ _ f, ne-eqb _ _ n, and-false))
+      display-output n = (simp (eq-eqb _ _ l, lt-ltb _ _ f, ne-eqb _ _ n, and-false), simp (eq-eqb _ _ l, lt-ltb _ _ f, ne-eqb _ _ n, and-false))
 
-      pub display-accepted : view .eye < 2 → 95 ≤ view .start → view .start < 256 → length room ≡ 86016
-          → (Accepted ≡ displayVerdictOf vram view room) × (shownOf vram view d ≡ displayOf vram view d room)
+      pub display-accepted : view .eye < 2 → 95 ≤ view .start → view .start < 256 → length output ≡ 86016
+          → (Accepted ≡ displayVerdictOf vram view output) × (shownOf vram view d ≡ displayOf vram view d output)
       unfolding displayOf displayVerdictOf vramOk displayOk
       display-accepted e s t r = (
         simp (eq-eqb _ _ l, lt-ltb _ _ f, lt-ltb _ _ e, le-leb _ _ s, lt-ltb _ _ t, eq-eqb _ _ r),

@@ -18,13 +18,13 @@ use Rattle.drawing_display.specs.declared.Durations.{Durations}
 
 -- 15: the eye is 0 or 1, start is from 95 to 255, and the output buffer has 86,016 bytes
 unfoldable pub displayOk : View → ℕ → Bool
-displayOk view room = ltb (view .eye) 2 && (leb 95 (view .start) && (ltb (view .start) 256 && eqb room 86016))
+displayOk view output = ltb (view .eye) 2 && (leb 95 (view .start) && (ltb (view .start) 256 && eqb output 86016))
 
 -- the display call's verdict: 3, 7, 15
 unfoldable pub displayVerdictOf : List ℕ → View → List ℕ → Verdict
-displayVerdictOf vram view room =
+displayVerdictOf vram view output =
     unless (vramOk (length vram)) VramLength
-    (unless (ltb (view .frame) 2) Frame (unless (displayOk view (length room)) Display Accepted))
+    (unless (ltb (view .frame) 2) Frame (unless (displayOk view (length output)) Display Accepted))
 
 -- what is shown: pixel (x, y) at byte 384y + x, 224 rows of 384
 unfoldable pub shownOf : List ℕ → View → Durations → List ℕ
@@ -32,7 +32,7 @@ shownOf vram view d = listOf 86016 0 (λ i. brightnessOf vram view d (i % 384) (
 
 -- the output buffer after the display call
 unfoldable pub displayOf : List ℕ → View → Durations → List ℕ → List ℕ
-displayOf vram view d room = whenAccepted (displayVerdictOf vram view room) room (shownOf vram view d)
+displayOf vram view d output = whenAccepted (displayVerdictOf vram view output) output (shownOf vram view d)
 
 -- the verdict of the call that loads the recommended table: 3
 unfoldable pub loadTableVerdictOf : List ℕ → Verdict

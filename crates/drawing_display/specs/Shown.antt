@@ -17,11 +17,11 @@ use Rattle.drawing_display.specs.declared.Durations.{Durations}
 -- repeats: the high byte, at 0x3DC01 (left) or 0x3DE01 (right) plus 2(start - x / 4), and 1
 abbrev pub BrightnessAt : Type 0
 BrightnessAt =
-    (vram room : List ℕ) (view : View) (d : Durations) (x y : ℕ) → displayVerdictOf vram view room ≡ Accepted
+    (vram output : List ℕ) (view : View) (d : Durations) (x y : ℕ) → displayVerdictOf vram view output ≡ Accepted
     → ((a : ℕ) → getD vram a 0 < 256)
     → x < 384
     → y < 224
-    → getD (displayOf vram view d room) (384 * y + x) 0
+    → getD (displayOf vram view d output) (384 * y + x) 0
     ≡ min 128
     (timeOf d (storedPixelOf vram (view .frame) (view .eye) x y)
     * (getD vram (0x3DC01 + 0x200 * view .eye + 2 * (view .start - x / 4)) 0 + 1))

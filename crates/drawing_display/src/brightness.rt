@@ -12,7 +12,7 @@ ghost use Rattle.word.specs.LittleEndian.{halfAt};
 ghost use Rattle.drawing_pixel.specs.Character.{twoBitsOf};
 ghost use Rattle.drawing_display.specs.Brightness.{timeOf, lampLevelOf, repeatsOf};
 ghost use Rattle.drawing_display.specs.Calls.{shownOf};
-ghost use Rattle.drawing_display.specs.inner.Room.{Levels, Column, Columns, pixelIn};
+ghost use Rattle.drawing_display.specs.inner.Output.{Levels, Column, Columns, pixelIn};
 
 // How long a shade is lit.
 fn time(durations: Durations, shade: usize) -> usize
@@ -58,51 +58,51 @@ fn levels(vram: &[u8], durations: Durations, table: usize, start: usize) -> [u8;
 }
 
 // Eight pixels of a column, whose levels are the four from `group` on, into the output buffer from byte `at` on.
-fn show_column(room: &mut [u8], levels: &[u8; 384], at: usize, group: usize, column: usize)
-    requires { ⌜ (at + 2688 < length (now room)) × (group ≤ 380) ⌝ }
+fn show_column(output: &mut [u8], levels: &[u8; 384], at: usize, group: usize, column: usize)
+    requires { ⌜ (at + 2688 < length (now output)) × (group ≤ 380) ⌝ }
     ensures { λ _. ⌜
         Column at 8 (λ r. getD (now (levels .entry)) (group + twoBitsOf column r) 0)
-        (now (room .entry)) (now (room .exit))
+        (now (output .entry)) (now (output .exit))
         ⌝ }
 {
     let mut r = 0;
     while r < 8 {
-        room[at + 384 * r] = levels[group + pair(column, r)];
+        output[at + 384 * r] = levels[group + pair(column, r)];
         r += 1;
     }
 }
 
 // The 384 columns of a strip of the image that begins at `base`.
-fn show_strip(vram: &[u8], room: &mut [u8], levels: &[u8; 384], base: usize, strip: usize)
-    requires { ⌜ (length (now vram) ≡ vramBytes) × ((length (now room) ≡ 86016) × ((base ≤ 98304) × (strip < 28))) ⌝ }
+fn show_strip(vram: &[u8], output: &mut [u8], levels: &[u8; 384], base: usize, strip: usize)
+    requires { ⌜ (length (now vram) ≡ vramBytes) × ((length (now output) ≡ 86016) × ((base ≤ 98304) × (strip < 28))) ⌝ }
     ensures { λ _. ⌜
         Columns strip 384 (pixelIn (now (vram .entry)) (now (levels .entry)) base)
-        (now (room .entry)) (now (room .exit))
+        (now (output .entry)) (now (output .exit))
         ⌝ }
 {
     let mut x = 0;
     while x < 384 {
         let column = wide(half(vram, base + 64 * x + 2 * strip));
-        show_column(room, levels, 3072 * strip + x, x - x % 4, column);
+        show_column(output, levels, 3072 * strip + x, x - x % 4, column);
         x += 1;
     }
 }
 
 // All pixels of a view.
-pub fn show(vram: &[u8], room: &mut [u8], view: View, durations: Durations)
+pub fn show(vram: &[u8], output: &mut [u8], view: View, durations: Durations)
     requires { ⌜
         (length (now vram) ≡ vramBytes)
         × ((view .frame < 2) × ((view .eye < 2) × ((95 ≤ view .start) × (view .start < 256))))
         ⌝ }
-    requires { ⌜ length (now room) ≡ 86016 ⌝ }
-    ensures { λ _. ⌜ now (room .exit) ≡ shownOf (now (vram .entry)) view durations ⌝ }
+    requires { ⌜ length (now output) ≡ 86016 ⌝ }
+    ensures { λ _. ⌜ now (output .exit) ≡ shownOf (now (vram .entry)) view durations ⌝ }
 {
     let eye = view.eye as usize;
     let levels = levels(vram, durations, 252928 + 512 * eye, view.start as usize);
     let base = 32768 * (view.frame as usize) + 65536 * eye;
     let mut strip = 0;
     while strip < 28 {
-        show_strip(vram, room, &levels, base, strip);
+        show_strip(vram, output, &levels, base, strip);
         strip += 1;
     }
 }

@@ -21,10 +21,10 @@ pub struct Durations {
     pub brtc: u8,
 }
 
-// The apparent brightness of pixel (x, y), 0 to 128, to byte 384y + x of the output buffer (`room`).
-pub fn display(vram: &[u8], view: View, durations: Durations, room: &mut [u8]) -> Verdict
-    ensures verdict { λ v. ⌜ v ≡ displayVerdictOf (now (vram .entry)) view (now (room .entry)) ⌝ }
-    ensures room { λ _. ⌜ now (room .exit) ≡ displayOf (now (vram .entry)) view durations (now (room .entry)) ⌝ }
+// The apparent brightness of pixel (x, y), 0 to 128, to byte 384y + x of the output buffer (paper 02: "room").
+pub fn display(vram: &[u8], view: View, durations: Durations, output: &mut [u8]) -> Verdict
+    ensures verdict { λ v. ⌜ v ≡ displayVerdictOf (now (vram .entry)) view (now (output .entry)) ⌝ }
+    ensures output { λ _. ⌜ now (output .exit) ≡ displayOf (now (vram .entry)) view durations (now (output .entry)) ⌝ }
 {
     if vram.len() != 262144 {
         return Verdict::Refused(Refusal::VramLength);
@@ -41,10 +41,10 @@ pub fn display(vram: &[u8], view: View, durations: Durations, room: &mut [u8]) -
     if 255 < view.start {
         return Verdict::Refused(Refusal::Display);
     }
-    if room.len() != 86016 {
+    if output.len() != 86016 {
         return Verdict::Refused(Refusal::Display);
     }
-    brightness::show(vram, room, view, durations);
+    brightness::show(vram, output, view, durations);
     Verdict::Accepted
 }
 

@@ -1,10 +1,7 @@
--- What holds of each number of a list: of two lists joined, of a part, and of a list that a test chooses.
+-- What holds of each number of a list: of two lists joined, and of a part.
 -- Assumes nothing.
 use Prim.Native.Nat.{ℕ}
-use mathlib.Core.Bool.{Bool, true, false}
 use mathlib.Core.List.{List, [], _∷_, _++_}
-use mathlib.Core.Path.{_≡_, refl}
-use Rattle.word.specs.Choose.{pick}
 use Rattle.drawing_laws.specs.Demand3.{Each}
 
 module _ (P : ℕ → Type 0) where
@@ -23,7 +20,3 @@ module _ (P : ℕ → Type 0) where
   pub each-map : (Q : ℕ → Type 0) (xs : List ℕ) → ((a : ℕ) → P a → Q a) → Each P xs → Each Q xs
   each-map Q [] h k = tt
   each-map Q (x ∷ xs) h k = (h x (k .0), each-map Q xs h (k .1))
-
-  pub each-pick : (b : Bool) (xs ys : List ℕ) → (b ≡ true → Each P xs) → (b ≡ false → Each P ys) → Each P (pick b xs ys)
-  each-pick true xs ys h k = h refl
-  each-pick false xs ys h k = k refl

@@ -10,6 +10,7 @@ use lib.Dec.{eqb}
 use lib.IntN.{pos, _-ℤ_}
 use Rattle.word.specs.Choose.{pick}
 use Rattle.word.specs.Integers.{aboveZero}
+use Rattle.word.proofs.Choices.{pick-each}
 use Rattle.drawing_pixel.specs.World.{worldOf, bgmOf}
 use Rattle.drawing_pixel.specs.Background.{parameterAddressOf, biasIndexOf}
 use Rattle.drawing_pixel.specs.Object.{objectOf}
@@ -32,12 +33,7 @@ parameters-length w eye j = go (eqb (bgmOf w) 0) (eqb (bgmOf w) 1)
     go false false = refl
 
 most : (w : List ℕ) → worldBytesCountOf w ≤ 14
-most w = go (eqb (bgmOf w) 0) (eqb (bgmOf w) 1)
-  where
-    go : (a b : Bool) → pick a 4 (pick b 6 14) ≤ 14
-    go true b = omega arith
-    go false true = omega arith
-    go false false = omega arith
+most w = pick-each (λ n. n ≤ 14) (eqb (bgmOf w) 0) 4 _ (omega arith) (pick-each (λ n. n ≤ 14) (eqb (bgmOf w) 1) 6 14 (omega arith) (omega arith))
 
 world-length : (vram w : List ℕ) (eye x y : ℕ) → length (backgroundBytes vram w eye x y) ≡ worldBytesCountOf w
 world-length vram w eye x y =

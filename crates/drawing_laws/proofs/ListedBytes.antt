@@ -18,12 +18,12 @@ use Rattle.drawing_pixel.specs.Pixel.{drawsObjectsOf}
 use Rattle.drawing_pixel.specs.inner.BiasedObject.{objectRowBiased}
 use Rattle.drawing_pixel.proofs.Painting.{world-covers, object-covered, object-line}
 use Rattle.drawing_pixel.proofs.Windows.{object-covers-row}
-use Rattle.word.proofs.Choices.{and-right}
+use Rattle.word.proofs.Choices.{and-right, pick-cases}
 use Rattle.drawing_laws.specs.Covers.{reachedOf, groupOf, inGroupOf, backgroundCoversOf, drawsOverOf, objectCoversPixelOf, coveringWorldsOf, coveringObjectsOf}
 use Rattle.drawing_laws.specs.Demand3.{Each}
 use Rattle.drawing_laws.specs.PixelBytes.{halfBytesOf, affineBytesOf, parameterBytesOf, backgroundBytes, objectBytes, pixelBytesOf}
 use Rattle.drawing_laws.specs.inner.SourceBytes.{cellBytesBiased}
-use Rattle.drawing_laws.proofs.Each.{each-join, each-pick}
+use Rattle.drawing_laws.proofs.Each.{each-join}
 use Rattle.drawing_laws.proofs.Below.{some-at, each-which}
 use Rattle.drawing_laws.proofs.PixelBytes.{covering-bytes}
 
@@ -65,8 +65,8 @@ module _ (P : ℕ → Type 0) (vram : List ℕ)
     parameters-each : (w : List ℕ) (eye j : ℕ) → Each P (parameterBytesOf w eye j)
     unfolding parameterBytesOf
     parameters-each w eye j =
-        each-pick P (eqb (bgmOf w) 0) [] _ (λ _. tt)
-        (λ _. each-pick P (eqb (bgmOf w) 1) _ _ (λ _. parameter w (biasIndexOf eye j)) (λ _. affine-each w j))
+        pick-cases (Each P) (eqb (bgmOf w) 0) [] _ (λ _. tt)
+        (λ _. pick-cases (Each P) (eqb (bgmOf w) 1) _ _ (λ _. parameter w (biasIndexOf eye j)) (λ _. affine-each w j))
 
     cell-each : (n sx sy : ℕ) → Each P (cellBytesBiased vram (worldOf vram n) sx sy)
     unfolding cellBytesBiased

@@ -10,7 +10,7 @@ use lib.ListN.{getD}
 use native.Mathlib.Omega.{arith}
 use Rattle.word.specs.Choose.{pick}
 use Rattle.word.specs.Bit.{isSet}
-use Rattle.word.proofs.Choices.{and-left}
+use Rattle.word.proofs.Choices.{and-left, test-same}
 use Rattle.drawing_pixel.specs.Flags.{eyeFlagOf}
 use Rattle.drawing_pixel.specs.World.{worldOf, endOf, skippedOf, worldShownOf, bgmOf}
 use Rattle.drawing_pixel.specs.inner.BiasedWindow.{columnInBiased, rowInBiased, worldCoversBiased}
@@ -92,11 +92,6 @@ covers-reached : (vram : List ℕ) (eye x y n : ℕ) → backgroundCoversOf vram
 unfolding backgroundCoversOf
 covers-reached vram eye x y n e = and-left (reachedOf vram n) _ e
 
-same-test : (a b : Bool) → (a ≡ true → b ≡ true) → (b ≡ true → a ≡ true) → a ≡ b
-same-test true b f g = sym (f refl)
-same-test false true f g = g refl
-same-test false false f g = refl
-
 module _ (vram regs : List ℕ) (eye x y : ℕ) where
   abbrev worldPart : ℕ → List ℕ
   worldPart n = backgroundBytes vram (worldOf vram n) eye x y
@@ -139,7 +134,7 @@ module _ (vram regs : List ℕ) (eye x y : ℕ) where
   objects-bytes zero s h = refl
   objects-bytes (suc k) s h =
       let drawn : worldsDrawBiased vram regs eye x y 32 3 k ≡ objectCoversPixelOf vram regs eye x y k =
-      same-test _ _ (drawn-covers vram regs eye x y k h) (covers-drawn vram regs s eye x y k h) in
+      test-same _ _ (drawn-covers vram regs eye x y k h) (covers-drawn vram regs s eye x y k h) in
       rw (drawn, object-line (objectOf vram k) y, objects-bytes k s (omega arith))
       (sym (flat-more objectPart (objectCoversPixelOf vram regs eye x y k) k (whichBelow k (objectCoversPixelOf vram regs eye x y))))
 

@@ -1,16 +1,16 @@
--- Which worlds the loop reaches and which group it has reached, told from world n upwards as the loop over worlds goes:
+-- Which worlds the loop reaches and which group it has reached, counted from world n upwards as the loop goes down:
 -- `reached`, `end-stops` and `group-is` tie both to specs/Covers. Assumes nothing.
 use Prim.Native.Nat.{ℕ, zero, suc, _+_, _-_, _%_, _<_, _≤_}
 use mathlib.Core.Bool.{Bool, true, false, _&&_, not, false≢true}
 use mathlib.Core.List.{List, _∷_}
-use mathlib.Core.Path.{_≡_, refl, sym, ap, _∙_}
+use mathlib.Core.Path.{_≡_, sym, ap, _∙_}
 use lib.Dec.{leb}
 use lib.ListN.{length}
 use native.Mathlib.Nat.{add-zero}
 use native.Mathlib.Omega.{arith}
 use borrow.Author.Tests.{not-true, le-leb, leb-true}
 use Rattle.word.specs.Choose.{pick}
-use Rattle.word.proofs.Choices.{and-left, and-right, and-both, not-of-false}
+use Rattle.word.proofs.Choices.{and-left, and-right, and-both, not-of-false, bool-refuted}
 use Rattle.drawing_pixel.specs.World.{worldOf, endOf}
 use Rattle.drawing_pixel.specs.Pixel.{drawsObjectsOf}
 use Rattle.drawing_laws.specs.Covers.{someBelow, whichBelow, reachedOf, groupOf}
@@ -41,21 +41,17 @@ no-end-at vram m (suc k) (suc i) h l =
     let later : suc m + i ≡ m + suc i = omega arith in
     rw later at (no-end-at vram (suc m) k i (and-right (not (endOf (worldOf vram m))) _ h) (omega arith))
 
-not-held : (b : Bool) → (b ≡ true → ⊥) → not b ≡ true
-not-held true h = absurd (h refl)
-not-held false h = refl
-
 -- a world above which, and in which, there is no END is reached
 pub reached : (vram : List ℕ) (n k : ℕ) → suc n + k ≡ 32 → noEndOf vram n (suc k) ≡ true → reachedOf vram n ≡ true
 unfolding reachedOf
 reached vram n k q h =
-    not-held (someBelow 32 (λ m. leb n m && endOf (worldOf vram m)))
-    (λ e.
+    not-of-false (someBelow 32 (λ m. leb n m && endOf (worldOf vram m)))
+    (bool-refuted _ (λ e.
     some-at (λ m. leb n m && endOf (worldOf vram m)) 32 ⊥ e
     (λ m l f.
     let above : n ≤ m = leb-true n m (and-left (leb n m) _ f) in
     let here : n + (m - n) ≡ m = omega arith in
-    false≢true (sym (rw here at (no-end-at vram n (suc k) (m - n) h (omega arith))) ∙ and-right (leb n m) _ f)))
+    false≢true (sym (rw here at (no-end-at vram n (suc k) (m - n) h (omega arith))) ∙ and-right (leb n m) _ f))))
 
 -- no world from END downwards is reached
 pub end-stops : (vram : List ℕ) (n m : ℕ) → n < 32 → m ≤ n → endOf (worldOf vram n) ≡ true → reachedOf vram m ≡ true → ⊥

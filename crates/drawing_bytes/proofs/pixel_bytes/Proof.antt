@@ -12,7 +12,7 @@ returns : tie.Need-returns
 returns c = list-length (c .before .before .before .before .args .vram .now)
     (c .before .before .before .before .args .drawing .regs) (c .before .before .before .before .args .eye)
     (c .before .before .before .before .args .x) (c .before .before .before .before .args .y)
-    (c .before .before .before .before .args .room .now) (c .if1 .taken)
+    (c .before .before .before .before .args .output .now) (c .if1 .taken)
 
 returns-2 : tie.Need-returns-2
 returns-2 c = list-state (c .before .before .before .before .before .before .before .args .vram .now)
@@ -20,7 +20,7 @@ returns-2 c = list-state (c .before .before .before .before .before .before .bef
     (c .before .before .before .before .before .before .before .args .eye)
     (c .before .before .before .before .before .before .before .args .x)
     (c .before .before .before .before .before .before .before .args .y)
-    (c .before .before .before .before .before .before .before .args .room .now) (c .before .before .before .if1 .left)
+    (c .before .before .before .before .before .before .before .args .output .now) (c .before .before .before .if1 .left)
     (sym (c .before .drawing-ok .ensures) ∙ not-true _ (c .if2 .taken))
 
 returns-3 : tie.Need-returns-3
@@ -29,7 +29,7 @@ returns-3 c = list-eye (c .before .before .before .before .before .before .befor
     (c .before .before .before .before .before .before .before .before .args .eye)
     (c .before .before .before .before .before .before .before .before .args .x)
     (c .before .before .before .before .before .before .before .before .args .y)
-    (c .before .before .before .before .before .before .before .before .args .room .now)
+    (c .before .before .before .before .before .before .before .before .args .output .now)
     (c .before .before .before .before .if1 .left) (sym (c .before .before .drawing-ok .ensures) ∙ not-false _
     (c .before .if2 .left)) (omega arith)
 
@@ -39,7 +39,7 @@ returns-4 c = list-column (c .before .before .before .before .before .before .be
     (c .before .before .before .before .before .before .before .before .before .args .eye)
     (c .before .before .before .before .before .before .before .before .before .args .x)
     (c .before .before .before .before .before .before .before .before .before .args .y)
-    (c .before .before .before .before .before .before .before .before .before .args .room .now)
+    (c .before .before .before .before .before .before .before .before .before .args .output .now)
     (c .before .before .before .before .before .if1 .left) (sym (c .before .before .before .drawing-ok .ensures)
     ∙ not-false _ (c .before .before .if2 .left)) (omega arith)
 
@@ -49,7 +49,7 @@ returns-5 c = list-row (c .before .before .before .before .before .before .befor
     (c .before .before .before .before .before .before .before .before .before .before .args .eye)
     (c .before .before .before .before .before .before .before .before .before .before .args .x)
     (c .before .before .before .before .before .before .before .before .before .before .args .y)
-    (c .before .before .before .before .before .before .before .before .before .before .args .room .now)
+    (c .before .before .before .before .before .before .before .before .before .before .args .output .now)
     (c .before .before .before .before .before .before .if1 .left) (sym
     (c .before .before .before .before .drawing-ok .ensures) ∙ not-false _ (c .before .before .before .if2 .left))
     (omega arith)
@@ -75,7 +75,7 @@ returns-6 c =
     .before .before .before .before .before .args .x)
     (c .before .before .before .before .before .before .before .before .before .before .before .before .before
     .before .before .args .y) (c .before .before .before .before .before .before .before .before .before .before
-    .before .before .before .before .before .args .room .now)
+    .before .before .before .before .before .args .output .now)
     (c .before .before .before .before .before .before .before .before .before .before .before .if1 .left) (sym
     (c .before .before .before .before .before .before .before .before .before .drawing-ok .ensures) ∙ not-false _
     (c .before .before .before .before .before .before .before .before .if2 .left)) (omega arith) (omega arith)

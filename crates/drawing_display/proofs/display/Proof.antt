@@ -1,7 +1,7 @@
 -- `drawing_display::display` meets its contract: each test refuses in the order of the numbers. Assumes nothing.
 use native.Mathlib.Omega.{arith}
 use mathlib.Core.Path.{_∙_}
-use Rattle.drawing_display.proofs.Verdicts.{display-length, display-frame, display-eye, display-low, display-high, display-room, display-accepted}
+use Rattle.drawing_display.proofs.Verdicts.{display-length, display-frame, display-eye, display-low, display-high, display-output, display-accepted}
 use borrow.Author.Needs.{needs}
 use Rattle.drawing_display.proofs.display.Statement.{statement}
 use Rattle.drawing_display.proofs.display.Tie as tie
@@ -22,11 +22,11 @@ returns-5 : tie.Need-returns-5
 returns-5 c = display-high _ _ _ _ (c .before .before .before .before .before .before .before .before .if1 .left) (omega arith) (c .if5 .taken)
 
 returns-6 : tie.Need-returns-6
-returns-6 c = display-room _ _ _ _ (c .before .before .before .before .before .before .before .before .before .if1 .left) (omega arith) (c .if6 .taken)
+returns-6 c = display-output _ _ _ _ (c .before .before .before .before .before .before .before .before .before .if1 .left) (omega arith) (c .if6 .taken)
 
 returns-7 : tie.Need-returns-7
 returns-7 c = let a = c .before .before .before .before .before .before .before .before .before .before .before .before .before .before .before .before .args in
-    let p = display-accepted (a .vram .now) (a .room .now) (a .view) (a .durations)
+    let p = display-accepted (a .vram .now) (a .output .now) (a .view) (a .durations)
     (c .before .before .before .before .before .before .before .before .before .before .before .before .before .if1
     .left) (omega arith) (omega arith) (omega arith) (omega arith) (c .before .before .before .before .if6 .left) in
     (p .0, c .before .before .show .ensures ∙ p .1)

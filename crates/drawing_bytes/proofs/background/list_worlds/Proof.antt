@@ -15,11 +15,11 @@ use Rattle.drawing_bytes.proofs.Listings.{Left, left-begun, left-more, 
 use Rattle.drawing_bytes.proofs.Worlds.{worlds-step, worlds-ended, worlds-none}
 
 abbrev Inv-loop : tie.InvT-loop
-Inv-loop vram room₀ eye x y n₀ k₀ room n k =
-    (k ≤ 32) × ((n ≤ 14 * (32 - k)) × Left 0 (worldsBytesBiased vram eye x y 32) n (worldsBytesBiased vram eye x y k) room₀ room)
+Inv-loop vram output₀ eye x y n₀ k₀ output n k =
+    (k ≤ 32) × ((n ≤ 14 * (32 - k)) × Left 0 (worldsBytesBiased vram eye x y 32) n (worldsBytesBiased vram eye x y k) output₀ output)
 
 abbrev μ-loop : tie.MeasureT-loop
-μ-loop vram room₀ eye x y n₀ k₀ room n k = k
+μ-loop vram output₀ eye x y n₀ k₀ output n k = k
 
 loop-holds : tie.Need-loop-holds Inv-loop μ-loop
 loop-holds c = (omega arith, (omega arith, left-begun 0 _ _))

@@ -10,12 +10,12 @@ use Rattle.drawing_bytes.proofs.Listings.{Left, left-begun, left-more, 
 use Rattle.drawing_bytes.proofs.Drawn.{objects-step, objects-none}
 
 abbrev Inv-loop : tie.InvT-loop
-Inv-loop vram registers room₀ start worlds pixel n₀ k₀ room n k =
+Inv-loop vram registers output₀ start worlds pixel n₀ k₀ output n k =
     (k ≤ 1024) × ((n ≤ start + 2 * (1024 - k)) × Left start (objectsBytesBiased vram registers (pixel .eye) (pixel .x)
-    (pixel .y) 1024) n (objectsBytesBiased vram registers (pixel .eye) (pixel .x) (pixel .y) k) room₀ room)
+    (pixel .y) 1024) n (objectsBytesBiased vram registers (pixel .eye) (pixel .x) (pixel .y) k) output₀ output)
 
 abbrev μ-loop : tie.MeasureT-loop
-μ-loop vram registers room₀ start worlds pixel n₀ k₀ room n k = k
+μ-loop vram registers output₀ start worlds pixel n₀ k₀ output n k = k
 
 loop-holds : tie.Need-loop-holds Inv-loop μ-loop
 loop-holds c = (omega arith, (omega arith, left-begun _ _ _))

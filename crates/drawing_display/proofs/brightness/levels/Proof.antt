@@ -3,7 +3,7 @@ use borrow.Author.Needs.{needs}
 use Prim.Native.Nat.{_-_, _≤_}
 use native.Mathlib.Omega.{arith}
 use mathlib.Core.Path.{_≡_}
-use Rattle.drawing_display.specs.inner.Room.{Levels}
+use Rattle.drawing_display.specs.inner.Output.{Levels}
 use Rattle.drawing_display.proofs.Levels.{levels-none, levels-more}
 use Rattle.drawing_display.proofs.brightness.levels.Statement.{statement}
 use Rattle.drawing_display.proofs.brightness.levels.Tie as tie

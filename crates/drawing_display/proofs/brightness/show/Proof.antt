@@ -2,17 +2,17 @@
 use Prim.Native.Nat.{_-_, _≤_}
 use native.Mathlib.Omega.{arith}
 use mathlib.Core.Path.{_≡_, refl, sym, _∙_}
-use Rattle.drawing_display.specs.inner.Room.{Strips, pixelIn}
+use Rattle.drawing_display.specs.inner.Output.{Strips, pixelIn}
 use Rattle.drawing_display.proofs.Filling.{strips-none, strips-more, all-shown}
 use borrow.Author.Needs.{needs}
 use Rattle.drawing_display.proofs.brightness.show.Statement.{statement}
 use Rattle.drawing_display.proofs.brightness.show.Tie as tie
 
 abbrev Inv-loop : tie.InvT-loop
-Inv-loop vram room₀ eye levels base strip₀ room strip = (strip ≤ 28) × Strips strip (pixelIn vram levels base) room
+Inv-loop vram output₀ eye levels base strip₀ output strip = (strip ≤ 28) × Strips strip (pixelIn vram levels base) output
 
 abbrev μ-loop : tie.MeasureT-loop
-μ-loop vram room₀ eye levels base strip₀ room strip = 28 - strip
+μ-loop vram output₀ eye levels base strip₀ output strip = 28 - strip
 
 cast-eye : tie.Need-cast-eye Inv-loop μ-loop
 cast-eye c = search needs

@@ -6,16 +6,16 @@ use native.Mathlib.Omega.{arith}
 use mathlib.Core.Path.{_≡_, ap}
 use lib.ListN.{getD}
 use Rattle.drawing_pixel.specs.Character.{twoBitsOf}
-use Rattle.drawing_display.specs.inner.Room.{Column}
+use Rattle.drawing_display.specs.inner.Output.{Column}
 use Rattle.drawing_display.proofs.Filling.{column-none, column-more}
 use Rattle.drawing_display.proofs.brightness.show_column.Statement.{statement}
 use Rattle.drawing_display.proofs.brightness.show_column.Tie as tie
 
 abbrev Inv-loop : tie.InvT-loop
-Inv-loop room₀ levels at group column r₀ room r = (r ≤ 8) × Column at r (λ k. getD levels (group + twoBitsOf column k) 0) room₀ room
+Inv-loop output₀ levels at group column r₀ output r = (r ≤ 8) × Column at r (λ k. getD levels (group + twoBitsOf column k) 0) output₀ output
 
 abbrev μ-loop : tie.MeasureT-loop
-μ-loop room₀ levels at group column r₀ room r = 8 - r
+μ-loop output₀ levels at group column r₀ output r = 8 - r
 
 loop-holds : tie.Need-loop-holds Inv-loop μ-loop
 loop-holds c = (omega arith, column-none _ _ _)
@@ -23,20 +23,20 @@ loop-holds c = (omega arith, column-none _ _ _)
 pair-requires : tie.Need-pair-requires Inv-loop μ-loop
 pair-requires c κs = search needs
 
-add-room : tie.Need-add-room Inv-loop μ-loop
-add-room c = omega arith
+add-output : tie.Need-add-output Inv-loop μ-loop
+add-output c = omega arith
 
-element-copy-out-room : tie.Need-element-copy-out-room Inv-loop μ-loop
-element-copy-out-room c = omega arith
+element-copy-out-output : tie.Need-element-copy-out-output Inv-loop μ-loop
+element-copy-out-output c = omega arith
 
-mul-room : tie.Need-mul-room Inv-loop μ-loop
-mul-room c = omega arith
+mul-output : tie.Need-mul-output Inv-loop μ-loop
+mul-output c = omega arith
 
-add-room-2 : tie.Need-add-room-2 Inv-loop μ-loop
-add-room-2 c = omega arith
+add-output-2 : tie.Need-add-output-2 Inv-loop μ-loop
+add-output-2 c = omega arith
 
-slice-write-room : tie.Need-slice-write-room Inv-loop μ-loop
-slice-write-room c = omega (arith, c .before .before .before .loop .inv .1 .size)
+slice-write-output : tie.Need-slice-write-output Inv-loop μ-loop
+slice-write-output c = omega (arith, c .before .before .before .loop .inv .1 .size)
 
 add-r : tie.Need-add-r Inv-loop μ-loop
 add-r c = omega arith
@@ -67,11 +67,11 @@ show-column-spec =
     μ-loop
     loop-holds
     pair-requires
-    add-room
-    element-copy-out-room
-    mul-room
-    add-room-2
-    slice-write-room
+    add-output
+    element-copy-out-output
+    mul-output
+    add-output-2
+    slice-write-output
     add-r
     loop-less
     loop-again

@@ -3,16 +3,16 @@ use borrow.Author.Needs.{needs}
 use Prim.Native.Nat.{_-_, _≤_}
 use native.Mathlib.Omega.{arith}
 use mathlib.Core.Path.{_≡_, refl, _∙_}
-use Rattle.drawing_display.specs.inner.Room.{Columns, pixelIn}
+use Rattle.drawing_display.specs.inner.Output.{Columns, pixelIn}
 use Rattle.drawing_display.proofs.Filling.{columns-none, columns-more, column-pixels}
 use Rattle.drawing_display.proofs.brightness.show_strip.Statement.{statement}
 use Rattle.drawing_display.proofs.brightness.show_strip.Tie as tie
 
 abbrev Inv-loop : tie.InvT-loop
-Inv-loop vram room₀ levels base strip x₀ room x = (x ≤ 384) × Columns strip x (pixelIn vram levels base) room₀ room
+Inv-loop vram output₀ levels base strip x₀ output x = (x ≤ 384) × Columns strip x (pixelIn vram levels base) output₀ output
 
 abbrev μ-loop : tie.MeasureT-loop
-μ-loop vram room₀ levels base strip x₀ room x = 384 - x
+μ-loop vram output₀ levels base strip x₀ output x = 384 - x
 
 loop-holds : tie.Need-loop-holds Inv-loop μ-loop
 loop-holds c = (omega arith, columns-none _ _ _)

@@ -3,7 +3,7 @@ use borrow.Author.Needs.{needs}
 use Prim.Native.Nat.{_-_, _≤_}
 use native.Mathlib.Omega.{arith}
 use mathlib.Core.Path.{_≡_}
-use Rattle.drawing_display.specs.inner.Room.{Loaded}
+use Rattle.drawing_display.specs.inner.Output.{Loaded}
 use Rattle.drawing_display.proofs.Loading.{loaded-none, loaded-more, all-loaded}
 use Rattle.drawing_display.proofs.column_table.load.Statement.{statement}
 use Rattle.drawing_display.proofs.column_table.load.Tie as tie

@@ -2,25 +2,25 @@
 ghost use Prim.Native.Nat.{_<_};
 ghost use mathlib.Core.List.{[], _∷_};
 ghost use Rattle.drawing_laws.specs.PixelBytes.{halfBytesOf};
-ghost use Rattle.drawing_bytes.specs.inner.Room.{Lists};
+ghost use Rattle.drawing_bytes.specs.inner.Output.{Lists};
 
 // An address into word n; answers the number of the next word.
-pub fn put(room: &mut [u32], n: usize, a: usize) -> usize
+pub fn put(output: &mut [u32], n: usize, a: usize) -> usize
     requires { ⌜ (n < 65536) × (a < 262144) ⌝ }
-    ensures { λ r. ⌜ Lists room n (a ∷ []) r ⌝ }
+    ensures { λ r. ⌜ Lists output n (a ∷ []) r ⌝ }
 {
-    if room.len() <= n {
+    if output.len() <= n {
         return n + 1;
     }
-    room[n] = a as u32;
+    output[n] = a as u32;
     n + 1
 }
 
 // The addresses of the two bytes of the halfword at an address.
-pub fn put_half(room: &mut [u32], n: usize, a: usize) -> usize
+pub fn put_half(output: &mut [u32], n: usize, a: usize) -> usize
     requires { ⌜ (n < 65535) × (a < 262143) ⌝ }
-    ensures { λ r. ⌜ Lists room n (halfBytesOf a) r ⌝ }
+    ensures { λ r. ⌜ Lists output n (halfBytesOf a) r ⌝ }
 {
-    let next = put(room, n, a);
-    put(room, next, a + 1)
+    let next = put(output, n, a);
+    put(output, next, a + 1)
 }

@@ -1,7 +1,7 @@
--- `drawing_bytes::room::put_half` meets its contract: one address after the other. Assumes nothing.
+-- `drawing_bytes::output::put_half` meets its contract: one address after the other. Assumes nothing.
 use borrow.Author.Needs.{needs}
-use Rattle.drawing_bytes.proofs.room.put_half.Statement.{statement}
-use Rattle.drawing_bytes.proofs.room.put_half.Tie as tie
+use Rattle.drawing_bytes.proofs.output.put_half.Statement.{statement}
+use Rattle.drawing_bytes.proofs.output.put_half.Tie as tie
 use Rattle.drawing_bytes.proofs.Listings.{listing-more}
 
 returns : tie.Need-returns

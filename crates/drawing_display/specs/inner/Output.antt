@@ -32,9 +32,9 @@ pub record Columns (strip n : ℕ) (f : ℕ → ℕ → ℕ) (before after : Lis
   pub before-kept : (i : ℕ) → i < 3072 * strip → getD after i 0 ≡ getD before i 0
 
 -- strips 0 to n - 1 stand in the buffer
-pub record Strips (n : ℕ) (f : ℕ → ℕ → ℕ) (room : List ℕ) : Type 0 where
-  pub size : length room ≡ 86016
-  pub inside : (x y : ℕ) → x < 384 → y < 8 * n → getD room (384 * y + x) 0 ≡ f x y
+pub record Strips (n : ℕ) (f : ℕ → ℕ → ℕ) (output : List ℕ) : Type 0 where
+  pub size : length output ≡ 86016
+  pub inside : (x y : ℕ) → x < 384 → y < 8 * n → getD output (384 * y + x) 0 ≡ f x y
 
 -- the first n bytes of the two column tables are those of the recommended one, and nothing else changed
 pub record Loaded (n : ℕ) (before after : List ℕ) : Type 0 where

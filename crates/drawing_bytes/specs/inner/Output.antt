@@ -14,4 +14,4 @@ pub record Listing (n : ℕ) (list : List ℕ) (r : ℕ) (before after : List �
 
 -- the same of the caller's buffer before and after, for a contract
 abbrev pub Lists : Both (RefT (List ℕ)) (RefT (List ℕ)) → ℕ → List ℕ → ℕ → Type 0
-Lists room n list r = Listing n list r (now (room .entry)) (now (room .exit))
+Lists output n list r = Listing n list r (now (output .entry)) (now (output .exit))
