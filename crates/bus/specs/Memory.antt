@@ -68,7 +68,7 @@ pub record Lengths (rom wram vram pak : ℕ) : Type 0 where
 abbrev pub placeIn : Memory → ℕ → Place
 placeIn m a = placeOf (length (m .rom)) (length (m .pak)) a
 
--- what a byte of a place reads: pak RAM that is empty reads 0, and so does everything with no memory behind it
+-- what a byte of a place reads: empty pak RAM and the two places without memory or register read 0
 abbrev pub readPlace : Memory → Place → ℕ
 readPlace m (vramAt i) = getD (m .vram) i 0
 readPlace m (wramAt i) = getD (m .wram) i 0

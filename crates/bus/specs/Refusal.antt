@@ -1,4 +1,4 @@
--- Paper 01, "Refusal numbers": the conditions of 1 to 4. The numbers and "lowest number first" are those of the crate
+-- Paper 01, "Refusal numbers": the conditions of 1 to 4. The numbers and "Lowest number first" are those of the crate
 -- refusal. The condition of 5 that concerns the drawing registers is `drawingOk` of Registers; `registersOk` is that
 -- with the request lines and the timer (paper 02, W6).
 use Prim.Native.Nat.{ℕ, zero, suc, _^_}

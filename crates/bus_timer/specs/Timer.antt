@@ -1,7 +1,7 @@
 -- The timer and the request lines (paper 02, W6). This copy of document 000 has no Timer section, so what a tick and a
--- write do is the project's own (docs/DECISIONS.md, T1 to T13), each choice in one definition here. From the papers:
--- the timer's line is that of level 1, raised when "the timer counter reached zero" (000, "List of Exceptions"); the
--- timer advances "only when the bench tells of a tick" (02).
+-- write do is the project's own (docs/DECISIONS.md, T1 to T13), each choice in one definition of this crate. From the
+-- papers: the timer's line is that of level 1, raised when the "timer counter reached zero" (000, "List of
+-- Exceptions"); the timer advances "only when the bench tells of a tick" (02).
 use Prim.Native.Nat.{ℕ, _-_}
 use lib.Dec.{eqb}
 use Rattle.word.specs.Bit.{isSet, withBit}

@@ -5,7 +5,7 @@ use mathlib.Core.Bool.{Bool, true, false, _&&_, not}
 use mathlib.Core.List.{List}
 use lib.ListN.{getD}
 use native.Mathlib.Omega.{arith}
-use Rattle.word.specs.Choose.{pick}
+use Rattle.word.proofs.Choices.{pick-each}
 use Rattle.word.specs.Bit.{isSet}
 use Rattle.drawing_pixel.specs.Character.{characterAddressOf, flippedOf, rowAddressOf}
 use Rattle.drawing_pixel.specs.Lists.{listOf}
@@ -55,19 +55,12 @@ map-cell-below w u v =
     let n : mapNumberOf w (u % 2 ^ (6 + scxOf w) / 64) (v % 2 ^ (6 + scyOf w) / 64) < 16 = map-number-below w _ _ in
     omega arith
 
-pick-cell-from : (b : Bool) (p q : ℕ) → 0x20000 ≤ p → 0x20000 ≤ q → Each Clear (halfBytesOf (pick b p q))
-pick-cell-from true p q h k = omega arith
-pick-cell-from false p q h k = omega arith
-
-pick-cell-below : (b : Bool) (p q : ℕ) → p + 1 < 262144 → q + 1 < 262144 → Each (λ a. a < 262144) (halfBytesOf (pick b p q))
-pick-cell-below true p q h k = omega arith
-pick-cell-below false p q h k = omega arith
-
 cell-clear : (w : List ℕ) (sx sy : ℕ) → Each Clear (halfBytesOf (sourceCellAddressBiased w sx sy))
 unfolding sourceCellAddressBiased cellAddressBiased
 cell-clear w sx sy =
-    pick-cell-from (overOf w && not (insideBiased w (sx / 8) (sy / 8))) (0x20000 + 2 * getD w 10 0)
-    (mapCellAddressBiased w (sx / 8) (sy / 8)) (omega arith) (map-cell-from w (sx / 8) (sy / 8))
+    pick-each (λ (p : ℕ). Each Clear (halfBytesOf p)) (overOf w && not (insideBiased w (sx / 8) (sy / 8))) (0x20000 + 2 * getD w 10 0)
+    (mapCellAddressBiased w (sx / 8) (sy / 8)) (omega arith)
+    (omega (arith, map-cell-from w (sx / 8) (sy / 8)))
 
 pub listed-clear : (vram regs : List ℕ) (eye x y : ℕ) → Each Clear (pixelBytesOf vram regs eye x y)
 listed-clear vram regs eye x y =
@@ -84,8 +77,9 @@ unfolding sourceCellAddressBiased cellAddressBiased
 cell-in-vram vram n sx sy h =
     let w = worldOf vram n in
     let o : getD (worldOf vram n) 10 0 < 65536 = overplane-below vram n h in
-    pick-cell-below (overOf w && not (insideBiased w (sx / 8) (sy / 8))) (0x20000 + 2 * getD (worldOf vram n) 10 0)
-    (mapCellAddressBiased w (sx / 8) (sy / 8)) (omega arith) (map-cell-below w (sx / 8) (sy / 8))
+    pick-each (λ (p : ℕ). Each (λ a. a < 262144) (halfBytesOf p)) (overOf w && not (insideBiased w (sx / 8) (sy / 8))) (0x20000 + 2 * getD (worldOf vram n) 10 0)
+    (mapCellAddressBiased w (sx / 8) (sy / 8)) (omega arith)
+    (omega (arith, map-cell-below w (sx / 8) (sy / 8)))
 
 pub listed-in-vram : ListedInVram
 listed-in-vram vram regs eye x y h =

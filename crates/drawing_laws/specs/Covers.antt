@@ -1,4 +1,4 @@
--- "Covers" (paper 01, "The bytes a pixel answers to"), said of each world and each object by itself: which background
+-- What "covers" means (paper 01, "The bytes a pixel answers to"), said of each world and each object by itself: which background
 -- worlds and which objects cover a pixel of an eye, transparent there or not.
 use Prim.Native.Nat.{ℕ, zero, suc, _+_, _-_, _%_}
 use mathlib.Core.Bool.{Bool, false, _&&_, _||_, not}
@@ -25,7 +25,8 @@ whichBelow (suc n) test = pick (test n) (n ∷ whichBelow n test) (whichBelow n 
 unfoldable pub reachedOf : List ℕ → ℕ → Bool
 reachedOf vram n = not (someBelow 32 (λ m. leb n m && endOf (worldOf vram m)))
 
--- the group of world n where it draws objects: 3, one less for each object world above it, and 3 again after 0
+-- the group of world n where it draws objects: 3, one less for each object world above it, and 3 again after 0 (35 is
+-- 3 plus a multiple of 4, and no fewer than the worlds above)
 unfoldable pub groupOf : List ℕ → ℕ → ℕ
 groupOf vram n = (35 - length (whichBelow 32 (λ m. ltb n m && drawsObjectsOf (worldOf vram m)))) % 4
 

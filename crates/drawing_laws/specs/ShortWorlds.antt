@@ -29,7 +29,7 @@ pub record WorldTopInImage (vram : List ℕ) (n g : ℕ) : Type 0 where
   pub inImage : g ≤ 223
 
 -- "normal and H-bias worlds cover at least everything from GY to the end of the strip holding it";
--- "this is for GY from 0 to 223"
+-- "This is for GY from 0 to 223"
 abbrev pub StripCovered : Type 0
 StripCovered =
     (vram : List ℕ) (eye x y n g : ℕ) → Showing vram eye x n

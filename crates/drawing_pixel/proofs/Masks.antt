@@ -59,11 +59,6 @@ one-of-three p (suc (suc zero)) h = or-zero-r _ ∙ or-zero-l _
 one-of-three p (suc (suc (suc zero))) h = or-zero-l _
 one-of-three p (suc (suc (suc (suc v)))) h = absurd (omega arith)
 
--- a choice of two bits is two bits, and so are three such choices joined
-pub choice-small : (b : Bool) (m n : ℕ) → m < 4 → n < 4 → pick b m n < 4
-choice-small true m n h l = h
-choice-small false m n h l = l
-
 pub three-small : (a b c : ℕ) → a < 4 → b < 4 → c < 4 → bitOr (bitOr a b) c < 4
 three-small a b c h k l = or-lt 2 (bitOr a b) c (or-lt 2 a b h k) l
 

@@ -1,9 +1,10 @@
 -- A pixel is below 4 whatever paints over it, where it was below 4 before. Assumes nothing.
 use Prim.Native.Nat.{ℕ, zero, suc, _<_}
-use mathlib.Core.Bool.{Bool, true, false}
+use mathlib.Core.Bool.{Bool}
 use mathlib.Core.List.{List}
 use lib.Dec.{eqb}
 use Rattle.word.specs.Choose.{pick}
+use Rattle.word.proofs.Choices.{pick-each}
 use Rattle.bus.specs.Registers.{bkcolOf, sptOf}
 use Rattle.drawing_pixel.specs.Character.{shadeOf, cellPixelOf}
 use Rattle.drawing_pixel.specs.World.{worldOf, endOf, skippedOf, bgmOf}
@@ -16,13 +17,12 @@ use Rattle.drawing_pixel.specs.inner.Painting.{worldPixelBiased, worldsP
 use Rattle.drawing_pixel.proofs.Painting.{pixel-formula}
 use Rattle.drawing_pixel.proofs.Pairs.{pair-lt}
 
-pick-small : (b : Bool) {m n : ℕ} → m < 4 → n < 4 → pick b m n < 4
-pick-small true h l = h
-pick-small false h l = l
+pub choice-small : (b : Bool) (m n : ℕ) → m < 4 → n < 4 → pick b m n < 4
+choice-small = pick-each (λ (k : ℕ). k < 4)
 
 pub shade-small : (palette value before : ℕ) → before < 4 → shadeOf palette value before < 4
 unfolding shadeOf
-shade-small palette value before h = pick-small (eqb value 0) h (pair-lt palette value)
+shade-small palette value before h = choice-small (eqb value 0) _ _ h (pair-lt palette value)
 
 pub cell-small : (vram : List ℕ) (palettes : ℕ → ℕ) (cell column r v : ℕ) → v < 4 → cellPixelOf vram palettes cell column r v < 4
 unfolding cellPixelOf
@@ -34,11 +34,11 @@ source-small vram regs w sx sy v h = cell-small vram _ _ _ _ v h
 
 pub background-small : (vram regs w : List ℕ) (eye x y v : ℕ) → v < 4 → backgroundPixelBiased vram regs w eye x y v < 4
 unfolding backgroundPixelBiased
-background-small vram regs w eye x y v h = pick-small (worldCoversBiased w eye x y) (source-small vram regs w _ _ v h) h
+background-small vram regs w eye x y v h = choice-small (worldCoversBiased w eye x y) _ _ (source-small vram regs w _ _ v h) h
 
 pub object-small : (vram regs o : List ℕ) (eye x y v : ℕ) → v < 4 → objectPixelBiased vram regs o eye x y v < 4
 unfolding objectPixelBiased
-object-small vram regs o eye x y v h = pick-small (objectCoversBiased o eye x y) (cell-small vram _ _ _ _ v h) h
+object-small vram regs o eye x y v h = choice-small (objectCoversBiased o eye x y) _ _ (cell-small vram _ _ _ _ v h) h
 
 pub objects-small : (vram regs : List ℕ) (eye x y count k v : ℕ) → v < 4 → objectsPixelBiased vram regs eye x y count k v < 4
 unfolding objectsPixelBiased
@@ -50,8 +50,8 @@ objects-small vram regs eye x y (suc n) k v h =
 pub world-small : (vram regs w : List ℕ) (counter eye x y v : ℕ) → v < 4 → worldPixelBiased vram regs w counter eye x y v < 4
 unfolding worldPixelBiased groupPixelBiased
 world-small vram regs w counter eye x y v h =
-    pick-small (skippedOf w) h
-    (pick-small (eqb (bgmOf w) 3)
+    choice-small (skippedOf w) _ _ h
+    (choice-small (eqb (bgmOf w) 3) _ _
     (objects-small vram regs eye x y (groupCountOf regs counter) (sptOf regs counter) v h)
     (background-small vram regs w eye x y v h))
 
@@ -59,7 +59,7 @@ pub worlds-small : (vram regs : List ℕ) (eye x y n counter v : ℕ) → v < 4 
 unfolding worldsPixelBiased
 worlds-small vram regs eye x y zero counter v h = h
 worlds-small vram regs eye x y (suc n) counter v h =
-    pick-small (endOf (worldOf vram n)) h
+    choice-small (endOf (worldOf vram n)) _ _ h
     (worlds-small vram regs eye x y n (counterOf (worldOf vram n) counter)
     (worldPixelBiased vram regs (worldOf vram n) counter eye x y v)
     (world-small vram regs (worldOf vram n) counter eye x y v h))

@@ -1,5 +1,5 @@
 -- Backgrounds (paper 01, "Parameter k", "Background"): where a world's parameters stand, and which map is at a column
--- and row of maps. Reading R1: the maps side by side.
+-- and row of maps. docs/DECISIONS.md has R1, R2 and R6: the maps side by side, their base, the right eye's parameter.
 use Prim.Native.Nat.{ℕ, _+_, _-_, _*_, _/_, _%_, _^_, min}
 use mathlib.Core.Path.{_≡_}
 use mathlib.Core.List.{List}

@@ -33,7 +33,7 @@ MP w = fieldOf 16384 (getD w 5 0)
 abbrev pub MY : List ℕ → ℤ
 MY w = fieldOf 4096 (getD w 6 0)
 
--- 7 W (13 bits, signed; affine 10, unsigned); 8 H (16, signed)
+-- 7 W (13 bits, signed; affine 10, unsigned); 8 H (16, signed): the signs are 000's (docs/DECISIONS.md, R3 and R4)
 abbrev pub W : List ℕ → ℤ
 W w = pick (eqb (bgmOf w) 2) (pos (getD w 7 0 % 1024)) (fieldOf 4096 (getD w 7 0))
 

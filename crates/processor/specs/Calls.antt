@@ -60,7 +60,8 @@ runWhen (verdict.Refused n) budget p m = ranOf (verdict.Refused n) 0 p m
 unfoldable pub checkedRunOf : ℕ → Processor → Memory → Ran
 checkedRunOf budget p m = runWhen (acceptanceIn p m) budget p m
 
--- reset: "PC 0xFFFFFFF0, ECR 0xFFF0, PSW 0x8000, all else 0 (H), running"; "Lines and timer reset to 0" (paper 02, W6).
+-- reset: "PC 0xFFFFFFF0, ECR 0xFFF0, PSW 0x8000, all else 0 (H), running" (paper 01); "Lines and timer reset to 0"
+-- (paper 02, W6).
 unfoldable pub resetOf : Machine
 resetOf =
     record {

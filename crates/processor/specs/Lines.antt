@@ -1,5 +1,5 @@
 -- The request lines and the timer, which the processor's record has (paper 02, W6) and a step finds among the device
--- registers of the memory (bus, Registers). The caller's memories have the drawing registers alone.
+-- registers of the memory (bus, TimerLines). The caller's memories have the drawing registers alone.
 use Rattle.bus.specs.Registers.{drawingIn}
 use Rattle.bus.specs.TimerLines.{deviceOf}
 use Rattle.bus.specs.Memory.{Memory, withRegs}

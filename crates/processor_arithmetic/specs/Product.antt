@@ -12,7 +12,7 @@ use Rattle.processor_arithmetic.specs.declared.Pair.{Pair}
 unfoldable pub extend64Of : ℕ → ℕ
 extend64Of x = extendTo 64 (2 ^ 31) x
 
--- OV of a product, signed or not (docs/DECISIONS.md, R8): 1 where "the full 64-bit result of a multiplication is not
+-- OV of a product, signed or not (docs/DECISIONS.md, R8): 1 where the "full 64-bit result of a multiplication is not
 -- equivalent to the 64-bit value produced by sign-extending the lower 32 bits" (000)
 unfoldable pub overflowsOf : ℕ → ℕ
 overflowsOf w = pick (eqb w (extend64Of (w % 2 ^ 32))) 0 1

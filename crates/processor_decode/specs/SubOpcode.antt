@@ -29,7 +29,7 @@ unfoldable pub subRows : ℕ → List Decoded
 subRows f =
     -- 000000 CMPF.S
     cmpf f ∷
-    -- 000001 not listed
+    -- 000001 - Invalid
     Modelled Illegal ∷
     -- 000010 CVT.WS
     floating FloatingOperation.CvtWs f ∷

@@ -1,5 +1,5 @@
 -- Paper 02, W8: "Decoding that gives the same instruction. Encoding what was decoded, unless illegal, gives its
--- halfwords with unused bits cleared." The statements, over every instruction and every pair of halfwords; the proofs
+-- halfwords with unused bits cleared". The statements, over every instruction and every pair of halfwords; the proofs
 -- of the same names are in proofs/.
 use Prim.Native.Nat.{ℕ, _<_}
 use mathlib.Core.Bool.{true, false}

@@ -7,7 +7,7 @@ use borrow.Author.Tests.{eq-eqb}
 use lib.Dec.{eqb}
 use lib.Pow.{shr-shr}
 use Rattle.word.specs.Bit.{bitAt}
-use Rattle.word.specs.Choose.{pick}
+use Rattle.word.proofs.Choices.{pick-either}
 use Rattle.processor_arithmetic.specs.Flag.{setIdOf, idFlag}
 use Rattle.processor_lazy_flags.specs.inner.Packed.{packedOf}
 use Rattle.processor_lazy_flags.specs.declared.Flags.{Flags}
@@ -33,11 +33,6 @@ accepts-high lines p q mode e =
 pub accepts-packed : (lines psw : ℕ) (g : Flags) (mode : Mode) → acceptsOf lines (packedOf psw g) mode ≡ acceptsOf lines psw mode
 accepts-packed lines psw g mode = accepts-high lines (packedOf psw g) psw mode (packed-high psw g)
 
--- a test whose answers are both no
-pick-false : (b : Bool) → pick b false false ≡ false
-pick-false true = refl
-pick-false false = refl
-
 id-set : (psw : ℕ) → bitAt idFlag (setIdOf psw) ≡ 1
 unfolding setIdOf
 id-set psw = omega arith
@@ -46,4 +41,4 @@ id-set psw = omega arith
 pub accepts-id : (lines psw : ℕ) → acceptsOf lines (setIdOf psw) Running ≡ false
 unfolding acceptsOf allowsOf
 accepts-id lines psw =
-    simp (eq-eqb (bitAt idFlag (setIdOf psw)) 1 (id-set psw), pick-false)
+    simp (eq-eqb (bitAt idFlag (setIdOf psw)) 1 (id-set psw), pick-either)

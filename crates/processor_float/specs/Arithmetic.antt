@@ -38,13 +38,13 @@ vanishesOf Divide x y a b = isZero x
 abbrev pub isTiny : ℕ → ℤ → Bool
 isTiny m e = ltb (m * up e * 2 ^ 126) (down e)
 
--- what a rounded result comes to, `exact` saying whether the exact result is zero: 2 ^ 128 or more is an infinity;
--- below 2 ^ -126 it is a zero of its sign, and it underflowed unless it is exact. No two finite numbers give a NaN but
--- 0 / 0.
+-- what a rounded result comes to, `vanishes` saying whether the exact result is zero: 2 ^ 128 or more is an infinity;
+-- below 2 ^ -126 it is a zero of its sign, and it underflowed unless the exact result is zero. No two finite numbers
+-- give a NaN but 0 / 0.
 unfoldable pub settledOf : Bool → Float → FloatOutcome
-settledOf exact nan = Number nan false
-settledOf exact (inf s) = Overflow
-settledOf exact (fin s m e) = pick (isTiny m e) (Number (fin s 0 (pos 0)) (not exact)) (Number (fin s m e) false)
+settledOf vanishes nan = Number nan false
+settledOf vanishes (inf s) = Overflow
+settledOf vanishes (fin s m e) = pick (isTiny m e) (Number (fin s 0 (pos 0)) (not vanishes)) (Number (fin s m e) false)
 
 -- the operation on two numbers
 abbrev pub floatResultOf : Operation → ℕ → ℕ → FloatOutcome

@@ -8,13 +8,8 @@ use native.Mathlib.Omega.{arith}
 use borrow.Author.Tests.{eqb-true, eqb-false}
 use lib.Arith.{mod-mul}
 use lib.Dec.{eqb}
-use Rattle.word.specs.Choose.{pick}
+use Rattle.word.proofs.Choices.{pick-cases}
 use Rattle.processor_interrupt.specs.Interrupt.{lineOf, levelOf}
-
--- what holds of a choice by its test
-pub by-test : {A : Type 0} (P : A → Type 0) (c : Bool) (a b : A) → (c ≡ true → P a) → (c ≡ false → P b) → P (pick c a b)
-by-test P true a b x y = x refl
-by-test P false a b x y = y refl
 
 -- a number below 32 by its bits
 halved : (x m : ℕ) → 0 < m → x % (m * 2) ≡ x / 2 % m * 2 + x % 2
@@ -46,13 +41,13 @@ module _ (lines : ℕ) where
   pub level-raised : (lines % 32 ≡ 0 → ⊥) → lineOf (levelOf lines) lines ≡ 1
   unfolding levelOf
   level-raised some =
-      by-test (λ n. lineOf n lines ≡ 1) (eqb (lineOf 4 lines) 1) 4 _ (λ e. eqb-true _ _ e)
+      pick-cases (λ n. lineOf n lines ≡ 1) (eqb (lineOf 4 lines) 1) 4 _ (λ e. eqb-true _ _ e)
       (λ four.
-      by-test (λ n. lineOf n lines ≡ 1) (eqb (lineOf 3 lines) 1) 3 _ (λ e. eqb-true _ _ e)
+      pick-cases (λ n. lineOf n lines ≡ 1) (eqb (lineOf 3 lines) 1) 3 _ (λ e. eqb-true _ _ e)
       (λ three.
-      by-test (λ n. lineOf n lines ≡ 1) (eqb (lineOf 2 lines) 1) 2 _ (λ e. eqb-true _ _ e)
+      pick-cases (λ n. lineOf n lines ≡ 1) (eqb (lineOf 2 lines) 1) 2 _ (λ e. eqb-true _ _ e)
       (λ two.
-      by-test (λ n. lineOf n lines ≡ 1) (eqb (lineOf 1 lines) 1) 1 0 (λ e. eqb-true _ _ e)
+      pick-cases (λ n. lineOf n lines ≡ 1) (eqb (lineOf 1 lines) 1) 1 0 (λ e. eqb-true _ _ e)
       (λ one.
       lowest (lines % 32) (lineOf 0 lines) (lineOf 1 lines) (lineOf 2 lines) (lineOf 3 lines) (lineOf 4 lines) some
       (five-bits lines) (omega arith) (omega arith) (omega arith) (omega arith) (omega arith) (eqb-false _ _ one)
@@ -62,12 +57,12 @@ module _ (lines : ℕ) where
   pub level-five : levelOf lines < 5
   unfolding levelOf
   level-five =
-      by-test (λ n. n < 5) (eqb (lineOf 4 lines) 1) 4 _ (λ e. omega arith)
+      pick-cases (λ n. n < 5) (eqb (lineOf 4 lines) 1) 4 _ (λ e. omega arith)
       (λ four.
-      by-test (λ n. n < 5) (eqb (lineOf 3 lines) 1) 3 _ (λ e. omega arith)
+      pick-cases (λ n. n < 5) (eqb (lineOf 3 lines) 1) 3 _ (λ e. omega arith)
       (λ three.
-      by-test (λ n. n < 5) (eqb (lineOf 2 lines) 1) 2 _ (λ e. omega arith)
-      (λ two. by-test (λ n. n < 5) (eqb (lineOf 1 lines) 1) 1 0 (λ e. omega arith) (λ e. omega arith))))
+      pick-cases (λ n. n < 5) (eqb (lineOf 2 lines) 1) 2 _ (λ e. omega arith)
+      (λ two. pick-cases (λ n. n < 5) (eqb (lineOf 1 lines) 1) 1 0 (λ e. omega arith) (λ e. omega arith))))
 
   -- a raised line is none that is down
   not-it : (k n : ℕ) → eqb (lineOf k lines) 1 ≡ false → lineOf n lines ≡ 1 → n ≡ k → ⊥
@@ -77,13 +72,13 @@ module _ (lines : ℕ) where
   pub level-highest : (n : ℕ) → n < 5 → lineOf n lines ≡ 1 → n ≤ levelOf lines
   unfolding levelOf
   level-highest n less raised =
-      by-test (λ k. n ≤ k) (eqb (lineOf 4 lines) 1) 4 _ (λ e. omega arith)
+      pick-cases (λ k. n ≤ k) (eqb (lineOf 4 lines) 1) 4 _ (λ e. omega arith)
       (λ four.
-      by-test (λ k. n ≤ k) (eqb (lineOf 3 lines) 1) 3 _ (λ e. omega (arith, not-it 4 n four raised))
+      pick-cases (λ k. n ≤ k) (eqb (lineOf 3 lines) 1) 3 _ (λ e. omega (arith, not-it 4 n four raised))
       (λ three.
-      by-test (λ k. n ≤ k) (eqb (lineOf 2 lines) 1) 2 _ (λ e. omega (arith, not-it 4 n four raised, not-it 3 n three raised))
+      pick-cases (λ k. n ≤ k) (eqb (lineOf 2 lines) 1) 2 _ (λ e. omega (arith, not-it 4 n four raised, not-it 3 n three raised))
       (λ two.
-      by-test (λ k. n ≤ k) (eqb (lineOf 1 lines) 1) 1 0
+      pick-cases (λ k. n ≤ k) (eqb (lineOf 1 lines) 1) 1 0
       (λ e. omega (arith, not-it 4 n four raised, not-it 3 n three raised, not-it 2 n two raised))
       (λ one.
       omega (

@@ -20,7 +20,8 @@ floatFlagOf Invalid = fivFlag
 floatFlagOf ZeroDivide = fzdFlag
 floatFlagOf Overflow = fovFlag
 
--- the PSW that is saved: a floating trap sets "the corresponding flag" and keeps every other bit (ruling W4.1)
+-- the PSW that is saved: a floating trap sets "the corresponding flag" (000) and keeps every other bit
+-- (docs/DECISIONS.md, W4.1)
 abbrev pub savedOf : Cause → ℕ → ℕ
 savedOf ZeroDivision psw = psw
 savedOf Illegal psw = psw

@@ -1,4 +1,4 @@
--- Papers 01 and 02, "Refusal numbers": each refusal's number, 0 for an accepted call, and "lowest number first".
+-- Each refusal's number (paper 01, "Refusal numbers"; paper 02), 0 for an accepted call, and "Lowest number first".
 -- The conditions stand with what they test: lengths and registers in the bus, records and calls above it.
 use Prim.Native.Nat.{ℕ}
 use mathlib.Core.Bool.{Bool, true, false}

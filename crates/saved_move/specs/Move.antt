@@ -1,5 +1,5 @@
 -- What a move answers and leaves (paper 02, W12): "A move takes its file's form as reading does and writes what the
--- other form's writer makes for the state held." It "refuses by 9 when its file's length fits no pak RAM size in that
+-- other form's writer makes for the state held". It "refuses by 9 when its file's length fits no pak RAM size in that
 -- form or its room isn't the length due, then by 10", and by 16 where lines and timer are not at reset and the other
 -- form is 1. A refusal changes nothing.
 use Prim.Native.Nat.{ℕ}

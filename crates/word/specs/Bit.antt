@@ -1,4 +1,4 @@
--- Bits by their places, counted from 0: the one way in which every layer speaks of a bit.
+-- Bits by their places, counted from 0, and a number with one bit set or cleared.
 use Prim.Native.Nat.{ℕ, _+_, _-_, _*_, _/_, _%_, _^_}
 use mathlib.Core.Bool.{Bool}
 use lib.Dec.{eqb}

@@ -1,5 +1,5 @@
 -- Little-endian numbers in a list of bytes (paper 01, "Addresses": "little-endian").
--- A number's bytes stand lowest first; the same definitions serve a halfword and a word.
+-- A number's bytes stand lowest first.
 use Prim.Native.Nat.{ℕ, zero, suc, _+_, _*_, _/_, _%_}
 use mathlib.Core.List.{List, [], _∷_}
 use lib.ListN.{getD, set}

@@ -4,7 +4,8 @@ use Rattle.drawing_pixel.proofs.paint.kept.Statement.{statement}
 use Rattle.drawing_pixel.proofs.paint.kept.Tie as tie
 use native.Mathlib.Omega.{arith}
 use lib.Bits.{and-le-l}
-use Rattle.drawing_pixel.proofs.Masks.{choice-small, kept-of}
+use Rattle.drawing_pixel.proofs.Masks.{kept-of}
+use Rattle.drawing_pixel.proofs.Small.{choice-small}
 
 placed-requires : tie.Need-placed-requires
 placed-requires c κs = (rw (c .choice .ensures) (choice-small (c .before .args .blank) 0 3 (omega arith) (omega arith)), c .before .pre)

@@ -4,7 +4,8 @@ use Rattle.drawing_pixel.proofs.paint.shaded.Statement.{statement}
 use Rattle.drawing_pixel.proofs.paint.shaded.Tie as tie
 use native.Mathlib.Omega.{arith}
 use lib.Dec.{eqb}
-use Rattle.drawing_pixel.proofs.Masks.{choice-small, repainted-sum, repainted-fits}
+use Rattle.drawing_pixel.proofs.Masks.{repainted-sum, repainted-fits}
+use Rattle.drawing_pixel.proofs.Small.{choice-small}
 
 placed-requires : tie.Need-placed-requires
 placed-requires c κs =

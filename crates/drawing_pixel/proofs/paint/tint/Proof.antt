@@ -6,7 +6,8 @@ use Prim.Native.Nat.{_<_}
 use native.Mathlib.Omega.{arith}
 use Rattle.drawing_pixel.specs.Character.{twoBitsOf}
 use Rattle.drawing_pixel.proofs.Pairs.{pair-lt}
-use Rattle.drawing_pixel.proofs.Masks.{choice-small, three-small, one-of-three}
+use Rattle.drawing_pixel.proofs.Masks.{three-small, one-of-three}
+use Rattle.drawing_pixel.proofs.Small.{choice-small}
 
 returns : tie.Need-returns
 returns c =
