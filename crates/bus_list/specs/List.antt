@@ -1,7 +1,7 @@
 -- A list of accesses (paper 02, W7: "Up to 256 bus accesses: address, size of 1, 2 or 4, read or write, value"): how it
--- stands in the caller's list of bytes, what its accesses leave when they are made in order, and the condition of refusal 11.
--- An access has 20 bytes, five little-endian words: address, size, write (0 a read, any other number a write), value,
--- undefined.
+-- stands in the caller's list of bytes, what its accesses leave when they are made in order, and the condition of
+-- refusal 11. An access has 20 bytes, five little-endian words: address, size, write (0 a read, any other number a
+-- write), value, undefined.
 use Prim.Native.Nat.{ℕ, zero, suc, _+_, _*_, _/_}
 use mathlib.Core.Bool.{Bool, true, false}
 use mathlib.Core.List.{List}

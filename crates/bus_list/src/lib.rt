@@ -1,5 +1,5 @@
-// A list of accesses made in one call (paper 02, W7). The caller gives it as bytes, 20 an access: five little-endian words,
-// address, size, write, value and undefined. Refusals are tested once, before any access.
+// A list of accesses made in one call (paper 02, W7). The caller gives it as bytes, 20 an access: five little-endian
+// words, address, size, write, value and undefined. Refusals are tested once, before any access.
 use bus::Device;
 use bus::Drawing;
 use bus::DrawingRegisters;

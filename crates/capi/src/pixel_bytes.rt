@@ -15,7 +15,9 @@ pub extern "C" fn vb_pixel_bytes(
     room: &mut [u32],
 ) -> VbListed
     ensures answer { λ r. ⌜ r ≡ listedAt (listedOf (now (vram .entry)) (drawing .regs) eye x y) ⌝ }
-    ensures room { λ _. ⌜ now (room .exit) ≡ outputOf (now (vram .entry)) (drawing .regs) eye x y (now (room .entry)) ⌝ }
+    ensures room { λ _. ⌜
+        now (room .exit) ≡ outputOf (now (vram .entry)) (drawing .regs) eye x y (now (room .entry))
+        ⌝ }
 {
     capi_drawing::pixel_bytes::pixel_bytes(vram, drawing, eye, x, y, room)
 }

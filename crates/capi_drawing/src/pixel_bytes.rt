@@ -23,7 +23,9 @@ pub fn pixel_bytes(
     room: &mut [u32],
 ) -> VbListed
     ensures answer { λ r. ⌜ r ≡ listedAt (listedOf (now (vram .entry)) (drawing .regs) eye x y) ⌝ }
-    ensures room { λ _. ⌜ now (room .exit) ≡ outputOf (now (vram .entry)) (drawing .regs) eye x y (now (room .entry)) ⌝ }
+    ensures room { λ _. ⌜
+        now (room .exit) ≡ outputOf (now (vram .entry)) (drawing .regs) eye x y (now (room .entry))
+        ⌝ }
 {
     let regs = drawing.regs;
     let listed = drawing_bytes::pixel_bytes(vram, Drawing { regs }, eye, x, y, room);

@@ -5,7 +5,8 @@ use mathlib.Core.List.{List}
 use Rattle.refusal.specs.Number.{numberOf}
 use Rattle.bus.specs.Memory.{Memory}
 use Rattle.processor_replay.specs.declared.End.{End}
-use Rattle.processor_replay.specs.declared.End.the-variants.{Refused, Agreed, Differed, WasHalted, WasFatal, TurnedFatal}
+use Rattle.processor_replay.specs.declared.End.the-variants.{Refused, Agreed, Differed, WasHalted, WasFatal}
+use Rattle.processor_replay.specs.declared.End.the-variants.{TurnedFatal}
 use Rattle.processor_replay.specs.Calls.{Replayed, checkedReplayOf}
 use Rattle.capi_processor.specs.Record.{processorIn, processorOut, unlessMisused}
 use Rattle.capi_processor.specs.declared.record.VbProcessor.{VbProcessor}

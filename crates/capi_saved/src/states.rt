@@ -42,7 +42,8 @@ pub fn write_state(
         r ≡ writeNumberAt One processor (enteringWith rom wram vram pak (drawing .regs)) (now (output .entry))
         ⌝ }
     ensures output { λ _. ⌜
-        now (output .exit) ≡ writtenAt One processor (enteringWith rom wram vram pak (drawing .regs)) (now (output .entry))
+        now (output .exit)
+        ≡ writtenAt One processor (enteringWith rom wram vram pak (drawing .regs)) (now (output .entry))
         ⌝ }
 {
     let misused = misuse(rom, wram, vram, pak, processor, drawing);
@@ -67,7 +68,8 @@ pub fn write_state_2(
         r ≡ writeNumberAt Two processor (enteringWith rom wram vram pak (drawing .regs)) (now (output .entry))
         ⌝ }
     ensures output { λ _. ⌜
-        now (output .exit) ≡ writtenAt Two processor (enteringWith rom wram vram pak (drawing .regs)) (now (output .entry))
+        now (output .exit)
+        ≡ writtenAt Two processor (enteringWith rom wram vram pak (drawing .regs)) (now (output .entry))
         ⌝ }
 {
     let misused = misuse(rom, wram, vram, pak, processor, drawing);

@@ -120,7 +120,8 @@ pub fn held(
         (length (now vram) ≡ vramBytes)
         × ((r < 8)
         × (MapsOf (halfwordsOf w) (maps .over) (maps .first) (maps .beside) (maps .across) (maps .down)
-        × (CellAt (now vram) (now registers) (halfwordsOf w) (last .u) (last .v) (last .cell) (last .palette) (last .character)
+        × (CellAt (now vram) (now registers) (halfwordsOf w) (last .u) (last .v)
+        (last .cell) (last .palette) (last .character)
         × Inked r (last .cell) (last .palette) (last .across) (last .down) (last .inks))))
         ⌝ }
     ensures { λ h. ⌜

@@ -12,9 +12,9 @@ use drawing_pixel::field::half;
 use drawing_pixel::field::wide;
 use drawing_pixel::world::World;
 
-// Source x and y are kept plus 2^23, a multiple of every background's size, so that wrapping needs no correction. What a
-// sum of biased fields is kept with is that less the fields' own biases: MX and MY have 4,096, MP 16,384 and an affine
-// row's parameters 32,768 (drawing_pixel: specs/inner/BiasedSource).
+// Source x and y are kept plus 2^23, a multiple of every background's size, so that wrapping needs no correction. What
+// a sum of biased fields is kept with is that less the fields' own biases: MX and MY have 4,096, MP 16,384 and an
+// affine row's parameters 32,768 (drawing_pixel: specs/inner/BiasedSource).
 
 // MX - MP: 2^23 - 4,096 + 16,384.
 const LEFT_BIAS: usize = 8400896;

@@ -187,7 +187,8 @@ pub fn normal_block(
 )
     requires { ⌜ length (now buffer) ≡ 384 ⌝ }
     requires { ⌜
-        (length (now vram) ≡ vramBytes) × ((from ≤ to) × ((to ≤ 384) × ((view .strip < 28) × (bgmOf (halfwordsOf w) ≡ 0))))
+        (length (now vram) ≡ vramBytes)
+        × ((from ≤ to) × ((to ≤ 384) × ((view .strip < 28) × (bgmOf (halfwordsOf w) ≡ 0))))
         ⌝ }
     requires { ⌜
         (worldShownOf (halfwordsOf w) (view .eye) ≡ true)

@@ -44,8 +44,8 @@ fn list(
     objects::list_objects(vram, registers, output, n, worlds, pixel)
 }
 
-// The bytes that pixel (x, y) of an eye's image answers to: how many there are, and their addresses in VRAM in the first
-// words of the output buffer (paper 02: "room"), as far as it reaches.
+// The bytes that pixel (x, y) of an eye's image answers to: how many there are, and their addresses in VRAM in the
+// first words of the output buffer (paper 02: "room"), as far as it reaches.
 pub fn pixel_bytes(
     vram: &[u8],
     drawing: Drawing,
@@ -55,7 +55,9 @@ pub fn pixel_bytes(
     output: &mut [u32],
 ) -> Listed
     ensures answer { λ r. ⌜ r ≡ listedOf (now (vram .entry)) (drawing .regs) eye x y ⌝ }
-    ensures output { λ _. ⌜ now (output .exit) ≡ outputOf (now (vram .entry)) (drawing .regs) eye x y (now (output .entry)) ⌝ }
+    ensures output { λ _. ⌜
+        now (output .exit) ≡ outputOf (now (vram .entry)) (drawing .regs) eye x y (now (output .entry))
+        ⌝ }
 {
     let regs = drawing.regs;
     if vram.len() != 262144 {

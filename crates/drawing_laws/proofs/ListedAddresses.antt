@@ -77,7 +77,8 @@ unfolding sourceCellAddressBiased cellAddressBiased
 cell-in-vram vram n sx sy h =
     let w = worldOf vram n in
     let o : getD (worldOf vram n) 10 0 < 65536 = overplane-below vram n h in
-    pick-each (λ (p : ℕ). Each (λ a. a < 262144) (halfBytesOf p)) (overOf w && not (insideBiased w (sx / 8) (sy / 8))) (0x20000 + 2 * getD (worldOf vram n) 10 0)
+    pick-each (λ (p : ℕ). Each (λ a. a < 262144) (halfBytesOf p)) (overOf w && not (insideBiased w (sx / 8) (sy / 8)))
+    (0x20000 + 2 * getD (worldOf vram n) 10 0)
     (mapCellAddressBiased w (sx / 8) (sy / 8)) (omega arith)
     (omega (arith, map-cell-below w (sx / 8) (sy / 8)))
 

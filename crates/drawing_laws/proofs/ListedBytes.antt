@@ -19,7 +19,8 @@ use Rattle.drawing_pixel.specs.inner.BiasedObject.{objectRowBiased}
 use Rattle.drawing_pixel.proofs.Painting.{world-covers, object-covered, object-line}
 use Rattle.drawing_pixel.proofs.Windows.{object-covers-row}
 use Rattle.word.proofs.Choices.{and-right, pick-cases}
-use Rattle.drawing_laws.specs.Covers.{reachedOf, groupOf, inGroupOf, backgroundCoversOf, drawsOverOf, objectCoversPixelOf, coveringWorldsOf, coveringObjectsOf}
+use Rattle.drawing_laws.specs.Covers.{reachedOf, groupOf, inGroupOf, backgroundCoversOf, drawsOverOf}
+use Rattle.drawing_laws.specs.Covers.{objectCoversPixelOf, coveringWorldsOf, coveringObjectsOf}
 use Rattle.drawing_laws.specs.Demand3.{Each}
 use Rattle.drawing_laws.specs.PixelBytes.{halfBytesOf, affineBytesOf, parameterBytesOf, backgroundBytes, objectBytes, pixelBytesOf}
 use Rattle.drawing_laws.specs.inner.SourceBytes.{cellBytesBiased}

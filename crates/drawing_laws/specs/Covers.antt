@@ -1,5 +1,5 @@
--- What "covers" means (paper 01, "The bytes a pixel answers to"), said of each world and each object by itself: which background
--- worlds and which objects cover a pixel of an eye, transparent there or not.
+-- What "covers" means (paper 01, "The bytes a pixel answers to"), said of each world and each object by itself: which
+-- background worlds and which objects cover a pixel of an eye, transparent there or not.
 use Prim.Native.Nat.{ℕ, zero, suc, _+_, _-_, _%_}
 use mathlib.Core.Bool.{Bool, false, _&&_, _||_, not}
 use mathlib.Core.List.{List, [], _∷_}

@@ -1,6 +1,7 @@
 -- Groups of objects in 01's own words: "Group n: SPTn downwards mod 1,024 to just above SPT(n-1), 1,024 objects when
 -- equal (H); group 0 ends at object 0", and which group an object world draws. The proofs are in proofs/Groups, each
--- named as its statement. `drawnOf i k` is the object drawn i objects after object k, (k - i) mod 1,024 (`object-drawn`).
+-- named as its statement. `drawnOf i k` is the object drawn i objects after object k, (k - i) mod 1,024
+-- (`object-drawn`).
 use Prim.Native.Nat.{ℕ, suc, _<_}
 use mathlib.Core.Bool.{true}
 use mathlib.Core.List.{List}

@@ -1,6 +1,6 @@
 -- Strips in any order, and drawings of the two frames swapped (paper 02, W14): the statements. Their proofs are
--- `any-order`, `frames-swap` and `lists-swap` in proofs/. They hold for every list given as VRAM, for all registers, frame
--- and strip numbers: a refused call leaves VRAM as it is, so that it counts as absent.
+-- `any-order`, `frames-swap` and `lists-swap` in proofs/. They hold for every list given as VRAM, for all registers,
+-- frame and strip numbers: a refused call leaves VRAM as it is, so that it counts as absent.
 use Prim.Native.Nat.{ℕ, _<_}
 use mathlib.Core.Bool.{true}
 use mathlib.Core.List.{List, [], _∷_}

@@ -12,8 +12,8 @@ use crate::field::greatest;
 use crate::field::half;
 use crate::field::wide;
 
-// A world's halfwords by paper 01's names ("World n"). `flags` has LON, RON, BGM, SCX, SCY, OVER, END and the first map;
-// `parameters` is the base of the world's parameters.
+// A world's halfwords by paper 01's names ("World n"). `flags` has LON, RON, BGM, SCX, SCY, OVER, END and the first
+// map; `parameters` is the base of the world's parameters.
 pub struct World {
     pub flags: u16,
     pub gx: u16,

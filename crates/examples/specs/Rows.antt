@@ -57,8 +57,8 @@ exampleRows =
     ∷ (characterAddressOf 513 ≡ 0xE010)
     -- the bytes of a halfword access
     ∷ ((placeOf 1024 0 (alignedOf 2 0x05000001) ≡ wramAt 0) × (placeOf 1024 0 (alignedOf 2 0x05000001 + 1) ≡ wramAt 1))
-    -- a pixel's offset in its image, and there its first and its last bit; `pixel-drawn` (drawing_laws) ties the place to
-    -- the lists that contracts name
+    -- a pixel's offset in its image, and there its first and its last bit; `pixel-drawn` (drawing_laws) ties the place
+    -- to the lists that contracts name
     ∷ ((pixelOffsetOf 1 9 ∷ (2 * pixelPairOf 9) ∷ (2 * pixelPairOf 9 + 1) ∷ []) ≡ (66 ∷ 2 ∷ 3 ∷ []))
     -- what values 1, 2 and 3 become in a palette
     ∷ ((shadeOf 0xE4 1 0 ∷ shadeOf 0xE4 2 0 ∷ shadeOf 0xE4 3 0 ∷ []) ≡ (1 ∷ 2 ∷ 3 ∷ []))

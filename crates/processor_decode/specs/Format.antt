@@ -11,7 +11,8 @@ use Rattle.processor_decode.specs.declared.ImmediateOperation.{Immediate
 use Rattle.processor_decode.specs.declared.LongOperation.{LongOperation}
 use Rattle.processor_decode.specs.declared.Width.{Width}
 use Rattle.processor_decode.specs.declared.Instruction.{Instruction}
-use Rattle.processor_decode.specs.declared.Instruction.the-variants.{Register, Immediate, Setf, Ldsr, Stsr, Bcond, Long}
+use Rattle.processor_decode.specs.declared.Instruction.the-variants.{Register, Immediate, Setf, Ldsr, Stsr, Bcond}
+use Rattle.processor_decode.specs.declared.Instruction.the-variants.{Long}
 use Rattle.processor_decode.specs.declared.Decoded.{Decoded}
 use Rattle.processor_decode.specs.declared.Decoded.the-variants.{Modelled, NotModelled}
 

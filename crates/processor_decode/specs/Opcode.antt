@@ -1,7 +1,7 @@
 -- Document 000's "List of Instructions by Opcode": one row for each of the 64 opcodes, in order, each with its format
 -- and mnemonic as there. f is the first halfword and s the second; an immediate is sign-extended by `extendOf`, or
--- zero-extended as it stands, MOVHI's too, which its execution shifts. Paper 01's Illegal opcodes are `Modelled Illegal`,
--- those that it leaves out `NotModelled`.
+-- zero-extended as it stands, MOVHI's too, which its execution shifts. Paper 01's Illegal opcodes are `Modelled
+-- Illegal`, those that it leaves out `NotModelled`.
 use Prim.Native.Nat.{ℕ}
 use mathlib.Core.List.{List, [], _∷_, _++_}
 use lib.ListN.{getD, replicate}
@@ -14,7 +14,8 @@ use Rattle.processor_decode.specs.declared.ImmediateOperation.{Immediate
 use Rattle.processor_decode.specs.declared.LongOperation.{LongOperation}
 use Rattle.processor_decode.specs.declared.Width.{Width}
 use Rattle.processor_decode.specs.declared.Instruction.the-variants.{Mul, Div, Mulu, Divu, Jmp, Cli, Sei, Trap}
-use Rattle.processor_decode.specs.declared.Instruction.the-variants.{Reti, Halt, Jr, Jal, Load, In, Store, Out, Illegal}
+use Rattle.processor_decode.specs.declared.Instruction.the-variants.{Reti, Halt, Jr, Jal, Load, In, Store, Out}
+use Rattle.processor_decode.specs.declared.Instruction.the-variants.{Illegal}
 use Rattle.processor_decode.specs.declared.Decoded.{Decoded}
 use Rattle.processor_decode.specs.declared.Decoded.the-variants.{Modelled, NotModelled}
 

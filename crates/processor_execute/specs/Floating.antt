@@ -1,5 +1,5 @@
--- What the instructions of 000's groups "Floating-Point" and "Nintendo" compute and leave (request W4). a is reg2 and b is reg1;
--- the results of the four operations are reg2 `op` reg1, the conversions and REV are of reg1 alone.
+-- What the instructions of 000's groups "Floating-Point" and "Nintendo" compute and leave (request W4). a is reg2 and b
+-- is reg1; the results of the four operations are reg2 `op` reg1, the conversions and REV are of reg1 alone.
 use Prim.Native.Nat.{ℕ}
 use mathlib.Core.Bool.{false}
 use lib.Ieee.{binary32, ofInt, toBits}

@@ -299,7 +299,8 @@ pub fn setf(regs: &mut [u32; 32], f: u32, x: u32, flags: Flags) -> Fast
 
 pub fn shl_immediate(regs: &mut [u32; 32], f: u32, x: u32, flags: Flags) -> Fast
     ensures { λ r. ⌜
-        Computes false (format.immediate ImmediateOperation.Shl (format.lowOf f) f) r x flags (now (regs .entry)) (now (regs .exit))
+        Computes false (format.immediate ImmediateOperation.Shl (format.lowOf f) f) r x flags
+        (now (regs .entry)) (now (regs .exit))
         ⌝ }
 {
     let a = reg2(regs, f);
@@ -309,7 +310,8 @@ pub fn shl_immediate(regs: &mut [u32; 32], f: u32, x: u32, flags: Flags) -> Fast
 
 pub fn shr_immediate(regs: &mut [u32; 32], f: u32, x: u32, flags: Flags) -> Fast
     ensures { λ r. ⌜
-        Computes false (format.immediate ImmediateOperation.Shr (format.lowOf f) f) r x flags (now (regs .entry)) (now (regs .exit))
+        Computes false (format.immediate ImmediateOperation.Shr (format.lowOf f) f) r x flags
+        (now (regs .entry)) (now (regs .exit))
         ⌝ }
 {
     let a = reg2(regs, f);
@@ -319,7 +321,8 @@ pub fn shr_immediate(regs: &mut [u32; 32], f: u32, x: u32, flags: Flags) -> Fast
 
 pub fn sar_immediate(regs: &mut [u32; 32], f: u32, x: u32, flags: Flags) -> Fast
     ensures { λ r. ⌜
-        Computes false (format.immediate ImmediateOperation.Sar (format.lowOf f) f) r x flags (now (regs .entry)) (now (regs .exit))
+        Computes false (format.immediate ImmediateOperation.Sar (format.lowOf f) f) r x flags
+        (now (regs .entry)) (now (regs .exit))
         ⌝ }
 {
     let a = reg2(regs, f);
@@ -330,7 +333,8 @@ pub fn sar_immediate(regs: &mut [u32; 32], f: u32, x: u32, flags: Flags) -> Fast
 pub fn movea(regs: &mut [u32; 32], f: u32, s: u32, x: u32, flags: Flags) -> Fast
     requires { ⌜ s < 65536 ⌝ }
     ensures { λ r. ⌜
-        Computes true (format.long LongOperation.Movea (extendOf 32768 s) f) r x flags (now (regs .entry)) (now (regs .exit))
+        Computes true (format.long LongOperation.Movea (extendOf 32768 s) f) r x flags
+        (now (regs .entry)) (now (regs .exit))
         ⌝ }
 {
     let a = reg1(regs, f);
@@ -352,7 +356,8 @@ pub fn movhi(regs: &mut [u32; 32], f: u32, s: u32, x: u32, flags: Flags) -> Fast
 pub fn addi(regs: &mut [u32; 32], f: u32, s: u32, x: u32, flags: Flags) -> Fast
     requires { ⌜ s < 65536 ⌝ }
     ensures { λ r. ⌜
-        Computes true (format.long LongOperation.Addi (extendOf 32768 s) f) r x flags (now (regs .entry)) (now (regs .exit))
+        Computes true (format.long LongOperation.Addi (extendOf 32768 s) f) r x flags
+        (now (regs .entry)) (now (regs .exit))
         ⌝ }
 {
     let a = reg1(regs, f);

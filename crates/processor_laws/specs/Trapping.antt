@@ -1,6 +1,6 @@
--- What an exception leaves (paper 01, "Exceptions"; paper 02, W4: "a trap leaves reg2 as found"): memory and every general
--- register, and of the rest everything but the exception's own registers. The statement; its proof is `trap-leaves` in
--- proofs/Trapping.
+-- What an exception leaves (paper 01, "Exceptions"; paper 02, W4: "a trap leaves reg2 as found"): memory and every
+-- general register, and of the rest everything but the exception's own registers. The statement; its proof is
+-- `trap-leaves` in proofs/Trapping.
 use Prim.Native.Nat.{ℕ, _/_, _%_, _<_}
 use mathlib.Core.List.{List, [], _∷_}
 use mathlib.Core.Path.{_≡_}

@@ -6,7 +6,8 @@ use Rattle.processor_arithmetic.specs.FloatFlag.{fovFlag, fzdFlag, fivFlag, fro
 use Rattle.processor_machine.specs.declared.Cause.{Cause}
 use Rattle.processor_machine.specs.declared.Cause.the-variants.{ZeroDivision, Illegal, Trap, Float}
 use Rattle.processor_machine.specs.declared.floating.FloatCause.{FloatCause}
-use Rattle.processor_machine.specs.declared.floating.FloatCause.the-variants.{Reserved, Invalid, ZeroDivide, Overflow}
+use Rattle.processor_machine.specs.declared.floating.FloatCause.the-variants.{Reserved, Invalid, ZeroDivide}
+use Rattle.processor_machine.specs.declared.floating.FloatCause.the-variants.{Overflow}
 
 abbrev pub floatCodeOf : FloatCause → ℕ
 floatCodeOf Reserved = 0xFF60

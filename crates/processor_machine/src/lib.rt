@@ -1,6 +1,6 @@
-// The processor while it runs: its 32 general registers and eight system registers, both the caller's, PC and PSW; and the
-// exceptions. The functions here are for the crates above; the calls that test their arguments and refuse are those of
-// the crate processor.
+// The processor while it runs: its 32 general registers and eight system registers, both the caller's, PC and PSW; and
+// the exceptions. The functions here are for the crates above; the calls that test their arguments and refuse are those
+// of the crate processor.
 pub mod exception;
 pub mod floating;
 pub mod register;

@@ -1,4 +1,5 @@
-// The system registers: EIPC, EIPSW, FEPC, FEPSW, ECR, 25, 29 and 31 are the caller's, in this order; PSW goes by value.
+// The system registers: EIPC, EIPSW, FEPC, FEPSW, ECR, 25, 29 and 31 are the caller's, in this order; PSW goes by
+// value.
 ghost use mathlib.Core.Path.{_≡_};
 ghost use Rattle.processor_machine.specs.System.{pswBitsOf, systemOf, writtenOf, statusOf};
 

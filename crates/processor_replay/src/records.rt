@@ -12,7 +12,8 @@ ghost use lib.ListN.{length};
 ghost use Rattle.bus.specs.Memory.{Lengths};
 ghost use Rattle.bus.specs.Lent.{entering, leaving};
 ghost use Rattle.processor_machine.specs.State.{stateOf};
-ghost use Rattle.processor_replay.specs.Replay.{recordWith, recordsOf, recordAt, registerSumOf, firstDifferenceOf};
+ghost use Rattle.processor_replay.specs.Replay.{recordWith, recordsOf, recordAt, registerSumOf};
+ghost use Rattle.processor_replay.specs.Replay.{firstDifferenceOf};
 ghost use Rattle.processor_replay.specs.Replay.{progressOf, replayOf, replayedBy};
 
 // An ended or trapped instruction and an accepted interrupt are completed steps; anything else ends the replay,

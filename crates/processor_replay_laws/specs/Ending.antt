@@ -17,7 +17,8 @@ use Rattle.processor.specs.Run.{runOf, runWith}
 use Rattle.processor_laws.specs.Steps.{stepsOf}
 use Rattle.processor_replay.specs.Replay.{Record, recordAt, recordOf, progressOf, Replay, replayOf}
 use Rattle.processor_replay.specs.declared.End.{End}
-use Rattle.processor_replay.specs.declared.End.the-variants.{Refused, Agreed, Differed, WasHalted, WasFatal, TurnedFatal}
+use Rattle.processor_replay.specs.declared.End.the-variants.{Refused, Agreed, Differed, WasHalted, WasFatal}
+use Rattle.processor_replay.specs.declared.End.the-variants.{TurnedFatal}
 use Rattle.processor_replay.specs.declared.Progress.{Progress}
 use Rattle.processor_replay.specs.declared.Progress.the-variants.{Completed, Ends}
 

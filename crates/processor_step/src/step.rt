@@ -28,8 +28,8 @@ pub struct Fetched {
     pub second: u16,
 }
 
-// What a step leaves next to the caller's registers and memories, and what it fetched. Which bytes of that are undefined
-// is computed separately (the crate processor_undefined): a run skips it.
+// What a step leaves next to the caller's registers and memories, and what it fetched. Which bytes of that are
+// undefined is computed separately (the crate processor_undefined): a run skips it.
 pub struct Performed {
     pub control: Control,
     pub fetched: Fetched,

@@ -51,7 +51,8 @@ unfolding stateFileOf machineBodiesOf recordWordsOf
 file-of-records form p m rest lines e f = rw (e, f)
 
 -- ROM is not stored
-pub file-without-rom : (form : Form) (p : Processor) (m : Memory) → stateFileOf form p (memoryOf [] (m .wram) (m .vram) (m .pak) (m .regs)) ≡ stateFileOf form p m
+pub file-without-rom : (form : Form) (p : Processor) (m : Memory)
+    → stateFileOf form p (memoryOf [] (m .wram) (m .vram) (m .pak) (m .regs)) ≡ stateFileOf form p m
 unfolding stateFileOf machineBodiesOf
 file-without-rom form p m = refl
 

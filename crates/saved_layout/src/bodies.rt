@@ -36,7 +36,8 @@ fn put_records(output: &mut [u8], at: usize, regs: &[u32; 32], rest: &[u32; 11],
 fn put_memories(output: &mut [u8], at: usize, wram: &[u8], vram: &[u8], pak: &[u8])
     requires { ⌜ at + length (now wram) + length (now vram) + length (now pak) ≤ length (now output) ⌝ }
     ensures { λ _. ⌜
-        now (output .exit) ≡ putAt (now (output .entry)) at (now (wram .entry) ++ (now (vram .entry) ++ now (pak .entry)))
+        now (output .exit)
+        ≡ putAt (now (output .entry)) at (now (wram .entry) ++ (now (vram .entry) ++ now (pak .entry)))
         ⌝ }
 {
     parts::put_bytes(output, at, wram);

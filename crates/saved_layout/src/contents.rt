@@ -59,8 +59,8 @@ fn put_leading(form: Form, count: u16, table: &mut [u16; MOST_HALVES]) -> usize
     }
 }
 
-// The entry of a body that starts at byte `offset`, from halfword `at` on, and none where the body is empty. Gives where
-// the next entry starts.
+// The entry of a body that starts at byte `offset`, from halfword `at` on, and none where the body is empty. Gives
+// where the next entry starts.
 fn put_entry(
     form: Form,
     table: &mut [u16; MOST_HALVES],

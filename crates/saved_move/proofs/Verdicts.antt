@@ -42,7 +42,8 @@ module _ (file output : List ℕ) where
   pub no-length : fitsOk (formOf file) (length file) ≡ false → Leaves file output (Refused FileLength) output
   no-length e = by-verdict (Refused FileLength) (lengths-refused (length-no e))
 
-  output-no : (length output ≡ fileLengthOf (otherOf (formOf file)) (pakIn file) → ⊥) → fitsOk (formOf file) (length file) ≡ true → lengthsOk file output ≡ false
+  output-no : (length output ≡ fileLengthOf (otherOf (formOf file)) (pakIn file) → ⊥)
+      → fitsOk (formOf file) (length file) ≡ true → lengthsOk file output ≡ false
   unfolding lengthsOk
   output-no n e = rw (e, ne-eqb _ _ n)
 

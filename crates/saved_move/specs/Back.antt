@@ -13,8 +13,8 @@ use Rattle.saved_kinds.specs.Fits.{formOf}
 use Rattle.saved_kinds.specs.Kinds.{fileOk}
 use Rattle.saved_move.specs.Move.{pakIn, heldIn, lengthsOk, moveVerdictOf, movedOf}
 
--- what an accepted move left, moved into a buffer of the first file's length, is accepted and gives the first file: from
--- form 1 to 2 and back, and from form 2, whose lines and timer are then at reset, to 1 and back
+-- what an accepted move left, moved into a buffer of the first file's length, is accepted and gives the first file:
+-- from form 1 to 2 and back, and from form 2, whose lines and timer are then at reset, to 1 and back
 abbrev pub ThereAndBack : Type 0
 ThereAndBack =
     (file output back : List ℕ) → ((k : ℕ) → getD file k 0 < 256) → moveVerdictOf file output ≡ Accepted

@@ -59,7 +59,8 @@ module _ (file output : List ℕ) where
       Leaves file output (reportOf (Refused n) l false) output
   refused n l e f = let v = by-verdict (Refused n) e in (ap (λ (x : ListedKinds). reportOf (Refused n) x false) f ∙ v .0, v .1)
 
-  pub no-length : (l : ListedKinds) → (length output ≡ length file → ⊥) → l ≡ listedKindsOf [] → Leaves file output (reportOf (Refused FileLength) l false) output
+  pub no-length : (l : ListedKinds) → (length output ≡ length file → ⊥) → l ≡ listedKindsOf []
+      → Leaves file output (reportOf (Refused FileLength) l false) output
   no-length l n f = refused FileLength l (length-refused n) f
 
   pub no-layout : (l : ListedKinds) → length output ≡ length file → fitsOk Two (length file) ≡ false → l ≡ listedKindsOf []

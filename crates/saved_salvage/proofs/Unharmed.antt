@@ -127,7 +127,8 @@ pub salvaged-valid : SalvagedValid
 salvaged-valid file output e =
     let legal = fit file output e .0 in
     record {
-      whole = ap length (output-is file output e) ∙ (file-length _ (sized file output e) Two ∙ (ap (fileLengthOf Two) (size file output e) ∙ fit file output e .1));
+      whole = ap length (output-is file output e)
+          ∙ (file-length _ (sized file output e) Two ∙ (ap (fileLengthOf Two) (size file output e) ∙ fit file output e .1));
       valid =
           rw (output-is file output e)
           (rw (size file output e) at (written-ok (keptBodiesOf (keptIn (pakInFormTwo file) file) (bodiesIn Two

@@ -1,7 +1,7 @@
 -- Sign extension, as one definition over both widths, and the signed reading of a number at any width. `half` is half
--- the range of the narrow width: 16 for five bits, 32,768 for sixteen. `extended-signed` says that
--- extension keeps the signed reading, `extended-word` that it gives a number of the wide width, and `extended-bits` that
--- the bits above the narrow width are copies of the sign.
+-- the range of the narrow width: 16 for five bits, 32,768 for sixteen. `extended-signed` says that extension keeps the
+-- signed reading, `extended-word` that it gives a number of the wide width, and `extended-bits` that the bits above the
+-- narrow width are copies of the sign.
 use Prim.Native.Nat.{ℕ, suc, _+_, _-_, _*_, _/_, _%_, _<_, _≤_, _^_}
 use mathlib.Core.Path.{_≡_}
 use lib.Dec.{ltb}

@@ -1,5 +1,5 @@
--- Inner: which objects the reached object worlds draw, without a second look at the worlds: how many object worlds there
--- are before END, and the groups that so many draw. `draws-in-groups` ties them to the list.
+-- Inner: which objects the reached object worlds draw, without a second look at the worlds: how many object worlds
+-- there are before END, and the groups that so many draw. `draws-in-groups` ties them to the list.
 use Prim.Native.Nat.{ℕ, zero, suc, _+_}
 use mathlib.Core.Bool.{Bool, false, _||_}
 use mathlib.Core.List.{List, []}

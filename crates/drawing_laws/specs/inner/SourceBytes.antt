@@ -1,6 +1,6 @@
 -- Inner: the bytes a pixel answers to, on numbers with a bias as the painters have them and by the loop that makes the
--- pixel (worlds 31 to 0, END, the skip rule, the object counter), and the statement that the list is that of PixelBytes.
--- Its proof is `listed-formula` in proofs/PixelBytes.
+-- pixel (worlds 31 to 0, END, the skip rule, the object counter), and the statement that the list is that of
+-- PixelBytes. Its proof is `listed-formula` in proofs/PixelBytes.
 use Prim.Native.Nat.{ℕ, zero, suc, _%_}
 use mathlib.Core.Bool.{Bool, true, false, _&&_, _||_}
 use mathlib.Core.List.{List, [], _++_}

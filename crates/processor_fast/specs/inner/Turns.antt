@@ -28,7 +28,8 @@ Quiet lines psw p = acceptsOf lines psw Running ≡ false → acceptsOf lines p 
 abbrev pub Turned :
     Fast → ℕ → ℕ → ℕ → ℕ → Flags → List ℕ → List ℕ → Memory → List ℕ → List ℕ → Memory → Stepped → Type 0
 Turned (Done to addition value) lines base x psw g regs₀ sys₀ m₀ regs sys m t =
-    (steppedOf Ended (machineOf regs sys base to psw (record { addition = addition; value = value })) m ≡ t) × (to % 2 ≡ 0)
+    (steppedOf Ended (machineOf regs sys base to psw (record { addition = addition; value = value })) m ≡ t)
+    × (to % 2 ≡ 0)
 Turned (Masked p) lines base x psw g regs₀ sys₀ m₀ regs sys m t =
     (steppedOf Ended (machineOf regs sys base ((x + 2) % 2 ^ 32) p g) m ≡ t) × Quiet lines psw p
 Turned NotHere lines base x psw g regs₀ sys₀ m₀ regs sys m t = (regs ≡ regs₀) × (sys ≡ sys₀) × (m ≡ m₀)

@@ -30,7 +30,8 @@ machineOf regs sys base x psw g = stateOf regs sys (addressOf base x) (packedOf 
 -- memory were regs₀ and m₀
 abbrev pub Does : Fast → ℕ → ℕ → List ℕ → Memory → List ℕ → Memory → List ℕ → Stepped → Type 0
 Does (Done x addition value) base psw regs₀ m₀ regs m sys t =
-    (steppedOf Ended (machineOf regs sys base x psw (record { addition = addition; value = value })) m ≡ t) × (x % 2 ≡ 0)
+    (steppedOf Ended (machineOf regs sys base x psw (record { addition = addition; value = value })) m ≡ t)
+    × (x % 2 ≡ 0)
 Does (Masked p) base psw regs₀ m₀ regs m sys t = ⊥
 Does NotHere base psw regs₀ m₀ regs m sys t = (regs ≡ regs₀) × (m ≡ m₀)
 
