@@ -11,7 +11,7 @@ use crate::Place;
 use crate::map::place_of;
 
 // From the address `base` on: both halfwords at an index below `last` are inside.
-#[derive(Drop)]
+#[derive(Clone, Copy)]
 pub enum Code {
     Rom { base: u32, last: u32 },
     Wram { base: u32, last: u32 },

@@ -1,6 +1,8 @@
 // The bus: where an address leads, loads and stores over the caller's memories, the device registers,
 // and paper 01's refusals 1 to 5. The functions here are for the crates above; the calls that test
 // their arguments and refuse are those of the crate bus_calls.
+#![tactic(auto)]
+
 pub mod code;
 pub mod device;
 pub mod load;
@@ -28,20 +30,20 @@ pub const RELOAD_PLACE: usize = 15;
 
 pub const CONTROL_PLACE: usize = 16;
 
-#[derive(Drop)]
+#[derive(Clone, Copy)]
 pub struct Drawing {
     pub regs: DrawingRegisters,
 }
 
 // What an access read.
-#[derive(Drop)]
+#[derive(Clone, Copy)]
 pub struct Loaded {
     pub value: u32,
 }
 
 // Where an address leads: a byte of WRAM or of VRAM, an address of ROM or of pak RAM, which repeat, an address of the
 // VIP's registers, an offset in region 2, or nothing.
-#[derive(Drop)]
+#[derive(Clone, Copy)]
 pub enum Place {
     Wram(usize),
     Vram(usize),
@@ -53,7 +55,7 @@ pub enum Place {
 }
 
 // The answer of a load's fast path: the value, or that it stands neither in ROM, WRAM nor VRAM.
-#[derive(Drop)]
+#[derive(Clone, Copy)]
 pub enum Found {
     Value(u32),
     Elsewhere,

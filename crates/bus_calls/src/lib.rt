@@ -1,6 +1,8 @@
 // The bus's public calls: each tests refusals 1 to 5 and then loads or stores. They take the drawing registers and the
 // request lines with the timer by value, and a store gives both back. Only accesses that the bus's fast path does not
 // answer borrow a copy of them as device registers.
+#![tactic(auto)]
+
 ghost use Rattle.std.specs.Prelude.{◌≡◌, true, List, ℕ, length};
 ghost use Rattle.refusal.specs.declared.Verdict.TheVariants.{Accepted};
 ghost use Rattle.bus.specs.Refusal.{vram_bytes, pak_ok};
@@ -15,21 +17,21 @@ use refusal::{Refusal, Verdict};
 
 // What a load read: its value, and bit k of `undefined` set where byte k, counted from the aligned address, is
 // undefined.
-#[derive(Drop)]
+#[derive(Clone, Copy)]
 pub struct Reading {
     pub value: u32,
     pub undefined: u32,
 }
 
 // The answer of a load.
-#[derive(Drop)]
+#[derive(Clone, Copy)]
 pub enum Load {
     Value(Reading),
     Refused(Refusal),
 }
 
 // The answer of a store: the drawing registers, the request lines and the timer afterwards next to the verdict.
-#[derive(Drop)]
+#[derive(Clone, Copy)]
 pub struct Stored {
     pub verdict: Verdict,
     pub drawing: Drawing,

@@ -1,6 +1,8 @@
 // Which bytes of an access are undefined (paper 02, W2): a mask with bit k set where byte k, counted from the aligned
 // address, is undefined. The address alone decides, so no memory is read for it, and the loads and stores of the crate
 // bus and a run of instructions carry no masks. These functions are `pub` for the crates above.
+#![tactic(auto)]
+
 ghost use Rattle.std.specs.Prelude.{◌≡◌, ◌≤◌};
 ghost use Rattle.word.specs.Choose.{member};
 ghost use Rattle.bus.specs.Memory.{Memory};

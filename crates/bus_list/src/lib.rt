@@ -1,5 +1,7 @@
 // A list of accesses made in one call (paper 02, W7). The caller gives it as bytes, 20 an access: five little-endian
 // words, address, size, write, value and undefined. Refusals are tested once, before any access.
+#![tactic(auto)]
+
 ghost use Rattle.std.specs.Prelude.{◌≡◌, true, ◌+◌, ◌*◌, ◌<◌, ◌≤◌, length};
 ghost use Rattle.bus.specs.TimerLines.{device_of};
 ghost use Rattle.bus.specs.Memory.{Lengths, size_ok, load_of};

@@ -1,6 +1,8 @@
 // The probe: the bench's overlay painter writes a byte, a halfword or a word into the VRAM that the program draws
 // from, into characters 1,536 to 2,047 and background maps 12 and 13 alone. The four memories are borrowed, and VRAM
 // alone can change.
+#![tactic(auto)]
+
 ghost use Rattle.std.specs.Prelude.{◌≡◌, true, ℕ};
 ghost use Rattle.bus.specs.Place.{place_of, vram_index_of};
 ghost use Rattle.bus.specs.Memory.{size_ok};

@@ -1,4 +1,6 @@
 // The timer's public call: a tick, which tests refusal 5 of the record it is given.
+#![tactic(auto)]
+
 ghost use Rattle.std.specs.Prelude.{◌≡◌};
 ghost use Rattle.bus_tick.specs.Tick.{checked_tick_of};
 
@@ -6,7 +8,7 @@ use bus_timer::TimerLines;
 use refusal::{Refusal, Verdict};
 
 // The answer of a tick: the verdict and the record afterwards.
-#[derive(Drop)]
+#[derive(Clone, Copy)]
 pub struct Ticked {
     pub verdict: Verdict,
     pub hardware: TimerLines,

@@ -1,4 +1,6 @@
 // The C boundary (include/vb.h): numbers, slices and #[repr(C)] records over the public calls.
+#![tactic(auto)]
+
 pub mod accesses;
 pub mod brightness;
 pub mod execution;

@@ -15,14 +15,14 @@ use refusal::{number, verdict_number};
 
 // The drawing registers: SPT0 to SPT3, GPLT0 to GPLT3, JPLT0 to JPLT3, BKCOL.
 #[repr(C)]
-#[derive(Drop)]
+#[derive(Clone, Copy)]
 pub struct VbDrawing {
     pub regs: bus::DrawingRegisters,
 }
 
 // Bit k of `undefined` is set where byte k, counted from the aligned address, was read and is undefined.
 #[repr(C)]
-#[derive(Drop)]
+#[derive(Clone, Copy)]
 pub struct VbLoaded {
     pub refusal: u32,
     pub value: u32,
@@ -30,7 +30,7 @@ pub struct VbLoaded {
 }
 
 #[repr(C)]
-#[derive(Drop)]
+#[derive(Clone, Copy)]
 pub struct VbStored {
     pub refusal: u32,
     pub drawing: VbDrawing,

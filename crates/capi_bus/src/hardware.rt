@@ -6,7 +6,7 @@ use bus_timer::TimerLines;
 
 // Bit n of `lines` is the line of level n; the control bits stand at their places in TCR.
 #[repr(C)]
-#[derive(Drop)]
+#[derive(Clone, Copy)]
 pub struct VbHardware {
     pub lines: u16,
     pub count: u16,

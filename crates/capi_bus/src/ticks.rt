@@ -8,7 +8,7 @@ use crate::hardware::{VbHardware, hardware_given, hardware_out};
 use refusal::verdict_number;
 
 #[repr(C)]
-#[derive(Drop)]
+#[derive(Clone, Copy)]
 pub struct VbTicked {
     pub refusal: u32,
     pub hardware: VbHardware,

@@ -10,7 +10,7 @@ use processor_encode::{Encoded, Fields};
 use refusal::Refusal;
 
 #[repr(C)]
-#[derive(Drop)]
+#[derive(Clone, Copy)]
 pub struct VbInstruction {
     pub operation: u32,
     pub reg1: u32,
@@ -20,7 +20,7 @@ pub struct VbInstruction {
 }
 
 #[repr(C)]
-#[derive(Drop)]
+#[derive(Clone, Copy)]
 pub struct VbEncoded {
     pub refusal: u32,
     pub halfwords: u32,
@@ -29,7 +29,7 @@ pub struct VbEncoded {
 }
 
 #[repr(C)]
-#[derive(Drop)]
+#[derive(Clone, Copy)]
 pub struct VbDecoded {
     pub refusal: u32,
     pub halfwords: u32,

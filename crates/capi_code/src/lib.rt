@@ -1,2 +1,4 @@
 // The C boundary of the instructions: encoding and decoding.
+#![tactic(auto)]
+
 pub mod instructions;

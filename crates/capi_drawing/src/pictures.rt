@@ -11,7 +11,7 @@ use refusal::{Verdict, number, verdict_number};
 
 // Where a character's bytes lie in VRAM.
 #[repr(C)]
-#[derive(Drop)]
+#[derive(Clone, Copy)]
 pub struct VbPart {
     pub refusal: u32,
     pub offset: u64,

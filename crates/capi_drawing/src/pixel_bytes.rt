@@ -10,7 +10,7 @@ use refusal::number;
 
 // How many addresses the list has.
 #[repr(C)]
-#[derive(Drop)]
+#[derive(Clone, Copy)]
 pub struct VbListed {
     pub refusal: u32,
     pub count: u64,

@@ -16,7 +16,7 @@ use processor_machine::Answer;
 use refusal::{number, verdict_number};
 
 #[repr(C)]
-#[derive(Drop)]
+#[derive(Clone, Copy)]
 pub struct VbStepped {
     pub refusal: u32,
     pub answer: u32,
@@ -27,7 +27,7 @@ pub struct VbStepped {
 }
 
 #[repr(C)]
-#[derive(Drop)]
+#[derive(Clone, Copy)]
 pub struct VbRan {
     pub refusal: u32,
     pub count: u64,
@@ -36,14 +36,14 @@ pub struct VbRan {
 }
 
 #[repr(C)]
-#[derive(Drop)]
+#[derive(Clone, Copy)]
 pub struct VbMachine {
     pub processor: VbProcessor,
     pub drawing: VbDrawing,
 }
 
 // The three numbers of a step's answer.
-#[derive(Drop)]
+#[derive(Clone, Copy)]
 struct StepNumbers {
     refusal: u32,
     answer: u32,

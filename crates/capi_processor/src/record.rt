@@ -8,7 +8,7 @@ use saved_kinds::words;
 
 // The processor's record; mode is 0 running, 1 halted, 2 fatal. The request lines and the timer are its last member.
 #[repr(C)]
-#[derive(Drop)]
+#[derive(Clone, Copy)]
 pub struct VbProcessor {
     pub regs: [u32; 32],
     pub pc: u32,

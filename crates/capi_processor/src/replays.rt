@@ -11,7 +11,7 @@ use processor_replay::End;
 use refusal::number;
 
 #[repr(C)]
-#[derive(Drop)]
+#[derive(Clone, Copy)]
 pub struct VbReplayed {
     pub refusal: u32,
     pub answer: u32,

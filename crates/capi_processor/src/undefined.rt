@@ -6,7 +6,7 @@ use processor_undefined::Undefined;
 
 // Which bytes that a step read are undefined: of its first halfword, of its second, and of its load.
 #[repr(C)]
-#[derive(Drop)]
+#[derive(Clone, Copy)]
 pub struct VbUndefined {
     pub first: u32,
     pub second: u32,

@@ -1,2 +1,4 @@
 // The C boundary of saved states.
+#![tactic(auto)]
+
 pub mod states;

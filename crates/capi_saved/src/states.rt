@@ -14,7 +14,7 @@ use capi_processor::record::{VbProcessor, processor_in, processor_out};
 use saved_salvage::Salvaged;
 
 #[repr(C)]
-#[derive(Drop)]
+#[derive(Clone, Copy)]
 pub struct VbRestored {
     pub refusal: u32,
     pub processor: VbProcessor,
@@ -22,7 +22,7 @@ pub struct VbRestored {
 }
 
 #[repr(C)]
-#[derive(Drop)]
+#[derive(Clone, Copy)]
 pub struct VbSalvaged {
     pub refusal: u32,
     pub replaced: u32,

@@ -1,8 +1,11 @@
 // Reads a character through the part of VRAM that the lookup answers: character 513's 16 bytes are a line of text, and
 // a lookup that is refused reads nothing.
+#![tactic(auto)]
+
 ghost use Rattle.std.specs.Prelude.{◌+◌, ◌≤◌, ◌≡◌, length};
 
-use libc::STDOUT_FILENO;
+use std::io;
+use std::io::Write;
 
 // A VRAM of zeros.
 fn memory() -> [u8; 262144]
@@ -23,12 +26,13 @@ fn put(vram: &mut [u8], at: usize, line: &[u8])
     }
 }
 
-fn main() {
+fn main(rt: HostRuntime) -> io::Result<()> {
     let mut space = memory();
     let vram: &mut [u8] = &mut space;
+    let mut out = rt.stdout();
     put(vram, 57360, b"character 0x201\n");
-    io::write_all(STDOUT_FILENO, drawing::character(vram, 513));
-    io::write_all(STDOUT_FILENO, drawing::character(vram, 2048));
+    out.write_all(drawing::character(vram, 513))?;
+    out.write_all(drawing::character(vram, 2048))?;
     put(vram, 131056, b"character 0x7FF\n");
-    io::write_all(STDOUT_FILENO, drawing::character(vram, 2047));
+    out.write_all(drawing::character(vram, 2047))
 }

@@ -1,4 +1,6 @@
 // The drawing calls: a strip, a frame, and the lookup of a character.
+#![tactic(auto)]
+
 ghost use Rattle.std.specs.Prelude.{◌≡◌, ◌+◌};
 ghost use Rattle.drawing_pixel.specs.Character.{character_address_of};
 ghost use Rattle.drawing.specs.Calls.{strip_verdict_of, draw_strip_of, frame_verdict_of, draw_frame_of};

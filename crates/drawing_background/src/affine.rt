@@ -21,7 +21,7 @@ use drawing_pixel::paint::Run;
 use drawing_pixel::world::World;
 
 // The way through the background of an affine row: n steps from (mx, my) along (dx, dy), each biased by 32,768.
-#[derive(Drop)]
+#[derive(Clone, Copy)]
 pub struct Course {
     pub mx: usize,
     pub my: usize,
@@ -33,7 +33,7 @@ pub struct Course {
 // A cell that was read for a row of the strip, with its palette and where its character begins, and the cell column and
 // row that it was read for. What its pixels are painted by is worked out once: the bits that its flips turn in a
 // position, and the shades of its palette.
-#[derive(Drop)]
+#[derive(Clone, Copy)]
 pub struct CellRead {
     pub u: usize,
     pub v: usize,

@@ -56,7 +56,7 @@ const CELL_BIAS: usize = 1048576;
 
 // How a world's background is made of maps, worked out once for many cells: OVER, the first map, the exponent of how
 // many maps stand side by side before they repeat, and the exponents of the background's width and height in cells.
-#[derive(Drop)]
+#[derive(Clone, Copy)]
 pub struct Maps {
     pub over: bool,
     pub first: usize,

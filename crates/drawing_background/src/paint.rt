@@ -15,7 +15,7 @@ use drawing_pixel::paint::{Run, span, whole};
 use drawing_pixel::world::World;
 
 // Columns `from` to `to` - 1 of the strip's rows `top` to `bottom` - 1.
-#[derive(Drop)]
+#[derive(Clone, Copy)]
 pub struct Area {
     pub top: usize,
     pub bottom: usize,
@@ -24,7 +24,7 @@ pub struct Area {
 }
 
 // A source pixel of the background; x and y are biased by 2^23.
-#[derive(Drop)]
+#[derive(Clone, Copy)]
 pub struct Source {
     pub x: usize,
     pub y: usize,
@@ -32,7 +32,7 @@ pub struct Source {
 
 // What a source pixel is picked from, and its seven neighbours of the same cell row: the cell, its character row and
 // its palette.
-#[derive(Drop)]
+#[derive(Clone, Copy)]
 pub struct Fetched {
     pub cell: usize,
     pub row: usize,

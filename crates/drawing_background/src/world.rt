@@ -18,7 +18,7 @@ use drawing_pixel::paint::{Run, View};
 use drawing_pixel::world::{World, columns, rows, window_left};
 
 // Offsets in a world's window: column i of its row j.
-#[derive(Drop)]
+#[derive(Clone, Copy)]
 pub struct Offsets {
     pub i: usize,
     pub j: usize,

@@ -1,4 +1,6 @@
 // The bytes a pixel answers to: how many there are, and their addresses in the caller's output buffer.
+#![tactic(auto)]
+
 mod background;
 mod objects;
 mod output;
@@ -16,7 +18,7 @@ use refusal::Refusal;
 
 // How many addresses the list has, why it was refused, or that no image has the pixel, for which the specification has
 // no number.
-#[derive(Drop)]
+#[derive(Clone, Copy)]
 pub enum Listed {
     Count(usize),
     Refused(Refusal),

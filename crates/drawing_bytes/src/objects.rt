@@ -94,7 +94,7 @@ pub fn covers(o: &Object, eye: usize, x: usize, y: usize) -> bool
 }
 
 // A pixel of an eye's image.
-#[derive(Drop)]
+#[derive(Clone, Copy)]
 pub struct Pixel {
     pub eye: usize,
     pub x: usize,

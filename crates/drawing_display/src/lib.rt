@@ -1,4 +1,6 @@
 // The display unit: the apparent brightness of each pixel of a frame for an eye, and the recommended column table.
+#![tactic(auto)]
+
 mod brightness;
 mod column_table;
 
@@ -8,7 +10,7 @@ ghost use Rattle.drawing_display.specs.Calls.{display_verdict_of, display_of, lo
 use refusal::{Refusal, Verdict};
 
 // What is shown: a frame and an eye, and the entry of the eye's column table that columns 0 to 3 use.
-#[derive(Drop)]
+#[derive(Clone, Copy)]
 pub struct View {
     pub frame: u32,
     pub eye: u32,
@@ -16,7 +18,7 @@ pub struct View {
 }
 
 // The brightness bytes: BRTA, BRTB and BRTC.
-#[derive(Drop)]
+#[derive(Clone, Copy)]
 pub struct Durations {
     pub brta: u8,
     pub brtb: u8,

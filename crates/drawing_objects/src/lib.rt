@@ -1,5 +1,7 @@
 // Objects: paints what an object, and a group of objects, shows of a strip over what is there.
 // These functions are `pub` for the crates above: internal, not calls of the library.
+#![tactic(auto)]
+
 ghost use Rattle.std.specs.Prelude.{◌≡◌, true, ℕ, ◌+◌, ◌-◌, ◌*◌, ◌<◌, ◌≤◌, length};
 ghost use Rattle.bus.specs.Refusal.{vram_bytes};
 ghost use Rattle.bus.specs.Registers.{spt_of};

@@ -10,7 +10,7 @@ use crate::character::{shade, value};
 use crate::field::choice;
 
 // Columns `from` to `to` - 1 of a row of the strip.
-#[derive(Drop)]
+#[derive(Clone, Copy)]
 pub struct Run {
     pub row: usize,
     pub from: usize,
@@ -18,7 +18,7 @@ pub struct Run {
 }
 
 // What is drawn at a time: a strip, for an eye.
-#[derive(Drop)]
+#[derive(Clone, Copy)]
 pub struct View {
     pub eye: usize,
     pub strip: usize,

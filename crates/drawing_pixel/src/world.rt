@@ -10,7 +10,7 @@ use crate::field::{edge, greatest, half, wide};
 
 // A world's halfwords by paper 01's names ("World n"). `flags` has LON, RON, BGM, SCX, SCY, OVER, END and the first
 // map; `parameters` is the base of the world's parameters.
-#[derive(Drop)]
+#[derive(Clone, Copy)]
 pub struct World {
     pub flags: u16,
     pub gx: u16,

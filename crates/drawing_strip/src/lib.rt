@@ -1,5 +1,7 @@
 // A strip: the loop over worlds for an eye, the strip of both eyes stored into an image, and a frame of strips.
 // These functions are `pub` for the crates above: internal, not calls of the library.
+#![tactic(auto)]
+
 ghost use Rattle.std.specs.Prelude.{◌≡◌, ℕ, ◌+◌, ◌-◌, ◌*◌, ◌<◌, ◌≤◌, length};
 ghost use Rattle.bus.specs.Refusal.{vram_bytes};
 ghost use Rattle.bus.specs.Registers.{spt_of, bkcol_of};

@@ -1,5 +1,7 @@
 // The processor's public calls: a step, a run, a reset, over the caller's memories. Records go in and come back by
 // value; inside, the registers are borrowed.
+#![tactic(auto)]
+
 pub mod acceptance;
 pub mod calls;
 pub mod record;
@@ -12,7 +14,7 @@ use processor_undefined::Undefined;
 use refusal::Verdict;
 
 // The processor's record; the request lines and the timer are its last field.
-#[derive(Drop)]
+#[derive(Clone, Copy)]
 pub struct Processor {
     pub regs: [u32; 32],
     pub pc: u32,
@@ -30,7 +32,7 @@ pub struct Processor {
 }
 
 // What a step did, which bytes that it read are undefined, and both records afterwards.
-#[derive(Drop)]
+#[derive(Clone, Copy)]
 pub struct Stepped {
     pub answer: Answer,
     pub undefined: Undefined,
@@ -39,7 +41,7 @@ pub struct Stepped {
 }
 
 // Whether a run was refused, how many instructions ended, and both records afterwards.
-#[derive(Drop)]
+#[derive(Clone, Copy)]
 pub struct Ran {
     pub verdict: Verdict,
     pub count: u64,
@@ -48,21 +50,21 @@ pub struct Ran {
 }
 
 // Both records.
-#[derive(Drop)]
+#[derive(Clone, Copy)]
 pub struct Machine {
     pub processor: Processor,
     pub drawing: Drawing,
 }
 
 // What an answer means to a run.
-#[derive(Drop)]
+#[derive(Clone, Copy)]
 pub enum After {
     Counted,
     Stopped(Verdict),
 }
 
 // What a run leaves next to the borrowed registers and memories.
-#[derive(Drop)]
+#[derive(Clone, Copy)]
 pub struct Finished {
     pub pc: u32,
     pub psw: u32,

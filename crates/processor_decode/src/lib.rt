@@ -2,6 +2,8 @@
 // Fields come normalised: a jump's or branch's displacement has bit 0 clear, SETF's condition four bits,
 // and unused bits are absent. Immediates and displacements are words: sign- or zero-extended as 000 says for each.
 // These functions are `pub` for the crates above: internal, not calls of the library.
+#![tactic(auto)]
+
 mod format;
 pub mod sub_opcode;
 
@@ -12,7 +14,7 @@ ghost use Rattle.processor_decode.specs.Opcode.{decode_of, short_rows, long_rows
 use crate::sub_opcode::{FloatingOperation, NintendoOperation};
 
 // What Format I does with reg1 and reg2, in the order of the opcodes.
-#[derive(Drop)]
+#[derive(Clone, Copy)]
 pub enum RegisterOperation {
     Mov,
     Add,
@@ -28,7 +30,7 @@ pub enum RegisterOperation {
 }
 
 // What Format II does with a five-bit immediate and reg2.
-#[derive(Drop)]
+#[derive(Clone, Copy)]
 pub enum ImmediateOperation {
     Mov,
     Add,
@@ -39,7 +41,7 @@ pub enum ImmediateOperation {
 }
 
 // What Format V does with a sixteen-bit immediate and reg1.
-#[derive(Drop)]
+#[derive(Clone, Copy)]
 pub enum LongOperation {
     Movea,
     Addi,
@@ -50,7 +52,7 @@ pub enum LongOperation {
 }
 
 // How much a load or store moves.
-#[derive(Drop)]
+#[derive(Clone, Copy)]
 pub enum Width {
     Byte,
     Half,
@@ -73,7 +75,7 @@ pub type Disp = u32;
 pub type Vector = u32;
 
 // A modelled instruction. Illegal is the invalid opcode, which raises an exception.
-#[derive(Drop)]
+#[derive(Clone, Copy)]
 pub enum Instruction {
     Register(RegisterOperation, Reg1, Reg2),
     Mul(Reg1, Reg2),
@@ -105,7 +107,7 @@ pub enum Instruction {
 }
 
 // What the halfwords mean: an instruction, or one that the model leaves out (refusal 6).
-#[derive(Drop)]
+#[derive(Clone, Copy)]
 pub enum Decoded {
     Modelled(Instruction),
     NotModelled,

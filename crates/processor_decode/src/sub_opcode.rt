@@ -5,7 +5,7 @@ ghost use Rattle.processor_decode.specs.SubOpcode.{cmpf, floating, nintendo, exc
 use crate::{Decoded, Instruction};
 
 // What Format VII's floating instructions do but for CMPF.S, in the order of the sub-opcodes.
-#[derive(Drop)]
+#[derive(Clone, Copy)]
 pub enum FloatingOperation {
     CvtWs,
     CvtSw,
@@ -17,7 +17,7 @@ pub enum FloatingOperation {
 }
 
 // What Format VII's Nintendo instructions do, in the order of the sub-opcodes.
-#[derive(Drop)]
+#[derive(Clone, Copy)]
 pub enum NintendoOperation {
     Xb,
     Xh,

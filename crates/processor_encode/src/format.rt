@@ -3,7 +3,7 @@ ghost use Rattle.std.specs.Prelude.{◌≡◌, ◌<◌, ◌≤◌, ◌-◌, get_
 ghost use Rattle.processor_encode.specs.Format.{format_of, short_formats, long_formats, extended_formats};
 
 // Which fields an instruction has, and where they stand.
-#[derive(Drop)]
+#[derive(Clone, Copy)]
 pub enum Format {
     Registers,
     Target,

@@ -1,5 +1,7 @@
 // Instructions to halfwords (paper 02, W8). An instruction's fields are tested against their ranges and put in their
 // places, both by its format; what no halfwords decode to is refused by 12.
+#![tactic(auto)]
+
 mod format;
 pub mod operation;
 mod place;
@@ -14,7 +16,7 @@ use processor_decode::Instruction;
 use refusal::Refusal;
 
 // An instruction as numbers: its operation and the fields of all formats. A field that its format does not have is 0.
-#[derive(Drop)]
+#[derive(Clone, Copy)]
 pub struct Fields {
     pub operation: u32,
     pub reg1: u32,
@@ -24,7 +26,7 @@ pub struct Fields {
 }
 
 // One halfword or two; or the refusal, which is `Encoding`.
-#[derive(Drop)]
+#[derive(Clone, Copy)]
 pub enum Encoded {
     One(u16),
     Two(u16, u16),

@@ -13,7 +13,7 @@ use processor_machine::register::{get, put};
 use processor_machine::{Control, Mode, ended};
 
 // The fields of such an instruction: reg1 and the displacement give the address, reg2 is loaded or stored.
-#[derive(Drop)]
+#[derive(Clone, Copy)]
 pub struct Access {
     pub width: Width,
     pub disp: u32,

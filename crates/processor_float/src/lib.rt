@@ -1,6 +1,8 @@
 // What the floating-point and Nintendo instructions compute: words that stand for IEEE 754 single floats, each result
 // rounded once, to nearest, ties to even; the flags that a result leaves in PSW; and four rearrangements of words.
 // These functions are `pub` for the crates above: internal, not calls of the library.
+#![tactic(auto)]
+
 pub mod arithmetic;
 pub mod comparison;
 pub mod conversion;
@@ -8,7 +10,7 @@ pub mod flag;
 pub mod nintendo;
 
 // The four operations on two numbers.
-#[derive(Drop)]
+#[derive(Clone, Copy)]
 pub enum Operation {
     Add,
     Subtract,
@@ -18,7 +20,7 @@ pub enum Operation {
 
 // What a floating instruction comes to: a number, with whether it underflowed; a word, of a conversion to a whole
 // number; or the trap that it raises.
-#[derive(Drop)]
+#[derive(Clone, Copy)]
 pub enum FloatOutcome {
     Number(f32, bool),
     Word(u32),
@@ -29,7 +31,7 @@ pub enum FloatOutcome {
 }
 
 // How two operands compare, or that one is reserved.
-#[derive(Drop)]
+#[derive(Clone, Copy)]
 pub enum Compared {
     Lower,
     Equal,

@@ -1,1 +1,2 @@
 // Laws of the floating instructions over whole numbers: statements in specs/, their proofs in proofs/. No code.
+#![tactic(auto)]

@@ -1,2 +1,3 @@
 // An accepted machine stays accepted: definitions in specs/ and their theorems in proofs/. There is nothing to run
 // here.
+#![tactic(auto)]

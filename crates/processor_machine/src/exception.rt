@@ -8,7 +8,7 @@ ghost use Rattle.processor_machine.specs.FloatCause.{saved_of};
 use crate::{Answer, Cause, Control, Mode, floating};
 
 // What an exception stores, and where it goes on: `saved` is the PSW to save.
-#[derive(Drop)]
+#[derive(Clone, Copy)]
 pub struct Entry {
     pub code: u32,
     pub handler: u32,

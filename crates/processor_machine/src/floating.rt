@@ -4,7 +4,7 @@ ghost use Rattle.word.specs.Bit.{with_bit};
 ghost use Rattle.processor_machine.specs.FloatCause.{float_code_of, float_flag_of};
 
 // Why a floating instruction raised an exception.
-#[derive(Drop)]
+#[derive(Clone, Copy)]
 pub enum FloatCause {
     Reserved,
     Invalid,

@@ -1,6 +1,8 @@
 // The processor while it runs: its 32 general registers and eight system registers, both the caller's, PC and PSW; and
 // the exceptions. The functions here are for the crates above; the calls that test their arguments and refuse are those
 // of the crate processor.
+#![tactic(auto)]
+
 pub mod exception;
 pub mod floating;
 pub mod register;
@@ -13,7 +15,7 @@ use crate::floating::FloatCause;
 use refusal::Refusal;
 
 // The machine's mode.
-#[derive(Drop)]
+#[derive(Clone, Copy)]
 pub enum Mode {
     Running,
     Halted,
@@ -21,7 +23,7 @@ pub enum Mode {
 }
 
 // Why an instruction raised an exception; TRAP carries its vector.
-#[derive(Drop)]
+#[derive(Clone, Copy)]
 pub enum Cause {
     ZeroDivision,
     Illegal,
@@ -30,7 +32,7 @@ pub enum Cause {
 }
 
 // What a step did; an accepted interrupt carries its level.
-#[derive(Drop)]
+#[derive(Clone, Copy)]
 pub enum Answer {
     Ended,
     Trapped(Cause),
@@ -42,7 +44,7 @@ pub enum Answer {
 }
 
 // What a step leaves next to the caller's registers and memories.
-#[derive(Drop)]
+#[derive(Clone, Copy)]
 pub struct Control {
     pub pc: u32,
     pub psw: u32,

@@ -1,6 +1,8 @@
 // Replay of a recorded trace (paper 02, W10): the machine is stepped along the trace, and the answer says where they
 // part. A record has 16 bytes, four little-endian words: PC before, PC after, PSW after and the sum of the general
 // registers after.
+#![tactic(auto)]
+
 pub mod calls;
 mod records;
 
@@ -10,7 +12,7 @@ use processor_machine::Mode;
 use refusal::Refusal;
 
 // How a replay ended.
-#[derive(Drop)]
+#[derive(Clone, Copy)]
 pub enum End {
     Refused(Refusal),
     Agreed,
@@ -21,14 +23,14 @@ pub enum End {
 }
 
 // What a step's answer means to a replay: a record is due, or the replay ends.
-#[derive(Drop)]
+#[derive(Clone, Copy)]
 pub enum Progress {
     Completed,
     Ends(End),
 }
 
 // What the replay of a trace leaves next to the borrowed registers and memories.
-#[derive(Drop)]
+#[derive(Clone, Copy)]
 pub struct FinishedReplay {
     pub pc: u32,
     pub psw: u32,
@@ -38,7 +40,7 @@ pub struct FinishedReplay {
 }
 
 // How a replay ended, how many records agreed before, and both records afterwards.
-#[derive(Drop)]
+#[derive(Clone, Copy)]
 pub struct Replayed {
     pub end: End,
     pub agreed: u64,

@@ -17,7 +17,7 @@ use processor_machine::{Answer, Control, Mode};
 use refusal::Refusal;
 
 // The halfwords that a step fetched; 0 for one that it did not.
-#[derive(Drop)]
+#[derive(Clone, Copy)]
 pub struct Fetched {
     pub first: u16,
     pub second: u16,
@@ -25,7 +25,7 @@ pub struct Fetched {
 
 // What a step leaves next to the caller's registers and memories, and what it fetched. Which bytes of that are
 // undefined is computed separately (the crate processor_undefined): a run skips it.
-#[derive(Drop)]
+#[derive(Clone, Copy)]
 pub struct Performed {
     pub control: Control,
     pub fetched: Fetched,

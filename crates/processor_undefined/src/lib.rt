@@ -1,6 +1,8 @@
 // Which bytes that a step read are undefined (paper 02, W2): of its first halfword, of its second and of its load.
 // They are computed from the halfwords that the step fetched and the registers before it, so that nothing is fetched
 // again; a run skips this. These functions are `pub` for the crate processor.
+#![tactic(auto)]
+
 mod load;
 
 ghost use Rattle.std.specs.Prelude.{◌≡◌, ℕ, ◌+◌, ◌%◌, ◌^◌, List};
@@ -17,7 +19,7 @@ use processor_machine::Answer;
 use processor_step::step::Fetched;
 
 // The masks of a step: bit k of one is set where byte k was read and is undefined.
-#[derive(Drop)]
+#[derive(Clone, Copy)]
 pub struct Undefined {
     pub first: u32,
     pub second: u32,

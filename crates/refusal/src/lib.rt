@@ -1,9 +1,11 @@
 // Why a call is refused: the papers' refusals in the order of their numbers, and the numbers.
+#![tactic(auto)]
+
 ghost use Rattle.std.specs.Prelude.{◌≡◌};
 ghost use Rattle.refusal.specs.Number.{number_of, verdict_number};
 
 // The refusals of papers 01 (1 to 8) and 02 (9 to 17). A number is given by `number` alone.
-#[derive(Drop)]
+#[derive(Clone, Copy)]
 pub enum Refusal {
     RomLength,
     WramLength,
@@ -25,7 +27,7 @@ pub enum Refusal {
 }
 
 // Whether a call is accepted.
-#[derive(Drop)]
+#[derive(Clone, Copy)]
 pub enum Verdict {
     Accepted,
     Refused(Refusal),

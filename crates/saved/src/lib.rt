@@ -1,5 +1,7 @@
 // Saved states: a machine written into the caller's output buffer (paper 02: "room") in either form, and read back
 // from a file of either.
+#![tactic(auto)]
+
 mod records;
 
 ghost use Rattle.std.specs.Prelude.{[], ◌≡◌, ◌≤◌, length};
@@ -17,7 +19,7 @@ use saved_kinds::{bodies, lengths};
 use saved_layout::{Form, places};
 
 // Whether a read was refused, and both records afterwards.
-#[derive(Drop)]
+#[derive(Clone, Copy)]
 pub struct Restored {
     pub verdict: Verdict,
     pub processor: Processor,

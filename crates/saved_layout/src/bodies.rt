@@ -76,7 +76,7 @@ pub fn take_memories(form: Form, file: &[u8], wram: &mut [u8], vram: &mut [u8], 
     let video = at + VRAM_AT;
     let save = at + PAK_AT;
     let end = save + pak.len();
-    bytes::copy(&file[ram..video], wram);
-    bytes::copy(&file[video..save], vram);
-    bytes::copy(&file[save..end], pak);
+    wram.copy_from_slice(&file[ram..video]);
+    vram.copy_from_slice(&file[video..save]);
+    pak.copy_from_slice(&file[save..end]);
 }

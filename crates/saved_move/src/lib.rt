@@ -1,4 +1,6 @@
 // A saved state moved from one form into the other.
+#![tactic(auto)]
+
 ghost use Rattle.std.specs.Prelude.{◌≡◌, ◌≤◌, length};
 ghost use Rattle.saved_bytes.specs.Numbers.{same_of};
 ghost use Rattle.saved_layout.specs.Layout.{file_length_of};

@@ -1,4 +1,6 @@
 // A damaged saved state in form 2: what can be kept of it, with the rest at reset, written as a valid file.
+#![tactic(auto)]
+
 mod compare;
 mod entries;
 mod keep;
@@ -13,7 +15,7 @@ use saved_kinds::lengths;
 use saved_layout::{Form, contents};
 
 // Which bodies are kept. An absent body counts as kept.
-#[derive(Drop)]
+#[derive(Clone, Copy)]
 pub struct Kept {
     pub processor: bool,
     pub drawing: bool,
@@ -24,7 +26,7 @@ pub struct Kept {
 }
 
 // The kinds that were replaced, ascending: how many, and 0 after the last.
-#[derive(Drop)]
+#[derive(Clone, Copy)]
 pub struct ListedKinds {
     pub count: u32,
     pub kinds: [u32; 6],
@@ -32,7 +34,7 @@ pub struct ListedKinds {
 
 // Whether a salvage was refused, the kinds replaced, and whether anything else before the first body differs from the
 // file.
-#[derive(Drop)]
+#[derive(Clone, Copy)]
 pub struct Salvaged {
     pub verdict: Verdict,
     pub list: ListedKinds,

@@ -1,5 +1,7 @@
 // Numbers alone: sign extension and little-endian halfwords and words. proofs/ has the laws of whole numbers.
 // These functions are `pub` for the crates above: internal, not calls of the library.
+#![tactic(auto)]
+
 ghost use Rattle.std.specs.Prelude.{◌≡◌, ◌+◌, ◌*◌, ◌<◌, ◌≤◌, ◌^◌, length, get_or};
 ghost use Rattle.word.specs.Extend.{extend_of};
 ghost use Rattle.word.specs.LittleEndian.{half_at, word_at, put_half, put_word};
