@@ -1,0 +1,33 @@
+-- `bus::pak::byte` meets its contract: a byte at the address mod the length, and 0 where there is none.
+-- Assumes nothing.
+use borrow.Author.Rules.{rules}
+use mathlib.Core.Path.{◌≡◌, refl, sym, ap, subst, ◌∙◌}
+use Prim.Native.Nat.{ℕ, ◌+◌, ◌-◌, ◌*◌, ◌/◌, ◌%◌, ◌<◌, ◌≤◌}
+use native.Mathlib.Omega.{arith}
+use Rattle.bus.specs.Memory.{Memory, memory_of}
+use lib.ListN.{length, get_or, set}
+use Rattle.bus.proofs.PakRam.{pak-read, pak-read-empty}
+use Rattle.bus.proofs.pak.byte.Goals as goal
+
+pub returns-then-pak-eq0 : goal.returns-then-pak-eq0
+returns-then-pak-eq0 c =
+    let a = c.args in
+    λ rom wram vram regs.
+    record {
+      means = sym (pak-read-empty (memory_of rom wram vram a.pak.now regs) a.address c.requires.0 c.if-pak-eq0.true);
+      fits = omega arith;
+    }
+
+pub returns : goal.returns
+returns c =
+    let a = c.args in
+    let filled : 0 < length a.pak.now = omega arith in
+    λ rom wram vram regs.
+    record {
+      means =
+          c.byte_at.ensures.0
+          ∙ rw c.wrapped.ensures.0
+          (sym (pak-read (memory_of rom wram vram a.pak.now regs) a.address
+          c.requires.0 c.requires.1 filled));
+      fits = c.byte_at.ensures.1;
+    }

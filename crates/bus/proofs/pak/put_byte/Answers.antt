@@ -1,0 +1,24 @@
+-- `bus::pak::put-byte` meets its contract: a byte at the address mod the length, and nothing where there is none.
+-- Assumes nothing.
+use borrow.Author.Rules.{rules}
+use mathlib.Core.Path.{◌≡◌, refl, sym, ap, subst, ◌∙◌}
+use Prim.Native.Nat.{ℕ, ◌+◌, ◌-◌, ◌*◌, ◌/◌, ◌%◌, ◌<◌, ◌≤◌}
+use native.Mathlib.Omega.{arith}
+use Rattle.bus.specs.Memory.{Memory, memory_of}
+use lib.ListN.{length, get_or, set}
+use Rattle.bus.proofs.PakRam.{pak-put, pak-put-empty}
+use Rattle.bus.proofs.pak.put_byte.Goals as goal
+
+pub returns-then-pak-eq0 : goal.returns-then-pak-eq0
+returns-then-pak-eq0 c =
+    let a = c.args in
+    λ rom wram vram regs.
+    sym (pak-put-empty (memory_of rom wram vram a.pak.now regs) a.address c.requires.0 a.value c.if-pak-eq0.true)
+
+pub returns : goal.returns
+returns c =
+    let a = c.args in
+    let filled : 0 < length a.pak.now = omega arith in
+    λ rom wram vram regs.
+    sym (pak-put (memory_of rom wram vram a.pak.now regs) a.address c.requires.0
+    a.value c.requires.1 filled ∙ rw (← c.wrapped-i.ensures.0))

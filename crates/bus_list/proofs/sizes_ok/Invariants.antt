@@ -1,0 +1,13 @@
+use Prim.Native.Nat.{◌≤◌, ◌-◌}
+use mathlib.Core.Path.{◌≡◌, sym, ◌∙◌}
+use native.Mathlib.Omega.{arith}
+use borrow.Author.Rules.{rules}
+use Rattle.bus_list.specs.List.{sizes_ok}
+use Rattle.bus_list.proofs.Sizes.{sizes-start, sizes-next, sizes-not, sizes-none}
+use Rattle.bus_list.proofs.sizes_ok.Given as goal
+
+abbrev pub invariant-loop-k : goal.invariant-loop-k
+invariant-loop-k l = (l.k ≤ l.n) × (sizes_ok l.n 0 l.list ≡ sizes_ok (l.n - l.k) l.k l.list)
+
+abbrev pub decreases-loop-k : goal.decreases-loop-k
+decreases-loop-k l = l.n - l.k

@@ -1,0 +1,18 @@
+-- `bus_probe::vram_index` meets its contract, by the place of the address. Assumes nothing.
+use borrow.Author.Rules.{rules}
+use mathlib.Core.Path.{subst}
+use Rattle.bus.specs.inner.LeadsTo.{LeadsTo}
+use Rattle.bus.proofs.Led.{no_vram}
+use Rattle.bus.proofs.VramIndex.{led-vram, led-elsewhere}
+use Rattle.bus_probe.proofs.vram_index.Goals as goal
+
+pub returns-in-Vram : goal.returns-in-Vram
+returns c rom pak =
+    let a = c.args.address in
+    led-vram rom pak a _ (subst (LeadsTo a) c.i-1.given.1 c.place_of.ensures)
+
+pub returns-in_default : goal.returns-in_default
+returns-2 c rom pak =
+    let a = c.args.address in
+    let p = c.place_of.result in
+    led-elsewhere rom pak a p (no_vram p c.in-Vram.keys2) c.place_of.ensures

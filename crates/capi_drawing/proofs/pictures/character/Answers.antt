@@ -1,0 +1,21 @@
+-- `capi_drawing::pictures::character` meets its contract: the verdict as a number, the address where accepted, and the part's length.
+-- Assumes nothing.
+use borrow.Author.Rules.{rules}
+use mathlib.Core.Path.{◌≡◌, sym, ap, ◌∙◌}
+use lib.ListN.{length}
+use Rattle.drawing.proofs.Verdicts.{character-small}
+use Rattle.capi_drawing.proofs.pictures.character.Goals as goal
+
+pub character_address-requires : goal.character_address-requires
+character_address-requires c =
+    let asked = c in
+    let a = asked.args in
+    character-small a.vram.now a.character-part (sym asked.character_refusal-verdict.ensures ∙ c.enum_told-1.given.1)
+
+pub returns-in-Accepted : goal.returns-in-Accepted
+returns-in-Accepted c = let e = sym c.character_refusal-verdict.ensures ∙ c.enum_told-1.given.1 in
+    (rw e, (rw e c.character_address.ensures.0, ap length c.character-part.ensures.bytes))
+
+pub returns-in-Refused : goal.returns-in-Refused
+returns-in-Refused c = let e = sym c.character_refusal-verdict.ensures ∙ c.verdict-1.given.1 in
+    (rw e c.number.ensures, (rw e, ap length c.character-part.ensures.bytes))

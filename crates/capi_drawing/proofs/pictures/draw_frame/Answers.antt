@@ -1,0 +1,9 @@
+-- `capi_drawing::pictures::draw_frame` meets its contract: the call's verdict as a number. Assumes nothing.
+use borrow.Author.Rules.{rules}
+use mathlib.Core.Path.{◌∙◌, ap}
+use Rattle.refusal.specs.Number.{verdict_number}
+use Rattle.capi_drawing.proofs.pictures.draw_frame.Goals as goal
+
+pub returns : goal.returns
+returns c = let drawn = c.draw_frame.ensures in
+    (c.verdict_number.ensures ∙ ap verdict_number drawn.0, drawn.1)

@@ -1,0 +1,50 @@
+-- `capi_processor::execution::answered`: by the answer; a level below 5 makes no sum that overflows.
+use native.Mathlib.Omega.{arith}
+use Rattle.capi_processor.proofs.Levels.{interrupted-level}
+use borrow.Author.Rules.{rules}
+use Rattle.capi_processor.proofs.execution.answered.Goals as goal
+
+pub overflow_mul-level : goal.overflow_mul-level
+overflow_mul-level c =
+    let below = interrupted-level _ _ c.answer-in-Interrupted-1.given.1 c.requires in
+    omega (arith, below)
+
+pub overflow_add-level : goal.overflow_add-level
+overflow_add-level c =
+    let below = interrupted-level _ _ c.answer-in-Interrupted-1.given.1 c.requires in
+    omega (arith, below)
+
+pub returns-in-Ended : goal.returns-in-Ended
+returns-in-Ended c =
+    λ u p m. rw (c.numbers.ensures.0, c.numbers.ensures.1, c.numbers.ensures.2)
+    (rw c.enum_told-1.given.1)
+
+pub returns-in-Trapped : goal.returns-in-Trapped
+returns-in-Trapped c =
+    λ u p m. rw (c.numbers-in-Trapped.ensures.0, c.numbers-in-Trapped.ensures.1, c.numbers-in-Trapped.ensures.2)
+    (rw (c.code.ensures.0, c.answer-1.given.1))
+
+pub returns-in-TurnedFatal : goal.returns-in-TurnedFatal
+returns-in-TurnedFatal c =
+    λ u p m. rw (c.numbers-in-TurnedFatal.ensures.0, c.numbers-in-TurnedFatal.ensures.1, c.numbers-in-TurnedFatal.ensures.2)
+    (rw (c.code-in-TurnedFatal.ensures.0, c.answer-in-TurnedFatal-1.given.1))
+
+pub returns-in-WasHalted : goal.returns-in-WasHalted
+returns-in-WasHalted c =
+    λ u p m. rw (c.numbers-in-WasHalted.ensures.0, c.numbers-in-WasHalted.ensures.1, c.numbers-in-WasHalted.ensures.2)
+    (rw c.enum_told-in-WasHalted-1.given.1)
+
+pub returns-in-WasFatal : goal.returns-in-WasFatal
+returns-in-WasFatal c =
+    λ u p m. rw (c.numbers-in-WasFatal.ensures.0, c.numbers-in-WasFatal.ensures.1, c.numbers-in-WasFatal.ensures.2)
+    (rw c.enum_told-in-WasFatal-1.given.1)
+
+pub returns-in-Interrupted : goal.returns-in-Interrupted
+returns-in-Interrupted c =
+    λ u p m. rw (c.numbers-in-Interrupted.ensures.0, c.numbers-in-Interrupted.ensures.1, c.numbers-in-Interrupted.ensures.2)
+    (rw c.answer-in-Interrupted-1.given.1)
+
+pub returns-in-Refused : goal.returns-in-Refused
+returns-in-Refused c =
+    λ u p m. rw (c.numbers-in-Refused.ensures.0, c.numbers-in-Refused.ensures.1, c.numbers-in-Refused.ensures.2)
+    (rw (c.number.ensures, c.answer-in-Refused-1.given.1))

@@ -1,0 +1,15 @@
+use borrow.Author.Rules.{rules}
+use Prim.Native.Nat.{ℕ, ◌+◌, ◌-◌, ◌≤◌}
+use native.Mathlib.Omega.{arith}
+use mathlib.Core.Path.{◌≡◌, ap}
+use lib.ListN.{get_or}
+use Rattle.drawing_pixel.specs.Character.{two_bits_of}
+use Rattle.drawing_display.specs.inner.Output.{Column}
+use Rattle.drawing_display.proofs.Filling.{column-none, column-more}
+use Rattle.drawing_display.proofs.brightness.show_column.Given as goal
+
+abbrev pub invariant-loop-r : goal.invariant-loop-r
+invariant-loop-r l = (l.r ≤ 8) × Column l.at l.r (λ k. get_or l.levels (l.group + two_bits_of l.column k) 0) l.initial.output l.output
+
+abbrev pub decreases-loop-r : goal.decreases-loop-r
+decreases-loop-r l = 8 - l.r

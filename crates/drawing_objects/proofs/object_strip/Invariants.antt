@@ -1,0 +1,19 @@
+use Prim.Native.Nat.{◌+◌, ◌-◌, ◌*◌, ◌≤◌}
+use native.Mathlib.Omega.{arith}
+use borrow.Author.Rules.{rules}
+use borrow.Author.Tests.{not-true, not-false}
+use mathlib.Core.Path.{◌≡◌, sym, ◌∙◌}
+use Rattle.drawing_pixel.specs.inner.BiasedObject.{object_pixel_biased}
+use Rattle.drawing_pixel.specs.inner.Buffer.{Rows}
+use Rattle.drawing_pixel.proofs.Spans.{rows_none, rows_more, rows_all, strip-kept}
+use Rattle.drawing_pixel.proofs.Small.{object-small}
+use Rattle.drawing_pixel.proofs.Windows.{object-hidden}
+use Rattle.drawing_objects.proofs.Squares.{square-outside, square-empty}
+use Rattle.drawing_objects.proofs.object_strip.Given as goal
+
+abbrev pub invariant-loop-r : goal.invariant-loop-r
+invariant-loop-r l = (l.r ≤ 8) × Rows l.r
+    (λ x q. object_pixel_biased l.vram l.registers l.o l.eye x (8 * l.strip + q)) l.initial.buffer l.buffer
+
+abbrev pub decreases-loop-r : goal.decreases-loop-r
+decreases-loop-r l = 8 - l.r

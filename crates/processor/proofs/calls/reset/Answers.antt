@@ -1,0 +1,9 @@
+-- `processor::calls::reset`: the definition's own values.
+use Rattle.bus.specs.TimerLines.{hardware_in}
+use borrow.Author.Rules.{rules}
+use Rattle.processor.specs.Calls.{reset_of}
+use Rattle.processor.proofs.calls.reset.Goals as goal
+
+pub returns : goal.returns
+unfolding reset_of hardware_in
+returns c = rw c.reset.ensures

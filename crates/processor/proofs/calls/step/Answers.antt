@@ -1,0 +1,34 @@
+-- `processor::calls::step`: refused as the definition says, else what a step promises, and the masks of what it
+-- fetched.
+use mathlib.Core.Path.{sym, ◌∙◌}
+use borrow.Author.Rules.{rules}
+use Rattle.processor.proofs.Checked.{step-accepted}
+use Rattle.processor.proofs.Lengths.{lengths-of-accepted}
+use Rattle.processor.specs.Calls.{checked_step_of}
+use Rattle.processor.proofs.calls.step.Goals as goal
+
+pub step-t-requires : goal.step-t-requires
+step-t-requires c = lengths-of-accepted _ _ _ _ _ _ _ _ _ (sym
+    c.acceptance.ensures
+    ∙ c.enum_told-1.given.1)
+
+pub returns-in-Refused : goal.returns-in-Refused
+unfolding checked_step_of
+returns-in-Refused c = rw (
+  c.none.ensures,
+  ← c.device_of-device.ensures,
+  ← c.system-sys.ensures,
+  ← c.acceptance.ensures,
+  c.n-1.given.1,
+)
+
+pub returns-in-Accepted : goal.returns-in-Accepted
+returns-in-Accepted c =
+    let a = c.args in
+    let system = c.system-sys in
+    let step = c.step-t.ensures in
+    rw (c.drawing_in-registers.ensures, c.joined-processor.ensures)
+    (step-accepted a.processor _ _ _ _ system.ensures
+    c.device_of-device.ensures c.acceptance.ensures c.enum_told-1.given.1 _
+    step.0 _ step.1 _ (c.masks-undefined.ensures system.result a.processor.psw
+    a.processor.mode _))

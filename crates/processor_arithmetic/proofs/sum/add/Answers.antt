@@ -1,0 +1,17 @@
+-- `processor_arithmetic::sum::add`: the parts of the result, each by its callee's promise.
+use Rattle.std.proofs.Common.{arith, rules}
+use Rattle.processor_arithmetic.proofs.Carry.{sum-carry}
+use Rattle.processor_arithmetic.specs.Sum.{sum_of}
+use Rattle.processor_arithmetic.proofs.sum.add.Goals as goal
+
+pub returns : goal.returns
+unfolding sum_of
+returns c =
+    let a = c.args in
+    rw (
+      c.flags-psw.ensures,
+      c.overflow-ov.ensures.0,
+      c.bit-cy.ensures.0,
+      c.wrapping_add_u32-value.ensures,
+      sum-carry a.a a.b (omega arith) (omega arith),
+    )

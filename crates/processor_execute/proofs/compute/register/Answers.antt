@@ -1,0 +1,14 @@
+-- `processor_execute::compute::register`: its own case.
+use Rattle.std.proofs.Common.{rules}
+use Rattle.processor_execute.specs.Execute.{execute_of}
+use Rattle.processor_execute.proofs.compute.register.Goals as goal
+
+pub returns : goal.returns
+unfolding execute_of
+returns c = λ pc sys m. rw (
+  c.ended.ensures,
+  c.put.ensures,
+  c.register-o.ensures,
+  c.get-b.ensures,
+  c.get-a.ensures,
+)

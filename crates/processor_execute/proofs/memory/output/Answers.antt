@@ -1,0 +1,14 @@
+-- `processor_execute::memory::output`: its own case.
+use Rattle.std.proofs.Common.{rules}
+use Rattle.processor_execute.specs.Execute.{execute_of}
+use Rattle.processor_execute.proofs.memory.output.Goals as goal
+
+pub returns : goal.returns
+unfolding execute_of
+returns c = λ pc sys. rw (
+  c.ended.ensures,
+  c.store.ensures,
+  c.get-v.ensures,
+  c.wrapping_add_u32-address.ensures,
+  c.get-base.ensures,
+)

@@ -1,0 +1,16 @@
+-- `processor_fast_move::branch::jr`: its own case.
+use Rattle.std.proofs.Common.{◌≡◌, ◌%◌, sym, refl, ap, ◌∙◌, arith, rules}
+use Rattle.processor_execute.specs.Execute.{execute_of}
+use Rattle.processor_decode.specs.Format as format
+use Rattle.processor_fast_move.proofs.Branches.{extended-even, jump-on, jump-even}
+use Rattle.processor_decode.specs.Format as format
+use Rattle.processor_decode.specs.Format as format
+use Rattle.processor_decode.specs.Format as format
+use Rattle.processor_fast_move.proofs.branch.jr.Goals as goal
+
+pub returns : goal.returns
+unfolding execute_of
+returns c = λ regs m base psw sys even aligned.
+    let a = c.args in
+    let d : format.disp_of a.f a.s % 2 ≡ 0 = extended-even 33554432 _ (omega arith) (omega arith) in
+    rw c.target-to.ensures (rw (jump-on base a.x _ even aligned d), jump-even base a.x _ even aligned d)

@@ -1,0 +1,15 @@
+-- `processor_fast_move::transfer::load_word`: its own case.
+use Rattle.std.proofs.Common.{true, rules}
+use Rattle.processor_execute.specs.Execute.{execute_of}
+use Rattle.processor_fast_compute.proofs.Results.{value-does}
+use Rattle.processor_fast_move.proofs.transfer.load_word.Goals as goal
+
+pub returns : goal.returns
+unfolding execute_of
+returns c =
+    let a = c.args in (
+      λ base psw sys even aligned. value-does true base a.x psw _ _ _ sys a.flags _ _ _ aligned c.after_two.ensures _
+          (rw (c.word-v.ensures.means, c.address-a.ensures) at c.loaded.ensures),
+      λ base psw sys even aligned. value-does true base a.x psw _ _ _ sys a.flags _ _ _ aligned c.after_two.ensures _
+          (rw (c.word-v.ensures.means, c.address-a.ensures) at c.loaded.ensures),
+    )

@@ -1,0 +1,9 @@
+-- `processor_lazy_flags::shift::shr`: the last bit out is CY.
+use Rattle.std.proofs.Common.{◌≡◌, sym, refl, ap, ◌∙◌, rules}
+use Rattle.processor_arithmetic.specs.Shift.{shift_right_of}
+use Rattle.processor_lazy_flags.proofs.Kept.{gives_flags}
+use Rattle.processor_lazy_flags.proofs.shift.shr.Goals as goal
+
+pub returns : goal.returns
+unfolding shift_right_of
+returns c = λ psw g. gives_flags psw g _ _ _ _ (rw c.out.ensures.0 at c.carried.ensures)
