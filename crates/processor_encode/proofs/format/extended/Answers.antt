@@ -1,6 +1,6 @@
 -- `processor_encode::format::extended`: each arm is the row of its number; past the last there is none.
 use native.Mathlib.Omega.{arith}
-use mathlib.Core.Path.{◌≡◌, sym}
+use mathlib.Core.Path.{sym}
 use Prim.Native.Nat.{◌≤◌, ◌-◌}
 use lib.ListN.{get_or-eq_default}
 use Rattle.processor_encode.specs.Format.{extended_formats}

@@ -1,7 +1,5 @@
 -- `processor_encode::format::long`: each arm is the row of its number.
 use native.Mathlib.Omega.{arith}
-use mathlib.Core.Path.{◌≡◌, sym}
-use Prim.Native.Nat.{◌≤◌}
 use Rattle.processor_encode.specs.Format.{long_formats}
 use Rattle.processor_encode.proofs.format.long.Goals as goal
 

@@ -1,7 +1,5 @@
 -- `processor_encode::format::short`: each arm is the row of its number.
 use native.Mathlib.Omega.{arith}
-use mathlib.Core.Path.{◌≡◌, sym}
-use Prim.Native.Nat.{◌≤◌}
 use Rattle.processor_encode.specs.Format.{short_formats}
 use Rattle.processor_encode.proofs.format.short.Goals as goal
 
