@@ -40,7 +40,7 @@ pub fn elsewhere(pak: &[u8], regs: &Device, size: u32, address: u32) -> u32
 // A byte.
 pub fn byte(rom: &[u8], wram: &[u8], vram: &[u8], pak: &[u8], regs: &Device, address: u32) -> Loaded
     requires { Lengths (length rom.now) (length wram.now) (length vram.now) (length pak.now) }
-    ensures { Reads (entering rom wram vram pak regs) 1 address result.value }
+    ensures { Reads (entering rom.now wram.now vram.now pak.now regs.now) 1 address result.value }
 {
     match direct(rom, wram, vram, 1, address) {
         Found::Value(v) => Loaded { value: v },
@@ -53,7 +53,7 @@ pub fn byte(rom: &[u8], wram: &[u8], vram: &[u8], pak: &[u8], regs: &Device, add
 // A halfword.
 pub fn half(rom: &[u8], wram: &[u8], vram: &[u8], pak: &[u8], regs: &Device, address: u32) -> Loaded
     requires { Lengths (length rom.now) (length wram.now) (length vram.now) (length pak.now) }
-    ensures { Reads (entering rom wram vram pak regs) 2 address result.value }
+    ensures { Reads (entering rom.now wram.now vram.now pak.now regs.now) 2 address result.value }
 {
     match direct(rom, wram, vram, 2, address) {
         Found::Value(v) => Loaded { value: v },
@@ -66,7 +66,7 @@ pub fn half(rom: &[u8], wram: &[u8], vram: &[u8], pak: &[u8], regs: &Device, add
 // A word.
 pub fn word(rom: &[u8], wram: &[u8], vram: &[u8], pak: &[u8], regs: &Device, address: u32) -> Loaded
     requires { Lengths (length rom.now) (length wram.now) (length vram.now) (length pak.now) }
-    ensures { Reads (entering rom wram vram pak regs) 4 address result.value }
+    ensures { Reads (entering rom.now wram.now vram.now pak.now regs.now) 4 address result.value }
 {
     match direct(rom, wram, vram, 4, address) {
         Found::Value(v) => Loaded { value: v },

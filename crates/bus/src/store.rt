@@ -55,7 +55,7 @@ pub fn store(
     value: u32,
 )
     requires { Lengths (length rom.now) (length wram.old) (length vram.old) (length pak.old) × (size_ok size ≡ true) }
-    ensures { leaving rom wram vram pak regs ≡ store_of (entering rom wram vram pak regs) size address value }
+    ensures { leaving rom.now wram.new vram.new pak.new regs.new ≡ store_of (entering rom.now wram.old vram.old pak.old regs.old) size address value }
 {
     if direct(wram, vram, size, address, value) {
         return;
@@ -74,7 +74,7 @@ pub fn byte(
     value: u32,
 )
     requires { Lengths (length rom.now) (length wram.old) (length vram.old) (length pak.old) }
-    ensures { leaving rom wram vram pak regs ≡ store_of (entering rom wram vram pak regs) 1 address value }
+    ensures { leaving rom.now wram.new vram.new pak.new regs.new ≡ store_of (entering rom.now wram.old vram.old pak.old regs.old) 1 address value }
 {
     store(rom, wram, vram, pak, regs, 1, address, value);
 }
@@ -90,7 +90,7 @@ pub fn half(
     value: u32,
 )
     requires { Lengths (length rom.now) (length wram.old) (length vram.old) (length pak.old) }
-    ensures { leaving rom wram vram pak regs ≡ store_of (entering rom wram vram pak regs) 2 address value }
+    ensures { leaving rom.now wram.new vram.new pak.new regs.new ≡ store_of (entering rom.now wram.old vram.old pak.old regs.old) 2 address value }
 {
     store(rom, wram, vram, pak, regs, 2, address, value);
 }
@@ -106,7 +106,7 @@ pub fn word(
     value: u32,
 )
     requires { Lengths (length rom.now) (length wram.old) (length vram.old) (length pak.old) }
-    ensures { leaving rom wram vram pak regs ≡ store_of (entering rom wram vram pak regs) 4 address value }
+    ensures { leaving rom.now wram.new vram.new pak.new regs.new ≡ store_of (entering rom.now wram.old vram.old pak.old regs.old) 4 address value }
 {
     store(rom, wram, vram, pak, regs, 4, address, value);
 }

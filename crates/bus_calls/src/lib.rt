@@ -50,7 +50,7 @@ fn read(
     address: u32,
 ) -> u32
     requires { Lengths (length rom.now) (length wram.now) (length vram.now) (length pak.now) × (size_ok size ≡ true) }
-    ensures { Reads (entering_with rom wram vram pak (device_of drawing.regs hardware)) size address result }
+    ensures { Reads (entering_with rom.now wram.now vram.now pak.now (device_of drawing.regs hardware)) size address result }
 {
     match load::direct(rom, wram, vram, size, address) {
         Found::Value(value) => value,
@@ -111,7 +111,7 @@ pub fn load_byte(
     hardware: TimerLines,
     address: u32,
 ) -> Load
-    ensures { result ≡ checked_load_of (entering_with rom wram vram pak (device_of drawing.regs hardware)) 1 address }
+    ensures { result ≡ checked_load_of (entering_with rom.now wram.now vram.now pak.now (device_of drawing.regs hardware)) 1 address }
 {
     let verdict = refusals::call_verdict(
         rom.len(),
@@ -141,7 +141,7 @@ pub fn load_half(
     hardware: TimerLines,
     address: u32,
 ) -> Load
-    ensures { result ≡ checked_load_of (entering_with rom wram vram pak (device_of drawing.regs hardware)) 2 address }
+    ensures { result ≡ checked_load_of (entering_with rom.now wram.now vram.now pak.now (device_of drawing.regs hardware)) 2 address }
 {
     let verdict = refusals::call_verdict(
         rom.len(),
@@ -171,7 +171,7 @@ pub fn load_word(
     hardware: TimerLines,
     address: u32,
 ) -> Load
-    ensures { result ≡ checked_load_of (entering_with rom wram vram pak (device_of drawing.regs hardware)) 4 address }
+    ensures { result ≡ checked_load_of (entering_with rom.now wram.now vram.now pak.now (device_of drawing.regs hardware)) 4 address }
 {
     let verdict = refusals::call_verdict(
         rom.len(),
@@ -202,9 +202,9 @@ pub fn store_byte(
     address: u32,
     value: u32,
 ) -> Stored
-    ensures verdict { result.verdict ≡ verdict_of (entering_with rom wram vram pak (device_of drawing.regs hardware)) }
-    ensures memory { let m = entering_with rom wram vram pak (device_of drawing.regs hardware) in
-        leaving_with rom wram vram pak (device_of result.drawing.regs result.hardware)
+    ensures verdict { result.verdict ≡ verdict_of (entering_with rom.now wram.old vram.old pak.old (device_of drawing.regs hardware)) }
+    ensures memory { let m = entering_with rom.now wram.old vram.old pak.old (device_of drawing.regs hardware) in
+        leaving_with rom.now wram.new vram.new pak.new (device_of result.drawing.regs result.hardware)
         ≡ checked_store_of m (store_of m 1 address value) }
 {
     let verdict = refusals::call_verdict(
@@ -236,9 +236,9 @@ pub fn store_half(
     address: u32,
     value: u32,
 ) -> Stored
-    ensures verdict { result.verdict ≡ verdict_of (entering_with rom wram vram pak (device_of drawing.regs hardware)) }
-    ensures memory { let m = entering_with rom wram vram pak (device_of drawing.regs hardware) in
-        leaving_with rom wram vram pak (device_of result.drawing.regs result.hardware)
+    ensures verdict { result.verdict ≡ verdict_of (entering_with rom.now wram.old vram.old pak.old (device_of drawing.regs hardware)) }
+    ensures memory { let m = entering_with rom.now wram.old vram.old pak.old (device_of drawing.regs hardware) in
+        leaving_with rom.now wram.new vram.new pak.new (device_of result.drawing.regs result.hardware)
         ≡ checked_store_of m (store_of m 2 address value) }
 {
     let verdict = refusals::call_verdict(
@@ -270,9 +270,9 @@ pub fn store_word(
     address: u32,
     value: u32,
 ) -> Stored
-    ensures verdict { result.verdict ≡ verdict_of (entering_with rom wram vram pak (device_of drawing.regs hardware)) }
-    ensures memory { let m = entering_with rom wram vram pak (device_of drawing.regs hardware) in
-        leaving_with rom wram vram pak (device_of result.drawing.regs result.hardware)
+    ensures verdict { result.verdict ≡ verdict_of (entering_with rom.now wram.old vram.old pak.old (device_of drawing.regs hardware)) }
+    ensures memory { let m = entering_with rom.now wram.old vram.old pak.old (device_of drawing.regs hardware) in
+        leaving_with rom.now wram.new vram.new pak.new (device_of result.drawing.regs result.hardware)
         ≡ checked_store_of m (store_of m 4 address value) }
 {
     let verdict = refusals::call_verdict(

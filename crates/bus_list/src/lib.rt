@@ -89,8 +89,8 @@ fn read(
     address: u32,
 ) -> Reading
     requires { Lengths (length rom.now) (length wram.now) (length vram.now) (length pak.now) × (size_ok size ≡ true) }
-    ensures value { result.value ≡ load_of (entering rom wram vram pak device) size address }
-    ensures undefined { result.undefined ≡ undefined_of (entering rom wram vram pak device) size address }
+    ensures value { result.value ≡ load_of (entering rom.now wram.now vram.now pak.now device.now) size address }
+    ensures undefined { result.undefined ≡ undefined_of (entering rom.now wram.now vram.now pak.now device.now) size address }
 {
     if size == 1 {
         let undefined = bus_defined::byte(address);
@@ -132,8 +132,8 @@ fn access(
 )
     requires { Lengths (length rom.now) (length wram.old) (length vram.old) (length pak.old)
         × (20 * k + 19 < length list.old) × (size_ok (size_at list.old k) ≡ true) }
-    ensures { made_of (leaving rom wram vram pak device) list.new
-        ≡ access_of k (entering rom wram vram pak device) list.old }
+    ensures { made_of (leaving rom.now wram.new vram.new pak.new device.new) list.new
+        ≡ access_of k (entering rom.now wram.old vram.old pak.old device.old) list.old }
 {
     let i = 20 * k;
     let address = word::word_at(list, i);
@@ -158,8 +158,8 @@ fn accesses(
 )
     requires { Lengths (length rom.now) (length wram.old) (length vram.old) (length pak.old)
         × (list_ok list.old ≡ true) }
-    ensures { made_of (leaving rom wram vram pak device) list.new
-        ≡ accesses_of (count_of list.old) 0 (entering rom wram vram pak device) list.old }
+    ensures { made_of (leaving rom.now wram.new vram.new pak.new device.new) list.new
+        ≡ accesses_of (count_of list.old) 0 (entering rom.now wram.old vram.old pak.old device.old) list.old }
 {
     let count = list.len() / 20;
     let mut k = 0;
@@ -179,10 +179,10 @@ pub fn access_list(
     hardware: TimerLines,
     list: &mut [u8],
 ) -> Stored
-    ensures verdict { result.verdict ≡ list_verdict_of (entering_with rom wram vram pak (device_of drawing.regs hardware))
+    ensures verdict { result.verdict ≡ list_verdict_of (entering_with rom.now wram.old vram.old pak.old (device_of drawing.regs hardware))
         list.old }
-    ensures made { made_of (leaving_with rom wram vram pak (device_of result.drawing.regs result.hardware)) list.new
-        ≡ access_list_of (entering_with rom wram vram pak (device_of drawing.regs hardware)) list.old }
+    ensures made { made_of (leaving_with rom.now wram.new vram.new pak.new (device_of result.drawing.regs result.hardware)) list.new
+        ≡ access_list_of (entering_with rom.now wram.old vram.old pak.old (device_of drawing.regs hardware)) list.old }
 {
     let verdict = verdict(
         rom.len(),

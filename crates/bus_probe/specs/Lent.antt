@@ -5,9 +5,7 @@ use Rattle.bus.specs.Lent.{Lent}
 use Rattle.bus_probe.specs.Probe.{probe_verdict_of, probed_of}
 
 abbrev pub lent_verdict_of : ℕ → Lent → Lent → Lent → Lent → ℕ → Verdict
-lent_verdict_of size rom wram vram pak a =
-    probe_verdict_of size rom.entry.now wram.entry.now vram.entry.now pak.entry.now a
+lent_verdict_of size rom wram vram pak a = probe_verdict_of size rom wram vram pak a
 
 abbrev pub vram_of : ℕ → Lent → Lent → Lent → Lent → ℕ → ℕ → List ℕ
-vram_of size rom wram vram pak a v =
-    probed_of size rom.entry.now wram.entry.now vram.entry.now pak.entry.now a v
+vram_of size rom wram vram pak a v = probed_of size rom wram vram pak a v

@@ -71,8 +71,8 @@ fn probe(
     value: u32,
 ) -> Verdict
     requires { size_ok size ≡ true }
-    ensures verdict { result ≡ lent_verdict_of size rom wram vram pak address }
-    ensures memory { vram.new ≡ vram_of size rom wram vram pak address value }
+    ensures verdict { result ≡ lent_verdict_of size rom.now wram.now vram.old pak.now address }
+    ensures memory { vram.new ≡ vram_of size rom.now wram.now vram.old pak.now address value }
 {
     let at = vram_index(map::aligned(size, address));
     let verdict = verdict(rom.len(), wram.len(), vram.len(), pak.len(), at);
@@ -94,8 +94,8 @@ pub fn probe_byte(
     address: u32,
     value: u32,
 ) -> Verdict
-    ensures verdict { result ≡ lent_verdict_of 1 rom wram vram pak address }
-    ensures memory { vram.new ≡ vram_of 1 rom wram vram pak address value }
+    ensures verdict { result ≡ lent_verdict_of 1 rom.now wram.now vram.old pak.now address }
+    ensures memory { vram.new ≡ vram_of 1 rom.now wram.now vram.old pak.now address value }
 {
     probe(rom, wram, vram, pak, 1, address, value)
 }
@@ -109,8 +109,8 @@ pub fn probe_half(
     address: u32,
     value: u32,
 ) -> Verdict
-    ensures verdict { result ≡ lent_verdict_of 2 rom wram vram pak address }
-    ensures memory { vram.new ≡ vram_of 2 rom wram vram pak address value }
+    ensures verdict { result ≡ lent_verdict_of 2 rom.now wram.now vram.old pak.now address }
+    ensures memory { vram.new ≡ vram_of 2 rom.now wram.now vram.old pak.now address value }
 {
     probe(rom, wram, vram, pak, 2, address, value)
 }
@@ -124,8 +124,8 @@ pub fn probe_word(
     address: u32,
     value: u32,
 ) -> Verdict
-    ensures verdict { result ≡ lent_verdict_of 4 rom wram vram pak address }
-    ensures memory { vram.new ≡ vram_of 4 rom wram vram pak address value }
+    ensures verdict { result ≡ lent_verdict_of 4 rom.now wram.now vram.old pak.now address }
+    ensures memory { vram.new ≡ vram_of 4 rom.now wram.now vram.old pak.now address value }
 {
     probe(rom, wram, vram, pak, 4, address, value)
 }

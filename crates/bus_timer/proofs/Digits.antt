@@ -1,5 +1,5 @@
 -- Bits of a number with bit 1 set or cleared, and with bit 4 replaced: by its digits. Assumes nothing.
-use Prim.Native.Nat.{ℕ, ◌+◌, ◌-◌, ◌*◌, ◌/◌, ◌%◌, ◌<◌}
+use Prim.Native.Nat.{ℕ, ◌+◌, ◌*◌, ◌/◌, ◌%◌, ◌<◌}
 use mathlib.Core.Path.{◌≡◌}
 use native.Mathlib.Omega.{arith}
 use Rattle.word.specs.Bit.{bit_at, without_bit, with_bit}

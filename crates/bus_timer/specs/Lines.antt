@@ -1,9 +1,9 @@
 -- What ticks and writes do to the request lines (paper 02, W6: a line is "changed only by the bench and, line 1, by the
 -- Timer section's rules"; docs/DECISIONS.md, T13): the statements. Their proofs are `tick-lines`, `tick-keeps-line`,
 -- `write-lines` and `write-keeps-down` in proofs/LinesLeft.
-use Rattle.std.specs.Prelude.{ℕ, ◌≤◌, ◌^◌, ◌≡◌}
+use Rattle.std.specs.Prelude.{ℕ, ◌≤◌, ◌≡◌}
 use Rattle.word.specs.Bit.{bit_at}
-use Rattle.bus_timer.specs.Timer.{timer_line, tick_of}
+use Rattle.bus_timer.specs.Timer.{tick_of}
 use Rattle.bus_timer.specs.Ports.{port_written_of}
 use Rattle.bus_timer.specs.declared.TimerLines.{TimerLines}
 

@@ -22,7 +22,7 @@ pub extern "C" fn vb_load_byte(
     address: u32,
 ) -> VbLoaded
     ensures { result ≡ load_out
-        (checked_load_of (entering_with rom wram vram pak (device_of drawing.regs (hardware_given hardware))) 1 address) }
+        (checked_load_of (entering_with rom.now wram.now vram.now pak.now (device_of drawing.regs (hardware_given hardware))) 1 address) }
 {
     capi_bus::accesses::load_byte(rom, wram, vram, pak, drawing, hardware, address)
 }
@@ -38,7 +38,7 @@ pub extern "C" fn vb_load_half(
     address: u32,
 ) -> VbLoaded
     ensures { result ≡ load_out
-        (checked_load_of (entering_with rom wram vram pak (device_of drawing.regs (hardware_given hardware))) 2 address) }
+        (checked_load_of (entering_with rom.now wram.now vram.now pak.now (device_of drawing.regs (hardware_given hardware))) 2 address) }
 {
     capi_bus::accesses::load_half(rom, wram, vram, pak, drawing, hardware, address)
 }
@@ -54,7 +54,7 @@ pub extern "C" fn vb_load_word(
     address: u32,
 ) -> VbLoaded
     ensures { result ≡ load_out
-        (checked_load_of (entering_with rom wram vram pak (device_of drawing.regs (hardware_given hardware))) 4 address) }
+        (checked_load_of (entering_with rom.now wram.now vram.now pak.now (device_of drawing.regs (hardware_given hardware))) 4 address) }
 {
     capi_bus::accesses::load_word(rom, wram, vram, pak, drawing, hardware, address)
 }
@@ -71,9 +71,9 @@ pub extern "C" fn vb_store_byte(
     value: u32,
 ) -> VbStored
     ensures refusal { result.refusal ≡ verdict_number
-        (verdict_of (entering_with rom wram vram pak (device_of drawing.regs (hardware_given hardware)))) }
-    ensures memory { let m = entering_with rom wram vram pak (device_of drawing.regs (hardware_given hardware)) in
-        leaving_with rom wram vram pak (device_of result.drawing.regs (hardware_given result.hardware))
+        (verdict_of (entering_with rom.now wram.old vram.old pak.old (device_of drawing.regs (hardware_given hardware)))) }
+    ensures memory { let m = entering_with rom.now wram.old vram.old pak.old (device_of drawing.regs (hardware_given hardware)) in
+        leaving_with rom.now wram.new vram.new pak.new (device_of result.drawing.regs (hardware_given result.hardware))
         ≡ checked_store_of m (store_of m 1 address value) }
 {
     capi_bus::accesses::store_byte(rom, wram, vram, pak, drawing, hardware, address, value)
@@ -91,9 +91,9 @@ pub extern "C" fn vb_store_half(
     value: u32,
 ) -> VbStored
     ensures refusal { result.refusal ≡ verdict_number
-        (verdict_of (entering_with rom wram vram pak (device_of drawing.regs (hardware_given hardware)))) }
-    ensures memory { let m = entering_with rom wram vram pak (device_of drawing.regs (hardware_given hardware)) in
-        leaving_with rom wram vram pak (device_of result.drawing.regs (hardware_given result.hardware))
+        (verdict_of (entering_with rom.now wram.old vram.old pak.old (device_of drawing.regs (hardware_given hardware)))) }
+    ensures memory { let m = entering_with rom.now wram.old vram.old pak.old (device_of drawing.regs (hardware_given hardware)) in
+        leaving_with rom.now wram.new vram.new pak.new (device_of result.drawing.regs (hardware_given result.hardware))
         ≡ checked_store_of m (store_of m 2 address value) }
 {
     capi_bus::accesses::store_half(rom, wram, vram, pak, drawing, hardware, address, value)
@@ -111,9 +111,9 @@ pub extern "C" fn vb_store_word(
     value: u32,
 ) -> VbStored
     ensures refusal { result.refusal ≡ verdict_number
-        (verdict_of (entering_with rom wram vram pak (device_of drawing.regs (hardware_given hardware)))) }
-    ensures memory { let m = entering_with rom wram vram pak (device_of drawing.regs (hardware_given hardware)) in
-        leaving_with rom wram vram pak (device_of result.drawing.regs (hardware_given result.hardware))
+        (verdict_of (entering_with rom.now wram.old vram.old pak.old (device_of drawing.regs (hardware_given hardware)))) }
+    ensures memory { let m = entering_with rom.now wram.old vram.old pak.old (device_of drawing.regs (hardware_given hardware)) in
+        leaving_with rom.now wram.new vram.new pak.new (device_of result.drawing.regs (hardware_given result.hardware))
         ≡ checked_store_of m (store_of m 4 address value) }
 {
     capi_bus::accesses::store_word(rom, wram, vram, pak, drawing, hardware, address, value)

@@ -20,8 +20,8 @@ pub extern "C" fn vb_step(
     drawing: VbDrawing,
 ) -> VbStepped
     ensures { step_gives result.refusal result.answer result.code result.undefined result.processor
-        (leaving_with rom wram vram pak result.drawing.regs)
-        ≡ step_at processor (entering_with rom wram vram pak drawing.regs) }
+        (leaving_with rom.now wram.new vram.new pak.new result.drawing.regs)
+        ≡ step_at processor (entering_with rom.now wram.old vram.old pak.old drawing.regs) }
 {
     capi_processor::execution::step(rom, wram, vram, pak, processor, drawing)
 }
@@ -36,8 +36,8 @@ pub extern "C" fn vb_run(
     drawing: VbDrawing,
     budget: u64,
 ) -> VbRan
-    ensures { run_gives result.refusal result.count result.processor (leaving_with rom wram vram pak result.drawing.regs)
-        ≡ run_at budget processor (entering_with rom wram vram pak drawing.regs) }
+    ensures { run_gives result.refusal result.count result.processor (leaving_with rom.now wram.new vram.new pak.new result.drawing.regs)
+        ≡ run_at budget processor (entering_with rom.now wram.old vram.old pak.old drawing.regs) }
 {
     capi_processor::execution::run(rom, wram, vram, pak, processor, drawing, budget)
 }

@@ -19,11 +19,11 @@ pub extern "C" fn vb_access_list(
     hardware: VbHardware,
     list: &mut [u8],
 ) -> VbStored
-    ensures refusal { result.refusal ≡ list_number_at (entering_with rom wram vram pak (device_of drawing.regs (hardware_given hardware)))
+    ensures refusal { result.refusal ≡ list_number_at (entering_with rom.now wram.old vram.old pak.old (device_of drawing.regs (hardware_given hardware)))
         list.old }
-    ensures made { made_of (leaving_with rom wram vram pak (device_of result.drawing.regs (hardware_given result.hardware)))
+    ensures made { made_of (leaving_with rom.now wram.new vram.new pak.new (device_of result.drawing.regs (hardware_given result.hardware)))
         list.new
-        ≡ list_left_at (entering_with rom wram vram pak (device_of drawing.regs (hardware_given hardware)))
+        ≡ list_left_at (entering_with rom.now wram.old vram.old pak.old (device_of drawing.regs (hardware_given hardware)))
         list.old }
 {
     capi_bus::lists::access_list(rom, wram, vram, pak, drawing, hardware, list)

@@ -12,8 +12,8 @@ pub extern "C" fn vb_probe_byte(
     address: u32,
     value: u32,
 ) -> u32
-    ensures refusal { result ≡ verdict_number (lent_verdict_of 1 rom wram vram pak address) }
-    ensures memory { vram.new ≡ vram_of 1 rom wram vram pak address value }
+    ensures refusal { result ≡ verdict_number (lent_verdict_of 1 rom.now wram.now vram.old pak.now address) }
+    ensures memory { vram.new ≡ vram_of 1 rom.now wram.now vram.old pak.now address value }
 {
     capi_bus::probes::probe_byte(rom, wram, vram, pak, address, value)
 }
@@ -27,8 +27,8 @@ pub extern "C" fn vb_probe_half(
     address: u32,
     value: u32,
 ) -> u32
-    ensures refusal { result ≡ verdict_number (lent_verdict_of 2 rom wram vram pak address) }
-    ensures memory { vram.new ≡ vram_of 2 rom wram vram pak address value }
+    ensures refusal { result ≡ verdict_number (lent_verdict_of 2 rom.now wram.now vram.old pak.now address) }
+    ensures memory { vram.new ≡ vram_of 2 rom.now wram.now vram.old pak.now address value }
 {
     capi_bus::probes::probe_half(rom, wram, vram, pak, address, value)
 }
@@ -42,8 +42,8 @@ pub extern "C" fn vb_probe_word(
     address: u32,
     value: u32,
 ) -> u32
-    ensures refusal { result ≡ verdict_number (lent_verdict_of 4 rom wram vram pak address) }
-    ensures memory { vram.new ≡ vram_of 4 rom wram vram pak address value }
+    ensures refusal { result ≡ verdict_number (lent_verdict_of 4 rom.now wram.now vram.old pak.now address) }
+    ensures memory { vram.new ≡ vram_of 4 rom.now wram.now vram.old pak.now address value }
 {
     capi_bus::probes::probe_word(rom, wram, vram, pak, address, value)
 }

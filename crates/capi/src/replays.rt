@@ -18,8 +18,8 @@ pub extern "C" fn vb_replay(
     trace: &[u8],
 ) -> VbReplayed
     ensures { replay_gives result.refusal result.answer result.agreed result.word result.processor
-        (leaving_with rom wram vram pak result.drawing.regs)
-        ≡ replay_at processor (entering_with rom wram vram pak drawing.regs) trace.now }
+        (leaving_with rom.now wram.new vram.new pak.new result.drawing.regs)
+        ≡ replay_at processor (entering_with rom.now wram.old vram.old pak.old drawing.regs) trace.now }
 {
     capi_processor::replays::replay(rom, wram, vram, pak, processor, drawing, trace)
 }

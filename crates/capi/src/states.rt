@@ -21,8 +21,8 @@ pub extern "C" fn vb_write_state(
     drawing: VbDrawing,
     room: &mut [u8],
 ) -> u32
-    ensures refusal { result ≡ write_number_at One processor (entering_with rom wram vram pak drawing.regs) room.old }
-    ensures room { room.new ≡ written_at One processor (entering_with rom wram vram pak drawing.regs) room.old }
+    ensures refusal { result ≡ write_number_at One processor (entering_with rom.now wram.now vram.now pak.now drawing.regs) room.old }
+    ensures room { room.new ≡ written_at One processor (entering_with rom.now wram.now vram.now pak.now drawing.regs) room.old }
 {
     capi_saved::states::write_state(rom, wram, vram, pak, processor, drawing, room)
 }
@@ -37,8 +37,8 @@ pub extern "C" fn vb_write_state_2(
     drawing: VbDrawing,
     room: &mut [u8],
 ) -> u32
-    ensures refusal { result ≡ write_number_at Two processor (entering_with rom wram vram pak drawing.regs) room.old }
-    ensures room { room.new ≡ written_at Two processor (entering_with rom wram vram pak drawing.regs) room.old }
+    ensures refusal { result ≡ write_number_at Two processor (entering_with rom.now wram.now vram.now pak.now drawing.regs) room.old }
+    ensures room { room.new ≡ written_at Two processor (entering_with rom.now wram.now vram.now pak.now drawing.regs) room.old }
 {
     capi_saved::states::write_state_2(rom, wram, vram, pak, processor, drawing, room)
 }
@@ -53,8 +53,8 @@ pub extern "C" fn vb_read_state(
     drawing: VbDrawing,
     file: &[u8],
 ) -> VbRestored
-    ensures { restored_gives result.refusal result.processor (leaving_with rom wram vram pak result.drawing.regs)
-        ≡ read_at processor (entering_with rom wram vram pak drawing.regs) file.now }
+    ensures { restored_gives result.refusal result.processor (leaving_with rom.now wram.new vram.new pak.new result.drawing.regs)
+        ≡ read_at processor (entering_with rom.now wram.old vram.old pak.old drawing.regs) file.now }
 {
     capi_saved::states::read_state(rom, wram, vram, pak, processor, drawing, file)
 }

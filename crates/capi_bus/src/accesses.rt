@@ -79,7 +79,7 @@ pub fn load_byte(
     address: u32,
 ) -> VbLoaded
     ensures { result ≡ load_out
-        (checked_load_of (entering_with rom wram vram pak (device_of drawing.regs (hardware_given hardware))) 1 address) }
+        (checked_load_of (entering_with rom.now wram.now vram.now pak.now (device_of drawing.regs (hardware_given hardware))) 1 address) }
 {
     let regs = drawing.regs;
     let given = hardware_given(hardware);
@@ -96,7 +96,7 @@ pub fn load_half(
     address: u32,
 ) -> VbLoaded
     ensures { result ≡ load_out
-        (checked_load_of (entering_with rom wram vram pak (device_of drawing.regs (hardware_given hardware))) 2 address) }
+        (checked_load_of (entering_with rom.now wram.now vram.now pak.now (device_of drawing.regs (hardware_given hardware))) 2 address) }
 {
     let regs = drawing.regs;
     let given = hardware_given(hardware);
@@ -113,7 +113,7 @@ pub fn load_word(
     address: u32,
 ) -> VbLoaded
     ensures { result ≡ load_out
-        (checked_load_of (entering_with rom wram vram pak (device_of drawing.regs (hardware_given hardware))) 4 address) }
+        (checked_load_of (entering_with rom.now wram.now vram.now pak.now (device_of drawing.regs (hardware_given hardware))) 4 address) }
 {
     let regs = drawing.regs;
     let given = hardware_given(hardware);
@@ -131,9 +131,9 @@ pub fn store_byte(
     value: u32,
 ) -> VbStored
     ensures refusal { result.refusal ≡ verdict_number
-        (verdict_of (entering_with rom wram vram pak (device_of drawing.regs (hardware_given hardware)))) }
-    ensures memory { let m = entering_with rom wram vram pak (device_of drawing.regs (hardware_given hardware)) in
-        leaving_with rom wram vram pak (device_of result.drawing.regs (hardware_given result.hardware))
+        (verdict_of (entering_with rom.now wram.old vram.old pak.old (device_of drawing.regs (hardware_given hardware)))) }
+    ensures memory { let m = entering_with rom.now wram.old vram.old pak.old (device_of drawing.regs (hardware_given hardware)) in
+        leaving_with rom.now wram.new vram.new pak.new (device_of result.drawing.regs (hardware_given result.hardware))
         ≡ checked_store_of m (store_of m 1 address value) }
 {
     let regs = drawing.regs;
@@ -161,9 +161,9 @@ pub fn store_half(
     value: u32,
 ) -> VbStored
     ensures refusal { result.refusal ≡ verdict_number
-        (verdict_of (entering_with rom wram vram pak (device_of drawing.regs (hardware_given hardware)))) }
-    ensures memory { let m = entering_with rom wram vram pak (device_of drawing.regs (hardware_given hardware)) in
-        leaving_with rom wram vram pak (device_of result.drawing.regs (hardware_given result.hardware))
+        (verdict_of (entering_with rom.now wram.old vram.old pak.old (device_of drawing.regs (hardware_given hardware)))) }
+    ensures memory { let m = entering_with rom.now wram.old vram.old pak.old (device_of drawing.regs (hardware_given hardware)) in
+        leaving_with rom.now wram.new vram.new pak.new (device_of result.drawing.regs (hardware_given result.hardware))
         ≡ checked_store_of m (store_of m 2 address value) }
 {
     let regs = drawing.regs;
@@ -191,9 +191,9 @@ pub fn store_word(
     value: u32,
 ) -> VbStored
     ensures refusal { result.refusal ≡ verdict_number
-        (verdict_of (entering_with rom wram vram pak (device_of drawing.regs (hardware_given hardware)))) }
-    ensures memory { let m = entering_with rom wram vram pak (device_of drawing.regs (hardware_given hardware)) in
-        leaving_with rom wram vram pak (device_of result.drawing.regs (hardware_given result.hardware))
+        (verdict_of (entering_with rom.now wram.old vram.old pak.old (device_of drawing.regs (hardware_given hardware)))) }
+    ensures memory { let m = entering_with rom.now wram.old vram.old pak.old (device_of drawing.regs (hardware_given hardware)) in
+        leaving_with rom.now wram.new vram.new pak.new (device_of result.drawing.regs (hardware_given result.hardware))
         ≡ checked_store_of m (store_of m 4 address value) }
 {
     let regs = drawing.regs;

@@ -86,8 +86,8 @@ pub fn step(
     drawing: VbDrawing,
 ) -> VbStepped
     ensures { step_gives result.refusal result.answer result.code result.undefined result.processor
-        (leaving_with rom wram vram pak result.drawing.regs)
-        ≡ step_at processor (entering_with rom wram vram pak drawing.regs) }
+        (leaving_with rom.now wram.new vram.new pak.new result.drawing.regs)
+        ≡ step_at processor (entering_with rom.now wram.old vram.old pak.old drawing.regs) }
 {
     let misused = misuse(rom, wram, vram, pak, processor, drawing);
     if misused != 0 {
@@ -131,8 +131,8 @@ pub fn run(
     drawing: VbDrawing,
     budget: u64,
 ) -> VbRan
-    ensures { run_gives result.refusal result.count result.processor (leaving_with rom wram vram pak result.drawing.regs)
-        ≡ run_at budget processor (entering_with rom wram vram pak drawing.regs) }
+    ensures { run_gives result.refusal result.count result.processor (leaving_with rom.now wram.new vram.new pak.new result.drawing.regs)
+        ≡ run_at budget processor (entering_with rom.now wram.old vram.old pak.old drawing.regs) }
 {
     let misused = misuse(rom, wram, vram, pak, processor, drawing);
     if misused != 0 {

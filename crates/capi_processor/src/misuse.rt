@@ -17,7 +17,7 @@ pub fn misuse(
     processor: VbProcessor,
     drawing: VbDrawing,
 ) -> u32
-    ensures { result ≡ misuse_at processor (entering_with rom wram vram pak drawing.regs) }
+    ensures { result ≡ misuse_at processor (entering_with rom.now wram.now vram.now pak.now drawing.regs) }
 {
     let mode = processor.mode;
     if mode <= 2 {

@@ -70,8 +70,8 @@ pub fn replay(
     trace: &[u8],
 ) -> VbReplayed
     ensures { replay_gives result.refusal result.answer result.agreed result.word result.processor
-        (leaving_with rom wram vram pak result.drawing.regs)
-        ≡ replay_at processor (entering_with rom wram vram pak drawing.regs) trace.now }
+        (leaving_with rom.now wram.new vram.new pak.new result.drawing.regs)
+        ≡ replay_at processor (entering_with rom.now wram.old vram.old pak.old drawing.regs) trace.now }
 {
     let misused = misuse(rom, wram, vram, pak, processor, drawing);
     if misused != 0 {

@@ -39,9 +39,9 @@ pub fn write_state(
     drawing: VbDrawing,
     output: &mut [u8],
 ) -> u32
-    ensures refusal { result ≡ write_number_at One processor (entering_with rom wram vram pak drawing.regs) output.old }
+    ensures refusal { result ≡ write_number_at One processor (entering_with rom.now wram.now vram.now pak.now drawing.regs) output.old }
     ensures output { output.new
-        ≡ written_at One processor (entering_with rom wram vram pak drawing.regs) output.old }
+        ≡ written_at One processor (entering_with rom.now wram.now vram.now pak.now drawing.regs) output.old }
 {
     let misused = misuse(rom, wram, vram, pak, processor, drawing);
     if misused != 0 {
@@ -61,9 +61,9 @@ pub fn write_state_2(
     drawing: VbDrawing,
     output: &mut [u8],
 ) -> u32
-    ensures refusal { result ≡ write_number_at Two processor (entering_with rom wram vram pak drawing.regs) output.old }
+    ensures refusal { result ≡ write_number_at Two processor (entering_with rom.now wram.now vram.now pak.now drawing.regs) output.old }
     ensures output { output.new
-        ≡ written_at Two processor (entering_with rom wram vram pak drawing.regs) output.old }
+        ≡ written_at Two processor (entering_with rom.now wram.now vram.now pak.now drawing.regs) output.old }
 {
     let misused = misuse(rom, wram, vram, pak, processor, drawing);
     if misused != 0 {
@@ -83,8 +83,8 @@ pub fn read_state(
     drawing: VbDrawing,
     file: &[u8],
 ) -> VbRestored
-    ensures { restored_gives result.refusal result.processor (leaving_with rom wram vram pak result.drawing.regs)
-        ≡ read_at processor (entering_with rom wram vram pak drawing.regs) file.now }
+    ensures { restored_gives result.refusal result.processor (leaving_with rom.now wram.new vram.new pak.new result.drawing.regs)
+        ≡ read_at processor (entering_with rom.now wram.old vram.old pak.old drawing.regs) file.now }
 {
     let misused = misuse(rom, wram, vram, pak, processor, drawing);
     if misused != 0 {

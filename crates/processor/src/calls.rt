@@ -24,7 +24,7 @@ pub fn verdict(
     processor: Processor,
     drawing: Drawing,
 ) -> Verdict
-    ensures { result ≡ acceptance_in processor (entering_with rom wram vram pak drawing.regs) }
+    ensures { result ≡ acceptance_in processor (entering_with rom.now wram.now vram.now pak.now drawing.regs) }
 {
     let regs = processor.regs;
     let sys = system(processor);
@@ -55,8 +55,8 @@ pub fn step(
     processor: Processor,
     drawing: Drawing,
 ) -> Stepped
-    ensures { done_of result.answer result.undefined result.processor (leaving_with rom wram vram pak result.drawing.regs)
-        ≡ checked_step_of processor (entering_with rom wram vram pak drawing.regs) }
+    ensures { done_of result.answer result.undefined result.processor (leaving_with rom.now wram.new vram.new pak.new result.drawing.regs)
+        ≡ checked_step_of processor (entering_with rom.now wram.old vram.old pak.old drawing.regs) }
 {
     let mut regs = processor.regs;
     let mut sys = system(processor);
@@ -124,8 +124,8 @@ pub fn run(
     drawing: Drawing,
     budget: u64,
 ) -> Ran
-    ensures { ran_of result.verdict result.count result.processor (leaving_with rom wram vram pak result.drawing.regs)
-        ≡ checked_run_of budget processor (entering_with rom wram vram pak drawing.regs) }
+    ensures { ran_of result.verdict result.count result.processor (leaving_with rom.now wram.new vram.new pak.new result.drawing.regs)
+        ≡ checked_run_of budget processor (entering_with rom.now wram.old vram.old pak.old drawing.regs) }
 {
     let mut regs = processor.regs;
     let mut sys = system(processor);

@@ -45,9 +45,9 @@ fn fast(
     budget: u64,
 ) -> Progress
     requires { Lengths (length rom.now) (length wram.old) (length vram.old) (length pak.now) }
-    ensures { Follows budget (state_of regs.old sys.old pc psw mode) (entering rom wram vram pak device)
+    ensures { Follows budget (state_of regs.old sys.old pc psw mode) (entering rom.now wram.old vram.old pak.now device.now)
         result.count (state_of regs.new sys.new result.pc result.psw mode)
-        (leaving_ram rom wram vram pak device) }
+        (leaving_ram rom.now wram.new vram.new pak.now device.now) }
 {
     match mode {
         Mode::Running => {
@@ -76,8 +76,8 @@ pub fn run(
     budget: u64,
 ) -> Finished
     requires { Lengths (length rom.now) (length wram.old) (length vram.old) (length pak.old) }
-    ensures { ran_by regs.new sys.new result (leaving rom wram vram pak device)
-        ≡ run_of budget (state_of regs.old sys.old pc psw mode) (entering rom wram vram pak device) }
+    ensures { ran_by regs.new sys.new result (leaving rom.now wram.new vram.new pak.new device.new)
+        ≡ run_of budget (state_of regs.old sys.old pc psw mode) (entering rom.now wram.old vram.old pak.old device.old) }
 {
     let mut pc = pc;
     let mut psw = psw;

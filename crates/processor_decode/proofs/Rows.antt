@@ -1,13 +1,12 @@
 -- The row of an opcode in each part of the list by opcode.
 use Prim.Native.Nat.{ℕ, ◌+◌, ◌-◌, ◌≤◌, ◌<◌, ◌/◌}
-use mathlib.Core.Path.{◌≡◌, refl, sym, ◌∙◌, ap}
-use mathlib.Core.List.{List, ◌++◌}
+use mathlib.Core.Path.{◌≡◌, sym, ◌∙◌, ap}
+use mathlib.Core.List.{◌++◌}
 use native.Mathlib.Omega.{arith}
-use lib.ListN.{get_or, length, get_or-append, get_or-eq_default, get_or-replicate}
+use lib.ListN.{get_or, get_or-append, get_or-eq_default, get_or-replicate}
 use lib.Seq.{get_or-append-add}
 use Rattle.processor_decode.specs.Format.{branch}
 use Rattle.processor_decode.specs.Opcode.{decode_of, short_rows, branch_rows, long_rows}
-use Rattle.processor_decode.specs.declared.Decoded.{Decoded}
 use Rattle.processor_decode.specs.declared.Decoded.TheVariants.{Modelled, NotModelled}
 use Rattle.processor_decode.specs.declared.Instruction.TheVariants.{Illegal}
 use Rattle.processor_decode.specs.SubOpcode.{sub_rows, extended_of}

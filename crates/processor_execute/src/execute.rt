@@ -25,9 +25,9 @@ pub fn execute(
     psw: u32,
 ) -> Control
     requires { Lengths (length rom.now) (length wram.old) (length vram.old) (length pak.old) }
-    ensures { leaves regs.new sys.new result (leaving rom wram vram pak device)
+    ensures { leaves regs.new sys.new result (leaving rom.now wram.new vram.new pak.new device.new)
         ≡ execute_of i next (state_of regs.old sys.old pc psw Mode.Running)
-        (entering rom wram vram pak device) }
+        (entering rom.now wram.old vram.old pak.old device.old) }
 {
     match i {
         Instruction::Register(op, reg1, reg2) => compute::register(regs, op, reg1, reg2, next, psw),

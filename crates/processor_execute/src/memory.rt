@@ -34,9 +34,9 @@ pub fn load(
 ) -> Control
     requires { Lengths (length rom.now) (length wram.now) (length vram.now) (length pak.now) }
     ensures { (pc : ℕ) (sys : List ℕ)
-        → leaves regs.new sys result (entering rom wram vram pak device)
+        → leaves regs.new sys result (entering rom.now wram.now vram.now pak.now device.now)
         ≡ execute_of (Instruction.Load access.width access.disp access.reg1 access.reg2) next
-        (state_of regs.old sys pc psw Mode.Running) (entering rom wram vram pak device) }
+        (state_of regs.old sys pc psw Mode.Running) (entering rom.now wram.now vram.now pak.now device.now) }
 {
     let width = access.width;
     let base = get(regs, access.reg1);
@@ -59,9 +59,9 @@ pub fn input(
 ) -> Control
     requires { Lengths (length rom.now) (length wram.now) (length vram.now) (length pak.now) }
     ensures { (pc : ℕ) (sys : List ℕ)
-        → leaves regs.new sys result (entering rom wram vram pak device)
+        → leaves regs.new sys result (entering rom.now wram.now vram.now pak.now device.now)
         ≡ execute_of (Instruction.In access.width access.disp access.reg1 access.reg2) next
-        (state_of regs.old sys pc psw Mode.Running) (entering rom wram vram pak device) }
+        (state_of regs.old sys pc psw Mode.Running) (entering rom.now wram.now vram.now pak.now device.now) }
 {
     let width = access.width;
     let base = get(regs, access.reg1);
@@ -84,9 +84,9 @@ pub fn store(
 ) -> Control
     requires { Lengths (length rom.now) (length wram.old) (length vram.old) (length pak.old) }
     ensures { (pc : ℕ) (sys : List ℕ)
-        → leaves regs.now sys result (leaving rom wram vram pak device)
+        → leaves regs.now sys result (leaving rom.now wram.new vram.new pak.new device.new)
         ≡ execute_of (Instruction.Store access.width access.disp access.reg1 access.reg2) next
-        (state_of regs.now sys pc psw Mode.Running) (entering rom wram vram pak device) }
+        (state_of regs.now sys pc psw Mode.Running) (entering rom.now wram.old vram.old pak.old device.old) }
 {
     let width = access.width;
     let base = get(regs, access.reg1);
@@ -109,9 +109,9 @@ pub fn output(
 ) -> Control
     requires { Lengths (length rom.now) (length wram.old) (length vram.old) (length pak.old) }
     ensures { (pc : ℕ) (sys : List ℕ)
-        → leaves regs.now sys result (leaving rom wram vram pak device)
+        → leaves regs.now sys result (leaving rom.now wram.new vram.new pak.new device.new)
         ≡ execute_of (Instruction.Out access.width access.disp access.reg1 access.reg2) next
-        (state_of regs.now sys pc psw Mode.Running) (entering rom wram vram pak device) }
+        (state_of regs.now sys pc psw Mode.Running) (entering rom.now wram.old vram.old pak.old device.old) }
 {
     let width = access.width;
     let base = get(regs, access.reg1);

@@ -18,7 +18,7 @@ pub fn load(
     address: u32,
 ) -> u32
     requires { Lengths (length rom.now) (length wram.now) (length vram.now) (length pak.now) }
-    ensures { result ≡ loaded_of (entering rom wram vram pak device) width address }
+    ensures { result ≡ loaded_of (entering rom.now wram.now vram.now pak.now device.now) width address }
 {
     match width {
         Width::Byte => {
@@ -47,7 +47,7 @@ pub fn input(
     address: u32,
 ) -> u32
     requires { Lengths (length rom.now) (length wram.now) (length vram.now) (length pak.now) }
-    ensures { result ≡ input_of (entering rom wram vram pak device) width address }
+    ensures { result ≡ input_of (entering rom.now wram.now vram.now pak.now device.now) width address }
 {
     match width {
         Width::Byte => {
@@ -77,7 +77,7 @@ pub fn store(
     value: u32,
 )
     requires { Lengths (length rom.now) (length wram.old) (length vram.old) (length pak.old) }
-    ensures { leaving rom wram vram pak device ≡ stored_of (entering rom wram vram pak device) width address value }
+    ensures { leaving rom.now wram.new vram.new pak.new device.new ≡ stored_of (entering rom.now wram.old vram.old pak.old device.old) width address value }
 {
     match width {
         Width::Byte => bus::store::byte(rom, wram, vram, pak, device, address, value),

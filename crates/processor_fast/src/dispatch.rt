@@ -28,8 +28,8 @@ pub fn dispatch(
 ) -> Fast
     requires { Lengths (length rom.now) (length wram.old) (length vram.old) (length pak.now) × (code.first < 65536) }
     ensures { Turns (slice_index device.now lines_place) at.base code.first (code.word / 65536) result at.x psw
-        flags regs.old sys.old (entering rom wram vram pak device)
-        regs.new sys.new (leaving_ram rom wram vram pak device) }
+        flags regs.old sys.old (entering rom.now wram.old vram.old pak.now device.now)
+        regs.new sys.new (leaving_ram rom.now wram.new vram.new pak.now device.now) }
 {
     let base = at.base;
     let x = at.x;

@@ -34,8 +34,8 @@ fn inside(
     requires { Lengths (length rom.now) (length wram.old) (length vram.old) (length pak.now)
         × Stands (length rom.now) in_rom base last × (pc % 2 ≡ 0) × (psw % 4 ≢ 3) }
     ensures { StretchedBy budget (state_of regs.old sys.old pc psw Mode.Running)
-        (entering rom wram vram pak device) regs.new sys.new result
-        (leaving_ram rom wram vram pak device) }
+        (entering rom.now wram.old vram.old pak.now device.now) regs.new sys.new result
+        (leaving_ram rom.now wram.new vram.new pak.now device.now) }
 {
     let mut x = std::num::wrapping_sub_u32(pc, base);
     let mut flags = status::unpacked(psw);
@@ -111,9 +111,9 @@ pub fn stretch(
 ) -> Progress
     requires { Lengths (length rom.now) (length wram.old) (length vram.old) (length pak.now) }
     ensures { Stretched budget (state_of regs.old sys.old pc psw Mode.Running)
-        (entering rom wram vram pak device) result.count
+        (entering rom.now wram.old vram.old pak.now device.now) result.count
         (state_of regs.new sys.new result.pc result.psw Mode.Running)
-        (leaving_ram rom wram vram pak device) }
+        (leaving_ram rom.now wram.new vram.new pak.now device.now) }
 {
     if pc % 2 != 0 {
         return Progress { count: 0, pc, psw };

@@ -52,8 +52,8 @@ pub fn load_byte(
 ) -> Fast
     requires { Lengths (length rom.now) (length wram.now) (length vram.now) (length pak.now) × (s < 65536) }
     ensures { Performs true (format.transfer instruction.Instruction.Load Width.Byte f s) result x flags
-        regs.old (entering rom wram vram pak device)
-        regs.new (entering rom wram vram pak device) }
+        regs.old (entering rom.now wram.now vram.now pak.now device.now)
+        regs.new (entering rom.now wram.now vram.now pak.now device.now) }
 {
     let a = address(regs, f, s);
     let v = bus::load::byte(rom, wram, vram, pak, device, a);
@@ -75,8 +75,8 @@ pub fn load_half(
 ) -> Fast
     requires { Lengths (length rom.now) (length wram.now) (length vram.now) (length pak.now) × (s < 65536) }
     ensures { Performs true (format.transfer instruction.Instruction.Load Width.Half f s) result x flags
-        regs.old (entering rom wram vram pak device)
-        regs.new (entering rom wram vram pak device) }
+        regs.old (entering rom.now wram.now vram.now pak.now device.now)
+        regs.new (entering rom.now wram.now vram.now pak.now device.now) }
 {
     let a = address(regs, f, s);
     let v = bus::load::half(rom, wram, vram, pak, device, a);
@@ -98,11 +98,11 @@ pub fn load_word(
 ) -> Fast
     requires { Lengths (length rom.now) (length wram.now) (length vram.now) (length pak.now) × (s < 65536) }
     ensures loads { Performs true (format.transfer instruction.Instruction.Load Width.Word f s) result x flags
-        regs.old (entering rom wram vram pak device)
-        regs.new (entering rom wram vram pak device) }
+        regs.old (entering rom.now wram.now vram.now pak.now device.now)
+        regs.new (entering rom.now wram.now vram.now pak.now device.now) }
     ensures inputs { Performs true (format.transfer instruction.Instruction.In Width.Word f s) result x flags
-        regs.old (entering rom wram vram pak device)
-        regs.new (entering rom wram vram pak device) }
+        regs.old (entering rom.now wram.now vram.now pak.now device.now)
+        regs.new (entering rom.now wram.now vram.now pak.now device.now) }
 {
     let a = address(regs, f, s);
     let v = bus::load::word(rom, wram, vram, pak, device, a);
@@ -124,8 +124,8 @@ pub fn input_byte(
 ) -> Fast
     requires { Lengths (length rom.now) (length wram.now) (length vram.now) (length pak.now) × (s < 65536) }
     ensures { Performs true (format.transfer instruction.Instruction.In Width.Byte f s) result x flags
-        regs.old (entering rom wram vram pak device)
-        regs.new (entering rom wram vram pak device) }
+        regs.old (entering rom.now wram.now vram.now pak.now device.now)
+        regs.new (entering rom.now wram.now vram.now pak.now device.now) }
 {
     let a = address(regs, f, s);
     let v = bus::load::byte(rom, wram, vram, pak, device, a);
@@ -147,8 +147,8 @@ pub fn input_half(
 ) -> Fast
     requires { Lengths (length rom.now) (length wram.now) (length vram.now) (length pak.now) × (s < 65536) }
     ensures { Performs true (format.transfer instruction.Instruction.In Width.Half f s) result x flags
-        regs.old (entering rom wram vram pak device)
-        regs.new (entering rom wram vram pak device) }
+        regs.old (entering rom.now wram.now vram.now pak.now device.now)
+        regs.new (entering rom.now wram.now vram.now pak.now device.now) }
 {
     let a = address(regs, f, s);
     let v = bus::load::half(rom, wram, vram, pak, device, a);

@@ -20,8 +20,8 @@ pub fn replay(
     drawing: Drawing,
     trace: &[u8],
 ) -> Replayed
-    ensures { replayed_of result.end result.agreed result.processor (leaving_with rom wram vram pak result.drawing.regs)
-        ≡ checked_replay_of processor (entering_with rom wram vram pak drawing.regs) trace.now }
+    ensures { replayed_of result.end result.agreed result.processor (leaving_with rom.now wram.new vram.new pak.new result.drawing.regs)
+        ≡ checked_replay_of processor (entering_with rom.now wram.old vram.old pak.old drawing.regs) trace.now }
 {
     match processor::calls::verdict(rom, wram, vram, pak, processor, drawing) {
         Verdict::Refused(n) => Replayed {

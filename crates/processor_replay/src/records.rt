@@ -77,9 +77,9 @@ pub fn replay(
     trace: &[u8],
 ) -> FinishedReplay
     requires { Lengths (length rom.now) (length wram.old) (length vram.old) (length pak.old) }
-    ensures { replayed_by regs.new sys.new result (leaving rom wram vram pak device)
+    ensures { replayed_by regs.new sys.new result (leaving rom.now wram.new vram.new pak.new device.new)
         ≡ replay_of (records_of trace.now) 0 trace.now
-        (state_of regs.old sys.old pc psw mode) (entering rom wram vram pak device) }
+        (state_of regs.old sys.old pc psw mode) (entering rom.now wram.old vram.old pak.old device.old) }
 {
     let n = trace.len() / 16;
     let mut pc = pc;

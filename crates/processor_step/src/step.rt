@@ -41,8 +41,8 @@ fn half(
     pc: u32,
 ) -> u16
     requires { Lengths (length rom.now) (length wram.old) (length vram.old) (length pak.old) }
-    ensures value { result ≡ first_of pc (entering rom wram vram pak device) }
-    ensures kept { leaving rom wram vram pak device ≡ entering rom wram vram pak device }
+    ensures value { result ≡ first_of pc (entering rom.now wram.old vram.old pak.old device.old) }
+    ensures kept { leaving rom.now wram.new vram.new pak.new device.new ≡ entering rom.now wram.old vram.old pak.old device.old }
 {
     let v = bus::load::half(rom, wram, vram, pak, device, pc);
     v.value as u16
@@ -59,8 +59,8 @@ fn second(
     two: bool,
 ) -> u16
     requires { Lengths (length rom.now) (length wram.old) (length vram.old) (length pak.old) }
-    ensures value { result ≡ second_of two pc (entering rom wram vram pak device) }
-    ensures kept { leaving rom wram vram pak device ≡ entering rom wram vram pak device }
+    ensures value { result ≡ second_of two pc (entering rom.now wram.old vram.old pak.old device.old) }
+    ensures kept { leaving rom.now wram.new vram.new pak.new device.new ≡ entering rom.now wram.old vram.old pak.old device.old }
 {
     if !two {
         return 0;
@@ -98,10 +98,10 @@ fn running(
     psw: u32,
 ) -> Performed
     requires { Lengths (length rom.now) (length wram.old) (length vram.old) (length pak.old) }
-    ensures done { leaves regs.new sys.new result.control (leaving rom wram vram pak device)
+    ensures done { leaves regs.new sys.new result.control (leaving rom.now wram.new vram.new pak.new device.new)
         ≡ running_step_of (state_of regs.old sys.old pc psw Mode.Running)
-        (entering rom wram vram pak device) }
-    ensures fetched { result.fetched ≡ fetched_at pc (entering rom wram vram pak device) }
+        (entering rom.now wram.old vram.old pak.old device.old) }
+    ensures fetched { result.fetched ≡ fetched_at pc (entering rom.now wram.old vram.old pak.old device.old) }
 {
     let first = half(rom, wram, vram, pak, device, pc);
     let two = processor_decode::two(first);
@@ -141,10 +141,10 @@ fn instruction(
     mode: Mode,
 ) -> Performed
     requires { Lengths (length rom.now) (length wram.old) (length vram.old) (length pak.old) }
-    ensures done { leaves regs.new sys.new result.control (leaving rom wram vram pak device)
+    ensures done { leaves regs.new sys.new result.control (leaving rom.now wram.new vram.new pak.new device.new)
         ≡ instruction_step_of (state_of regs.old sys.old pc psw mode)
-        (entering rom wram vram pak device) }
-    ensures fetched { result.fetched ≡ fetched_in_of mode pc (entering rom wram vram pak device) }
+        (entering rom.now wram.old vram.old pak.old device.old) }
+    ensures fetched { result.fetched ≡ fetched_in_of mode pc (entering rom.now wram.old vram.old pak.old device.old) }
 {
     match mode {
         Mode::Running => running(rom, wram, vram, pak, device, regs, sys, pc, psw),
@@ -213,10 +213,10 @@ pub fn step(
     mode: Mode,
 ) -> Performed
     requires { Lengths (length rom.now) (length wram.old) (length vram.old) (length pak.old) }
-    ensures done { leaves regs.new sys.new result.control (leaving rom wram vram pak device)
-        ≡ step_of (state_of regs.old sys.old pc psw mode) (entering rom wram vram pak device) }
+    ensures done { leaves regs.new sys.new result.control (leaving rom.now wram.new vram.new pak.new device.new)
+        ≡ step_of (state_of regs.old sys.old pc psw mode) (entering rom.now wram.old vram.old pak.old device.old) }
     ensures fetched { result.fetched ≡ fetched_of (state_of regs.old sys.old pc psw mode)
-        (entering rom wram vram pak device) }
+        (entering rom.now wram.old vram.old pak.old device.old) }
 {
     let lines = device[LINES_PLACE];
     if accepts(lines, psw, mode) {

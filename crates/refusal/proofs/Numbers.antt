@@ -1,5 +1,5 @@
 -- `numbers_apart` and `verdicts-apart`: a number leads back to its refusal, by the list of them in order.
-use Prim.Native.Nat.{ℕ, ◌-◌}
+use Prim.Native.Nat.{ℕ}
 use mathlib.Core.List.{List, [], ◌∷◌}
 use mathlib.Core.Path.{◌≡◌, refl, sym, ap, ◌∙◌}
 use lib.ListN.{get_or}

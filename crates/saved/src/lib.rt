@@ -59,9 +59,9 @@ fn write_form(
     drawing: Drawing,
     output: &mut [u8],
 ) -> Verdict
-    ensures verdict { result ≡ write_verdict_of form processor (entering_with rom wram vram pak drawing.regs) output.old }
+    ensures verdict { result ≡ write_verdict_of form processor (entering_with rom.now wram.now vram.now pak.now drawing.regs) output.old }
     ensures output { output.new
-        ≡ written_output_of form processor (entering_with rom wram vram pak drawing.regs) output.old }
+        ≡ written_output_of form processor (entering_with rom.now wram.now vram.now pak.now drawing.regs) output.old }
 {
     match processor::calls::verdict(rom, wram, vram, pak, processor, drawing) {
         Verdict::Refused(n) => Verdict::Refused(n),
@@ -88,9 +88,9 @@ pub fn write(
     drawing: Drawing,
     output: &mut [u8],
 ) -> Verdict
-    ensures verdict { result ≡ write_verdict_of One processor (entering_with rom wram vram pak drawing.regs) output.old }
+    ensures verdict { result ≡ write_verdict_of One processor (entering_with rom.now wram.now vram.now pak.now drawing.regs) output.old }
     ensures output { output.new
-        ≡ written_output_of One processor (entering_with rom wram vram pak drawing.regs) output.old }
+        ≡ written_output_of One processor (entering_with rom.now wram.now vram.now pak.now drawing.regs) output.old }
 {
     write_form(Form::One, rom, wram, vram, pak, processor, drawing, output)
 }
@@ -105,9 +105,9 @@ pub fn write_2(
     drawing: Drawing,
     output: &mut [u8],
 ) -> Verdict
-    ensures verdict { result ≡ write_verdict_of Two processor (entering_with rom wram vram pak drawing.regs) output.old }
+    ensures verdict { result ≡ write_verdict_of Two processor (entering_with rom.now wram.now vram.now pak.now drawing.regs) output.old }
     ensures output { output.new
-        ≡ written_output_of Two processor (entering_with rom wram vram pak drawing.regs) output.old }
+        ≡ written_output_of Two processor (entering_with rom.now wram.now vram.now pak.now drawing.regs) output.old }
 {
     write_form(Form::Two, rom, wram, vram, pak, processor, drawing, output)
 }
@@ -123,8 +123,8 @@ pub fn read(
     drawing: Drawing,
     file: &[u8],
 ) -> Restored
-    ensures { restored_of result.verdict result.processor (leaving_with rom wram vram pak result.drawing.regs)
-        ≡ read_back_of processor (entering_with rom wram vram pak drawing.regs) file.now }
+    ensures { restored_of result.verdict result.processor (leaving_with rom.now wram.new vram.new pak.new result.drawing.regs)
+        ≡ read_back_of processor (entering_with rom.now wram.old vram.old pak.old drawing.regs) file.now }
 {
     match processor::calls::verdict(rom, wram, vram, pak, processor, drawing) {
         Verdict::Refused(n) => Restored {

@@ -1,17 +1,14 @@
 -- The loops over halfwords and words: those put so far are pasted into the buffer, those taken so far stand in the array.
 -- Assumes nothing.
-use Prim.Native.Nat.{ℕ, zero, suc, ◌+◌, ◌-◌, ◌*◌, ◌/◌, ◌%◌, ◌<◌, ◌≤◌}
+use Prim.Native.Nat.{ℕ, suc, ◌+◌, ◌*◌, ◌/◌, ◌%◌, ◌<◌, ◌≤◌}
 use native.Mathlib.Omega.{arith}
 use native.Mathlib.Decide.{ℕ_discrete}
-use mathlib.Core.Bool.{Bool, true, false}
 use mathlib.Core.Path.{◌≡◌, refl, sym, ap, ◌∙◌}
-use mathlib.Core.List.{List, [], ◌∷◌}
-use borrow.Author.Tests.{eq-eqb, ne_eqb}
-use lib.ListN.{length, get_or, set, drop, length-set}
-use lib.Seq.{paste, paste-zero, paste-suc, get_or-set_same, get_or-set_other, ext_get_or, drop-cons, drop-length}
+use mathlib.Core.List.{List}
+use lib.ListN.{length, get_or, set, length-set}
+use lib.Seq.{paste, paste-zero, paste-suc, get_or-set_same, get_or-set_other, ext_get_or}
 use Rattle.word.specs.LittleEndian.{half_at, word_at, put_half, put_word}
 use Rattle.saved_bytes.specs.Numbers.{bytes_of, halves_of, halves_from, words_from}
-use Rattle.saved_bytes.specs.Numbers.{same_of}
 use Rattle.saved_bytes.proofs.LittleEndian.{length-bytes, length-halves, byte_low, byte_high, half-low}
 use Rattle.saved_bytes.proofs.LittleEndian.{half_high, length-halves-from, get_or-halves-from, length-words-from}
 use Rattle.saved_bytes.proofs.LittleEndian.{get_or-words-from}

@@ -1,32 +1,18 @@
 -- Bytes put over a part of a buffer: what a copy into the part leaves, lengths, and parts put one after the other. Assumes nothing.
-use Prim.Native.Nat.{ℕ, ◌+◌, ◌-◌, ◌≤◌}
+use Prim.Native.Nat.{ℕ, ◌+◌, ◌≤◌}
 use native.Mathlib.Omega.{arith}
 use mathlib.Core.Path.{◌≡◌, refl, sym, ap, ◌∙◌}
-use mathlib.Core.List.{List, [], ◌++◌, append-nil, append_assoc}
+use mathlib.Core.List.{List, ◌++◌, append-nil, append_assoc}
 use lib.ListN.{length, take, drop, length-append, length-drop, drop_of_length-le}
-use lib.Seq.{paste, take_all, take_at, drop_at, drop-drop, take-length, length-take-le}
-use borrow.Rule.Slice.PartMut.{put_mid, mid_of}
+use lib.Seq.{paste, take_at, drop_at, drop-drop, take-length, length-take-le}
+use borrow.Rule.Slice.PartMut.{put_mid}
 use Rattle.saved_bytes.specs.inner.Put.{put_at}
 
-module _ (at : ℕ) (xs : List ℕ) (within : at ≤ length xs) where
-  mid-drop : mid_of at (length xs - at) xs ≡ drop at xs
-  mid-drop = take_all (length xs - at) (drop at xs) (simp length-drop (omega arith))
-
-  put_all : (ys : List ℕ) → put_mid at (length xs - at) xs ys ≡ take at xs ++ ys
-  put_all ys =
-      ap (λ (p : List ℕ). take at xs ++ (ys ++ p)) (drop_of_length-le (drop at xs) {i = length xs - at} (simp length-drop (omega arith)))
-      ∙ ap (λ (p : List ℕ). take at xs ++ p) (append-nil ys)
-
-  pub part-put : (bs ys : List ℕ) → ys ≡ take (length bs) bs ++ drop (length bs) (mid_of at (length xs - at) xs)
-      → put_mid at (length xs - at) xs ys ≡ put_at xs at bs
-  unfolding put_at
-  part-put bs ys e =
-      put_all ys
-      ∙ (ap (λ (p : List ℕ). take at xs ++ p)
-      (e
-      ∙ (ap (λ (p : List ℕ). p ++ drop (length bs) (mid_of at (length xs - at) xs)) (take-length bs)
-      ∙ ap (λ (p : List ℕ). bs ++ p) (ap (drop (length bs)) mid-drop ∙ drop-drop (length bs) at xs)))
-      ∙ sym (append_assoc (take at xs) bs (drop (at + length bs) xs)))
+-- what a copy over n bytes from `at` on leaves
+pub part-put : (at : ℕ) (xs : List ℕ) (n : ℕ) (bs ys : List ℕ) → n ≡ length bs → ys ≡ bs → put_mid at n xs ys ≡ put_at xs at bs
+unfolding put_at
+part-put at xs n bs ys e f =
+    rw (f, e) (ap (λ (p : List ℕ). take at xs ++ (bs ++ p)) (drop-drop (length bs) at xs) ∙ sym (append_assoc (take at xs) bs (drop (at + length bs) xs)))
 
 -- all of a list pasted
 pub paste_all : (d : List ℕ) (at : ℕ) (s : List ℕ) (n : ℕ) → n ≡ length s → paste d at s n ≡ put_at d at s

@@ -9,7 +9,7 @@ pub fn put_bytes(output: &mut [u8], at: usize, bytes: &[u8])
     requires { at + length bytes.now ≤ length output.old }
     ensures { output.new ≡ put_at output.old at bytes.now }
 {
-    output[at..].copy_from_slice(bytes);
+    output[at..at + bytes.len()].copy_from_slice(bytes);
 }
 
 // Zeros over `count` bytes from byte `at` on.

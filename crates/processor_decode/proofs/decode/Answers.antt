@@ -1,7 +1,5 @@
 -- `processor_decode::decode`: the list of rows in its three parts.
-use borrow.Author.Rules.{rules}
 use native.Mathlib.Omega.{arith}
-use Rattle.processor_decode.specs.Opcode.{decode_of}
 use Rattle.processor_decode.proofs.Rows.{short_row, branch_row, long-row}
 use Rattle.processor_decode.proofs.decode.Goals as goal
 

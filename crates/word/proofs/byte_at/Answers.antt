@@ -1,6 +1,5 @@
 -- `word::byte_at` meets its contract: the slice's rule bounds each element.
 -- Assumes nothing.
-use borrow.Author.Rules.{rules}
 use native.Mathlib.Omega.{arith}
 use mathlib.Core.Path.{refl}
 use Rattle.word.proofs.byte_at.Goals as goal

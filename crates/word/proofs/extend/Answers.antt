@@ -1,6 +1,5 @@
 -- `word::extend` meets its contract: below half the number is kept, from half on 2 ^ 32 - 2 * half is added.
 -- Assumes nothing.
-use borrow.Author.Rules.{rules}
 use borrow.Author.Tests.{lt-ltb, le-ltb}
 use native.Mathlib.Omega.{arith}
 use Rattle.word.specs.Extend.{extend_of}

@@ -1,7 +1,5 @@
 -- `word::put-word` meets its contract: two halfwords are put, the low one first.
 -- Assumes nothing.
-use borrow.Author.Rules.{rules}
-use mathlib.Core.Path.{refl}
 use Rattle.word.proofs.put_word.Goals as goal
 
 pub returns : goal.returns

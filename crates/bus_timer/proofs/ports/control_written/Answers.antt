@@ -2,7 +2,6 @@
 use Rattle.bus_timer.specs.Ports.{control_written_of}
 use native.Mathlib.Omega.{arith}
 use borrow.Author.Tests.{eq-eqb, ne_eqb}
-use borrow.Author.Rules.{rules}
 use Rattle.bus_timer.proofs.ports.control_written.Goals as goal
 
 pub returns-then-v-eq1 : goal.returns-then-v-eq1

@@ -1,7 +1,6 @@
 -- `bus_timer::ports::line_after_control`: two tests, of Z-Stat-Clr and of Tim-Z-Int.
 use Rattle.bus_timer.specs.Ports.{line_after_control}
 use borrow.Author.Tests.{eq-eqb, ne_eqb}
-use borrow.Author.Rules.{rules}
 use Rattle.bus_timer.proofs.ports.line_after_control.Goals as goal
 
 pub returns-then-v-eq1 : goal.returns-then-v-eq1

@@ -1,7 +1,6 @@
 -- `bus_timer::ports::ok`: two tests.
 use Rattle.bus_timer.specs.Ports.{hardware_ok}
 use borrow.Author.Tests.{le-ltb, lt-ltb}
-use borrow.Author.Rules.{rules}
 use Rattle.bus_timer.proofs.ports.ok.Goals as goal
 
 pub returns-then-h-ge32 : goal.returns-then-h-ge32

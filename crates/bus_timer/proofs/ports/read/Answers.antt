@@ -5,7 +5,6 @@ use Rattle.bus_timer.specs.Ports.{port_byte_of}
 use Rattle.bus_timer.proofs.Mask.{control-sum}
 use native.Mathlib.Omega.{arith}
 use borrow.Author.Tests.{eq-eqb, ne_eqb}
-use borrow.Author.Rules.{rules}
 use Rattle.bus_timer.proofs.ports.read.Goals as goal
 
 pub returns-then-offset-eq24 : goal.returns-then-offset-eq24

@@ -1,8 +1,6 @@
 -- `bus_timer::ports::write`: by the offset.
 use Rattle.bus_timer.specs.Ports.{port_written_of, tcr_written_of}
-use native.Mathlib.Omega.{arith}
 use borrow.Author.Tests.{eq-eqb, ne_eqb}
-use borrow.Author.Rules.{rules}
 use Rattle.bus_timer.proofs.ports.write.Goals as goal
 
 pub returns-then-offset-eq24 : goal.returns-then-offset-eq24

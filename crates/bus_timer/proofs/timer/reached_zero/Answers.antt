@@ -1,7 +1,6 @@
 -- `bus_timer::timer::reached_zero`: one test, of Tim-Z-Int.
 use Rattle.bus_timer.specs.Timer.{reached_zero_of}
 use borrow.Author.Tests.{eq-eqb, ne_eqb}
-use borrow.Author.Rules.{rules}
 use Rattle.bus_timer.proofs.timer.reached_zero.Goals as goal
 
 pub returns-then-h-eq1 : goal.returns-then-h-eq1

@@ -4,7 +4,6 @@ use mathlib.Core.Path.{◌≡◌}
 use Rattle.bus_timer.specs.Timer.{tick_of, counted_of, ticked_count_of, start_of}
 use native.Mathlib.Omega.{arith}
 use borrow.Author.Tests.{eq-eqb, ne_eqb}
-use borrow.Author.Rules.{rules}
 use Rattle.bus_timer.proofs.timer.tick.Goals as goal
 
 pub returns-then-h-eq0 : goal.returns-then-h-eq0

@@ -1,5 +1,5 @@
 -- `processor_arithmetic::sum::add`: the parts of the result, each by its callee's promise.
-use Rattle.std.proofs.Common.{arith, rules}
+use Rattle.std.proofs.Common.{◌≡◌, ◌+◌, ◌%◌, ◌^◌, arith, rules}
 use Rattle.processor_arithmetic.proofs.Carry.{sum-carry}
 use Rattle.processor_arithmetic.specs.Sum.{sum_of}
 use Rattle.processor_arithmetic.proofs.sum.add.Goals as goal
@@ -8,10 +8,11 @@ pub returns : goal.returns
 unfolding sum_of
 returns c =
     let a = c.args in
+    let e : c.wrapping_add_u32-value.result ≡ (a.a + a.b) % 2 ^ 32 = omega arith in
     rw (
       c.flags-psw.ensures,
       c.overflow-ov.ensures.0,
       c.bit-cy.ensures.0,
-      c.wrapping_add_u32-value.ensures,
+      e,
       sum-carry a.a a.b (omega arith) (omega arith),
     )

@@ -1,5 +1,4 @@
 -- `processor_decode::format::long_signed`: the extended immediate.
-use borrow.Author.Rules.{rules}
 use Rattle.processor_decode.proofs.format.long_signed.Goals as goal
 
 pub returns : goal.returns

@@ -1,12 +1,11 @@
 -- `saved_bytes::numbers::put_halves` meets its contract: those put so far stand in the buffer. Assumes nothing.
-use Prim.Native.Nat.{◌-◌, ◌*◌, ◌≤◌}
+use Prim.Native.Nat.{◌*◌}
 use native.Mathlib.Omega.{arith}
 use mathlib.Core.Path.{◌≡◌, refl, ◌∙◌}
 use lib.ListN.{length}
-use Rattle.saved_bytes.specs.Numbers.{bytes_of, halves_of}
-use Rattle.saved_bytes.proofs.LittleEndian.{length-bytes, length-halves}
+use Rattle.saved_bytes.proofs.LittleEndian.{length-bytes}
 use Rattle.saved_bytes.proofs.Putting.{paste_all}
-use Rattle.saved_bytes.proofs.Filling.{Pasted, pasted-none, pasted-half}
+use Rattle.saved_bytes.proofs.Filling.{pasted-none, pasted-half}
 use Rattle.saved_bytes.proofs.numbers.put_halves.Goals as goal
 
 pub loop-k-init : goal.loop-k-init

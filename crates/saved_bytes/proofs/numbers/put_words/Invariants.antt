@@ -1,11 +1,7 @@
 use Prim.Native.Nat.{◌-◌, ◌*◌, ◌≤◌}
-use native.Mathlib.Omega.{arith}
-use mathlib.Core.Path.{◌≡◌, refl, ◌∙◌}
 use lib.ListN.{length}
 use Rattle.saved_bytes.specs.Numbers.{bytes_of, halves_of}
-use Rattle.saved_bytes.proofs.LittleEndian.{length-bytes, length-halves}
-use Rattle.saved_bytes.proofs.Putting.{paste_all}
-use Rattle.saved_bytes.proofs.Filling.{Pasted, pasted-none, pasted-word}
+use Rattle.saved_bytes.proofs.Filling.{Pasted}
 use Rattle.saved_bytes.proofs.numbers.put_words.Given as goal
 
 abbrev pub invariant-loop-k : goal.invariant-loop-k

@@ -1,12 +1,10 @@
 -- `saved_bytes::numbers::same_halves` meets its contract: what is left to compare decides. Assumes nothing.
-use Prim.Native.Nat.{◌-◌, ◌≤◌}
 use native.Mathlib.Omega.{arith}
-use mathlib.Core.Path.{◌≡◌, refl, sym, ◌∙◌}
+use mathlib.Core.Path.{◌≡◌, sym, ◌∙◌}
 use lib.ListN.{length}
 use Rattle.saved_bytes.specs.Numbers.{halves_from}
 use Rattle.saved_bytes.proofs.LittleEndian.{length-halves-from, get_or-halves-first}
-use Rattle.saved_bytes.proofs.Comparing.{Left, left-more, left-differs, left-none}
-use borrow.Author.Rules.{rules}
+use Rattle.saved_bytes.proofs.Comparing.{left-more, left-differs, left-none}
 use Rattle.saved_bytes.proofs.numbers.same_halves.Goals as goal
 
 pub overflow_cast-halves : goal.overflow_cast-halves

@@ -1,11 +1,7 @@
 use Prim.Native.Nat.{◌-◌, ◌≤◌}
-use native.Mathlib.Omega.{arith}
-use mathlib.Core.Path.{◌≡◌, refl, sym, ◌∙◌}
 use lib.ListN.{length}
 use Rattle.saved_bytes.specs.Numbers.{halves_from}
-use Rattle.saved_bytes.proofs.LittleEndian.{length-halves-from, get_or-halves-first}
-use Rattle.saved_bytes.proofs.Comparing.{Left, left-more, left-differs, left-none}
-use borrow.Author.Rules.{rules}
+use Rattle.saved_bytes.proofs.Comparing.{Left}
 use Rattle.saved_bytes.proofs.numbers.same_halves.Given as goal
 
 abbrev pub invariant-loop-k : goal.invariant-loop-k

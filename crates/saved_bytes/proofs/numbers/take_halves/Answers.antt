@@ -1,10 +1,8 @@
 -- `saved_bytes::numbers::take_halves` meets its contract: those taken so far stand in the array. Assumes nothing.
-use Prim.Native.Nat.{◌+◌, ◌-◌, ◌*◌, ◌≤◌}
 use native.Mathlib.Omega.{arith}
 use mathlib.Core.Path.{◌≡◌}
 use lib.ListN.{length}
-use Rattle.word.specs.LittleEndian.{half_at}
-use Rattle.saved_bytes.proofs.Filling.{Filled, filled_none, filled_more, filled-halves}
+use Rattle.saved_bytes.proofs.Filling.{filled_none, filled_more, filled-halves}
 use Rattle.saved_bytes.proofs.numbers.take_halves.Goals as goal
 
 pub loop-k-init : goal.loop-k-init

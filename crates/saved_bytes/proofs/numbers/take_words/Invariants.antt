@@ -1,9 +1,7 @@
 use Prim.Native.Nat.{◌+◌, ◌-◌, ◌*◌, ◌≤◌}
-use native.Mathlib.Omega.{arith}
-use mathlib.Core.Path.{◌≡◌}
 use lib.ListN.{length}
 use Rattle.word.specs.LittleEndian.{word_at}
-use Rattle.saved_bytes.proofs.Filling.{Filled, filled_none, filled_more, filled-words}
+use Rattle.saved_bytes.proofs.Filling.{Filled}
 use Rattle.saved_bytes.proofs.numbers.take_words.Given as goal
 
 abbrev pub invariant-loop-k : goal.invariant-loop-k

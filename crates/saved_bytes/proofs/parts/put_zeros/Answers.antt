@@ -1,9 +1,9 @@
 -- `saved_bytes::parts::put_zeros` meets its contract: those put so far stand in the buffer. Assumes nothing.
-use Prim.Native.Nat.{ℕ, ◌-◌, ◌≤◌}
+use Prim.Native.Nat.{ℕ}
 use native.Mathlib.Omega.{arith}
-use mathlib.Core.Path.{◌≡◌, ◌∙◌}
-use lib.ListN.{length, replicate, length-replicate}
-use Rattle.saved_bytes.proofs.Filling.{Pasted, pasted-none}
+use mathlib.Core.Path.{◌∙◌}
+use lib.ListN.{length-replicate}
+use Rattle.saved_bytes.proofs.Filling.{pasted-none}
 use Rattle.saved_bytes.proofs.Putting.{paste_all}
 use Rattle.saved_bytes.proofs.Summing.{zeros-more}
 use Rattle.saved_bytes.proofs.parts.put_zeros.Goals as goal

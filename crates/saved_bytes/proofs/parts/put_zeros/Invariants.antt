@@ -1,10 +1,6 @@
-use Prim.Native.Nat.{ℕ, ◌-◌, ◌≤◌}
-use native.Mathlib.Omega.{arith}
-use mathlib.Core.Path.{◌≡◌, ◌∙◌}
-use lib.ListN.{length, replicate, length-replicate}
-use Rattle.saved_bytes.proofs.Filling.{Pasted, pasted-none}
-use Rattle.saved_bytes.proofs.Putting.{paste_all}
-use Rattle.saved_bytes.proofs.Summing.{zeros-more}
+use Prim.Native.Nat.{◌-◌, ◌≤◌}
+use lib.ListN.{replicate}
+use Rattle.saved_bytes.proofs.Filling.{Pasted}
 use Rattle.saved_bytes.proofs.parts.put_zeros.Given as goal
 
 abbrev pub invariant-loop-k : goal.invariant-loop-k

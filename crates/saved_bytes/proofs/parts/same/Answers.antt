@@ -1,9 +1,8 @@
 -- `saved_bytes::parts::same` meets its contract: what is left to compare decides. Assumes nothing.
-use Prim.Native.Nat.{◌-◌, ◌≤◌}
 use native.Mathlib.Omega.{arith}
 use mathlib.Core.Path.{◌≡◌, refl}
 use lib.ListN.{length}
-use Rattle.saved_bytes.proofs.Comparing.{Left, left-more, left-differs, left-none}
+use Rattle.saved_bytes.proofs.Comparing.{left-more, left-differs, left-none}
 use Rattle.saved_bytes.proofs.parts.same.Goals as goal
 
 pub loop-k-init : goal.loop-k-init

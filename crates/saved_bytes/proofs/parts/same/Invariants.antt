@@ -1,8 +1,6 @@
 use Prim.Native.Nat.{◌-◌, ◌≤◌}
-use native.Mathlib.Omega.{arith}
-use mathlib.Core.Path.{◌≡◌, refl}
 use lib.ListN.{length}
-use Rattle.saved_bytes.proofs.Comparing.{Left, left-more, left-differs, left-none}
+use Rattle.saved_bytes.proofs.Comparing.{Left}
 use Rattle.saved_bytes.proofs.parts.same.Given as goal
 
 abbrev pub invariant-loop-k : goal.invariant-loop-k

@@ -1,9 +1,6 @@
 -- `saved_bytes::parts::sum` meets its contract: the total so far is that of the bytes passed. Assumes nothing.
-use Prim.Native.Nat.{◌*◌, ◌-◌, ◌≤◌}
 use native.Mathlib.Omega.{arith}
-use mathlib.Core.Path.{◌≡◌, refl}
-use lib.ListN.{length, take}
-use Rattle.saved_bytes.specs.Parts.{total_of}
+use mathlib.Core.Path.{refl}
 use Rattle.saved_bytes.proofs.Summing.{total-more, total-all}
 use Rattle.saved_bytes.proofs.parts.sum.Goals as goal
 

@@ -1,9 +1,7 @@
 use Prim.Native.Nat.{◌*◌, ◌-◌, ◌≤◌}
-use native.Mathlib.Omega.{arith}
-use mathlib.Core.Path.{◌≡◌, refl}
+use mathlib.Core.Path.{◌≡◌}
 use lib.ListN.{length, take}
 use Rattle.saved_bytes.specs.Parts.{total_of}
-use Rattle.saved_bytes.proofs.Summing.{total-more, total-all}
 use Rattle.saved_bytes.proofs.parts.sum.Given as goal
 
 abbrev pub invariant-loop-k : goal.invariant-loop-k
