@@ -11,14 +11,14 @@ use Rattle.bus_list.proofs.access_list.Goals as goal
 pub accesses-requires : goal.accesses-requires
 accesses-requires c =
     let e = sym c.verdict-verdict.ensures
-    ∙ c.enum_told-1.given.1 in
+    ∙ c.in-Accepted.is in
     (passed-lengths _ _ _ _ _ _ e, passed-list _ _ _ _ _ _ e)
 
 pub returns-in-Refused : goal.returns-in-Refused
 returns-in-Refused c =
     let a = c.args in
     let m = memory_of a.rom.now a.wram-1.now a.vram-1.now a.pak-1.now (device_of a.t5.regs a.hardware) in
-    let told = c.verdict-1.given.1 in
+    let told = c.in-Refused.is in
     let found = c.verdict-verdict in
     (sym told ∙ found.ensures, list-kept m a.list-1.now found.result found.ensures _ told)
 
@@ -26,7 +26,7 @@ pub returns-in-Accepted : goal.returns-in-Accepted
 returns-in-Accepted c =
     let a = c.args in
     let m = memory_of a.rom.now a.wram-1.now a.vram-1.now a.pak-1.now (device_of a.t5.regs a.hardware) in
-    let told = c.enum_told-1.given.1 in
+    let told = c.in-Accepted.is in
     let found = c.verdict-verdict in
     let lent = c.device_of-lent in (
       sym told ∙ found.ensures,

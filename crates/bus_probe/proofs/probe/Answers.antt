@@ -26,7 +26,7 @@ returns-in-Accepted c =
     let a = b.args in
     let index = b.vram_index-at in
     let found = b.verdict-verdict in
-    let told = c.enum_told-1.given.1 in
+    let told = c.in-Accepted.is in
     let t = target_found a.size a.address _ _ _ index.result b.aligned.ensures
     (index.ensures (length a.rom.now) (length a.pak.now)) in (
       sym told
@@ -43,7 +43,7 @@ returns-in-Refused c =
     let a = b.args in
     let index = b.vram_index-at in
     let found = b.verdict-verdict in
-    let told = c.verdict-1.given.1 in
+    let told = c.in-Refused.is in
     let t = target_found a.size a.address _ _ _ index.result b.aligned.ensures
     (index.ensures (length a.rom.now) (length a.pak.now)) in (
       sym told

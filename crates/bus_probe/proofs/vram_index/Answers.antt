@@ -9,7 +9,7 @@ use Rattle.bus_probe.proofs.vram_index.Goals as goal
 pub returns-in-Vram : goal.returns-in-Vram
 returns c rom pak =
     let a = c.args.address in
-    led-vram rom pak a _ (subst (LeadsTo a) c.i-1.given.1 c.place_of.ensures)
+    led-vram rom pak a _ (subst (LeadsTo a) c.in-Vram.is c.place_of.ensures)
 
 pub returns-in_default : goal.returns-in_default
 returns-2 c rom pak =

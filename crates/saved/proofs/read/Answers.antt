@@ -53,7 +53,7 @@ returns-then-not-file_ok c =
     (due-held (memory_of rom wram vram pak c16.args.drawing-halves.regs) file c4.form_of-form.result c4.form_of-form.ensures
     (length file) (c.if-file-file_length.false ∙ c.file_length.ensures))
     (ok-held (memory_of rom wram vram pak c16.args.drawing-halves.regs) file c4.form_of-form.result c4.form_of-form.ensures _
-    false c.file_ok.ensures (not-true _ c.if-not-file_ok.true))
+    false c.file_ok.ensures (c.if-not-file_ok.true))
 
 pub held-state-requires : goal.held-state-requires
 held-state-requires c =
@@ -100,7 +100,7 @@ returns-in-Refused c =
     let c12 = c in
     read-refused c12.args.processor (memory_of c12.args.rom.now c12.args.wram-1.now c12.args.vram-1.now
     c12.args.pak-1.now c12.args.drawing-halves.regs) c12.args.file.now _
-    (sym c.verdict.ensures ∙ c.n-1.given.1)
+    (sym c.verdict.ensures ∙ c.in-Refused.is)
 
 pub returns-else-not-file_ok : goal.returns-else-not-file_ok
 returns-else-not-file_ok c =
@@ -128,4 +128,4 @@ returns-else-not-file_ok c =
     (due-held (memory_of rom wram vram pak c28.args.drawing-halves.regs) file c16.form_of-form.result
     c16.form_of-form.ensures (length file) (c14.if-file-file_length.false ∙ c15.file_length.ensures))
     (ok-held (memory_of rom wram vram pak c28.args.drawing-halves.regs) file c16.form_of-form.result c16.form_of-form.ensures
-    _ true c13.file_ok.ensures (not-false _ c12.if-not-file_ok.false))
+    _ true c13.file_ok.ensures (c12.if-not-file_ok.false))

@@ -33,7 +33,7 @@ returns-then-not-holds c =
     c.enum_told-1.given.1)
     (c.if-output-file_length.false ∙ c.file_length.ensures)
     (ap (form_holds c13.args.form) (sym c.lines.ensures) ∙
-    (sym c.holds.ensures ∙ not-true _ c.if-not-holds.true))
+    (sym c.holds.ensures ∙ c.if-not-holds.true))
 
 pub put-requires : goal.put-requires
 put-requires c =
@@ -60,7 +60,7 @@ returns-in-Refused c =
     let c9 = c in
     write-refused c9.args.form c9.args.processor (memory_of c9.args.rom.now c9.args.wram.now
     c9.args.vram.now c9.args.pak.now c9.args.drawing.regs) c9.args.output-1.now _
-    (sym c.verdict.ensures ∙ c.n-1.given.1)
+    (sym c.verdict.ensures ∙ c.in-Refused.is)
 
 pub returns-else-not-holds : goal.returns-else-not-holds
 returns-else-not-holds c =

@@ -11,9 +11,9 @@ use Rattle.saved_move.proofs.move_state.Goals as goal
 
 pub returns-then-not-fits : goal.returns-then-not-fits
 returns-then-not-fits c = no_length (c.args.file.now)
-    (c.args.output-1.now) (fits-is
+    (c.args.output.now) (fits-is
     (c.args.file.now) (c.form_of-form.result)
-    (c.form_of-form.ensures) _ (c.fits2.ensures) false (not-true _ (c.if-not-fits.true)))
+    (c.form_of-form.ensures) _ (c.fits2.ensures) false ((c.if-not-fits.true)))
 
 pub file_length-requires : goal.file_length-requires
 file_length-requires c = (fit (c.form_of-form.result) (length
@@ -29,7 +29,7 @@ returns-then-output-file_length c =
     let file = c9.args.file.now in
     let output-given = c9.args.output-1.now in
     other_length file output-given (fits-is file c6.form_of-form.result c6.form_of-form.ensures _
-    c3.fits2.ensures true (not-false _ c3.if-not-fits.false))
+    c3.fits2.ensures true (c3.if-not-fits.false))
     (λ e. c.if-output-file_length.true (due-back file output-given c6.form_of-form.result c3.pak_length-pak.result
     c6.form_of-form.ensures c3.pak_length-pak.ensures (length output-given) e ∙ sym
     (c.file_length.ensures ∙ ap (λ (g : Form). file_length_of g c3.pak_length-pak.result)
@@ -50,12 +50,12 @@ returns-then-not-file_ok c =
     let file = c11.args.file.now in
     let output = c11.args.output-1.now in
     no_bytes file output (fits-is file c8.form_of-form.result c8.form_of-form.ensures _ c5.fits2.ensures
-    true (not-false _ c5.if-not-fits.false)) (due-is file output c8.form_of-form.result c5.pak_length-pak.result
+    true (c5.if-not-fits.false)) (due-is file output c8.form_of-form.result c5.pak_length-pak.result
     c8.form_of-form.ensures c5.pak_length-pak.ensures (length output)
     (c.if-output-file_length.false ∙ (c.file_length.ensures ∙ ap
     (λ (g : Form). file_length_of g c5.pak_length-pak.result) c.other.ensures)))
     (ok-is file output c8.form_of-form.result c5.pak_length-pak.result c8.form_of-form.ensures c5.pak_length-pak.ensures _
-    c.file_ok.ensures false (not-true _ c.if-not-file_ok.true))
+    c.file_ok.ensures false (c.if-not-file_ok.true))
 
 pub to_two-requires : goal.to_two-requires
 to_two-requires c =
@@ -66,9 +66,9 @@ to_two-requires c =
     let c14 = c11 in (
       (
         rw c.enum_told-1.given.1 at (fit c11.form_of-form.result (length c14.args.file.now)
-            c8.pak_length-pak.result c8.pak_length-pak.ensures (sym c10.fits2.ensures ∙ not-false _ c9.if-not-fits.false)).0,
+            c8.pak_length-pak.result c8.pak_length-pak.ensures (sym c10.fits2.ensures ∙ c9.if-not-fits.false)).0,
         (fit c11.form_of-form.result (length c14.args.file.now) c8.pak_length-pak.result c8.pak_length-pak.ensures
-            (sym c10.fits2.ensures ∙ not-false _ c9.if-not-fits.false)).1,
+            (sym c10.fits2.ensures ∙ c9.if-not-fits.false)).1,
       ),
       rw c.enum_told-1.given.1 at
           (c.if-output-file_length.false ∙
@@ -85,9 +85,9 @@ at_reset-requires c =
     let c10 = c9 in
     let c13 = c10 in (
       rw c.enum_told-in-Two-1.given.1 at (fit c10.form_of-form.result (length c13.args.file.now)
-          c7.pak_length-pak.result c7.pak_length-pak.ensures (sym c9.fits2.ensures ∙ not-false _ c8.if-not-fits.false)).0,
+          c7.pak_length-pak.result c7.pak_length-pak.ensures (sym c9.fits2.ensures ∙ c8.if-not-fits.false)).0,
       (fit c10.form_of-form.result (length c13.args.file.now) c7.pak_length-pak.result c7.pak_length-pak.ensures
-          (sym c9.fits2.ensures ∙ not-false _ c8.if-not-fits.false)).1,
+          (sym c9.fits2.ensures ∙ c8.if-not-fits.false)).1,
     )
 
 pub returns-then-not-at_reset : goal.returns-then-not-at_reset
@@ -101,17 +101,17 @@ returns-then-not-at_reset c =
     let file = c15.args.file.now in
     let output = c15.args.output-1.now in
     no-reset file output (fits-is file c12.form_of-form.result c12.form_of-form.ensures _ c11.fits2.ensures true
-    (not-false _ c10.if-not-fits.false)) (due-is file output c12.form_of-form.result c9.pak_length-pak.result
+    (c10.if-not-fits.false)) (due-is file output c12.form_of-form.result c9.pak_length-pak.result
     c12.form_of-form.ensures c9.pak_length-pak.ensures (length output)
     (c.if-output-file_length.false ∙
     (c.file_length.ensures ∙ ap
     (λ (g : Form). file_length_of g c9.pak_length-pak.result) c8.other.ensures)))
     (ok-is file output c12.form_of-form.result c9.pak_length-pak.result c12.form_of-form.ensures c9.pak_length-pak.ensures _
     c.file_ok.ensures true
-    (not-false _ c.if-not-file_ok.false))
+    (c.if-not-file_ok.false))
     (holds-is file output c12.form_of-form.result c9.pak_length-pak.result c12.form_of-form.ensures
     c9.pak_length-pak.ensures false (rw c.enum_told-in-Two-1.given.1
-    (sym c.at_reset.ensures ∙ not-true _ c.if-not-at_reset.true)))
+    (sym c.at_reset.ensures ∙ c.if-not-at_reset.true)))
 
 pub to_one-requires : goal.to_one-requires
 to_one-requires c =
@@ -128,7 +128,7 @@ to_one-requires c =
             c10.pak_length-pak.result c10.pak_length-pak.ensures (sym c12.fits2.ensures ∙ not-false _
             c11.if-not-fits.false)).0,
         (fit c13.form_of-form.result (length c16.args.file.now) c10.pak_length-pak.result
-            c10.pak_length-pak.ensures (sym c12.fits2.ensures ∙ not-false _ c11.if-not-fits.false)).1,
+            c10.pak_length-pak.ensures (sym c12.fits2.ensures ∙ c11.if-not-fits.false)).1,
       ),
       rw
           c3.enum_told-in-Two-1.given.1 at (c3.if-output-file_length.false ∙
@@ -149,15 +149,15 @@ returns-in-One c =
     let file = c17.args.file.now in
     let output = c17.args.output-1.now in
     accepted file output (fits-is file c14.form_of-form.result c14.form_of-form.ensures _ c13.fits2.ensures true
-    (not-false _ c12.if-not-fits.false)) (due-is file output c14.form_of-form.result c11.pak_length-pak.result
+    (c12.if-not-fits.false)) (due-is file output c14.form_of-form.result c11.pak_length-pak.result
     c14.form_of-form.ensures c11.pak_length-pak.ensures (length output)
     (c8.if-output-file_length.false ∙ (c9.file_length.ensures ∙ ap (λ (g : Form). file_length_of g c11.pak_length-pak.result)
     c10.other.ensures))) (ok-is file output c14.form_of-form.result c11.pak_length-pak.result c14.form_of-form.ensures
     c11.pak_length-pak.ensures _ c4.file_ok.ensures true
-    (not-false _ c4.if-not-file_ok.false)) (holds-is file output c14.form_of-form.result c11.pak_length-pak.result
-    c14.form_of-form.ensures c11.pak_length-pak.ensures true (rw c4.enum_told-1.given.1 refl)) _
+    (c4.if-not-file_ok.false)) (holds-is file output c14.form_of-form.result c11.pak_length-pak.result
+    c14.form_of-form.ensures c11.pak_length-pak.ensures true (rw c4.in-One.is refl)) _
     (wrote-is file output c14.form_of-form.result c11.pak_length-pak.result c14.form_of-form.ensures
-    c11.pak_length-pak.ensures _ (rw c4.enum_told-1.given.1 c.to_two.ensures))
+    c11.pak_length-pak.ensures _ (rw c4.in-One.is c.to_two.ensures))
 
 pub returns-else-not-at_reset : goal.returns-else-not-at_reset
 returns-else-not-at_reset c =
@@ -175,11 +175,11 @@ returns-else-not-at_reset c =
     let file = c19.args.file.now in
     let output = c19.args.output-1.now in
     accepted file output (fits-is file c16.form_of-form.result c16.form_of-form.ensures _ c15.fits2.ensures true
-    (not-false _ c14.if-not-fits.false)) (due-is file output c16.form_of-form.result c13.pak_length-pak.result
+    (c14.if-not-fits.false)) (due-is file output c16.form_of-form.result c13.pak_length-pak.result
     c16.form_of-form.ensures c13.pak_length-pak.ensures (length output)
     (c10.if-output-file_length.false ∙ (c11.file_length.ensures ∙ ap (λ (g : Form). file_length_of g c13.pak_length-pak.result)
     c12.other.ensures))) (ok-is file output c16.form_of-form.result c13.pak_length-pak.result c16.form_of-form.ensures
-    c13.pak_length-pak.ensures _ c9.file_ok.ensures true (not-false _ c8.if-not-file_ok.false))
+    c13.pak_length-pak.ensures _ c9.file_ok.ensures true (c8.if-not-file_ok.false))
     (holds-is file output c16.form_of-form.result c13.pak_length-pak.result c16.form_of-form.ensures
     c13.pak_length-pak.ensures true (rw c6.enum_told-in-Two-1.given.1
     (sym c.at_reset.ensures ∙ not-false _

@@ -20,14 +20,14 @@ slice_bounds-hardware-end c = let w : length (c.args.file.now) ≡ file_length_o
 
 pub returns-in-One : goal.returns-in-One
 unfolding bodies_in hardware_from
-returns-in-One c = rw (c.enum_told-1.given.1) c.reset.ensures
+returns-in-One c = rw (c.in-One.is) c.reset.ensures
 
 pub returns-in-Two : goal.returns-in-Two
 returns-in-Two c =
     let c2 = c in
     let c6 = c2 in
     let pak = c6.args.pak in
-    rw c2.enum_told-in-Two-1.given.1 (c.hardware.ensures ∙ ap hardware_from
+    rw c2.in-Two.is (c.hardware.ensures ∙ ap hardware_from
     (hardware-part pak c2.first.result c6.args.file.now c2.first.ensures.0
     (c2.first.result + 327878 + pak) (c2.first.result + 327878 + pak + 8 - (c2.first.result + 327878 + pak))
     refl (omega arith)))

@@ -17,7 +17,7 @@ pub returns-then-lines-ne0-3 : goal.returns-then-lines-ne0-3
 returns-then-lines-ne0-3 c = rw (c.enum_told-in-One-1.given.1) (holds-2 _ (c.if-lines-ne0.false) (c.if-lines-ne0-2.false) (c.if-lines-ne0-3.true))
 
 pub returns-in-Two : goal.returns-in-Two
-returns-in-Two c = rw (c.enum_told-1.given.1) (holds-any _)
+returns-in-Two c = rw (c.in-Two.is) (holds-any _)
 
 pub returns-else-lines-ne0-3 : goal.returns-else-lines-ne0-3
 returns-else-lines-ne0-3 c = rw (c.enum_told-in-One-1.given.1) (holds-3 _ (omega arith)

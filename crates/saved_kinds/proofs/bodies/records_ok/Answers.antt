@@ -24,4 +24,4 @@ returns c =
     c.drawing_ok.ensures ∙ (ap (λ (k : ℕ). drawing_body_ok (take k (drop (a.at + 172) a.file.now))) m ∙
     pick_true (processor_body_ok (take 172 (drop a.at a.file.now))) _ false
     (ap (λ (k : ℕ). processor_body_ok (take k (drop a.at a.file.now))) (sym n) ∙
-    (sym c.processor_ok.ensures ∙ not-false _ c.if-not-processor_ok.false)))
+    (sym c.processor_ok.ensures ∙ c.if-not-processor_ok.false)))

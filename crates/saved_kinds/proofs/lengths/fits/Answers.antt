@@ -16,11 +16,11 @@ returns-then-not-pak_ok c = fits_not (c.args.form) (c.args.length) (ap pak_ok
     (c.if-not-pak_ok.true)))
 
 pub file_length-requires : goal.file_length-requires
-file_length-requires c = pak-small _ (sym (c.pak_ok.ensures) ∙ not-false _ (c.if-not-pak_ok.false))
+file_length-requires c = pak-small _ (sym (c.pak_ok.ensures) ∙ (c.if-not-pak_ok.false))
 
 pub returns : goal.returns
 returns c = ap (λ (n : ℕ). eqb n (c.args.length)) (c.file_length.ensures ∙ ap
     (file_length_of (c.args.form)) (c.pak_length-pak.ensures))
     ∙ fits-length (c.args.form) (c.args.length)
     (ap pak_ok (sym (c.pak_length-pak.ensures)) ∙ (sym (c.pak_ok.ensures)
-    ∙ not-false _ (c.if-not-pak_ok.false)))
+    ∙ (c.if-not-pak_ok.false)))
