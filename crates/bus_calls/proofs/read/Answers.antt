@@ -27,7 +27,7 @@ elsewhere-requires c =
 pub returns-in-Value : goal.returns-in-Value
 returns-in-Value c =
     let a = c.args in
-    let m = memory_of a.rom.now a.wram.now a.vram.now a.pak.now (device_of a.drawing.regs-1 a.hardware) in
+    let m = memory_of a.rom.now a.wram.now a.vram.now a.pak.now (device_of a.drawing.regs a.hardware) in
     subst (Finds m a.size a.address) c.in-Value.is (c.direct.ensures _ _)
 
 pub returns-in-Elsewhere : goal.returns-in-Elsewhere

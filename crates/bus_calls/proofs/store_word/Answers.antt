@@ -13,7 +13,7 @@ pub returns-in-Accepted : goal.returns-in-Accepted
 returns-in-Accepted c =
     let w = c in
     store-done _ _ _ _ w.call_verdict-verdict.ensures _
-    w.enum_told-1.given.1 _ w.write.ensures.verdict _
+    w.in-Accepted.is _ w.write.ensures.verdict _
     (w.write.ensures.memory _)
 
 pub returns-in-Refused : goal.returns-in-Refused

@@ -18,18 +18,17 @@ returns-then-not-fits c = no-layout (c.args.file.now)
 
 pub kept-kept-requires : goal.kept-kept-requires
 kept-kept-requires c = (fit (length (c.args.file.now))
-    (c.pak_length-pak.result) (c.pak_length-pak.ensures) (sym (c.fits2.ensures) ∙ not-false _
-    (c.if-not-fits.false)))
+    (c.pak_length-pak.result) (c.pak_length-pak.ensures) (sym (c.fits2.ensures) ∙ (c.if-not-fits.false)))
 
 pub put_bodies-requires : goal.put_bodies-requires
-put_bodies-requires c = (
-  (fit (length (c.args.file.now)) (c.pak_length-pak.result) (c.pak_length-pak.ensures) (sym
-      (c.fits2.ensures) ∙ (c.if-not-fits.false))),
-  c.if-output-file.false ∙ (fit (length
+put_bodies-requires c = record {
+      file_len = (fit (length (c.args.file.now)) (c.pak_length-pak.result) (c.pak_length-pak.ensures) (sym
+      (c.fits2.ensures) ∙ (c.if-not-fits.false)));
+      output_len = c.if-output-file.false ∙ (fit (length
       (c.args.file.now))
       (c.pak_length-pak.result) (c.pak_length-pak.ensures) (sym
-      (c.fits2.ensures) ∙ (c.if-not-fits.false))).0,
-)
+      (c.fits2.ensures) ∙ (c.if-not-fits.false))).0;
+    }
 
 pub put-requires : goal.put-requires
 put-requires c =
@@ -69,7 +68,7 @@ returns c =
     let c14 = c13 in
     let c15 = c14 in
     let c18 = c15 in
-    accepted c18.args.file.now c18.args.output-1.now c15.if-output-file.false
+    accepted c18.args.file.now c18.args.output.now c15.if-output-file.false
     (sym c14.fits2.ensures ∙ c13.if-not-fits.false) c12.pak_length-pak.result c12.pak_length-pak.ensures
     c11.kept-kept.result c11.kept-kept.ensures _ _ _ _ c9.put_bodies.ensures
     c.put.ensures c.replaced.ensures

@@ -14,7 +14,7 @@ use Rattle.saved.proofs.records.hardware.Goals as goal
 
 pub slice_bounds-hardware-end : goal.slice_bounds-hardware-end
 slice_bounds-hardware-end c = let w : length (c.args.file.now) ≡ file_length_of Two
-    (c.args.pak) = rw (c.enum_told-in-Two-1.given.1) at
+    (c.args.pak) = rw (c.in-Two.is) at
     (c.requires.0) in
     omega (arith, w, length-is Two (c.args.pak))
 

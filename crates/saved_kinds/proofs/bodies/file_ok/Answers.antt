@@ -32,10 +32,10 @@ returns-then-not-records_ok c = file-records (c.args.form)
 
 pub slice_bounds-hardware_ok-end : goal.slice_bounds-hardware_ok-end
 slice_bounds-hardware_ok-end c = let w : length (c.args.file.now) ≡ file_length_of Two (c.args.pak) = rw
-    (c.enum_told-in-Two-1.given.1) at (c.requires.0) in
+    (c.in-Two.is) at (c.requires.0) in
     let f : c.first-at.result ≡ body_place_of Two
     (c.args.pak) 0 = rw
-    (c.enum_told-in-Two-1.given.1) at (c.first-at.ensures.0) in
+    (c.in-Two.is) at (c.first-at.ensures.0) in
     omega (arith, w, f, length-is Two (c.args.pak))
 
 pub returns-in-One : goal.returns-in-One

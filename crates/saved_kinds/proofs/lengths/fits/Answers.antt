@@ -12,8 +12,7 @@ use Rattle.saved_kinds.proofs.lengths.fits.Goals as goal
 
 pub returns-then-not-pak_ok : goal.returns-then-not-pak_ok
 returns-then-not-pak_ok c = fits_not (c.args.form) (c.args.length) (ap pak_ok
-    (sym (c.pak_length-pak.ensures)) ∙ (sym (c.pak_ok.ensures) ∙ not-true _
-    (c.if-not-pak_ok.true)))
+    (sym (c.pak_length-pak.ensures)) ∙ (sym (c.pak_ok.ensures) ∙ (c.if-not-pak_ok.true)))
 
 pub file_length-requires : goal.file_length-requires
 file_length-requires c = pak-small _ (sym (c.pak_ok.ensures) ∙ (c.if-not-pak_ok.false))
