@@ -1,7 +1,7 @@
 -- Paper 02, W8: "its halfwords with unused bits cleared, among them bit 0 of a jump or branch offset and the top bit of
 -- SETF's immediate". The unused bits of each format, from document 000, by the table of specs/Format; those of
 -- halfwords that are invalid or not modelled are left as they are.
-use Rattle.std.specs.Prelude.{ℕ, ◌+◌, ◌-◌, ◌*◌, ◌/◌, ◌%◌, ◌^◌, Bool, ltb, eqb}
+use Rattle.std.specs.Prelude.{ℕ, ◌+◌, ◌-◌, ◌*◌, ◌/◌, ◌%◌, ◌^◌, ltb, eqb}
 use Rattle.word.specs.Choose.{pick}
 use Rattle.processor_decode.specs.Format.{opcode_of, two_of}
 use Rattle.processor_encode.specs.Format.{format_of}

@@ -1,5 +1,4 @@
 -- `processor_encode::encode`: the halfwords of its fields.
-use borrow.Author.Rules.{rules}
 use Rattle.processor_encode.proofs.encode.Goals as goal
 
 pub returns : goal.returns

@@ -1,7 +1,6 @@
 -- `processor_encode::format::format_of`: the three parts of the table.
 use borrow.Author.Tests.{lt-ltb, le-ltb}
 use Rattle.processor_encode.specs.Format.{format_of}
-use borrow.Author.Rules.{rules}
 use Rattle.processor_encode.proofs.format.format_of.Goals as goal
 
 pub returns-then-operation-lt32 : goal.returns-then-operation-lt32

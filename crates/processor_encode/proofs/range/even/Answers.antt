@@ -3,7 +3,6 @@ use Prim.Native.Nat.{◌%◌}
 use native.Mathlib.Omega.{arith}
 use borrow.Author.Tests.{eq-eqb, ne_eqb}
 use Rattle.processor_encode.specs.Range.{even_in}
-use borrow.Author.Rules.{rules}
 use Rattle.processor_encode.proofs.range.even.Goals as goal
 
 pub returns-then-x-eq1 : goal.returns-then-x-eq1

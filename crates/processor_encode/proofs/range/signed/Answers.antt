@@ -1,9 +1,7 @@
 -- `processor_encode::range::signed`: below half, or among the last half words.
 use native.Mathlib.Omega.{arith}
-use Rattle.processor_encode.specs.Range.{signed_in}
 use Rattle.processor_encode.proofs.Ranges.{signed_low, signed_high}
 use mathlib.Core.Path.{sym}
-use borrow.Author.Rules.{rules}
 use Rattle.processor_encode.proofs.range.signed.Goals as goal
 
 pub returns-then-x-half : goal.returns-then-x-half

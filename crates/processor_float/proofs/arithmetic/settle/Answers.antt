@@ -21,7 +21,7 @@ returns-then-v-least-2 c = flushes-negative _ _ c.if-v-least-2.true
 -- src/arithmetic.rt:78:9
 
 pub returns-then-v : goal.returns-then-v
-returns-then-v c = zero-stays _ c.args.v c.well-formed.0.1 c.if-v.true
+returns-then-v c = zero-stays _ c.args.v c.well_formed.0.1 c.if-v.true
 
 -- src/arithmetic.rt:63:1
 

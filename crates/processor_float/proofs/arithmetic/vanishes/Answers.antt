@@ -3,13 +3,13 @@ use Rattle.std.proofs.Common.{rules}
 use Rattle.processor_float.proofs.arithmetic.vanishes.Goals as goal
 
 pub returns-in-Add : goal.returns-in-Add
-returns-in-Add c = rw c.enum_told-1.given.1
+returns-in-Add c = rw c.in-Add.is
 
 pub returns-in-Subtract : goal.returns-in-Subtract
-returns-in-Subtract c = rw c.enum_told-in-Subtract-1.given.1
+returns-in-Subtract c = rw c.in-Subtract.is
 
 pub returns-in-Multiply : goal.returns-in-Multiply
-returns-in-Multiply c = rw (c.enum_told-in-Multiply-1.given.1, c.zero.ensures, c.zero-in-Multiply.ensures)
+returns-in-Multiply c = rw (c.in-Multiply.is, c.zero.ensures, c.zero-in-Multiply.ensures)
 
 pub returns-in-Divide : goal.returns-in-Divide
-returns-in-Divide c = rw (c.enum_told-in-Divide-1.given.1, c.zero-in-Divide.ensures)
+returns-in-Divide c = rw (c.in-Divide.is, c.zero-in-Divide.ensures)

@@ -22,4 +22,4 @@ overflow_add-over c =
 
 pub returns : goal.returns
 returns c = signed_product c.args.a c.args.b _ (omega arith) (omega arith)
-    (omega arith) c.wrapping_sub_u64.ensures
+    (omega arith) c.wrapping_sub_u64.ensures.value

@@ -5,4 +5,4 @@ use Rattle.processor_lazy_flags.proofs.status.cleared.Goals as goal
 
 pub returns : goal.returns
 returns c = cleared-holds _ c.args.flags c.wrapping_sub_u64-difference.result (omega arith) (omega arith) (omega arith)
-    c.wrapping_sub_u64-difference.ensures refl
+    c.wrapping_sub_u64-difference.ensures.value refl

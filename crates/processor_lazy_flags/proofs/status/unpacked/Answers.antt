@@ -8,10 +8,10 @@ pub returns-then-psw-eq0 : goal.returns-then-psw-eq0
 unfolding packed_of flags_of
 returns-then-psw-eq0 c =
     let h = c.carried.ensures in
-    rw (h.value-value, h.carry, h.overflow) (omega (arith, c.value-value.ensures.0))
+    rw (h.value, h.carry, h.overflow) (omega (arith, c.value-value.ensures.0))
 
 pub returns : goal.returns
 unfolding packed_of flags_of
 returns c =
     let h = c.made.ensures in
-    rw (h.value-value, h.carry, h.overflow) (omega (arith, c.value-value.ensures.0))
+    rw (h.value, h.carry, h.overflow) (omega (arith, c.value-value.ensures.0))
