@@ -1,8 +1,6 @@
 -- `bus_tick::tick`: refusal 5 of the record, then the tick.
 use Rattle.bus_tick.specs.Tick.{checked_tick_of}
 use mathlib.Core.Path.{sym, ◌∙◌}
-use borrow.Author.Tests.{not-true, not-false}
-use borrow.Author.Rules.{rules}
 use Rattle.bus_tick.proofs.tick.Goals as goal
 
 pub returns-then-not-ok : goal.returns-then-not-ok
