@@ -15,4 +15,4 @@ pub returns-in_default : goal.returns-in_default
 returns-in_default c rom pak =
     let a = c.args.address in
     let p = c.place_of.result in
-    led-elsewhere rom pak a p (no_vram p c.in-Vram.keys2) c.place_of.ensures
+    led-elsewhere rom pak a p (no_vram p c.in_default.not-Vram) c.place_of.ensures
