@@ -42,7 +42,7 @@ fn a_wrong_key_or_value_is_named_with_its_line_and_what_is_allowed() {
         ("HEAD budget = 0\n", "line 5: budget is 0; it must be a whole number from 1 to 9,223,372,036,854,775,807"),
         ("HEAD frames = ['halts']\n", "line 5: frames is [\"halts\"]; it must be a list of \"halt\" and of counts of instructions, each larger than the one before"),
         ("HEAD frames = [5, 5]\n", "line 5: frames is [5, 5]; it must be a list of \"halt\" and of counts of instructions, each larger than the one before"),
-        ("HEAD frames = []\n", "line 5: the test asks for nothing: no frame, no trace and no memory"),
+        ("HEAD frames = []\n", "line 5: the test asks for nothing: no frame and no trace"),
         ("HEAD memory = 'wram'\n", "line 5: memory is \"wram\"; it must be a list of \"wram\", \"vram\", \"pak\" and ranges such as \"0x05000000+0x400\", each once"),
         ("HEAD memory = ['wram', 'wram']\n", "line 5: memory is [\"wram\", \"wram\"]; it must be a list of \"wram\", \"vram\", \"pak\" and ranges such as \"0x05000000+0x400\", each once"),
         ("HEAD memory = ['rom']\n", "line 5: memory: `rom` is not a memory; it must be wram, vram, pak or ADDRESS+LENGTH"),

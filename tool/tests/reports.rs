@@ -181,16 +181,7 @@ fn a_trace_that_differs_is_explained() {
     }
     let totals = &json.last().unwrap()["totals"];
     assert_eq!(totals["instructions"][0]["what"], "steps: BNE");
-}
-
-/// Of the demo's lot two dies fail the pictures and two are invalid there.
-#[test]
-fn tests_that_fail_most_do_not_count_parts_that_could_not_be_judged() {
-    let folder = with_lot("reports-most");
-    let json = json_lines(&folder.vbmodel(&format!("{JUDGE} --json")).text);
-    let counts =
-        serde_json::json!([{"what": "picture", "parts": 2}, {"what": "steps", "parts": 1}]);
-    assert_eq!(json.last().unwrap()["totals"]["tests"], counts);
+    assert_eq!(totals["tests"][0], serde_json::json!({"what": "picture", "parts": 4}));
 }
 
 /// The model's pictures, each frame and eye once; all PNGs, with what the capture changes and where for each of the ten
@@ -296,8 +287,7 @@ fn a_report_is_tried_again_and_what_changed_is_said() {
     assert_eq!(other.status, 1);
     for line in [
         "files:    126 read again, 2 are not as they were\n  lot/parts/die-01/picture.frame0.left.png: has ",
-        "  lot/parts/die-02/steps.trace: No such file or directory; it must be the file that the report names\n\
-         verdicts: 2 are not the same\n",
+        "  lot/parts/die-02/steps.trace: No such file or directory\nverdicts: 2 are not the same\n",
         "  die-01: was pass, bin 1; is fail, bin 3\n  die-02: was pass, bin 1; is invalid, bin 0\n",
     ] {
         assert!(other.text.contains(line), "{line}\nnot in\n{}", other.text);

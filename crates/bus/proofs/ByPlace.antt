@@ -3,7 +3,7 @@
 use Prim.Native.Nat.{ℕ, ◌+◌, ◌-◌, ◌%◌, ◌^◌, ◌<◌, ◌≤◌}
 use mathlib.Core.Bool.{Bool, true, false, true≢false, false≢true}
 use mathlib.Core.List.{[], ◌∷◌}
-use mathlib.Core.Path.{◌≡◌, sym, subst, ◌∙◌}
+use mathlib.Core.Path.{◌≡◌, refl, sym, subst, ◌∙◌}
 use native.Mathlib.Omega.{arith}
 use lib.ListN.{length}
 use types.Run.{OneOf, miss}
@@ -135,29 +135,29 @@ ram-left s Nothing q h = record { no_wram = q.no_wram; no_vram = λ z. absurd (q
 
 -- what is left of these: nothing that reads or takes anything
 module _ (m : Memory) (size a : ℕ) (ok : size_ok size ≡ true) where
-  pub quiet-reads : (p : Place) → LeadsTo (aligned_of size a) p → Outside (aligned_of size a) → OneOf (0 ∷ 1 ∷ 2 ∷ 6 ∷ []) (tag_of the_type p)
+  pub quiet-reads : (p : Place) → LeadsTo (aligned_of size a) p → Outside (aligned_of size a) → ((x : ℕ) → p ≡ Pak x → ⊥) → ((x : ℕ) → p ≡ Register x → ⊥) → ((x : ℕ) → p ≡ Port x → ⊥)
       → Reads m size a 0
-  quiet-reads (Wram i) (here, e) o h = absurd (o.no_ram.no_wram here)
-  quiet-reads (Vram i) (here, e) o h = absurd (e.not_between (o.no_ram.no_vram here))
-  quiet-reads (Rom x) (here, e) o h = absurd (o.no_rom here)
-  quiet-reads (Pak x) l o h = absurd (miss (0 ∷ 1 ∷ 2 ∷ 6 ∷ []) 3 tt h)
-  quiet-reads (Register v) l o h = absurd (miss (0 ∷ 1 ∷ 2 ∷ 6 ∷ []) 4 tt h)
-  quiet-reads (Port x) l o h = absurd (miss (0 ∷ 1 ∷ 2 ∷ 6 ∷ []) 5 tt h)
-  quiet-reads Nothing q o h =
+  quiet-reads (Wram i) (here, e) o h g k = absurd (o.no_ram.no_wram here)
+  quiet-reads (Vram i) (here, e) o h g k = absurd (e.not_between (o.no_ram.no_vram here))
+  quiet-reads (Rom x) (here, e) o h g k = absurd (o.no_rom here)
+  quiet-reads (Pak x) l o h g k = absurd (h x refl)
+  quiet-reads (Register v) l o h g k = absurd (g v refl)
+  quiet-reads (Port x) l o h g k = absurd (k x refl)
+  quiet-reads Nothing q o h g k =
       let all : Quiet (region_of (aligned_of size a)) = (q.no_wram, (q.no_rom, (q.no_vip, (q.no_pak, q.no_port)))) in
       record { means = sym (nothing_read m size a (λ j less. rw (region-within size a ok j less) all)); fits = byte_power size }
 
-  pub quiet-puts : (v : ℕ) (p : Place) → LeadsTo (aligned_of size a) p → OutsideRam (aligned_of size a) → OneOf (0 ∷ 1 ∷ 2 ∷ 6 ∷ []) (tag_of the_type p)
+  pub quiet-puts : (v : ℕ) (p : Place) → LeadsTo (aligned_of size a) p → OutsideRam (aligned_of size a) → ((x : ℕ) → p ≡ Pak x → ⊥) → ((x : ℕ) → p ≡ Register x → ⊥) → ((x : ℕ) → p ≡ Port x → ⊥)
       → m ≡ store_of m size a v
-  quiet-puts v (Wram i) (here, e) o h = absurd (o.no_wram here)
-  quiet-puts v (Vram i) (here, e) o h = absurd (e.not_between (o.no_vram here))
-  quiet-puts v (Rom x) (here, e) o h =
+  quiet-puts v (Wram i) (here, e) o h g k = absurd (o.no_wram here)
+  quiet-puts v (Vram i) (here, e) o h g k = absurd (e.not_between (o.no_vram here))
+  quiet-puts v (Rom x) (here, e) o h g k =
       let all : Inert (region_of (aligned_of size a)) = (o.no_wram, (λ z. omega arith, (λ z. omega arith, λ z. omega arith))) in
       sym (nothing_stored m size a v (λ j less. rw (region-within size a ok j less) all))
-  quiet-puts v (Pak x) l o h = absurd (miss (0 ∷ 1 ∷ 2 ∷ 6 ∷ []) 3 tt h)
-  quiet-puts v (Register w) l o h = absurd (miss (0 ∷ 1 ∷ 2 ∷ 6 ∷ []) 4 tt h)
-  quiet-puts v (Port x) l o h = absurd (miss (0 ∷ 1 ∷ 2 ∷ 6 ∷ []) 5 tt h)
-  quiet-puts v Nothing q o h =
+  quiet-puts v (Pak x) l o h g k = absurd (h x refl)
+  quiet-puts v (Register w) l o h g k = absurd (g w refl)
+  quiet-puts v (Port x) l o h g k = absurd (k x refl)
+  quiet-puts v Nothing q o h g k =
       let all : Inert (region_of (aligned_of size a)) = (q.no_wram, (q.no_vip, (q.no_pak, q.no_port))) in
       sym (nothing_stored m size a v (λ j less. rw (region-within size a ok j less) all))
 

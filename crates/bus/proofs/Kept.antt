@@ -19,7 +19,7 @@ use Rattle.bus.specs.Registers.{width_of, kept_of, within_from, drawing_ok}
 use Rattle.bus.specs.TimerLines.{hardware_in, with_hardware, registers_ok}
 use Rattle.bus.specs.Place.{Place, vram_at, wram_at, pak_at, rom_at, drawing_at, version_at, silent}
 use Rattle.bus.specs.Place.{unmapped, hardware_at}
-use Rattle.bus.specs.Memory.{Memory, Lengths, verdict_of, put_place, put_drawing, put_byte, put_register, store_of}
+use Rattle.bus.specs.Memory.{Memory, Lengths, verdict_of, put_place, put_drawing, put_byte, put_register}
 use Rattle.bus.specs.Stores.{Shape, StoreShape}
 use Rattle.bus.proofs.Steps.{byte_step, register-step, store-steps}
 use Rattle.bus.proofs.Accepted.{accepted-lengths, accepted-registers, lengths-accepted}

@@ -1,5 +1,5 @@
 -- A load after a store: at another place nothing changed, at the same place the stored value is read. Assumes nothing.
-use Prim.Native.Nat.{ℕ, ◌+◌, ◌/◌, ◌%◌, ◌^◌, ◌<◌, ◌≤◌}
+use Prim.Native.Nat.{ℕ, ◌+◌, ◌/◌, ◌%◌, ◌^◌, ◌<◌}
 use mathlib.Core.Logic.{◌≢◌}
 use mathlib.Core.Path.{◌≡◌, refl, ap, ◌∙◌}
 use lib.ListN.{length}
@@ -11,9 +11,9 @@ use Rattle.bus.specs.Registers.{kept_of}
 use Rattle.bus.specs.TimerLines.{hardware_in}
 use Rattle.bus.specs.Place.{Place, vram_at, wram_at, pak_at, rom_at, drawing_at, version_at, silent}
 use Rattle.bus.specs.Place.{unmapped, hardware_at}
-use Rattle.bus.specs.Memory.{Memory, byte_of, load_of, read_place, place_in, put_place, put_drawing, put_byte}
+use Rattle.bus.specs.Memory.{Memory, byte_of, read_place, place_in, put_place, put_drawing, put_byte}
 use Rattle.bus.specs.Memory.{put_register, aligned_of, store_of, with_wram, with_vram}
-use Rattle.bus.specs.Stores.{Shape, cell_of, Beside, Apart, Held, Span}
+use Rattle.bus.specs.Stores.{Shape, cell_of, Beside, Apart, Held}
 use Rattle.bus.specs.Stores.{StoreElsewhere, StoreByteSame, StoreWramSame, StoreVramSame}
 use Rattle.bus.proofs.Devices.{set-hardware, with-register}
 use Rattle.bus.proofs.DrawingPlaces.{Proper, place-proper}

@@ -5,7 +5,7 @@ use mathlib.Core.Path.{◌≡◌, sym, ap, ◌∙◌}
 use native.Mathlib.Omega.{arith}
 use lib.ListN.{length, get_or}
 use Rattle.bus.specs.Refusal.{rom_ok, pak_ok}
-use Rattle.bus.specs.Place.{vram_at, mirror_of, region_of, place_of}
+use Rattle.bus.specs.Place.{vram_at, mirror_of, region_of}
 use Rattle.bus.specs.Memory.{Memory, byte_of}
 use Rattle.bus.specs.Mapped.{EachMapped, CharacterMirror}
 use Rattle.bus.proofs.Places.{place-wram, place-rom, place-vip}

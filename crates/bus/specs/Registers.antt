@@ -1,11 +1,8 @@
 -- The 13 drawing registers: SPT0 to SPT3, GPLT0 to GPLT3, JPLT0 to JPLT3 and BKCOL. Paper 01, "Addresses" (widths) and
 -- refusal 5; paper 000, "I/O Registers" (addresses). They are the first of the device registers, which TimerLines has;
 -- the drawing calls are given these 13 alone.
-use Rattle.std.specs.Prelude.{ℕ, zero, suc, ◌+◌, ◌%◌, ◌^◌, Bool, true, false, List, [], ◌∷◌, ◌++◌, get_or, set, ltb}
+use Rattle.std.specs.Prelude.{ℕ, zero, suc, ◌+◌, ◌%◌, ◌^◌, Bool, true, false, List, [], ◌∷◌, ◌++◌, get_or, ltb}
 use Rattle.word.specs.Choose.{pick}
-use Rattle.bus_timer.specs.Record.{hardware_of}
-use Rattle.bus_timer.specs.Ports.{hardware_ok}
-use Rattle.bus_timer.specs.declared.TimerLines.{TimerLines}
 
 -- SPT n
 unfoldable pub spt_of : List ℕ → ℕ → ℕ

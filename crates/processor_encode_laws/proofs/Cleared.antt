@@ -6,7 +6,6 @@ use mathlib.Core.Path.{◌≡◌, refl, sym, ◌∙◌, ap}
 use native.Mathlib.Decide.{ℕ_discrete, dec_lt}
 use native.Mathlib.Omega.{arith}
 use borrow.Author.Tests.{lt-ltb, le-ltb, eq-eqb, ne_eqb}
-use lib.Dec.{ltb, eqb}
 use Rattle.processor_decode.specs.Format.{two_of}
 use Rattle.processor_encode.specs.Format.{format_of, long_formats}
 use Rattle.processor_encode.specs.Unused.{operation_at, first_without, second_without, cleared_first, cleared_second, cleared_of}

@@ -12,7 +12,7 @@ use lib.ListN.{get_or, length, drop, replicate, get_or-eq_default, get_or-map, g
 use lib.Seq.{get_or-drop}
 use Rattle.word.specs.Choose.{pick}
 use Rattle.word.specs.Extend.{extend_of}
-use Rattle.processor_decode.specs.Format.{branch, disp_of}
+use Rattle.processor_decode.specs.Format.{disp_of}
 use Rattle.processor_decode.specs.Opcode.{decode_of, short_rows, long_rows}
 use Rattle.processor_decode.specs.SubOpcode as sub
 use Rattle.processor_decode.proofs.Rows.{short_row, branch_row, long-row, unlisted}

@@ -1,10 +1,10 @@
 -- What stands in a file that was written is what it was written from; and a file whose contents are valid is what its own bodies
 -- are written as. Both forms at once. Assumes nothing.
-use Prim.Native.Nat.{ℕ, zero, suc, ◌+◌, ◌-◌, ◌*◌, ◌/◌, ◌%◌, ◌^◌, ◌<◌, ◌≤◌}
+use Prim.Native.Nat.{ℕ, zero, suc, ◌+◌, ◌-◌, ◌*◌, ◌^◌, ◌<◌, ◌≤◌}
 use native.Mathlib.Omega.{arith}
 use mathlib.Core.Bool.{true}
-use mathlib.Core.Path.{◌≡◌, refl, sym, ap, subst, ◌∙◌}
-use mathlib.Core.List.{List, [], ◌∷◌, ◌++◌, append-nil}
+use mathlib.Core.Path.{◌≡◌, refl, sym, ap, ◌∙◌}
+use mathlib.Core.List.{List, [], ◌∷◌, ◌++◌}
 use lib.Dec.{eqb, eqb-suc-zero}
 use lib.ListN.{length, get_or, take, drop, length-append, length-take, length-drop, length-replicate, take-append-drop, drop_of_length-le}
 use lib.Seq.{take_all, take_at, drop_at, drop-drop}
@@ -17,11 +17,11 @@ use Rattle.saved_bytes.proofs.Reading.{Under, halves-back, same_self, same-equal
 use Rattle.saved_bytes.proofs.Putting.{put_first}
 use Rattle.saved_layout.specs.Layout.{Part, part_of, last_parts_of, parts_of, leading_of, contents_entry_of, sum_at, entries_from}
 use Rattle.saved_layout.specs.Layout.{contents_end_of, contents_of, body_place_of, last_place_of, file_length_of}
-use Rattle.saved_layout.specs.File.{Bodies, bodies_of, sums_of, last_of, joined_of, file_of, hardware_reset}
+use Rattle.saved_layout.specs.File.{Bodies, bodies_of, sums_of, last_of, joined_of, file_of}
 use Rattle.saved_layout.specs.File.{hardware_bytes_in, bodies_in, contents_in, contents_ok, SizedBodies, HeldBy}
 use Rattle.saved_layout.specs.declared.Form.{Form}
 use Rattle.saved_layout.specs.declared.Form.TheVariants.{One, Two}
-use Rattle.saved_layout.proofs.Positions.{first_small, second, third, fourth, fifth, last-place, length-is}
+use Rattle.saved_layout.proofs.Positions.{second, third, fourth, fifth, last-place, length-is}
 use Rattle.saved_layout.proofs.Positions.{contents-end}
 
 -- the contents are halfwords: each entry is, whatever its kind

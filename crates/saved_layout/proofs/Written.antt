@@ -1,17 +1,17 @@
 -- What the functions leave: records and memories put one after the other, and parts of a file taken where they stand. Assumes nothing.
-use Prim.Native.Nat.{ℕ, ◌+◌, ◌-◌, ◌*◌, ◌≤◌}
+use Prim.Native.Nat.{ℕ, ◌+◌, ◌*◌, ◌≤◌}
 use native.Mathlib.Omega.{arith}
 use mathlib.Core.Path.{◌≡◌, refl, sym, ap, ◌∙◌}
 use mathlib.Core.List.{List, [], ◌∷◌, ◌++◌, append_assoc, append-nil}
 use lib.ListN.{length, take, drop, length-append, length-take, length-drop, drop_of_length-le}
-use lib.Seq.{take-length, take_all, drop_at, length-take-le}
+use lib.Seq.{take-length, drop_at, length-take-le}
 use Rattle.saved_bytes.specs.Numbers.{bytes_of, halves_of, halves_from, same_of}
 use Rattle.saved_bytes.specs.Parts.{body_sum_of}
 use Rattle.saved_bytes.specs.inner.Put.{put_at}
 use Rattle.saved_bytes.proofs.LittleEndian.{length-bytes, length-halves}
-use Rattle.saved_bytes.proofs.Putting.{length-put, put-put, put_last}
+use Rattle.saved_bytes.proofs.Putting.{put-put, put_last}
 use Rattle.saved_layout.specs.Layout.{contents_of, body_place_of, last_place_of, file_length_of}
-use Rattle.saved_layout.specs.File.{Bodies, bodies_of, sums_of, last_of, joined_of, file_of, bodies_in, contents_in, contents_ok, SizedBodies}
+use Rattle.saved_layout.specs.File.{bodies_of, sums_of, joined_of, file_of, bodies_in, contents_in, contents_ok, SizedBodies}
 use Rattle.saved_layout.specs.declared.Form.{Form}
 use Rattle.saved_layout.specs.declared.Form.TheVariants.{One, Two}
 use Rattle.saved_layout.proofs.Positions.{second, third, fourth, fifth, last-place, length-is, contents-end}

@@ -159,7 +159,36 @@ impl From<&DrawingRegisters> for Registers {
     }
 }
 
+/// Lengths of VRAM about the one that is accepted, each with its refusal.
+pub const VRAM_LENGTHS: [(usize, u32); 7] =
+    [(0, 3), (1, 3), (131_072, 3), (262_143, 3), (262_144, 0), (262_145, 3), (524_288, 3)];
+
+/// Each register of an accepted record in turn at its largest value, one above and
+/// far above it, each with its refusal.
+pub fn drawings_about_limits(accepted: &DrawingRegisters) -> Vec<(DrawingRegisters, u32)> {
+    let mut all = Vec::new();
+    for number in 0..13 {
+        for (more, refusal) in [(0, 0), (1, 5), (0x7C00, 5)] {
+            let mut drawing = *accepted;
+            let (register, largest) = register(&mut drawing, number);
+            *register = largest + more;
+            all.push((drawing, refusal));
+        }
+    }
+    all
+}
+
 /// The number a refusal has at the C boundary; 0 for none.
 pub fn number_of<T>(answer: &Result<T, model::Refusal>) -> u32 {
     answer.as_ref().err().map_or(0, |refusal| refusal.number())
+}
+
+/// Register `number` of 13, in the order of vb.h, and its largest value.
+pub fn register(drawing: &mut DrawingRegisters, number: usize) -> (&mut u16, u16) {
+    match number {
+        0..=3 => (&mut drawing.spt[number], 0x3FF),
+        4..=7 => (&mut drawing.gplt[number - 4], 0xFF),
+        8..=11 => (&mut drawing.jplt[number - 8], 0xFF),
+        _ => (&mut drawing.bkcol, 3),
+    }
 }

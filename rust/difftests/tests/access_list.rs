@@ -1,7 +1,8 @@
 //! A list of accesses in one call (W7): against the library's own single calls and
-//! against the model, over dense addresses; lists that refusal 11 meets.
+//! against the model, over dense addresses; the limits of refusal 11.
 
 use difftests::access::{biased_address, biased_value, by_library, timer_address, Call};
+use difftests::broken::Broken;
 use difftests::machine::{
     expect_same_bytes, hardware_to_library, hardware_to_model, to_library, to_model, Buffers,
     Registers,
@@ -322,6 +323,43 @@ fn parts_of_accesses() {
     for length in (1..20).chain([21, 39, 41, 5_119, 5_121, 5_139, 5_199]) {
         let what = format!("{length} bytes of list");
         expect_refused(&mut buffers, &registers, &list[..length], vbsys::MISUSE, &what);
+    }
+}
+
+/// Every set of broken conditions 1 to 5, a list whose length is not a whole number of
+/// accesses, and 11, each in two ways.
+#[test]
+fn the_order_of_refusals() {
+    let mut random = Random::new(0x7006_0000);
+    for broken in Broken::sets(7) {
+        let mut buffers = broken.buffers();
+        buffers.pak.fill(0x22);
+        let mut registers = Registers::random(&mut random);
+        match (broken.has(4), broken.way) {
+            (true, 0) => registers.hardware.lines |= 0x20,
+            (true, _) => registers.drawing.bkcol = 4,
+            _ => {}
+        }
+        let accesses = if broken.has(6) && broken.way == 1 { 257 } else { 3 };
+        let mut list = random_list(&mut random, accesses, true, 1_024, 8);
+        if broken.has(6) && broken.way == 0 {
+            list[2].size = 3;
+        }
+        let mut bytes = bytes_of(&list).into_vec();
+        if broken.has(5) {
+            bytes.truncate(bytes.len() - 1);
+        }
+        let what = broken.to_string();
+        match broken.first(&[1, 2, 3, 4, 5, vbsys::MISUSE, 11]) {
+            Some(number) => expect_refused(&mut buffers, &registers, &bytes, number, &what),
+            None => {
+                let made = made_by_library(&mut buffers, &registers, &bytes);
+                assert_eq!(made.refusal, 0, "{what}");
+            }
+        }
+        // the empty list tests 1 to 5 alone
+        let first = broken.first(&[1, 2, 3, 4, 5]).unwrap_or(0);
+        expect_refused(&mut buffers, &registers, &[], first, &what);
     }
 }
 

@@ -157,6 +157,57 @@ fn nothing_else_matters() {
 }
 
 #[test]
+fn both_sides_of_each_limit() {
+    let vram = random_bytes(&mut Random::new(0x1104_0000), VRAM);
+    for (start, number) in
+        [(0, 15), (94, 15), (95, 0), (255, 0), (256, 15), (351, 15), (0xFFFF_FFFF, 15)]
+    {
+        let found = expect_same(&vram, Given { start, ..ACCEPTED }, DISPLAY_LENGTH, "start").0;
+        assert_eq!(found, number, "start {start}");
+    }
+    for (eye, number) in [(0, 0), (1, 0), (2, 15), (256, 15), (0xFFFF_FFFF, 15)] {
+        let found = expect_same(&vram, Given { eye, ..ACCEPTED }, DISPLAY_LENGTH, "eye").0;
+        assert_eq!(found, number, "eye {eye}");
+    }
+    for (frame, number) in [(0, 0), (1, 0), (2, 7), (256, 7), (0xFFFF_FFFF, 7)] {
+        let found = expect_same(&vram, Given { frame, ..ACCEPTED }, DISPLAY_LENGTH, "frame").0;
+        assert_eq!(found, number, "frame {frame}");
+    }
+    for (output, number) in
+        [(0, 15), (1, 15), (86_015, 15), (86_016, 0), (86_017, 15), (98_304, 15), (172_032, 15)]
+    {
+        assert_eq!(expect_same(&vram, ACCEPTED, output, "output").0, number, "output {output}");
+    }
+}
+
+/// Every set of broken conditions among 3, 7 and the three of 15.
+#[test]
+fn the_lowest_number_wins() {
+    let whole = random_bytes(&mut Random::new(0x1105_0000), VRAM + 1);
+    for set in 0..32u32 {
+        let broken = |bit: u32| set >> bit & 1 == 1;
+        let length = if broken(0) { [VRAM - 1, VRAM + 1, 0] } else { [VRAM; 3] };
+        let given = Given {
+            frame: if broken(1) { 2 } else { 0 },
+            eye: if broken(2) { 2 } else { 0 },
+            start: if broken(3) { 94 } else { 95 },
+            ..ACCEPTED
+        };
+        let output = if broken(4) { DISPLAY_LENGTH - 1 } else { DISPLAY_LENGTH };
+        let number = match (broken(0), broken(1), set >> 2) {
+            (true, _, _) => 3,
+            (_, true, _) => 7,
+            (_, _, 0) => 0,
+            _ => 15,
+        };
+        for length in length {
+            let found = expect_same(&whole[..length], given, output, "broken conditions").0;
+            assert_eq!(found, number, "{given:?}, VRAM {length}, output {output}");
+        }
+    }
+}
+
+#[test]
 fn the_table_as_printed() {
     let printed = worked::column_table();
     for number in 0..20 {
@@ -181,6 +232,17 @@ fn images_with_the_recommended_table() {
     let given = Given { brightness: [10, 30, 50], ..ACCEPTED };
     let (_, output) = expect_same(&vram, given, DISPLAY_LENGTH, "the recommended table");
     assert!(output.iter().all(|byte| [0, 10, 30, 90].contains(byte)));
+}
+
+#[test]
+fn loading_is_refused_by_3_alone() {
+    for (length, number) in [(0, 3), (1, 3), (VRAM - 1, 3), (VRAM, 0), (VRAM + 1, 3), (2 * VRAM, 3)]
+    {
+        let before = random_bytes(&mut Random::new(0x1108_0000), length);
+        let mut vram = before.clone();
+        assert_eq!(vbsys::load_column_table(&mut vram), number, "VRAM {length}");
+        assert_eq!(vram == before, number != 0, "VRAM {length}");
+    }
 }
 
 /// Neither call touches a byte outside the caller's buffers, and VRAM of the display

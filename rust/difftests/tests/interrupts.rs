@@ -1,14 +1,15 @@
 //! Interrupts and the timer (W6): which line is accepted and how, in every mode;
 //! ticks; the timer's registers on the bus; programs that halt, mask and lower
-//! their lines.
+//! their lines; refusal 5 with the new fields.
 
 use difftests::access::{by_library, by_model, timer_address, Call, CALLS, LOADS, STORES};
+use difftests::broken::Broken;
 use difftests::machine::{
     hardware_to_library, hardware_to_model, number_of, random_drawing, random_hardware, to_library,
     Buffers, Registers,
 };
 use difftests::program::{
-    aim_pointers, half, load_interrupt_program, random_processor, CAXI, HALT, NOP,
+    aim_pointers, half, load_interrupt_program, random_processor, BIT_STRING, CAXI, HALT, NOP,
 };
 use difftests::random::Random;
 use difftests::twin::{processor_to_library, Twin};
@@ -619,6 +620,140 @@ fn between_fences() {
             assert_eq!(ran.processor, processor_to_library(&twin.processor));
             fenced.expect_equal(&twin.model);
         }
+    }
+}
+
+/// Records on both sides of refusal 5's new limits.
+fn limits() -> Vec<(Hardware, bool)> {
+    let most = hardware(0x1F, 0xFFFF, 0xFFFF, 0x1B);
+    let mut limits = vec![
+        (most, true),
+        (hardware(0, 0, 0, 0), true),
+        (Hardware { lines: 0x20, ..most }, false),
+        (Hardware { lines: 0xFFFF, ..most }, false),
+        (Hardware { control: 0x1F, ..most }, false),
+        (Hardware { control: 0xFFFF, ..most }, false),
+    ];
+    for bit in 0..16 {
+        limits.push((hardware(1 << bit, 3, 4, 0), bit < 5));
+        limits.push((hardware(0, 3, 4, 1 << bit), 0x1B >> bit & 1 == 1));
+        limits.push((hardware(0, 1 << bit, 0, 0), true));
+        limits.push((hardware(0, 0, 1 << bit, 0), true));
+    }
+    limits
+}
+
+/// Step and run at several budgets are refused by `number` and change nothing.
+fn expect_refused(
+    buffers: &Buffers,
+    processor: &vbsys::Processor,
+    drawing: &vbsys::Drawing,
+    number: u32,
+) {
+    let mut after = buffers.clone();
+    let what = format!("refused by {number}: {:X?}", processor.hardware);
+    let stepped = vbsys::step(&mut after.for_library(), *processor, *drawing);
+    let expected = vbsys::Stepped {
+        refusal: number,
+        processor: *processor,
+        drawing: *drawing,
+        ..Default::default()
+    };
+    assert_eq!(stepped, expected, "{what}");
+    for budget in [0, 1, 100] {
+        let ran = vbsys::run(&mut after.for_library(), *processor, *drawing, budget);
+        let expected =
+            vbsys::Ran { refusal: number, count: 0, processor: *processor, drawing: *drawing };
+        assert_eq!(ran, expected, "budget {budget}, {what}");
+    }
+    after.expect_equal(buffers, &|| what.clone());
+}
+
+/// Each limit in each call that is given the record, and in every mode.
+#[test]
+fn limits_of_lines_and_control() {
+    let mut random = Random::new(0x600B_0000);
+    let twin = at_instruction(&mut random, NOP);
+    let mut buffers = twin.library.clone();
+    for (hardware, legal) in limits() {
+        let number = if legal { 0 } else { 5 };
+        let ticked = vbsys::tick(hardware_to_library(&hardware));
+        assert_eq!(ticked.refusal, number, "tick {hardware:X?}");
+        assert!(legal || hardware_to_model(&ticked.hardware) == hardware);
+        let mut after = hardware;
+        assert_eq!(number_of(&model::hardware::tick(&mut after)), number);
+        let registers = Registers { hardware, drawing: twin.drawing };
+        for call in CALLS {
+            let address = 0x0500_0010;
+            let answer = by_library(call, &mut buffers, registers, address, 0x55);
+            assert_eq!(answer, by_model(call, &mut buffers.clone(), registers, address, 0x55));
+            assert_eq!((answer.refusal, answer.hardware), (number, hardware), "{call:?}");
+        }
+        for (mode, psw) in [0, 1, 2].into_iter().flat_map(|mode| [(mode, 0), (mode, ID)]) {
+            let mut processor = processor_to_library(&twin.processor);
+            (processor.mode, processor.psw) = (mode, psw);
+            processor.hardware = hardware_to_library(&hardware);
+            let drawing = to_library(&twin.drawing);
+            if legal {
+                let mut after = buffers.clone();
+                let stepped = vbsys::step(&mut after.for_library(), processor, drawing);
+                assert_eq!(stepped.refusal, 0, "{hardware:X?}");
+                let ran = vbsys::run(&mut after.for_library(), processor, drawing, 1);
+                assert_eq!(ran.refusal, 0, "{hardware:X?}");
+            } else {
+                expect_refused(&buffers, &processor, &drawing, 5);
+            }
+        }
+    }
+}
+
+/// Every set of broken conditions 1 to 5, the last by lines or by control, and the
+/// mode: an interrupt that could be accepted, or an instruction that isn't
+/// modelled, is never looked at before.
+#[test]
+fn the_order_of_refusals() {
+    let mut random = Random::new(0x600C_0000);
+    let drawing = random_drawing(&mut random);
+    for broken in Broken::sets(6) {
+        let mut buffers = broken.buffers();
+        buffers.rom.fill(0x11);
+        buffers.pak.fill(0x22);
+        if buffers.wram.len() > 1 {
+            buffers.wram[..2].copy_from_slice(&BIT_STRING.to_le_bytes());
+        }
+        let mut hardware = hardware(0x10, 1, 2, 0x09);
+        match (broken.has(4), broken.way) {
+            (true, 0) => hardware.lines |= 0x20,
+            (true, _) => hardware.control |= 0x04,
+            _ => {}
+        }
+        let mode = if broken.has(5) { 3 + broken.way as u32 } else { vbsys::RUNNING };
+        let processor = vbsys::Processor {
+            pc: 0x0500_0000,
+            mode,
+            hardware: hardware_to_library(&hardware),
+            ..Default::default()
+        };
+        let first = broken.first(&[1, 2, 3, 4, 5]);
+        let registers = Registers { drawing, hardware };
+        for call in CALLS {
+            let before = buffers.clone();
+            let answer = by_library(call, &mut buffers, registers, 0x0200_0020, 0xFF);
+            assert_eq!(answer.refusal, first.unwrap_or(0), "{call:?}, {broken}");
+            assert_eq!(answer, by_model(call, &mut buffers.clone(), registers, 0x0200_0020, 0xFF));
+            buffers.expect_equal(&before, &|| format!("{call:?}, {broken}"));
+        }
+        let number = first.or(broken.has(5).then_some(vbsys::MISUSE));
+        let drawing = to_library(&drawing);
+        match number {
+            Some(number) => expect_refused(&buffers, &processor, &drawing, number),
+            None => {
+                let stepped = vbsys::step(&mut buffers.for_library(), processor, drawing);
+                assert_eq!((stepped.refusal, stepped.answer, stepped.code), (0, 5, 0xFE40));
+            }
+        }
+        let ticked = vbsys::tick(processor.hardware);
+        assert_eq!(ticked.refusal, if broken.has(4) { 5 } else { 0 });
     }
 }
 

@@ -1,7 +1,8 @@
 //! The call that lists the bytes a pixel answers to: its count and its output buffer
-//! against the independent model's list, with output buffers of every kind of length.
+//! against the independent model's list, with output buffers of every kind of length,
+//! and every refusal on both sides of its limit.
 
-use difftests::machine::to_library;
+use difftests::machine::{drawings_about_limits, to_library, VRAM_LENGTHS};
 use difftests::random::Random;
 use difftests::scene::{crowded, put_objects, visible_world, Scene};
 use model::answers::{answers, Answers, Covered};
@@ -162,5 +163,65 @@ fn both_sides_of_the_images() {
                 }
             }
         }
+    }
+}
+
+const ACCEPTED: DrawingRegisters =
+    DrawingRegisters { spt: [0x3FF; 4], gplt: [0xFF; 4], jplt: [0xFF; 4], bkcol: 3 };
+
+/// The call's number with a VRAM of a length, and that nothing changes where it
+/// is refused.
+fn expect_number(length: usize, drawing: &DrawingRegisters, pixel: (u32, u32, u32), expected: u32) {
+    let mut vram = vec![0; length];
+    Random::new(0xBA_0000).fill(&mut vram);
+    let before = vram.clone();
+    let (listed, output) = call(&vram, drawing, pixel, 100);
+    let what = format!("VRAM {length}, {drawing:X?}, {pixel:?}");
+    assert_eq!(listed.refusal, expected, "{what}");
+    assert!(vram == before, "VRAM changes: {what}");
+    if expected != 0 {
+        assert_eq!((listed.count, output), (0, vec![KEPT; 100]), "{what}");
+    }
+    if expected == 3 || expected == 5 {
+        let of = Eye::BOTH[pixel.0 as usize % 2];
+        let model = answers(&vram, drawing, of, pixel.1 % 384, pixel.2 % 224).unwrap_err();
+        assert_eq!(model.number(), expected, "the model: {what}");
+    }
+}
+
+#[test]
+fn vram_lengths() {
+    for (length, expected) in VRAM_LENGTHS {
+        expect_number(length, &ACCEPTED, (0, 0, 0), expected);
+        expect_number(length, &ACCEPTED, (1, 383, 223), expected);
+    }
+}
+
+#[test]
+fn register_widths() {
+    for (drawing, expected) in drawings_about_limits(&ACCEPTED) {
+        expect_number(262_144, &drawing, (1, 7, 9), expected);
+    }
+}
+
+/// Every set of broken conditions: 3 before 5 before VB_MISUSE.
+#[test]
+fn the_order_of_the_refusals() {
+    for set in 0..32u32 {
+        let broken = |bit: u32| set >> bit & 1 == 1;
+        let length = if broken(0) { 262_143 } else { 262_144 };
+        let mut drawing = ACCEPTED;
+        if broken(1) {
+            drawing.spt[2] = 0x400;
+        }
+        let at = |bit, last, one_more| if broken(bit) { one_more } else { last };
+        let pixel = (at(2, 1, 2), at(3, 383, 384), at(4, 223, 224));
+        let expected = match (broken(0), broken(1), set >> 2) {
+            (true, _, _) => 3,
+            (_, true, _) => 5,
+            (_, _, 0) => 0,
+            _ => MISUSE,
+        };
+        expect_number(length, &drawing, pixel, expected);
     }
 }

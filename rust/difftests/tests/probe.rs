@@ -161,6 +161,44 @@ fn a_write_is_a_store() {
     probed.expect_equal(&stored, &|| "writes and stores".into());
 }
 
+/// Every set of broken conditions 1 to 4 and 13, each length broken in three
+/// ways, empty memories among them.
+#[test]
+fn the_lowest_number_wins() {
+    for set in 0..32u32 {
+        let broken = |number: u32| set >> number & 1 == 1;
+        for way in 0..3 {
+            let length = |number: u32, good: usize, bad: [usize; 3]| {
+                if broken(number) {
+                    bad[way]
+                } else {
+                    good
+                }
+            };
+            let before = Buffers::zeroed(
+                length(0, 1_024, [0, 512, 1_025]),
+                length(1, 65_536, [0, 65_535, 65_537]),
+                length(2, 262_144, [0, 262_143, 262_145]),
+                length(3, 0, [3, 5, 24]),
+            );
+            let address = if broken(4) { 0x3C000 } else { 0x38000 };
+            let due = [1, 2, 3, 4, 13].into_iter().zip(0..5).find(|&(_, bit)| broken(bit));
+            let number = due.map_or(0, |(number, _)| number);
+            for width in WIDTHS {
+                let (mut library, mut model) = (before.clone(), before.clone());
+                let what = || format!("{width:?}, broken {set:05b}, way {way}");
+                let found = by_library(&mut library, width, address, 0xFFFF_FFFF);
+                assert_eq!(found, number, "{}", what());
+                assert_eq!(by_model(&mut model, width, address, 0xFFFF_FFFF), number);
+                library.expect_equal(&model, &what);
+                if number != 0 {
+                    library.expect_equal(&before, &what);
+                }
+            }
+        }
+    }
+}
+
 /// Only VRAM may be written, and no byte outside it is touched.
 #[cfg(target_os = "linux")]
 #[test]

@@ -2,6 +2,7 @@
 //! programs, whole, cut, with changed words, and past the point where the machine
 //! stops; refusals before and at a record.
 
+use difftests::broken::Broken;
 use difftests::machine::{random_hardware, to_library, Buffers};
 use difftests::program::{
     half, load_interrupt_program, load_program, BIT_STRING, CAXI, HALT, ILLEGAL, NOP, TRAP,
@@ -319,6 +320,48 @@ fn trace_lengths() {
                     assert_eq!((agreed, twin.processor), (0, before.processor), "{}", what());
                     twin.library.expect_equal(&before.library, &what);
                 }
+            }
+        }
+    }
+}
+
+/// Every set of broken conditions among 1 to 5, the mode, 14 and 6, each in two
+/// ways; a line that would be accepted is not looked at before them.
+#[test]
+fn the_order_of_refusals() {
+    for broken in Broken::sets(8) {
+        let mut buffers = broken.buffers();
+        buffers.rom.fill(0x11);
+        buffers.pak.fill(0x22);
+        let code = if broken.has(7) { [CAXI, BIT_STRING][broken.way] } else { ADD_ONE };
+        if buffers.wram.len() > 1 {
+            buffers.wram[..2].copy_from_slice(&code.to_le_bytes());
+        }
+        let mut processor = vbsys::Processor { pc: 0x0500_0000, ..Default::default() };
+        let mut drawing = vbsys::Drawing::default();
+        match (broken.has(4), broken.way) {
+            (true, 0) => processor.hardware.control = 0x20,
+            (true, _) => drawing.spt[1] = 0x400,
+            _ => {}
+        }
+        processor.mode = if broken.has(5) { 3 } else { vbsys::RUNNING };
+        let mut trace = bytes_of(&[[0x0500_0000, 0x0500_0002, 0, 1]]).into_vec();
+        if broken.has(6) {
+            trace.resize([15, 17][broken.way], 0);
+        }
+        let before = buffers.clone();
+        let replayed = vbsys::replay(&mut buffers.for_library(), processor, drawing, &trace);
+        let what = broken.to_string();
+        match broken.first(&[1, 2, 3, 4, 5, vbsys::MISUSE, 14, 6]) {
+            Some(refusal) => {
+                let expected =
+                    vbsys::Replayed { refusal, processor, drawing, ..Default::default() };
+                assert_eq!(replayed, expected, "{what}");
+                buffers.expect_equal(&before, &|| what.clone());
+            }
+            None => {
+                let found = (replayed.refusal, replayed.answer, replayed.agreed, replayed.word);
+                assert_eq!(found, (0, vbsys::REPLAY_AGREED, 1, 0), "{what}");
             }
         }
     }

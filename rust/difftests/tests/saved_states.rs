@@ -1,9 +1,11 @@
 //! Saved states (W1): files written and read by the library and the model, at
 //! every length of pak RAM; every condition of refusals 9 and 10.
 
-use difftests::machine::random_hardware;
+use difftests::broken::Broken;
+use difftests::machine::{random_hardware, to_library};
 use difftests::random::Random;
 use difftests::state::{field_values, rounds_of_paks, State};
+use difftests::twin::processor_to_library;
 use model::saved::{file_length, Form};
 use model::Hardware;
 
@@ -129,6 +131,51 @@ fn lines_and_timer() {
             assert_eq!(other.write(Form::One, file.len()).0, number);
             let (number, read) = other.read(&file, "lines and timer");
             assert_eq!((number, read.processor), (0, state.processor));
+        }
+    }
+}
+
+/// Every set of broken conditions among 1 to 5, the mode, 9 and, for reading, 10.
+#[test]
+fn the_order_of_refusals() {
+    let mut random = Random::new(0x1008_0000);
+    let accepted = State::at_reset(&mut random, 8);
+    let file = file_of(&accepted, "accepted");
+    for broken in Broken::sets(8) {
+        let mut buffers = broken.buffers();
+        buffers.rom.fill(1);
+        buffers.wram.fill(2);
+        let mut processor = processor_to_library(&accepted.processor);
+        let mut drawing = to_library(&accepted.drawing);
+        match (broken.has(4), broken.way) {
+            (true, 0) => processor.pc |= 1,
+            (true, _) => drawing.bkcol = 4,
+            _ => {}
+        }
+        if broken.has(5) {
+            processor.mode = 3;
+        }
+        let mut given = file.to_vec();
+        if broken.has(7) {
+            given[FIRST + 10] |= 1;
+        }
+        if broken.has(6) {
+            given.resize([file.len() - 1, 0][broken.way], 0);
+        }
+        let numbers = [1, 2, 3, 4, 5, vbsys::MISUSE, 9, 10];
+        let number = |bits: usize| broken.first(&numbers[..bits]).unwrap_or(0);
+        let before = buffers.clone();
+        let mut output = vec![0xA5; given.len()];
+        let read = buffers.read_by_library();
+        let written = vbsys::write_state(read, processor, drawing, &mut output);
+        assert_eq!(written, number(7), "writing, {broken}");
+        assert!(written == 0 || output.iter().all(|&byte| byte == 0xA5), "{broken}");
+        let memories = &mut buffers.for_library();
+        let restored = vbsys::read_state(memories, processor, drawing, &given);
+        assert_eq!(restored.refusal, number(8), "reading, {broken}");
+        if restored.refusal != 0 {
+            assert_eq!((restored.processor, restored.drawing), (processor, drawing));
+            buffers.expect_equal(&before, &|| broken.to_string());
         }
     }
 }

@@ -1,11 +1,13 @@
 //! The second saved form (W12): files written, read and moved by the library and
 //! the model, at every length of pak RAM; every condition of 9, 10 and 16.
 
-use difftests::machine::{expect_same_bytes, Buffers};
+use difftests::broken::Broken;
+use difftests::machine::{expect_same_bytes, to_library, Buffers};
 use difftests::random::Random;
 use difftests::state::{
     bodies, field_values, filled, is_untouched, pak_lengths, rounds_of_paks, sum, Body, State,
 };
+use difftests::twin::processor_to_library;
 use model::saved::{file_length, Form};
 use model::{Hardware, Refusal};
 
@@ -278,15 +280,73 @@ fn the_length_of_both_forms() {
     assert_eq!(none.read(&five, "exchanged").0, 9);
 }
 
+/// Every set of broken conditions among 1 to 5, the mode and 9, and 16 for form 1's
+/// writer, 10 for reading a file of form 2.
+#[test]
+fn the_order_of_refusals() {
+    let mut random = Random::new(0x120A_0000);
+    let accepted = State::random(&mut random, 8);
+    let file = accepted.file(Form::Two, "accepted");
+    for broken in Broken::sets(9) {
+        let mut buffers = broken.buffers();
+        buffers.rom.fill(1);
+        let mut processor = processor_to_library(&accepted.processor);
+        let mut drawing = to_library(&accepted.drawing);
+        processor.hardware = Default::default();
+        if broken.has(8) {
+            processor.hardware.count = 1;
+        }
+        match (broken.has(4), broken.way) {
+            (true, 0) => processor.hardware.lines |= 0x20,
+            (true, _) => drawing.bkcol = 4,
+            _ => {}
+        }
+        if broken.has(5) {
+            processor.mode = 3;
+        }
+        let mut given = file.to_vec();
+        if broken.has(7) {
+            given[[100, 44][broken.way]] ^= 1;
+        }
+        if broken.has(6) {
+            given.resize([file.len() - 1, 0][broken.way], 0);
+        }
+        let before = buffers.clone();
+        let what = broken.to_string();
+        let earlier = broken.first(&[1, 2, 3, 4, 5, vbsys::MISUSE, 9]);
+        let or_else = |bit, refusal| earlier.unwrap_or(if broken.has(bit) { refusal } else { 0 });
+        // form 2
+        let mut output = filled(given.len());
+        let read = buffers.read_by_library();
+        let written = vbsys::write_state_2(read, processor, drawing, &mut output);
+        assert_eq!(written, earlier.unwrap_or(0), "form 2, {what}");
+        assert!(written == 0 || is_untouched(&output), "form 2, {what}");
+        // form 1
+        let due = file_length(Form::One, 8);
+        let mut output = filled(if broken.has(6) { [due + 1, 0][broken.way] } else { due });
+        let written = vbsys::write_state(read, processor, drawing, &mut output);
+        assert_eq!(written, or_else(8, 16), "form 1, {what}");
+        assert!(written == 0 || is_untouched(&output), "form 1, {what}");
+        // reading
+        let memories = &mut buffers.for_library();
+        let restored = vbsys::read_state(memories, processor, drawing, &given);
+        assert_eq!(restored.refusal, or_else(7, 10), "{what}");
+        if restored.refusal != 0 {
+            assert_eq!((restored.processor, restored.drawing), (processor, drawing));
+            buffers.expect_equal(&before, &|| what.clone());
+        }
+    }
+}
+
 /// 9, 10 and 16 of a move to form 1, in every combination.
 #[test]
 fn the_order_of_a_move() {
     let mut random = Random::new(0x120B_0000);
     for pak in [0, 1, 64] {
-        for set in 0..8u32 {
-            let broken = |bit: u32| set >> bit & 1 == 1;
+        for set in 0..8 {
+            let broken = Broken { set, way: 0 };
             let mut state = State::at_reset(&mut random, pak);
-            if broken(2) {
+            if broken.has(2) {
                 state.processor.hardware = Hardware { control: 0x02, ..Hardware::default() };
             }
             let file = state.file(Form::Two, "a move");
@@ -295,15 +355,12 @@ fn the_order_of_a_move() {
             for at in [4, 8, 44, 100, 300, file.len() - 5] {
                 for output in [due + 1, due - 1, 0, file.len()] {
                     let mut given = file.clone();
-                    if broken(1) {
+                    if broken.has(1) {
                         given[at] ^= 0x40;
                     }
-                    let output = if broken(0) { output } else { due };
-                    let what =
-                        format!("broken {set:03b}, byte {at}, output {output}, pak RAM {pak}");
-                    let first =
-                        [(0, 9), (1, 10), (2, 16)].into_iter().find(|(bit, _)| broken(*bit));
-                    let number = first.map_or(0, |(_, number)| number);
+                    let output = if broken.has(0) { output } else { due };
+                    let what = format!("{broken}, byte {at}, output {output}, pak RAM {pak}");
+                    let number = broken.first(&[9, 10, 16]).unwrap_or(0);
                     assert_eq!(moved(&given, output, &what).0, number, "{what}");
                 }
             }

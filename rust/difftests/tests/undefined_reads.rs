@@ -93,12 +93,33 @@ fn worked_loads() {
     }
 }
 
+/// A refused load of an undefined byte reports none.
+#[test]
+fn refused_loads() {
+    let wide = DrawingRegisters { bkcol: 4, ..DrawingRegisters::default() };
+    let plain = DrawingRegisters::default();
+    for (number, rom, wram, vram, pak, drawing) in [
+        (1, 512, 65_536, 262_144, 0, plain),
+        (2, 1_024, 0, 262_144, 0, plain),
+        (3, 1_024, 65_536, 0, 0, plain),
+        (4, 1_024, 65_536, 262_144, 3, plain),
+        (5, 1_024, 65_536, 262_144, 0, wide),
+    ] {
+        let mut buffers = Buffers::zeroed(rom, wram, vram, pak);
+        for (call, address) in LOADS.into_iter().flat_map(|c| [(c, 0x40000), (c, 0x5F846)]) {
+            let answer = by_library(call, &mut buffers, &drawing, address, 0);
+            let found = (answer.refusal, answer.value, answer.undefined);
+            assert_eq!(found, (number, 0, 0), "{call:?} 0x{address:X}");
+        }
+    }
+}
+
 mod steps {
     use super::{BORDERS, MIRRORS};
-    use difftests::machine::{random_drawing, Buffers};
+    use difftests::machine::{random_drawing, to_library, Buffers};
     use difftests::program::{biased_register, half, random_processor};
     use difftests::random::Random;
-    use difftests::twin::Twin;
+    use difftests::twin::{processor_to_library, Twin};
     use model::{Mode, Refusal, Undefined};
 
     /// LD.B, LD.H, LD.W, IN.B, IN.H, IN.W.
@@ -251,6 +272,38 @@ mod steps {
             twin.processor.mode = mode;
             let stepped = twin.step_watched(&|| format!("{mode:?}")).unwrap();
             assert_eq!(stepped.undefined, Undefined::default(), "{mode:?}");
+        }
+    }
+
+    /// Refused by 1 to 6 or for its mode, a step reports no undefined byte,
+    /// wherever PC is.
+    #[test]
+    fn refused_steps() {
+        let mut random = Random::new(0x2008_0000);
+        let twin = random_twin(&mut random);
+        for number in [1, 2, 3, 4, 5, 6, vbsys::MISUSE] {
+            let mut buffers = twin.library.clone();
+            let mut processor = processor_to_library(&twin.processor);
+            let mut drawing = to_library(&twin.drawing);
+            processor.pc = 0x0004_0000;
+            match number {
+                1 => buffers.rom = vec![0; 512].into(),
+                2 => buffers.wram = vec![0; 65_535].into(),
+                3 => buffers.vram = vec![0; 262_143].into(),
+                4 => buffers.pak = vec![0; 3].into(),
+                5 => drawing.bkcol = 4,
+                6 => {
+                    processor.pc = 0x0003_FFFE;
+                    buffers.vram[0x3FFFE..].copy_from_slice(&half(0b111010, 1, 2).to_le_bytes());
+                }
+                _ => processor.mode = 3,
+            }
+            let before = buffers.clone();
+            let stepped = vbsys::step(&mut buffers.for_library(), processor, drawing);
+            let expected =
+                vbsys::Stepped { refusal: number, processor, drawing, ..vbsys::Stepped::default() };
+            assert_eq!(stepped, expected, "refusal {number}");
+            buffers.expect_equal(&before, &|| format!("refusal {number}"));
         }
     }
 }

@@ -145,10 +145,18 @@ fn reached(functions: &BTreeMap<String, Code>, start: &str) -> BTreeSet<String> 
 fn only_the_guarded_calls_compute_with_floats() {
     let functions = disassembled();
     let reaches = |start: &str| {
-        reached(&functions, start).into_iter().filter(|name| functions.contains_key(name))
+        let (mut seen, mut open) = (BTreeSet::new(), vec![start.to_string()]);
+        while let Some(name) = open.pop() {
+            if let Some(code) = functions.get(&name) {
+                if seen.insert(name) {
+                    open.extend(code.reached.iter().cloned());
+                }
+            }
+        }
+        seen
     };
     let float = |name: &String| functions[name].instructions.iter().any(|(name, _)| computes(name));
-    let computing = declared().into_iter().filter(|name| reaches(name).any(|name| float(&name)));
+    let computing = declared().into_iter().filter(|name| reaches(name).iter().any(float));
     assert_eq!(computing.collect::<Vec<_>>(), GUARDED);
     // a call through a register would lead elsewhere unseen
     let proved = functions.iter().filter(|(name, _)| name.contains("::") || name.contains("vb_"));
@@ -164,6 +172,20 @@ fn only_the_guarded_calls_compute_with_floats() {
 #[test]
 fn no_call_uses_the_mmx_or_the_x87_unit() {
     for (name, code) in disassembled() {
+        for (mnemonic, operands) in &code.instructions {
+            let touches =
+                mnemonic.starts_with('f') || mnemonic == "emms" || operands.contains("%mm");
+            assert!(!touches && mnemonic != "(bad)", "{name}: {mnemonic} {operands}");
+        }
+    }
+}
+
+/// The proved functions alone.
+#[test]
+fn the_proved_functions_use_neither_the_mmx_nor_the_x87_unit() {
+    let functions = disassembled();
+    assert!(GUARDED.iter().all(|name| functions.contains_key(&format!("proved_{name}"))));
+    for (name, code) in functions.iter().filter(|(name, _)| !GUARDED.contains(&name.as_str())) {
         for (mnemonic, operands) in &code.instructions {
             let touches =
                 mnemonic.starts_with('f') || mnemonic == "emms" || operands.contains("%mm");

@@ -113,8 +113,10 @@ fn changed(file: &FileRead) -> Option<Changed> {
             file.sha256
         ),
         Err(failure) => {
-            let name = format!("{}: ", printable(&file.path));
-            failure.message.strip_prefix(&name).unwrap_or(&failure.message).to_string()
+            let (name, wanted) =
+                (format!("{}: ", printable(&file.path)), format!("; it must be {WANTED}"));
+            let what = failure.message.strip_prefix(&name).unwrap_or(&failure.message);
+            what.strip_suffix(&wanted).unwrap_or(what).to_string()
         }
     };
     Some(Changed { path: file.path.clone(), what })

@@ -60,8 +60,7 @@ impl Test {
         let budget = keys.number("budget", 1..=i64::MAX as u64)?.unwrap_or(BUDGET);
         let frames = frames(keys, is_scene, budget)?;
         if frames.is_empty() && trace == Asked::Nothing && memory.is_empty() {
-            let rule = "the test asks for nothing: no frame, no trace and no memory";
-            return Err(keys.wrong("frames", rule));
+            return Err(keys.wrong("frames", "the test asks for nothing: no frame and no trace"));
         }
         let threshold = keys.number("threshold", 0..=u64::from(LARGEST_THRESHOLD))?.unwrap_or(0);
         Ok(Test {

@@ -22,7 +22,7 @@ pub struct Totals {
     /// Whether every part was judged.
     pub complete: bool,
     pub bins: Vec<Bin>,
-    /// Parts that fail in a test; those that could not be judged are not counted.
+    /// Parts that fail or are invalid in a test.
     pub tests: Vec<Count>,
     /// Parts in which something that the model shows differs.
     pub sources: Vec<Count>,
@@ -61,8 +61,8 @@ impl Totals {
             complete: report.not_judged == 0,
             bins: bins(report, &last),
             tests: counted(&last, |part| {
-                let failed = part.tests.iter().filter(|test| test.verdict == Verdict::Fail);
-                failed.map(|test| test.test.clone()).collect()
+                let wrong = part.tests.iter().filter(|test| test.verdict != Verdict::Pass);
+                wrong.map(|test| test.test.clone()).collect()
             }),
             sources: counted(&last, sources),
             instructions: counted(&last, instructions),

@@ -7,12 +7,12 @@ use Rattle.bus.proofs.VramIndex.{led-vram, led-elsewhere}
 use Rattle.bus_probe.proofs.vram_index.Goals as goal
 
 pub returns-in-Vram : goal.returns-in-Vram
-returns c rom pak =
+returns-in-Vram c rom pak =
     let a = c.args.address in
-    led-vram rom pak a _ (subst (LeadsTo a) c.i-1.given.1 c.place_of.ensures)
+    led-vram rom pak a _ (subst (LeadsTo a) c.in-Vram.is c.place_of.ensures)
 
 pub returns-in_default : goal.returns-in_default
-returns-2 c rom pak =
+returns-in_default c rom pak =
     let a = c.args.address in
     let p = c.place_of.result in
-    led-elsewhere rom pak a p (no_vram p c.in-Vram.keys2) c.place_of.ensures
+    led-elsewhere rom pak a p (no_vram p c.in_default.not-Vram) c.place_of.ensures

@@ -18,5 +18,5 @@ returns c =
     let c10 = c8 in
     let c16 = c10 in
     c.write.ensures ∙ file-of-records c16.args.form c16.args.processor
-    (memory_of [] c16.args.wram.now c16.args.vram.now c16.args.pak.now c16.args.drawing.regs-1) _ _
+    (memory_of [] c16.args.wram.now c16.args.vram.now c16.args.pak.now c16.args.drawing.regs) _ _
     c10.rest-rest.ensures c8.lines-lines.ensures

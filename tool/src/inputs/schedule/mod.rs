@@ -105,6 +105,12 @@ impl Schedule {
         self.entries.iter().filter_map(|(when, _)| when.after(clock)).min()
     }
 
+    /// Whether an event after this time comes only once.
+    #[cfg(test)]
+    fn has_single(&self, clock: u64) -> bool {
+        self.entries.iter().any(|(when, _)| matches!(when, When::At(at) if *at > clock))
+    }
+
     /// The events of a time, in the file's order.
     pub fn events(&self, clock: u64) -> impl Iterator<Item = Event> + '_ {
         self.entries.iter().filter(move |(when, _)| when.is(clock)).map(|(_, event)| *event)
@@ -230,6 +236,7 @@ mod tests {
             [16, 16, 16, 32, 1_000, 1_008]
         );
         assert_eq!(schedule.next(u64::MAX - 1), None);
+        assert!(schedule.has_single(999) && !schedule.has_single(1_000));
     }
 
     #[test]

@@ -1,8 +1,7 @@
 -- `bus::code::code_at`: by the place of PC.
-use mathlib.Core.Path.{◌≡◌, subst}
+use mathlib.Core.Path.{subst}
 use native.Mathlib.Nat.{mod-le}
 use native.Mathlib.Omega.{arith}
-use borrow.Author.Rules.{rules}
 use Rattle.bus.specs.inner.LeadsTo.{LeadsTo}
 use Rattle.bus.proofs.Fetches.{rom-room, rom-stands, wram-stands}
 use Rattle.bus.proofs.code.code_at.Goals as goal
@@ -34,11 +33,11 @@ pub returns-in-Rom : goal.returns-in-Rom
 returns-in-Rom c =
     let b = c in
     let a = b.args in
-    let led = subst (LeadsTo a.pc) c.enum_told-1.given.1 c.place_of.ensures in
+    let led = subst (LeadsTo a.pc) c.in-Rom.is c.place_of.ensures in
     rom-stands a.rom a.pc b.requires (omega arith) led.0
 
 pub returns-in-Wram : goal.returns-in-Wram
 returns-in-Wram c =
     let a = c.args in
-    let led = subst (LeadsTo a.pc) c.enum_told-in-Wram-1.given.1 c.place_of.ensures in
+    let led = subst (LeadsTo a.pc) c.in-Wram.is c.place_of.ensures in
     wram-stands a.rom a.pc (omega arith) led.0

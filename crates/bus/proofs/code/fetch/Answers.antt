@@ -1,5 +1,4 @@
 -- `bus::code::fetch`: from ROM or from WRAM.
-use mathlib.Core.Path.{◌≡◌}
 use Rattle.bus.specs.Memory.{memory_of}
 use Rattle.bus.proofs.Fetches.{fetches}
 use Rattle.bus.proofs.code.fetch.Goals as goal

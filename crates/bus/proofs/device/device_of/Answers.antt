@@ -2,7 +2,6 @@
 -- Assumes nothing.
 use mathlib.Core.Path.{refl}
 use Rattle.bus.specs.TimerLines.{device_of}
-use borrow.Author.Rules.{rules}
 use Rattle.bus.proofs.device.device_of.Goals as goal
 
 pub returns : goal.returns

@@ -1,7 +1,6 @@
 -- `bus::device::put_hardware` meets its contract: the four at their places. Assumes nothing.
 use mathlib.Core.Path.{refl}
 use Rattle.bus.specs.TimerLines.{with_hardware}
-use borrow.Author.Rules.{rules}
 use Rattle.bus.proofs.device.put_hardware.Goals as goal
 
 pub returns : goal.returns

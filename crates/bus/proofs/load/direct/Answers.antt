@@ -1,26 +1,21 @@
 -- `bus::load::direct` meets its contract: by place, a number of WRAM, of VRAM or of ROM, or none of these.
 -- Assumes nothing.
-use borrow.Author.Rules.{rules}
-use mathlib.Core.Path.{◌≡◌, sym, subst, ◌∙◌}
-use Prim.Native.Nat.{◌+◌, ◌≤◌}
-use native.Mathlib.Omega.{arith}
 use lib.ListN.{length}
-use Rattle.bus.specs.inner.LeadsTo.{Outside}
 use Rattle.bus.proofs.Power.{rom-power, rom-as-pak, power_pos}
-use Rattle.bus.proofs.ByPlace.{led, wram-room, vram-room, rom-room, wram-reads, vram-reads, rom-reads, outside-left}
+use Rattle.bus.proofs.ByPlace.{led, wram-room, vram-room, rom-room, wram-reads, vram-reads, rom-reads}
 use Rattle.bus.proofs.load.direct.Goals as goal
 
 pub number_at-requires : goal.number_at-requires
 number_at-requires c =
     let b = c in
-    let l = led _ _ c.place_of.result _ c.aligned.ensures c.i-1.given.1
+    let l = led _ _ c.place_of.result _ c.aligned.ensures c.in-Wram.is
     c.place_of.ensures in
     (b.requires.3, rw b.requires.1 (wram-room b.args.size b.args.address b.requires.3 _ l))
 
 pub number_at-requires-in-Vram : goal.number_at-requires-in-Vram
 number_at-requires-in-Vram c =
     let b = c in
-    let l = led _ _ c.place_of.result _ c.aligned.ensures c.i-in-Vram-1.given.1
+    let l = led _ _ c.place_of.result _ c.aligned.ensures c.in-Vram.is
     c.place_of.ensures in
     (b.requires.3, rw b.requires.2 (vram-room b.args.size b.args.address b.requires.3 _ l))
 
@@ -34,7 +29,7 @@ pub number_at-requires-in-Rom : goal.number_at-requires-in-Rom
 number_at-requires-in-Rom c =
     let b = c in
     let l = led _ _ c.place_of.result _ c.aligned.ensures
-    c.a-1.given.1
+    c.in-Rom.is
     c.place_of.ensures in
     (b.requires.3, rom-room b.args.size b.args.address b.requires.3 (length b.args.rom.now) _ b.requires.0 (rw l.1 at c.wrapped.ensures.0))
 
@@ -42,7 +37,7 @@ pub returns-in-Wram : goal.returns-in-Wram
 returns-in-Wram c =
     let b = c in
     let l = led _ _ c.place_of.result _ c.aligned.ensures
-    c.i-1.given.1
+    c.in-Wram.is
     c.place_of.ensures in
     λ pak regs. wram-reads b.args.size b.args.address b.requires.3 _ _ _ l c.number_at.ensures.0 c.number_at.ensures.1
 
@@ -50,7 +45,7 @@ pub returns-in-Vram : goal.returns-in-Vram
 returns-in-Vram c =
     let b = c in
     let l = led _ _ c.place_of.result _ c.aligned.ensures
-    c.i-in-Vram-1.given.1
+    c.in-Vram.is
     c.place_of.ensures in
     λ pak regs. vram-reads b.args.size b.args.address b.requires.3 _ _ _ l c.number_at-in-Vram.ensures.0 c.number_at-in-Vram.ensures.1
 
@@ -58,12 +53,7 @@ pub returns-in-Rom : goal.returns-in-Rom
 returns-in-Rom c =
     let b = c in
     let l = led _ _ c.place_of.result _ c.aligned.ensures
-    c.a-1.given.1 c.place_of.ensures in
+    c.in-Rom.is c.place_of.ensures in
     λ pak regs.
     rom-reads b.args.size b.args.address b.requires.3 _ _ _ _ b.requires.0 l c.wrapped.ensures.0 c.number_at-in-Rom.ensures.0
     c.number_at-in-Rom.ensures.1
-
-pub returns-in_default : goal.returns-in_default
-returns-in_default c =
-    λ pak regs.
-    subst Outside c.aligned.ensures (outside-left _ c.place_of.result c.place_of.ensures c.in-Wram.keys4)

@@ -1,6 +1,5 @@
 -- `bus::map::place_of` meets its contract: by region. Assumes nothing.
-use borrow.Author.Rules.{rules}
-use mathlib.Core.Path.{◌≡◌, refl}
+use mathlib.Core.Path.{refl}
 use Rattle.bus_timer.specs.Ports.{hardware_offset_of}
 use Rattle.bus.proofs.Accesses.{found, missed}
 use Rattle.bus.proofs.Led.{vip-led}

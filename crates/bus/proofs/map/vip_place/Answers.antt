@@ -1,8 +1,7 @@
 -- `bus::map::vip_place` meets its contract: below 0x40000 VRAM itself, from 0x78000 on the character mirror.
 -- Assumes nothing.
-use borrow.Author.Rules.{rules}
 use mathlib.Core.Path.{◌≡◌, refl, ap, ◌∙◌}
-use Prim.Native.Nat.{ℕ, ◌+◌, ◌-◌}
+use Prim.Native.Nat.{◌+◌, ◌-◌}
 use native.Mathlib.Omega.{arith}
 use Rattle.bus.specs.Place.{vram_at, mirror_of}
 use Rattle.bus.proofs.VipPlaces.{vip-low, vip-mirror, mirror-step}

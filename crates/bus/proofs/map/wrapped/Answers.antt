@@ -1,8 +1,7 @@
 -- `bus::map::wrapped` meets its contract: the length is a power of two, and the mask is the remainder.
 -- Assumes nothing.
-use borrow.Author.Rules.{rules}
-use mathlib.Core.Path.{◌≡◌, refl, sym, ap, subst, ◌∙◌}
-use Prim.Native.Nat.{ℕ, ◌+◌, ◌-◌, ◌*◌, ◌/◌, ◌%◌, ◌<◌, ◌≤◌}
+use mathlib.Core.Path.{sym, subst}
+use Prim.Native.Nat.{ℕ, ◌<◌}
 use native.Mathlib.Nat.{mod-lt}
 use Rattle.bus.proofs.Power.{pak-power, power-mask}
 use Rattle.bus.proofs.map.wrapped.Goals as goal

@@ -1,7 +1,5 @@
 -- `bus::number::number_at` meets its contract, by the size. Assumes nothing.
-use borrow.Author.Rules.{rules}
-use Prim.Native.Nat.{◌^◌}
-use mathlib.Core.Path.{◌≡◌, sym, ◌∙◌}
+use mathlib.Core.Path.{sym, ◌∙◌}
 use native.Mathlib.Omega.{arith}
 use Rattle.bus.proofs.Sizes.{four-left}
 use Rattle.bus.proofs.Numbers.{number-byte, number-half, number_word}

@@ -1,6 +1,5 @@
 -- `bus::number::put_number` meets its contract, by the size. Assumes nothing.
-use borrow.Author.Rules.{rules}
-use mathlib.Core.Path.{◌≡◌, sym, ◌∙◌}
+use mathlib.Core.Path.{sym, ◌∙◌}
 use native.Mathlib.Omega.{arith}
 use Rattle.bus.proofs.Sizes.{four-left}
 use Rattle.word.proofs.Bytes.{put-byte, put-half, put-word}

@@ -1,11 +1,10 @@
 -- `bus::pak::byte` meets its contract: a byte at the address mod the length, and 0 where there is none.
 -- Assumes nothing.
-use borrow.Author.Rules.{rules}
-use mathlib.Core.Path.{◌≡◌, refl, sym, ap, subst, ◌∙◌}
-use Prim.Native.Nat.{ℕ, ◌+◌, ◌-◌, ◌*◌, ◌/◌, ◌%◌, ◌<◌, ◌≤◌}
+use mathlib.Core.Path.{sym, ◌∙◌}
+use Prim.Native.Nat.{◌<◌}
 use native.Mathlib.Omega.{arith}
-use Rattle.bus.specs.Memory.{Memory, memory_of}
-use lib.ListN.{length, get_or, set}
+use Rattle.bus.specs.Memory.{memory_of}
+use lib.ListN.{length}
 use Rattle.bus.proofs.PakRam.{pak-read, pak-read-empty}
 use Rattle.bus.proofs.pak.byte.Goals as goal
 

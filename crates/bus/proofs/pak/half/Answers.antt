@@ -1,11 +1,8 @@
 -- `bus::pak::half` meets its contract: two bytes, the lower first.
 -- Assumes nothing.
-use borrow.Author.Rules.{rules}
-use mathlib.Core.Path.{◌≡◌, refl, sym, ap, subst, ◌∙◌}
-use Prim.Native.Nat.{ℕ, ◌+◌, ◌-◌, ◌*◌, ◌/◌, ◌%◌, ◌<◌, ◌≤◌}
+use mathlib.Core.Path.{◌∙◌}
 use native.Mathlib.Omega.{arith}
-use Rattle.bus.specs.Memory.{Memory, memory_of}
-use lib.ListN.{length, get_or, set}
+use Rattle.bus.specs.Memory.{memory_of}
 use mathlib.Core.List.{[]}
 use Rattle.bus.proofs.Places.{region-half, region-half-start}
 use Rattle.bus.proofs.Halfwords.{reads-half}

@@ -1,6 +1,5 @@
 -- `bus::pak::put_half` meets its contract: two bytes, the lower first.
 -- Assumes nothing.
-use borrow.Author.Rules.{rules}
 use mathlib.Core.Path.{sym, ◌∙◌}
 use native.Mathlib.Omega.{arith}
 use Rattle.bus.proofs.Places.{region-half, region-half-start}
@@ -13,7 +12,7 @@ put_byte-requires c = (region-half-start _ ∙ c.requires.0, c.requires.1)
 pub put_byte-requires-2 : goal.put_byte-requires-2
 put_byte-requires-2 c =
     let b = c in
-    (region-half _ 1 (omega arith) ∙ b.requires.0, rw c.put_byte.auto.0 b.requires.1)
+    (region-half _ 1 (omega arith) ∙ b.requires.0, rw c.put_byte.auto.pak b.requires.1)
 
 pub returns : goal.returns
 returns c =

@@ -1,5 +1,4 @@
 -- `bus::pak::read` meets its contract: a byte, a halfword, or two of these. Assumes nothing.
-use borrow.Author.Rules.{rules}
 use Prim.Native.Nat.{◌%◌}
 use mathlib.Core.List.{[]}
 use mathlib.Core.Path.{◌≡◌, ◌∙◌}

@@ -1,5 +1,4 @@
 -- `bus::pak::write` meets its contract: a byte, a halfword, or two of these. Assumes nothing.
-use borrow.Author.Rules.{rules}
 use Prim.Native.Nat.{◌%◌}
 use mathlib.Core.List.{[]}
 use mathlib.Core.Path.{◌≡◌, ◌∙◌}
@@ -30,7 +29,7 @@ put_half-requires-3 c =
     let e = four-left b.args.size b.requires.2 c.if-size-eq1.false
     c.if-size-eq2.false in (
       region-step b.args.address 2 (room-above (memory_of [] [] [] [] []) b.args.size b.args.address e b.requires.3) ∙ b.requires.0,
-      rw c.put_half-2.auto.0 b.requires.1,
+      rw c.put_half-2.auto.pak b.requires.1,
     )
 
 pub returns : goal.returns

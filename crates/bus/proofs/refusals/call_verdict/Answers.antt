@@ -1,7 +1,6 @@
 -- `bus::refusals::call_verdict` meets its contract: the first condition that fails, with 5's worked out before. Assumes nothing.
 use mathlib.Core.Path.{◌∙◌}
 use Rattle.bus.specs.Memory.{verdict_at}
-use borrow.Author.Rules.{rules}
 use Rattle.bus.proofs.refusals.call_verdict.Goals as goal
 
 pub returns : goal.returns

@@ -1,12 +1,6 @@
-use Prim.Native.Nat.{ℕ, suc, ◌+◌, ◌-◌, ◌≤◌, ◌<◌, ◌^◌}
-use mathlib.Core.Bool.{false}
-use mathlib.Core.Path.{◌≡◌, refl, sym, ◌∙◌}
-use borrow.Author.Rules.{rules}
-use borrow.Author.Tests.{lt-ltb, le-ltb}
-use native.Mathlib.Omega.{arith}
-use mathlib.Core.List.{List}
-use lib.ListN.{get_or}
-use Rattle.bus.specs.Registers.{width_of, within_from, drawing_ok}
+use Prim.Native.Nat.{◌-◌, ◌≤◌}
+use mathlib.Core.Path.{◌≡◌}
+use Rattle.bus.specs.Registers.{within_from, drawing_ok}
 use Rattle.bus.proofs.refusals.drawing_ok.Given as goal
 
 abbrev pub invariant-loop-k : goal.invariant-loop-k

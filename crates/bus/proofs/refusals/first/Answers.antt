@@ -1,24 +1,22 @@
 -- `bus::refusals::first` meets its contract: each return is the first condition that fails, and the last is none.
 -- Assumes nothing.
 use mathlib.Core.Path.{sym, ◌∙◌}
-use borrow.Author.Rules.{rules}
-use borrow.Author.Tests.{eq-eqb, ne_eqb, not-true, not-false}
+use borrow.Author.Tests.{eq-eqb, ne_eqb}
 use Rattle.bus.specs.Refusal.{wram_ok, vram_ok}
 use Rattle.bus.proofs.refusals.first.Goals as goal
 
 pub returns-then-not-rom_ok : goal.returns-then-not-rom_ok
 unfolding wram_ok vram_ok
-returns-then-not-rom_ok c = simp (sym c.rom_ok.ensures ∙ not-true _ c.if-not-rom_ok.true)
+returns-then-not-rom_ok c = simp (sym c.rom_ok.ensures ∙ c.if-not-rom_ok.true)
 
 pub returns-then-wram-ne65536 : goal.returns-then-wram-ne65536
 unfolding wram_ok vram_ok
-returns-then-wram-ne65536 c = simp (sym c.rom_ok.ensures ∙ not-false _ c.if-not-rom_ok.false, ne_eqb _ _ c.if-wram-ne65536.true)
+returns-then-wram-ne65536 c = simp (sym c.rom_ok.ensures ∙ c.if-not-rom_ok.false, ne_eqb _ _ c.if-wram-ne65536.true)
 
 pub returns-then-vram-ne262144 : goal.returns-then-vram-ne262144
 unfolding wram_ok vram_ok
 returns-then-vram-ne262144 c = simp (
-  sym c.rom_ok.ensures ∙ not-false _
-      c.if-not-rom_ok.false,
+  sym c.rom_ok.ensures ∙ c.if-not-rom_ok.false,
   eq-eqb _ _ c.if-wram-ne65536.false,
   ne_eqb _ _ c.if-vram-ne262144.true,
 )
@@ -26,38 +24,33 @@ returns-then-vram-ne262144 c = simp (
 pub returns-then-not-pak_ok : goal.returns-then-not-pak_ok
 unfolding wram_ok vram_ok
 returns-then-not-pak_ok c = simp (
-  sym c.rom_ok.ensures ∙ not-false _
-      c.if-not-rom_ok.false,
+  sym c.rom_ok.ensures ∙ c.if-not-rom_ok.false,
   eq-eqb _ _ c.if-wram-ne65536.false,
   eq-eqb _ _
       c.if-vram-ne262144.false,
-  sym c.pak_ok.ensures ∙ not-true _ c.if-not-pak_ok.true,
+  sym c.pak_ok.ensures ∙ c.if-not-pak_ok.true,
 )
 
 pub returns-then-not-state : goal.returns-then-not-state
 unfolding wram_ok vram_ok
 returns-then-not-state c = simp (
-  sym c.rom_ok.ensures ∙ not-false _
-      c.if-not-rom_ok.false,
+  sym c.rom_ok.ensures ∙ c.if-not-rom_ok.false,
   eq-eqb _ _
       c.if-wram-ne65536.false,
   eq-eqb _ _ c.if-vram-ne262144.false,
   sym
-      c.pak_ok.ensures ∙ not-false _ c.if-not-pak_ok.false,
-  not-true
-      c.args.state c.if-not-state.true,
+      c.pak_ok.ensures ∙ c.if-not-pak_ok.false,
+  c.if-not-state.true,
 )
 
 pub returns : goal.returns
 unfolding wram_ok vram_ok
 returns c = simp (
-  sym c.rom_ok.ensures ∙ not-false _
-      c.if-not-rom_ok.false,
+  sym c.rom_ok.ensures ∙ c.if-not-rom_ok.false,
   eq-eqb _ _
       c.if-wram-ne65536.false,
   eq-eqb _ _ c.if-vram-ne262144.false,
   sym
-      c.pak_ok.ensures ∙ not-false _ c.if-not-pak_ok.false,
-  not-false
-      c.args.state c.if-not-state.false,
+      c.pak_ok.ensures ∙ c.if-not-pak_ok.false,
+  c.if-not-state.false,
 )

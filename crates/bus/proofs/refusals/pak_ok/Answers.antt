@@ -1,8 +1,6 @@
 -- `bus::refusals::pak_ok` meets its contract: 0, 1, and the arm with the other lengths that paper 01 accepts.
 -- Assumes nothing.
-use mathlib.Core.List.{List, ◌∷◌}
 use mathlib.Core.Path.{sym}
-use Prim.Native.Nat.{ℕ}
 use borrow.Author.Tests.{ne_eqb}
 use Rattle.bus.specs.Refusal.{powers_from, pak_ok}
 use Rattle.word.proofs.Listed.{arm-test, rest-member}
@@ -18,10 +16,10 @@ returns-then-n-eq1 c = rw c.if-n-eq1.true
 
 pub returns-in-2 : goal.returns-in-2
 unfolding pak_ok
-returns-in-2 c = sym (arm-test pak_ok c.args.n (powers_from 1 24) tt c.in-2.keys1)
+returns-in-2 c = sym (arm-test pak_ok c.args.n (powers_from 1 24) tt c.in-2.is)
 
 pub returns-in_default : goal.returns-in_default
 unfolding pak_ok
 returns-in_default c =
     simp (ne_eqb _ _ c.if-n-eq0.false, ne_eqb _ _ c.if-n-eq1.false)
-    (sym (rest-member c.args.n (powers_from 1 24) c.in-2.rest.1))
+    (sym (rest-member c.args.n (powers_from 1 24) c.in_default.in_default-own.rest.1))

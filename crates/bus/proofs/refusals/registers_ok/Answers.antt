@@ -1,7 +1,6 @@
 -- `bus::refusals::registers_ok` meets its contract: the device registers are those of their two parts. Assumes nothing.
 use mathlib.Core.Path.{◌∙◌}
 use Rattle.bus.proofs.Devices.{parts-ok}
-use borrow.Author.Rules.{rules}
 use Rattle.bus.proofs.refusals.registers_ok.Goals as goal
 
 pub returns : goal.returns

@@ -7,8 +7,8 @@ use Rattle.bus.proofs.refusals.rom_ok.Goals as goal
 
 pub returns-in-1024 : goal.returns-in-1024
 unfolding rom_ok
-returns-in-1024 c = sym (arm-test rom_ok c.args.n (powers_from 10 15) tt c.in-1024.keys1)
+returns-in-1024 c = sym (arm-test rom_ok c.args.n (powers_from 10 15) tt c.in-1024.is)
 
 pub returns-in_default : goal.returns-in_default
 unfolding rom_ok
-returns-in_default c = sym (rest-member c.args.n (powers_from 10 15) c.in-1024.rest.1)
+returns-in_default c = sym (rest-member c.args.n (powers_from 10 15) c.in_default.in_default-own.rest.1)

@@ -1,6 +1,5 @@
 -- `bus::registers::index` meets its contract: each test says which run of addresses h stands in.
 -- Assumes nothing.
-use borrow.Author.Rules.{rules}
 use mathlib.Core.Path.{sym}
 use Rattle.bus.proofs.Indices.{index-before, index-first, index-between, index-second, index-after}
 use Rattle.bus.proofs.registers.index.Goals as goal

@@ -1,6 +1,5 @@
 -- `bus::registers::kept` meets its contract: each test says which width it is.
 -- Assumes nothing.
-use borrow.Author.Rules.{rules}
 use borrow.Author.Tests.{lt-ltb, le-ltb}
 use Rattle.bus.proofs.registers.kept.Goals as goal
 

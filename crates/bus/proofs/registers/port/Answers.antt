@@ -1,6 +1,5 @@
 -- `bus::registers::port` meets its contract: what the timer reads at the offset. Assumes nothing.
 use mathlib.Core.Path.{◌∙◌}
-use borrow.Author.Rules.{rules}
 use Rattle.bus.proofs.registers.port.Goals as goal
 
 pub returns : goal.returns

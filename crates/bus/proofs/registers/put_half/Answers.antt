@@ -1,9 +1,7 @@
 -- `bus::registers::put_half` meets its contract: the register of the address keeps its width of the value.
 -- Assumes nothing.
-use borrow.Author.Rules.{rules}
-use mathlib.Core.Path.{◌≡◌, sym, ◌∙◌}
+use mathlib.Core.Path.{sym, ◌∙◌}
 use Prim.Native.Nat.{◌-◌, ◌%◌, ◌<◌, ◌≤◌}
-use native.Mathlib.Omega.{arith}
 use Rattle.word.specs.Choose.{index_of}
 use Rattle.bus.specs.Registers.{drawing_addresses}
 use Rattle.bus.specs.Memory.{memory_of}

@@ -1,5 +1,4 @@
 -- `bus::registers::put_port` meets its contract: what the timer makes of the byte at the offset. Assumes nothing.
-use borrow.Author.Rules.{rules}
 use Rattle.bus.proofs.registers.put_port.Goals as goal
 
 pub returns : goal.returns

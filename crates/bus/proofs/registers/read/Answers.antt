@@ -1,6 +1,5 @@
 -- `bus::registers::read` meets its contract: a byte of the halfword that holds it, the halfword, or two of these.
 -- Assumes nothing.
-use borrow.Author.Rules.{rules}
 use mathlib.Core.List.{[]}
 use native.Mathlib.Omega.{arith}
 use Rattle.bus.proofs.Sizes.{four-left}

@@ -1,5 +1,4 @@
 -- `bus::registers::write` meets its contract: one register, or the two of a word. Assumes nothing.
-use borrow.Author.Rules.{rules}
 use mathlib.Core.Path.{◌∙◌}
 use Rattle.bus.proofs.VipAccess.{between-second, one_written, two-written}
 use Rattle.bus.proofs.registers.write.Goals as goal

@@ -1,7 +1,6 @@
 -- `bus::store::elsewhere` meets its contract: by place, pak RAM, a register of the VIP, one of the timer, or nothing.
 -- Assumes nothing.
-use borrow.Author.Rules.{rules}
-use mathlib.Core.Path.{◌≡◌, refl, sym, ◌∙◌}
+use mathlib.Core.Path.{refl, ◌∙◌}
 use Rattle.bus.proofs.ByPlace.{led, pak-at, register-at, pak-puts, register-puts, port-puts, quiet-puts}
 use Rattle.bus.proofs.store.elsewhere.Goals as goal
 
@@ -9,7 +8,7 @@ pub write-requires : goal.write-requires
 write-requires c =
     let b = c in
     let l = led _ _ c.place_of.result _ c.aligned.ensures
-    c.a-1.given.1 c.place_of.ensures in
+    c.in-Pak.is c.place_of.ensures in
     let at = pak-at b.args.size b.args.address b.requires.1 _ l in
     (at.0, b.requires.0, b.requires.1, at.1)
 
@@ -17,7 +16,7 @@ pub write-requires-in-Register : goal.write-requires-in-Register
 write-requires-in-Register c =
     let b = c in
     let l = led _ _ c.place_of.result _ c.aligned.ensures
-    c.v-1.given.1 c.place_of.ensures in
+    c.in-Register.is c.place_of.ensures in
     let at = register-at b.args.size b.args.address b.requires.1 _ l in
     (at.0, b.requires.1, at.1)
 
@@ -26,7 +25,7 @@ returns-in-Pak c =
     let b = c in
     let l = led _ _ c.place_of.result _
     c.aligned.ensures
-    c.a-1.given.1 c.place_of.ensures in
+    c.in-Pak.is c.place_of.ensures in
     λ rom wram vram.
     c.write.ensures rom wram vram _ ∙ pak-puts b.args.size b.args.address b.requires.1 _ _ b.args.value l
 
@@ -34,7 +33,7 @@ pub returns-in-Register : goal.returns-in-Register
 returns-in-Register c =
     let b = c in
     let l = led _ _ c.place_of.result _ c.aligned.ensures
-    c.v-1.given.1 c.place_of.ensures in
+    c.in-Register.is c.place_of.ensures in
     λ rom wram vram.
     c.write-in-Register.ensures rom wram vram _
     ∙ register-puts b.args.size b.args.address b.requires.1 _ _ b.args.value l (register-at b.args.size b.args.address b.requires.1 _ l).1
@@ -43,11 +42,11 @@ pub returns-in-Port : goal.returns-in-Port
 returns-in-Port c =
     let b = c in
     let l = led _ _ c.place_of.result _ c.aligned.ensures
-    c.o-1.given.1 c.place_of.ensures in
+    c.in-Port.is c.place_of.ensures in
     λ rom wram vram. rw c.put_port.ensures (port-puts b.args.size b.args.address b.requires.1 _ _ b.args.value l)
 
 pub returns-in_default : goal.returns-in_default
 returns-in_default c =
     let b = c in
     let l = led _ _ c.place_of.result c.place_of.result c.aligned.ensures refl c.place_of.ensures in
-    λ rom wram vram. quiet-puts _ b.args.size b.args.address b.requires.1 b.args.value c.place_of.result l b.requires.2 c.in-Pak.keys4
+    λ rom wram vram. quiet-puts _ b.args.size b.args.address b.requires.1 b.args.value c.place_of.result l b.requires.2 c.in_default.not-Pak c.in_default.not-Register c.in_default.not-Port

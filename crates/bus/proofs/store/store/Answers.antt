@@ -1,5 +1,4 @@
 -- `bus::store::store` meets its contract: the fast path, or what goes elsewhere. Assumes nothing.
-use borrow.Author.Rules.{rules}
 use mathlib.Core.Path.{ap, ◌∙◌}
 use Rattle.bus.specs.Memory.{Memory, store_of}
 use Rattle.bus.proofs.ByPlace.{stored-all, stored-not}
@@ -19,7 +18,7 @@ elsewhere-requires c =
       b.requires.0.pak-ok,
       b.requires.1,
       (stored-not _ _ _ _ _ _ c.if-direct.false
-          (c.direct.ensures b.args.rom.now b.args.pak-1.now b.args.regs.now)).1,
+          (c.direct.ensures b.args.rom.now b.args.pak.now b.args.regs.now)).1,
     )
 
 pub returns : goal.returns
@@ -28,4 +27,4 @@ returns c =
     c.elsewhere.ensures b.args.rom.now _ _
     ∙ ap (λ (x : Memory). store_of x b.args.size b.args.address b.args.value)
     (stored-not _ _ _ _ _ _ c.if-direct.false
-    (c.direct.ensures b.args.rom.now b.args.pak-1.now b.args.regs.now)).0
+    (c.direct.ensures b.args.rom.now b.args.pak.now b.args.regs.now)).0

@@ -10,4 +10,8 @@ pub returns : goal.returns
 returns c =
     let called = c in
     let done = rw called.hardware_given-given.ensures at called.Store-word.ensures in
-    (ap (λ (x : VbStored). x.refusal) c.stored.ensures ∙ ap verdict_number done.0, rw c.stored.ensures done.1)
+    record {
+      refusal = ap (λ (x : VbStored). x.refusal) c.stored.ensures ∙ ap verdict_number done.0;
+      memory = rw c.stored.ensures done.1;
+    }
+

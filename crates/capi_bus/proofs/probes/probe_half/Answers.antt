@@ -6,4 +6,8 @@ use Rattle.capi_bus.proofs.probes.probe_half.Goals as goal
 
 pub returns : goal.returns
 returns c = let written = c.probe_half.ensures in
-    (c.verdict_number.ensures ∙ ap verdict_number written.0, written.1)
+    record {
+      refusal = c.verdict_number.ensures ∙ ap verdict_number written.0;
+      memory = written.1;
+    }
+

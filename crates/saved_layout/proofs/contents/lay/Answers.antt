@@ -1,7 +1,6 @@
 -- `saved_layout::contents::lay` meets its contract. Assumes nothing.
 use native.Mathlib.Omega.{arith}
 use Rattle.saved_layout.proofs.Laid.{contents-laid}
-use borrow.Author.Rules.{rules}
 use Rattle.saved_layout.proofs.contents.lay.Goals as goal
 
 pub overflow_add-first-5 : goal.overflow_add-first-5
@@ -19,8 +18,8 @@ put_entry-requires c =
     let c3 = c in
     let c7 = c3 in
     let c11 = c7 in
-    let c14 = c11 in (
-      (
+    let c14 = c11 in record {
+      table_len = (
         c.put_entry-six.ensures.upper_bound.1,
         omega (
           arith,
@@ -31,9 +30,9 @@ put_entry-requires c =
           c7.put_entry-two.ensures.upper_bound.0,
           c11.put_leading-one.ensures.upper_bound.0,
         ),
-      ),
-      (omega (arith, c14.first-first.ensures.1, c14.requires.1), omega (arith, c11.last_bytes-last.ensures.1)),
-    )
+      );
+      offset_bound = (omega (arith, c14.first-first.ensures.1, c14.requires.1), omega (arith, c11.last_bytes-last.ensures.1));
+    }
 
 pub returns : goal.returns
 returns c =
@@ -41,12 +40,12 @@ returns c =
     let c8 = c4 in
     let c12 = c8 in
     let c15 = c12 in
-    let c17 = c15 in (
-      contents-laid c17.args.form c17.args.pak c17.args.t3 c15.count-count.ensures.0 c15.first-first.ensures.0
+    let c17 = c15 in record {
+      table_after = contents-laid c17.args.form c17.args.pak c17.args.sums c15.count-count.ensures.0 c15.first-first.ensures.0
           c12.last_bytes-last.ensures.0 c12.put_leading-one.ensures.table_after c8.put_entry-two.ensures.table_after
           c8.put_entry-three.ensures.table_after c4.put_entry-four.ensures.table_after c4.put_entry-five.ensures.table_after
-          c.put_entry-six.ensures.table_after c.put_entry.ensures.table_after,
-      (
+          c.put_entry-six.ensures.table_after c.put_entry.ensures.table_after;
+      upper_bound = (
         omega (
           arith,
           c.put_entry.ensures.upper_bound.0,
@@ -58,5 +57,5 @@ returns c =
           c12.put_leading-one.ensures.upper_bound.0,
         ),
         c.put_entry.ensures.upper_bound.1,
-      ),
-    )
+      );
+    }

@@ -1,10 +1,9 @@
 -- `saved_layout::contents::ok` meets its contract. Assumes nothing.
 use native.Mathlib.Omega.{arith}
 use mathlib.Core.Path.{◌∙◌}
-use lib.ListN.{length, length-take}
+use lib.ListN.{length-take}
 use Rattle.saved_layout.proofs.Positions.{length-is}
 use Rattle.saved_layout.proofs.Written.{contents-fit, contents-same}
-use borrow.Author.Rules.{rules}
 use Rattle.saved_layout.proofs.contents.ok.Goals as goal
 
 pub slice_bounds-same_halves-end : goal.slice_bounds-same_halves-end

@@ -1,10 +1,9 @@
 -- `saved_layout::contents::put` meets its contract. Assumes nothing.
 use native.Mathlib.Omega.{arith}
 use mathlib.Core.Path.{◌∙◌}
-use lib.ListN.{length, length-take}
+use lib.ListN.{length-take}
 use Rattle.saved_layout.proofs.Positions.{length-is}
 use Rattle.saved_layout.proofs.Written.{contents-fit, contents-put}
-use borrow.Author.Rules.{rules}
 use Rattle.saved_layout.proofs.contents.put.Goals as goal
 
 pub slice_bounds-put_halves-end : goal.slice_bounds-put_halves-end
@@ -17,7 +16,7 @@ put_halves-requires c =
     omega (
       arith,
       length-is a.form a.pak,
-      contents-fit a.form a.pak a.output-1.now _ (c.lay-count.ensures.table_after ∙ c4.stored_sums-sums.ensures),
+      contents-fit a.form a.pak a.output.now _ (c.lay-count.ensures.table_after ∙ c4.stored_sums-sums.ensures),
     )
 
 pub returns : goal.returns
@@ -27,4 +26,4 @@ returns c =
     let c7 = c5 in
     let a = c7.args in
     c2.put_halves.ensures
-    ∙ contents-put a.form a.pak a.output-1.now _ (c5.lay-count.ensures.table_after ∙ c7.stored_sums-sums.ensures) _
+    ∙ contents-put a.form a.pak a.output.now _ (c5.lay-count.ensures.table_after ∙ c7.stored_sums-sums.ensures) _

@@ -1,13 +1,10 @@
 -- `saved_layout::contents::sums` meets its contract. Assumes nothing.
 use native.Mathlib.Omega.{arith}
 use Prim.Native.Nat.{◌+◌, ◌-◌}
-use mathlib.Core.Path.{◌≡◌, refl, ap, ◌∙◌}
-use lib.ListN.{length, length-take, length-drop}
-use Rattle.saved_bytes.specs.Parts.{body_sum_of}
-use Rattle.saved_layout.specs.declared.Form.TheVariants.{One, Two}
+use mathlib.Core.Path.{refl, ◌∙◌}
+use Rattle.saved_layout.specs.declared.Form.TheVariants.{Two}
 use Rattle.saved_layout.proofs.Positions.{length-is}
 use Rattle.saved_layout.proofs.Written.{processor-part, drawing-part, wram-part, vram-part, pak-part, hardware-part, sums-are, list_same}
-use borrow.Author.Rules.{rules}
 use Rattle.saved_layout.proofs.contents.sums.Goals as goal
 
 pub slice_bounds-sum-end : goal.slice_bounds-sum-end
