@@ -1,5 +1,4 @@
 -- `bus_calls::store_word` meets its contract, by the laws of Verdicts. Assumes nothing.
-use borrow.Author.Rules.{rules}
 use mathlib.Core.Path.{refl}
 use Rattle.bus_calls.proofs.Verdicts.{found-lengths, store-refused, store-done}
 use Rattle.bus_calls.proofs.store_word.Goals as goal
