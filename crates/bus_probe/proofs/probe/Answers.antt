@@ -2,7 +2,6 @@
 use mathlib.Core.Path.{sym, ◌∙◌}
 use native.Mathlib.Omega.{arith}
 use lib.ListN.{length}
-use borrow.Author.Rules.{rules}
 use Rattle.bus.proofs.Sizes.{size-range}
 use Rattle.bus_probe.proofs.Verdicts.{target_found, room, verdict-found, found-allowed, vram-accepted, vram-refused}
 use Rattle.bus_probe.proofs.probe.Goals as goal
@@ -52,4 +51,3 @@ returns-in-Refused c =
       memory = vram-refused a.size a.rom.now a.wram.now a.vram.now a.pak.now a.address
           index.result found.result t found.ensures _ told a.value;
     }
-

@@ -1,8 +1,7 @@
 -- `bus_probe::verdict` meets its contract: each return is the first condition that fails, and the last is none.
 -- Assumes nothing.
 use mathlib.Core.Path.{sym, ◌∙◌}
-use borrow.Author.Rules.{rules}
-use borrow.Author.Tests.{eq-eqb, ne_eqb, not-true, not-false}
+use borrow.Author.Tests.{eq-eqb, ne_eqb}
 use Rattle.bus.specs.Refusal.{wram_ok, vram_ok}
 use Rattle.bus_probe.specs.Probe.{probe_verdict_at}
 use Rattle.bus_probe.proofs.verdict.Goals as goal

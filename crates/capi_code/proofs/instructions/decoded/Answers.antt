@@ -1,5 +1,4 @@
 -- `capi_code::instructions::decoded`: the instruction's fields, or refusal 6.
-use borrow.Author.Rules.{rules}
 use Rattle.capi_code.proofs.instructions.decoded.Goals as goal
 
 pub returns-in-Modelled : goal.returns-in-Modelled

@@ -1,5 +1,4 @@
 -- `capi_code::instructions::encoded`: the halfwords, or the refusal's number.
-use borrow.Author.Rules.{rules}
 use Rattle.capi_code.proofs.instructions.encoded.Goals as goal
 
 pub returns-in-One : goal.returns-in-One
