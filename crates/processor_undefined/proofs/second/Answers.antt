@@ -16,6 +16,6 @@ returns c =
       ← c.two.ensures,
       not-false c.two.result
           c.if-not-two.false,
-      ← c.wrapping_add_u32.ensures,
+      ← c.wrapping_add_u32.ensures.value,
     )
     (c.half.ensures.0 m)

@@ -20,7 +20,7 @@ returns c =
       rw (
         e,
         c.half.ensures.value,
-        c.wrapping_add_u32.ensures,
+        c.wrapping_add_u32.ensures.value,
       ),
       c.half.ensures.kept,
     )

@@ -11,7 +11,7 @@ returns-in-48 c =
       row-48 a.first a.second c.in-48.keys1,
       ← c.extend-disp.ensures,
       ← c.get-base.ensures,
-      ← c.wrapping_add_u32-address.ensures,
+      ← c.wrapping_add_u32-address.ensures.value,
     )
     (c.byte.ensures m)
 
@@ -23,7 +23,7 @@ returns-in-49 c =
       row-49 a.first a.second c.in-48.keys2,
       ← c.extend-disp.ensures,
       ← c.get-base.ensures,
-      ← c.wrapping_add_u32-address.ensures,
+      ← c.wrapping_add_u32-address.ensures.value,
     )
     (c.half.ensures.0 m)
 
@@ -35,7 +35,7 @@ returns-in-51 c =
       row-51 a.first a.second c.in-48.keys3,
       ← c.extend-disp.ensures,
       ← c.get-base.ensures,
-      ← c.wrapping_add_u32-address.ensures,
+      ← c.wrapping_add_u32-address.ensures.value,
     )
     (c.word.ensures m)
 
@@ -47,7 +47,7 @@ returns-in-56 c =
       row-56 a.first a.second c.in-48.keys4,
       ← c.extend-disp.ensures,
       ← c.get-base.ensures,
-      ← c.wrapping_add_u32-address.ensures,
+      ← c.wrapping_add_u32-address.ensures.value,
     )
     (c.byte-in-56.ensures m)
 
@@ -59,7 +59,7 @@ returns-in-57 c =
       row-57 a.first a.second c.in-48.keys5,
       ← c.extend-disp.ensures,
       ← c.get-base.ensures,
-      ← c.wrapping_add_u32-address.ensures,
+      ← c.wrapping_add_u32-address.ensures.value,
     )
     (c.half-in-57.ensures.0 m)
 
@@ -71,7 +71,7 @@ returns-in-59 c =
       row-59 a.first a.second c.in-48.keys6,
       ← c.extend-disp.ensures,
       ← c.get-base.ensures,
-      ← c.wrapping_add_u32-address.ensures,
+      ← c.wrapping_add_u32-address.ensures.value,
     )
     (c.word-in-59.ensures m)
 
