@@ -1,5 +1,4 @@
 -- `bus_list::read`: the load and the mask of its size. Assumes nothing.
-use borrow.Author.Rules.{rules}
 use Rattle.bus.proofs.Sizes.{four-left}
 use Rattle.bus_list.proofs.read.Goals as goal
 
