@@ -1,5 +1,4 @@
 -- `bus_calls::load_byte` meets its contract, by the laws of Verdicts. Assumes nothing.
-use borrow.Author.Rules.{rules}
 use mathlib.Core.Path.{refl}
 use Rattle.bus_calls.proofs.Verdicts.{found-lengths, load-refused, load-done}
 use Rattle.bus_calls.proofs.load_byte.Goals as goal

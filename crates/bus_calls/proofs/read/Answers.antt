@@ -1,5 +1,4 @@
 -- `bus_calls::read` meets its contract: the fast path, or an access that borrows the device registers. Assumes nothing.
-use borrow.Author.Rules.{rules}
 use mathlib.Core.List.{[]}
 use mathlib.Core.Path.{subst}
 use Rattle.bus.specs.Memory.{memory_of}

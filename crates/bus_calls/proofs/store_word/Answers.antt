@@ -1,5 +1,4 @@
 -- `bus_calls::store_word` meets its contract, by the laws of Verdicts. Assumes nothing.
-use borrow.Author.Rules.{rules}
 use mathlib.Core.Path.{refl}
 use Rattle.bus_calls.proofs.Verdicts.{found-lengths, store-refused, store-done}
 use Rattle.bus_calls.proofs.store_word.Goals as goal
@@ -12,9 +11,10 @@ write-requires c =
 pub returns-in-Accepted : goal.returns-in-Accepted
 returns-in-Accepted c =
     let w = c in
-    store-done _ _ _ _ w.call_verdict-verdict.ensures _
-    w.in-Accepted.is _ w.write.ensures.verdict _
-    (w.write.ensures.memory _)
+    let both = store-done _ _ _ _ w.call_verdict-verdict.ensures _ w.in-Accepted.is _ w.write.ensures.verdict _ (w.write.ensures.memory _) in
+    record { verdict = both.0; memory = both.1 }
 
 pub returns-in-Refused : goal.returns-in-Refused
-returns-in-Refused c = store-refused _ _ _ _ c.call_verdict-verdict.ensures _ _ c.in-Refused.is
+returns-in-Refused c =
+    let both = store-refused _ _ _ _ c.call_verdict-verdict.ensures _ _ c.in-Refused.is in
+    record { verdict = both.0; memory = both.1 }

@@ -1,5 +1,4 @@
 -- `bus_calls::write` meets its contract: the fast path, or an access that borrows the device registers. Assumes nothing.
-use borrow.Author.Rules.{rules}
 use mathlib.Core.List.{[]}
 use mathlib.Core.Path.{refl, ap, ◌∙◌}
 use Rattle.bus.specs.Memory.{Memory, store_of}
@@ -15,9 +14,9 @@ direct-requires c =
 
 pub returns-then-direct : goal.returns-then-direct
 returns-then-direct c = record {
-      verdict = refl;
-      memory = λ rom. stored-all _ _ _ _ _ _ c.if-direct.true (c.direct.ensures rom _ _);
-    }
+  verdict = refl;
+  memory = λ rom. stored-all _ _ _ _ _ _ c.if-direct.true (c.direct.ensures rom _ _);
+}
 
 pub elsewhere-requires : goal.elsewhere-requires
 elsewhere-requires c =
@@ -40,4 +39,3 @@ returns c =
           (stored-not _ _ _ _ _ _ d.if-direct.false (d.direct.ensures rom _ _)).0) _
           c.drawing_in-regs.ensures _ c.hardware_in-timer.ensures;
     }
-

@@ -1,6 +1,5 @@
 -- `bus_defined::half` meets its contract: the place of the address says what its halfword is. Assumes nothing.
-use borrow.Author.Rules.{rules}
-use mathlib.Core.Path.{◌≡◌, sym, subst, ◌∙◌}
+use mathlib.Core.Path.{sym, subst, ◌∙◌}
 use native.Mathlib.Omega.{arith}
 use Rattle.bus.specs.inner.LeadsTo.{LeadsTo}
 use Rattle.bus.proofs.Led.{no_register}

@@ -1,6 +1,5 @@
 -- `bus_list::access_list`: refused as the definition says, else every access with the device registers borrowed.
 -- Assumes nothing.
-use borrow.Author.Rules.{rules}
 use mathlib.Core.Path.{sym, ◌∙◌}
 use Rattle.bus.specs.TimerLines.{device_of}
 use Rattle.bus.specs.Memory.{memory_of}
@@ -37,4 +36,3 @@ returns-in-Accepted c =
           lent.result lent.ensures _ c.accesses.ensures _ _ c.drawing_in-regs.ensures
           c.hardware_in-timer.ensures;
     }
-

@@ -1,5 +1,4 @@
 -- `bus_list::verdict`: the bus's refusals, then 11. Assumes nothing.
-use borrow.Author.Rules.{rules}
 use Rattle.bus_list.proofs.Tested.{bus-refused, list-refused, list-accepted}
 use Rattle.bus_list.proofs.verdict.Goals as goal
 

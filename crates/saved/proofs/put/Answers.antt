@@ -10,7 +10,7 @@ pub write-requires : goal.write-requires
 write-requires c =
     let c13 = c
     in
-    ((search rules, (search rules, search rules)), (c13.pre.0, (search rules, c13.pre.1)))
+    record { regs_len = (search rules, (search rules, search rules)); wram_len = c13.requires.wram_len; hardware_len = (search rules, c13.requires.output_len) }
 
 pub returns : goal.returns
 returns c =

@@ -18,22 +18,24 @@ file_length-requires c =
 pub returns-then-output-file_length : goal.returns-then-output-file_length
 returns-then-output-file_length c =
     let c10 = c in
-    write-length c10.args.form c10.args.processor
+    let both = write-length c10.args.form c10.args.processor
     (memory_of c10.args.rom.now c10.args.wram.now c10.args.vram.now c10.args.pak.now
     c10.args.drawing.regs) c10.args.output.now (sym c.verdict.ensures ∙
-    c.in-Accepted.is) (λ e. c.if-output-file_length.true (e ∙ sym c.file_length.ensures))
+    c.in-Accepted.is) (λ e. c.if-output-file_length.true (e ∙ sym c.file_length.ensures)) in
+    record { verdict = both.0; output = both.1 }
 
 pub returns-then-not-holds : goal.returns-then-not-holds
 returns-then-not-holds c =
     let c13 = c
     in
-    write-reset c13.args.form c13.args.processor (memory_of c13.args.rom.now c13.args.wram.now
+    let both = write-reset c13.args.form c13.args.processor (memory_of c13.args.rom.now c13.args.wram.now
     c13.args.vram.now c13.args.pak.now c13.args.drawing.regs) c13.args.output.now
     (sym c.verdict.ensures ∙
     c.in-Accepted.is)
     (c.if-output-file_length.false ∙ c.file_length.ensures)
     (ap (form_holds c13.args.form) (sym c.lines.ensures) ∙
-    (sym c.holds.ensures ∙ c.if-not-holds.true))
+    (sym c.holds.ensures ∙ c.if-not-holds.true)) in
+    record { verdict = both.0; output = both.1 }
 
 pub put-requires : goal.put-requires
 put-requires c =
@@ -42,8 +44,8 @@ put-requires c =
     let c14 = c8 in
     let l = (passed c14.args.processor (memory_of c14.args.rom.now c14.args.wram.now c14.args.vram.now
     c14.args.pak.now c14.args.drawing.regs) (sym c8.verdict.ensures ∙ c6.in-Accepted.is)).lengths
-    in (
-      (
+    in record {
+      wram_len = (
         l.wram-ok,
         (
           l.vram-ok,
@@ -51,16 +53,17 @@ put-requires c =
               (memory_of c14.args.rom.now c14.args.wram.now c14.args.vram.now c14.args.pak.now
               c14.args.drawing.regs) (sym c8.verdict.ensures ∙ c6.in-Accepted.is),
         ),
-      ),
-      c.if-output-file_length.false ∙ c.file_length.ensures,
-    )
+      );
+      output_len = c.if-output-file_length.false ∙ c.file_length.ensures;
+    }
 
 pub returns-in-Refused : goal.returns-in-Refused
 returns-in-Refused c =
     let c9 = c in
-    write-refused c9.args.form c9.args.processor (memory_of c9.args.rom.now c9.args.wram.now
+    let both = write-refused c9.args.form c9.args.processor (memory_of c9.args.rom.now c9.args.wram.now
     c9.args.vram.now c9.args.pak.now c9.args.drawing.regs) c9.args.output.now _
-    (sym c.verdict.ensures ∙ c.in-Refused.is)
+    (sym c.verdict.ensures ∙ c.in-Refused.is) in
+    record { verdict = both.0; output = both.1 }
 
 pub returns-else-not-holds : goal.returns-else-not-holds
 returns-else-not-holds c =

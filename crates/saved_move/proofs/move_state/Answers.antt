@@ -10,10 +10,12 @@ use borrow.Author.Rules.{rules}
 use Rattle.saved_move.proofs.move_state.Goals as goal
 
 pub returns-then-not-fits : goal.returns-then-not-fits
-returns-then-not-fits c = no_length (c.args.file.now)
+returns-then-not-fits c =
+    let both = no_length (c.args.file.now)
     (c.args.output.now) (fits-is
     (c.args.file.now) (c.form_of-form.result)
-    (c.form_of-form.ensures) _ (c.fits2.ensures) false ((c.if-not-fits.true)))
+    (c.form_of-form.ensures) _ (c.fits2.ensures) false ((c.if-not-fits.true))) in
+    record { verdict = both.0; output = both.1 }
 
 pub file_length-requires : goal.file_length-requires
 file_length-requires c = (fit (c.form_of-form.result) (length
@@ -27,12 +29,13 @@ returns-then-output-file_length c =
     let c9 = c6 in
     let file = c9.args.file.now in
     let output-given = c9.args.output.now in
-    other_length file output-given (fits-is file c6.form_of-form.result c6.form_of-form.ensures _
+    let both = other_length file output-given (fits-is file c6.form_of-form.result c6.form_of-form.ensures _
     c3.fits2.ensures true (c3.if-not-fits.false))
     (λ e. c.if-output-file_length.true (due-back file output-given c6.form_of-form.result c3.pak_length-pak.result
     c6.form_of-form.ensures c3.pak_length-pak.ensures (length output-given) e ∙ sym
     (c.file_length.ensures ∙ ap (λ (g : Form). file_length_of g c3.pak_length-pak.result)
-    c.other.ensures)))
+    c.other.ensures))) in
+    record { verdict = both.0; output = both.1 }
 
 pub file_ok-requires : goal.file_ok-requires
 file_ok-requires c = (fit (c.form_of-form.result) (length
@@ -47,13 +50,14 @@ returns-then-not-file_ok c =
     let c11 = c8 in
     let file = c11.args.file.now in
     let output = c11.args.output.now in
-    no_bytes file output (fits-is file c8.form_of-form.result c8.form_of-form.ensures _ c5.fits2.ensures
+    let both = no_bytes file output (fits-is file c8.form_of-form.result c8.form_of-form.ensures _ c5.fits2.ensures
     true (c5.if-not-fits.false)) (due-is file output c8.form_of-form.result c5.pak_length-pak.result
     c8.form_of-form.ensures c5.pak_length-pak.ensures (length output)
     (c.if-output-file_length.false ∙ (c.file_length.ensures ∙ ap
     (λ (g : Form). file_length_of g c5.pak_length-pak.result) c.other.ensures)))
     (ok-is file output c8.form_of-form.result c5.pak_length-pak.result c8.form_of-form.ensures c5.pak_length-pak.ensures _
-    c.file_ok.ensures false (c.if-not-file_ok.true))
+    c.file_ok.ensures false (c.if-not-file_ok.true)) in
+    record { verdict = both.0; output = both.1 }
 
 pub to_two-requires : goal.to_two-requires
 to_two-requires c =
@@ -98,7 +102,7 @@ returns-then-not-at_reset c =
     let c15 = c12 in
     let file = c15.args.file.now in
     let output = c15.args.output.now in
-    no-reset file output (fits-is file c12.form_of-form.result c12.form_of-form.ensures _ c11.fits2.ensures true
+    let both = no-reset file output (fits-is file c12.form_of-form.result c12.form_of-form.ensures _ c11.fits2.ensures true
     (c10.if-not-fits.false)) (due-is file output c12.form_of-form.result c9.pak_length-pak.result
     c12.form_of-form.ensures c9.pak_length-pak.ensures (length output)
     (c.if-output-file_length.false ∙
@@ -109,7 +113,8 @@ returns-then-not-at_reset c =
     (c.if-not-file_ok.false))
     (holds-is file output c12.form_of-form.result c9.pak_length-pak.result c12.form_of-form.ensures
     c9.pak_length-pak.ensures false (rw c.in-Two.is
-    (sym c.at_reset.ensures ∙ c.if-not-at_reset.true)))
+    (sym c.at_reset.ensures ∙ c.if-not-at_reset.true))) in
+    record { verdict = both.0; output = both.1 }
 
 pub to_one-requires : goal.to_one-requires
 to_one-requires c =
@@ -145,7 +150,7 @@ returns-in-One c =
     let c17 = c14 in
     let file = c17.args.file.now in
     let output = c17.args.output.now in
-    accepted file output (fits-is file c14.form_of-form.result c14.form_of-form.ensures _ c13.fits2.ensures true
+    let both = accepted file output (fits-is file c14.form_of-form.result c14.form_of-form.ensures _ c13.fits2.ensures true
     (c12.if-not-fits.false)) (due-is file output c14.form_of-form.result c11.pak_length-pak.result
     c14.form_of-form.ensures c11.pak_length-pak.ensures (length output)
     (c8.if-output-file_length.false ∙ (c9.file_length.ensures ∙ ap (λ (g : Form). file_length_of g c11.pak_length-pak.result)
@@ -154,7 +159,8 @@ returns-in-One c =
     (c4.if-not-file_ok.false)) (holds-is file output c14.form_of-form.result c11.pak_length-pak.result
     c14.form_of-form.ensures c11.pak_length-pak.ensures true (rw c4.in-One.is refl)) _
     (wrote-is file output c14.form_of-form.result c11.pak_length-pak.result c14.form_of-form.ensures
-    c11.pak_length-pak.ensures _ (rw c4.in-One.is c.to_two.ensures))
+    c11.pak_length-pak.ensures _ (rw c4.in-One.is c.to_two.ensures)) in
+    record { verdict = both.0; output = both.1 }
 
 pub returns-else-not-at_reset : goal.returns-else-not-at_reset
 returns-else-not-at_reset c =
@@ -171,7 +177,7 @@ returns-else-not-at_reset c =
     let c19 = c16 in
     let file = c19.args.file.now in
     let output = c19.args.output.now in
-    accepted file output (fits-is file c16.form_of-form.result c16.form_of-form.ensures _ c15.fits2.ensures true
+    let both = accepted file output (fits-is file c16.form_of-form.result c16.form_of-form.ensures _ c15.fits2.ensures true
     (c14.if-not-fits.false)) (due-is file output c16.form_of-form.result c13.pak_length-pak.result
     c16.form_of-form.ensures c13.pak_length-pak.ensures (length output)
     (c10.if-output-file_length.false ∙ (c11.file_length.ensures ∙ ap (λ (g : Form). file_length_of g c13.pak_length-pak.result)
@@ -181,4 +187,6 @@ returns-else-not-at_reset c =
     c13.pak_length-pak.ensures true (rw c6.in-Two.is
     (sym c.at_reset.ensures ∙ c.if-not-at_reset.false))) _ (wrote-is file output c16.form_of-form.result
     c13.pak_length-pak.result c16.form_of-form.ensures c13.pak_length-pak.ensures _
-    (rw c6.in-Two.is c.to_one.ensures))
+    (rw c6.in-Two.is c.to_one.ensures)) in
+    record { verdict = both.0; output = both.1 }
+

@@ -8,13 +8,17 @@ use borrow.Author.Rules.{rules}
 use Rattle.saved_salvage.proofs.salvage_state.Goals as goal
 
 pub returns-then-output-file : goal.returns-then-output-file
-returns-then-output-file c = no_length (c.args.file.now)
-    (c.args.output.now) _ (c.if-output-file.true) (c.none.ensures)
+returns-then-output-file c =
+    let both = no_length (c.args.file.now)
+    (c.args.output.now) _ (c.if-output-file.true) (c.none.ensures) in
+    record { reported = both.0; output = both.1 }
 
 pub returns-then-not-fits : goal.returns-then-not-fits
-returns-then-not-fits c = no-layout (c.args.file.now)
+returns-then-not-fits c =
+    let both = no-layout (c.args.file.now)
     (c.args.output.now) _ (c.if-output-file.false)
-    (sym (c.fits2.ensures) ∙ (c.if-not-fits.true)) (c.none-then-not-fits.ensures)
+    (sym (c.fits2.ensures) ∙ (c.if-not-fits.true)) (c.none-then-not-fits.ensures) in
+    record { reported = both.0; output = both.1 }
 
 pub kept-kept-requires : goal.kept-kept-requires
 kept-kept-requires c = (fit (length (c.args.file.now))
@@ -68,8 +72,10 @@ returns c =
     let c14 = c13 in
     let c15 = c14 in
     let c18 = c15 in
-    accepted c18.args.file.now c18.args.output.now c15.if-output-file.false
+    let both = accepted c18.args.file.now c18.args.output.now c15.if-output-file.false
     (sym c14.fits2.ensures ∙ c13.if-not-fits.false) c12.pak_length-pak.result c12.pak_length-pak.ensures
     c11.kept-kept.result c11.kept-kept.ensures _ _ _ _ c9.put_bodies.ensures
     c.put.ensures c.replaced.ensures
-    c.contents_differ-differ.ensures
+    c.contents_differ-differ.ensures in
+    record { reported = both.0; output = both.1 }
+

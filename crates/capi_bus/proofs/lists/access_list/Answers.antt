@@ -28,4 +28,4 @@ returns c =
     let given = tested.hardware_given-given.ensures in
     let done = called.access_list-stored.ensures in
     let w = list_done m a.list.now tested.if-list-ne0.false _ (rw given at done.0) _ (rw given at done.1) in
-    rw c.hardware_out.ensures (c.verdict_number.ensures ∙ w.0, w.1)
+    record { refusal = c.verdict_number.ensures ∙ w.0; made = rw c.hardware_out.ensures w.1 }

@@ -10,7 +10,8 @@ pub returns-then-misused-ne0 : goal.returns-then-misused-ne0
 returns-then-misused-ne0 c =
     let a = c.args in
     let m = memory_of a.rom.now a.wram.now a.vram.now a.pak.now a.drawing.regs in
-    write-misused a.processor m _ c.misuse-misused.ensures a.output.now Two c.if-misused-ne0.true
+    let both = write-misused a.processor m _ c.misuse-misused.ensures a.output.now Two c.if-misused-ne0.true in
+    record { refusal = both.0; output = both.1 }
 
 pub returns : goal.returns
 returns c =
