@@ -1,5 +1,4 @@
 -- `processor_step::step::following`: by the length.
-use Rattle.std.proofs.Common.{rules}
 use Rattle.processor_step.specs.Step.{next_of}
 use Rattle.processor_step.proofs.step.following.Goals as goal
 
