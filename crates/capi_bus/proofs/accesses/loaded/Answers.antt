@@ -1,5 +1,4 @@
 -- `capi_bus::accesses::loaded`: by the answer.
-use borrow.Author.Rules.{rules}
 use Rattle.capi_bus.proofs.accesses.loaded.Goals as goal
 
 pub returns-in-Value : goal.returns-in-Value

@@ -1,5 +1,4 @@
 -- `capi_bus::lists::access_list`: misused, or what the call gives. Assumes nothing.
-use borrow.Author.Rules.{rules}
 use mathlib.Core.Path.{◌∙◌}
 use Rattle.bus.specs.TimerLines.{device_of}
 use Rattle.bus.specs.Memory.{memory_of}
@@ -27,5 +26,5 @@ returns c =
     let m = memory_of a.rom.now a.wram.now a.vram.now a.pak.now (device_of a.drawing.regs (hardware_given a.hardware)) in
     let given = tested.hardware_given-given.ensures in
     let done = called.access_list-stored.ensures in
-    let w = list_done m a.list.now tested.if-list-ne0.false _ (rw given at done.0) _ (rw given at done.1) in
+    let w = list_done m a.list.now tested.if-list-ne0.false _ (rw given at done.verdict) _ (rw given at done.made) in
     record { refusal = c.verdict_number.ensures ∙ w.0; made = rw c.hardware_out.ensures w.1 }

@@ -1,5 +1,4 @@
 -- `capi_bus::probes::probe_byte` meets its contract: the call's verdict as a number. Assumes nothing.
-use borrow.Author.Rules.{rules}
 use mathlib.Core.Path.{◌∙◌, ap}
 use Rattle.refusal.specs.Number.{verdict_number}
 use Rattle.capi_bus.proofs.probes.probe_byte.Goals as goal
@@ -7,7 +6,6 @@ use Rattle.capi_bus.proofs.probes.probe_byte.Goals as goal
 pub returns : goal.returns
 returns c = let written = c.probe_byte.ensures in
     record {
-      refusal = c.verdict_number.ensures ∙ ap verdict_number written.0;
-      memory = written.1;
+      refusal = c.verdict_number.ensures ∙ ap verdict_number written.verdict;
+      memory = written.memory;
     }
-
