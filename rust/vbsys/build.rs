@@ -40,8 +40,13 @@ fn stop(why: &str) -> ! {
 /// The directory of the repository's own library, which is made where it has to be.
 fn made(root: &Path) -> PathBuf {
     let directory = root.join("target/vb/lib");
-    let sources = ["crates", "crates.txt", "guard", "include/vb.h", "rust/Cargo.toml"];
-    let sources = sources.map(|name| root.join(name));
+    let sources = ["crates.txt", "guard", "include/vb.h", "rust/Cargo.toml"];
+    let mut sources: Vec<PathBuf> = sources.iter().map(|name| root.join(name)).collect();
+    // not out/, where rt keeps its own work
+    for entry in fs::read_dir(root.join("crates")).into_iter().flatten().flatten() {
+        let parts = ["src", "specs", "proofs"].map(|part| entry.path().join(part));
+        sources.extend(parts.into_iter().filter(|part| part.is_dir()));
+    }
     for source in &sources {
         println!("cargo:rerun-if-changed={}", source.display());
     }

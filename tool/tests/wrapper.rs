@@ -153,6 +153,10 @@ fn the_wrapper_builds_again_for_a_source_alone() {
     folder.write("crates/word/proofs/Proof.antt", b"x");
     call(&folder, "./vbmodel", ".");
     assert_eq!(builds(&folder), 3, "a proof says nothing new");
+    fs::create_dir_all(folder.path("crates/word/out/rlib")).unwrap();
+    folder.write("crates/word/out/rlib/lib.rt", b"x");
+    call(&folder, "./vbmodel", ".");
+    assert_eq!(builds(&folder), 3, "rt's own work is no source");
     fs::create_dir(folder.path("crates/word/specs")).unwrap();
     folder.write("crates/word/specs/Lib.antt", b"x");
     call(&folder, "./vbmodel", ".");

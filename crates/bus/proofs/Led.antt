@@ -1,10 +1,6 @@
 -- The place that the code finds for an address, from what it found of its region. Assumes nothing.
 use Prim.Native.Nat.{ℕ, ◌%◌}
-use mathlib.Core.List.{[], ◌∷◌}
-use mathlib.Core.Path.{◌≡◌}
-use types.Run.{OneOf, miss}
-use denote.Enum.Declared.{tag_of}
-use Rattle.bus.specs.contracts.Place.{the_type}
+use mathlib.Core.Path.{◌≡◌, refl}
 use Rattle.bus.specs.Place.{region_of}
 use Rattle.bus.specs.declared.Place.{Place}
 use Rattle.bus.specs.declared.Place.TheVariants.{Wram, Vram, Rom, Pak, Register, Port, Nothing}
@@ -30,8 +26,8 @@ NoRegister (Pak x) = Unit {0}
 NoRegister (Port o) = Unit {0}
 NoRegister Nothing = Unit {0}
 
-pub no_register : (p : Place) → OneOf (0 ∷ 1 ∷ 2 ∷ 3 ∷ 5 ∷ 6 ∷ []) (tag_of the_type p) → NoRegister p
-no_register (Register v) h = miss (0 ∷ 1 ∷ 2 ∷ 3 ∷ 5 ∷ 6 ∷ []) 4 tt h
+pub no_register : (p : Place) → ((x : ℕ) → p ≡ Register x → ⊥) → NoRegister p
+no_register (Register v) h = h v refl
 no_register (Wram i) h = tt
 no_register (Vram i) h = tt
 no_register (Rom x) h = tt
@@ -49,8 +45,8 @@ NoVram (Register v) = Unit {0}
 NoVram (Port o) = Unit {0}
 NoVram Nothing = Unit {0}
 
-pub no_vram : (p : Place) → OneOf (0 ∷ 2 ∷ 3 ∷ 4 ∷ 5 ∷ 6 ∷ []) (tag_of the_type p) → NoVram p
-no_vram (Vram i) h = miss (0 ∷ 2 ∷ 3 ∷ 4 ∷ 5 ∷ 6 ∷ []) 1 tt h
+pub no_vram : (p : Place) → ((x : ℕ) → p ≡ Vram x → ⊥) → NoVram p
+no_vram (Vram i) h = h i refl
 no_vram (Wram i) h = tt
 no_vram (Rom x) h = tt
 no_vram (Pak x) h = tt

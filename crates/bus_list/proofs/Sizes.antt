@@ -1,11 +1,11 @@
 -- The sizes of a list's accesses: what the tests of them tell, and that no answer in the list changes one. Assumes nothing.
 use Prim.Native.Nat.{ℕ, zero, suc, ◌+◌, ◌-◌, ◌*◌, ◌/◌, ◌%◌, ◌<◌, ◌≤◌}
-use mathlib.Core.Bool.{Bool, true, false, not}
+use mathlib.Core.Bool.{Bool, true, false}
 use mathlib.Core.List.{List}
 use mathlib.Core.Path.{◌≡◌, sym, ◌∙◌}
 use native.Mathlib.Decide.{ℕ_discrete}
 use native.Mathlib.Omega.{arith}
-use borrow.Author.Tests.{ne_eqb, le-leb, lt-leb, not-true, not-false}
+use borrow.Author.Tests.{ne_eqb, le-leb, lt-leb}
 use lib.Dec.{eqb, leb}
 use lib.ListN.{length, get_or, set}
 use lib.Seq.{get_or-set_other}
@@ -30,19 +30,19 @@ sizes-start n xs =
     let e : n - 0 ≡ n = omega arith in
     rw e
 
-pub sizes-next : (n k : ℕ) (xs : List ℕ) → k < n → (w : ℕ) → w ≡ size_at xs k → (b : Bool) → b ≡ size_ok w → not b ≡ false
+pub sizes-next : (n k : ℕ) (xs : List ℕ) → k < n → (w : ℕ) → w ≡ size_at xs k → (b : Bool) → b ≡ size_ok w → b ≡ true
     → sizes_ok (n - k) k xs ≡ sizes_ok (n - (k + 1)) (k + 1) xs
 unfolding sizes_ok
 sizes-next n k xs h w f b t good =
     let e : n - k ≡ suc (n - (k + 1)) = omega arith in
-    rw (e, ← f, ← t, not-false b good)
+    rw (e, ← f, ← t, good)
 
-pub sizes-not : (n k : ℕ) (xs : List ℕ) → k < n → (w : ℕ) → w ≡ size_at xs k → (b : Bool) → b ≡ size_ok w → not b ≡ true
+pub sizes-not : (n k : ℕ) (xs : List ℕ) → k < n → (w : ℕ) → w ≡ size_at xs k → (b : Bool) → b ≡ size_ok w → b ≡ false
     → sizes_ok (n - k) k xs ≡ false
 unfolding sizes_ok
 sizes-not n k xs h w f b t bad =
     let e : n - k ≡ suc (n - (k + 1)) = omega arith in
-    rw (e, ← f, ← t, not-true b bad)
+    rw (e, ← f, ← t, bad)
 
 pub sizes-none : (n k : ℕ) (xs : List ℕ) → n ≤ k → sizes_ok (n - k) k xs ≡ true
 unfolding sizes_ok

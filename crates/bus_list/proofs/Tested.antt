@@ -1,10 +1,9 @@
 -- From the tests that a call made to its verdict, and from the verdict to what the call leaves. Assumes nothing.
 use Prim.Native.Nat.{ℕ}
-use mathlib.Core.Bool.{Bool, true, false, not}
+use mathlib.Core.Bool.{Bool, true, false}
 use mathlib.Core.List.{List}
 use mathlib.Core.Path.{◌≡◌, refl, sym, ap, ◌∙◌}
 use native.Mathlib.Omega.{arith}
-use borrow.Author.Tests.{not-true, not-false}
 use lib.ListN.{length}
 use Rattle.refusal.specs.Number.{unless, then_of}
 use Rattle.refusal.specs.declared.Refusal.{Refusal}
@@ -45,13 +44,13 @@ module _ (rom wram vram pak : ℕ) (regs xs : List ℕ) where
     bus-refused n h = rw (← e, h)
 
     module _ (h : found ≡ Accepted) (b : Bool) (t : b ≡ list_ok xs) where
-      pub list-refused : not b ≡ true → Refused AccessList ≡ list_verdict_at rom wram vram pak regs xs
+      pub list-refused : b ≡ false → Refused AccessList ≡ list_verdict_at rom wram vram pak regs xs
       unfolding list_verdict_at
-      list-refused f = rw (← e, h, ← t, not-true b f)
+      list-refused f = rw (← e, h, ← t, f)
 
-      pub list-accepted : not b ≡ false → Accepted ≡ list_verdict_at rom wram vram pak regs xs
+      pub list-accepted : b ≡ true → Accepted ≡ list_verdict_at rom wram vram pak regs xs
       unfolding list_verdict_at
-      list-accepted f = rw (← e, h, ← t, not-false b f)
+      list-accepted f = rw (← e, h, ← t, f)
 
 module _ (m : Memory) (xs : List ℕ) (v : Verdict) (e : v ≡ list_verdict_of m xs) where
   pub bus-passed : v ≡ Accepted → verdict_of m ≡ Accepted

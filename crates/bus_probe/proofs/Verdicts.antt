@@ -3,12 +3,11 @@ use Prim.Native.Nat.{ℕ, ◌+◌, ◌<◌}
 use mathlib.Core.Bool.{true}
 use mathlib.Core.List.{List}
 use mathlib.Core.Logic.{⊎_elim}
-use mathlib.Core.Path.{◌≡◌, refl, sym, ap, ◌∙◌}
+use mathlib.Core.Path.{◌≡◌, sym, ap, ◌∙◌}
 use native.Mathlib.Omega.{arith}
 use lib.ListN.{length}
 use borrow.Author.Tests.{eqb-true}
 use Rattle.word.specs.LittleEndian.{put_bytes}
-use Rattle.refusal.specs.Number.{unless}
 use Rattle.bus.specs.Refusal.{rom_ok, wram_ok, vram_ok, pak_ok}
 use Rattle.bus.specs.Place.{place_of, vram_index_of}
 use Rattle.bus.specs.Memory.{aligned_of}

@@ -1,5 +1,4 @@
 -- What a tick's call answers, for every record: refusal 5, which changes nothing, or the tick done.
-use Rattle.std.specs.Prelude.{Bool}
 use Rattle.word.specs.Choose.{pick}
 use Rattle.refusal.specs.declared.Refusal as refusal
 use Rattle.refusal.specs.declared.Verdict.{Verdict}

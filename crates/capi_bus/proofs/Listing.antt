@@ -1,7 +1,7 @@
 -- The boundary's definition of a list of accesses, by the list's length: misused, or what the call below gives.
 use Prim.Native.Nat.{ℕ, ◌%◌}
 use mathlib.Core.List.{List}
-use mathlib.Core.Path.{◌≡◌, refl, sym, ap, ◌∙◌}
+use mathlib.Core.Path.{◌≡◌, ap}
 use borrow.Author.Tests.{eq-eqb, ne_eqb}
 use lib.ListN.{length}
 use Rattle.refusal.specs.Number.{verdict_number}

@@ -5,7 +5,7 @@ use Rattle.bus.specs.Refusal.{vram_ok}
 use Rattle.refusal.specs.Number.{unless, when_accepted}
 use Rattle.bus.specs.Registers.{drawing_ok}
 use Rattle.refusal.specs.declared.Verdict.{Verdict}
-use Rattle.refusal.specs.declared.Verdict.TheVariants.{Accepted, Refused}
+use Rattle.refusal.specs.declared.Verdict.TheVariants.{Accepted}
 use Rattle.refusal.specs.declared.Refusal.TheVariants.{VramLength, State, Frame, Index}
 use Rattle.drawing_pixel.specs.Character.{character_address_of}
 use Rattle.drawing_pixel.specs.Strip.{strip_of, frame_of}

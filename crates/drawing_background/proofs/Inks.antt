@@ -1,6 +1,6 @@
 -- A pixel painted without a branch, from the shades of a palette that stand in one number: what a value takes of them, and
 -- where the bits of a flip turn a position to. Assumes nothing.
-use Rattle.std.proofs.Common.{◌≡◌, ℕ, zero, suc, ◌+◌, ◌-◌, ◌*◌, ◌/◌, ◌%◌, ◌^◌, ◌<◌, ◌≤◌, Bool, true, false, eqb, sym, refl, ap, ◌∙◌, arith}
+use Rattle.std.proofs.Common.{◌≡◌, ℕ, zero, suc, ◌+◌, ◌-◌, ◌*◌, ◌/◌, ◌%◌, ◌^◌, ◌<◌, ◌≤◌, Bool, true, false, eqb, refl, ap, ◌∙◌, arith}
 use native.Mathlib.Nat as NatL
 use lib.Bits.{bit_and, bit_xor, xor_zero_r}
 use Rattle.word.specs.Choose.{pick}

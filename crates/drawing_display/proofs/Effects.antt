@@ -3,16 +3,15 @@ use Prim.Native.Nat.{ℕ, ◌+◌, ◌-◌, ◌*◌, ◌/◌, ◌%◌, ◌<◌, 
 use native.Mathlib.Omega.{arith}
 use mathlib.Core.Bool.{false}
 use mathlib.Core.List.{List}
-use mathlib.Core.Path.{◌≡◌, sym, ap, ◌∙◌}
+use mathlib.Core.Path.{◌≡◌, sym, ◌∙◌}
 use lib.ListN.{length, get_or, get_or-eq_default}
 use native.Mathlib.Decide.{dec_lt}
 use Rattle.word.specs.LittleEndian.{half_at}
 use Rattle.drawing_pixel.proofs.Lists.{length-list, get_or-list}
-use Rattle.refusal.specs.declared.Verdict.TheVariants.{Accepted}
-use Rattle.drawing_display.specs.Brightness.{time_of, table_entry_of, repeats_of, lamp_level_of, column_entry_of, brightness_of}
+use Rattle.drawing_display.specs.Brightness.{table_entry_of, repeats_of, lamp_level_of, column_entry_of, brightness_of}
 use Rattle.drawing_display.specs.ColumnTable.{column_table, table_byte_of, in_tables_of, loaded_byte_of, table_loaded_of}
-use Rattle.drawing_display.specs.Calls.{display_verdict_of, shown_of, display_of, load_table_of}
-use Rattle.drawing_display.specs.Shown.{BrightnessAt, Loads, TableLoaded}
+use Rattle.drawing_display.specs.Calls.{shown_of, display_of, load_table_of}
+use Rattle.drawing_display.specs.Shown.{BrightnessAt, TableLoaded}
 use Rattle.drawing_display.specs.declared.View.{View}
 use Rattle.drawing_display.specs.declared.Durations.{Durations}
 use Rattle.drawing_display.proofs.Table.{high-bytes-clear}

@@ -3,7 +3,7 @@
 use Rattle.std.specs.Prelude.{ℕ, ◌/◌, ◌%◌, Bool, ◌&&◌, List, length, eqb, ltb, leb}
 use Rattle.refusal.specs.Number.{unless, when_accepted}
 use Rattle.refusal.specs.declared.Verdict.{Verdict}
-use Rattle.refusal.specs.declared.Verdict.TheVariants.{Accepted, Refused}
+use Rattle.refusal.specs.declared.Verdict.TheVariants.{Accepted}
 use Rattle.refusal.specs.declared.Refusal.TheVariants.{VramLength, Frame, Display}
 use Rattle.bus.specs.Refusal.{vram_ok}
 use Rattle.drawing_pixel.specs.Lists.{list_of}

@@ -1,17 +1,17 @@
 -- W3: the rows that a world covers. For GY from 0 to 223 a normal or H-bias world covers the rows of H + 1 and those to
 -- the end of GY's strip, and no others; an affine world, and a world with any other GY, those of H + 1. Assumes nothing.
-use Prim.Native.Nat.{ℕ, ◌+◌, ◌-◌, ◌*◌, ◌/◌, ◌%◌, ◌≤◌, ◌<◌, max}
+use Prim.Native.Nat.{ℕ, ◌+◌, ◌-◌, ◌%◌, ◌≤◌, ◌<◌, max}
 use native.Mathlib.Omega.{arith}
-use mathlib.Core.Bool.{Bool, true, false, ◌&&◌, ◌||◌, not}
+use mathlib.Core.Bool.{Bool, true, false, ◌&&◌, not}
 use mathlib.Core.List.{List}
 use mathlib.Core.Path.{◌≡◌, refl, sym, ap, ◌∙◌}
 use borrow.Author.Tests.{eq-eqb, ne_eqb, le-leb, lt-ltb, leb-true, ltb-true, ltb-false}
-use lib.Dec.{eqb, leb, ltb}
+use lib.Dec.{eqb, leb}
 use lib.IntN.{pos, ◌+ℤ◌}
 use Rattle.word.specs.Choose.{pick}
 use Rattle.drawing_pixel.specs.World.{world_of, bgm_of, world_shown_of}
 use Rattle.drawing_pixel.specs.inner.BiasedFields.{gy_biased}
-use Rattle.drawing_pixel.specs.inner.BiasedWindow.{height_biased, top_in_image_biased, rows_biased, column_covered_biased, row_covered_biased, world_covers_biased}
+use Rattle.drawing_pixel.specs.inner.BiasedWindow.{height_biased, top_in_image_biased, rows_biased, row_covered_biased, world_covers_biased}
 use Rattle.drawing_pixel.specs.Fields.{GY}
 use Rattle.word.specs.Integers.{above_zero}
 use Rattle.drawing_pixel.proofs.HeightFormulas.{world-height, top-in-image, world-rows}
@@ -19,7 +19,7 @@ use Rattle.drawing_pixel.specs.WindowFormulas.{plain_row}
 use Rattle.drawing_pixel.proofs.WindowFormulas.{window-top, plain-row, column-covered}
 use Rattle.drawing_pixel.proofs.Painting.{world-covers}
 use Rattle.drawing_laws.specs.Covers.{reached_of, background_covers_of}
-use Rattle.drawing_laws.specs.ShortWorlds.{Showing, WorldTopInImage, StripCovered, AddedInStrip, PlainCovered, AffinePlain, OutsidePlain, FiveRows}
+use Rattle.drawing_laws.specs.ShortWorlds.{Showing, StripCovered, AddedInStrip, PlainCovered, AffinePlain, OutsidePlain, FiveRows}
 use Rattle.word.proofs.Choices.{and_left, and_right, and_both, not_of_false}
 
 -- GY as it is kept

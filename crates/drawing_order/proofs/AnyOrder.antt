@@ -18,7 +18,7 @@ use Rattle.drawing_laws.specs.Drawn.{frame_call, strip_call, draws_strip_of, dra
 use Rattle.drawing_pixel.specs.Strip.{in_images_of}
 use Rattle.drawing_laws.proofs.Verdicts.{strip_test}
 use Rattle.drawing_laws.proofs.CallDrawn.{byte-kept, length-kept}
-use Rattle.drawing_order.specs.Order.{after_strips_of, NamesEach, AnyOrder}
+use Rattle.drawing_order.specs.Order.{after_strips_of, AnyOrder}
 use Rattle.drawing_order.proofs.DrawnBytes.{pixels_at_of, pixels-same, draws_byte_of, Draws, draws, draws-byte, byte-drawn, byte_left}
 
 module _ (regs : List ℕ) (frame : ℕ) where

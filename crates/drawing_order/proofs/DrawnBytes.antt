@@ -1,14 +1,14 @@
 -- The byte at an address after a call that draws: where the call draws it, the four pixels that it holds, worked out in
 -- memory as it was before the call (`byte-drawn`); else the byte as it was (`byte_left`). Those pixels are the same in
 -- memories that differ in a frame's images alone (`pixels-same`). Assumes nothing.
-use Prim.Native.Nat.{ℕ, zero, suc, ◌+◌, ◌*◌, ◌/◌, ◌%◌, ◌<◌, ◌≤◌}
+use Prim.Native.Nat.{ℕ, zero, suc, ◌+◌, ◌*◌, ◌/◌, ◌%◌, ◌<◌}
 use mathlib.Core.Bool.{Bool, true, false, ◌&&◌, true≢false}
 use mathlib.Core.List.{List}
 use mathlib.Core.Path.{◌≡◌, refl, sym, ap, ◌∙◌}
 use native.Mathlib.Decide.{ℕ_discrete}
 use native.Mathlib.Omega.{arith}
 use lib.ListN.{length, get_or}
-use lib.Dec.{eqb, ltb}
+use lib.Dec.{ltb}
 use borrow.Author.Tests.{ltb-true, eqb-true, lt-ltb, eq-eqb, ne_eqb}
 use Rattle.bus.specs.Registers.{drawing_ok}
 use Rattle.refusal.specs.Number.{unless, when_accepted}

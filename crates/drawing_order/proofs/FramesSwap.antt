@@ -9,11 +9,10 @@ use lib.ListN.{length, get_or}
 use lib.Seq.{ext_get_or}
 use lib.Dec.{eqb, ltb}
 use borrow.Author.Tests.{eqb-true, ne_eqb}
-use Rattle.drawing_laws.specs.Drawn.{draws_strip_of}
 use Rattle.drawing_pixel.specs.Strip.{in_images_of}
 use Rattle.drawing_laws.proofs.CallDrawn.{byte-kept, length-kept}
 use Rattle.drawing_order.specs.Order.{Drawing, strips_drawn_of, all_drawn_of, Differ, FramesSwap, ListsSwap}
-use Rattle.drawing_order.proofs.DrawnBytes.{pixels_at_of, pixels-same, draws_byte_of, Draws, draws, byte-drawn, byte_left}
+use Rattle.drawing_order.proofs.DrawnBytes.{pixels_at_of, pixels-same, draws_byte_of, draws, byte-drawn, byte_left}
 
 drawn-length : (vram : List ℕ) (frame : ℕ) (d : Drawing) → length (strips_drawn_of vram frame d) ≡ length vram
 drawn-length vram frame d = length-kept vram d.regs frame d.call

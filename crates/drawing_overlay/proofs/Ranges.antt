@@ -1,12 +1,10 @@
 -- `characters-in`, `maps-in`, `ranges-only` and `ranges-each`: the probe's ranges by characters and by background maps.
 -- Assumes nothing.
 use Prim.Native.Nat.{ℕ, ◌+◌, ◌-◌, ◌*◌, ◌/◌, ◌%◌, ◌≤◌, ◌<◌}
-use mathlib.Core.Bool.{true}
 use mathlib.Core.Logic.{inl, inr, ⊎_elim}
-use mathlib.Core.Path.{◌≡◌, sym, ◌∙◌}
+use mathlib.Core.Path.{sym, ◌∙◌}
 use native.Mathlib.Decide.{dec_lt}
 use native.Mathlib.Omega.{arith}
-use lib.Dec.{leb}
 use borrow.Author.Tests.{le-leb, lt-leb, lt-ltb}
 use Rattle.drawing_pixel.specs.Character.{character_address_of}
 use Rattle.bus_probe.proofs.Ranges.{before-characters, in-characters, before-maps, from-maps, in-ranges}

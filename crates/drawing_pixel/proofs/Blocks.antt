@@ -7,7 +7,7 @@ use mathlib.Core.Path.{◌≡◌, refl, sym, ap, ◌∙◌}
 use mathlib.Core.List.{List}
 use lib.ListN.{get_or}
 use Rattle.drawing_pixel.specs.Character.{two_bits_of}
-use Rattle.drawing_pixel.specs.inner.Buffer.{repainted_of, Span, Block, Strip}
+use Rattle.drawing_pixel.specs.inner.Buffer.{Span, Block, Strip}
 use Rattle.drawing_pixel.proofs.Pairs.{pair_lt, pair-repainted-same, pair-repainted-other}
 
 -- no row yet

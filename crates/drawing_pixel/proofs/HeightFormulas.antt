@@ -1,9 +1,8 @@
 -- The statements of specs/inner/BiasedWindow about a world's rows, proved.
-use Prim.Native.Nat.{ℕ, ◌+◌, ◌-◌, ◌%◌}
+use Prim.Native.Nat.{◌+◌, ◌-◌, ◌%◌}
 use native.Mathlib.Nat as NatL
 use native.Mathlib.Omega.{arith}
 use mathlib.Core.Path.{◌≡◌, sym, ap, ◌∙◌}
-use mathlib.Core.List.{List}
 use lib.Dec.{leb}
 use lib.ListN.{get_or}
 use lib.IntN.{pos, ◌-ℤ◌}

@@ -10,8 +10,8 @@ use lib.ListN.{get_or}
 use lib.IntN.{pos, ◌-ℤ◌}
 use Rattle.bus.specs.Registers.{spt_of}
 use Rattle.drawing_pixel.specs.Object.{object_of, object_after_of, group_count_of}
-use Rattle.drawing_pixel.specs.inner.BiasedObject.{object_left_biased, object_row_biased, object_column_biased, object_covers_biased, object_pixel_biased}
-use Rattle.drawing_pixel.specs.inner.BiasedObject.{objects_pixel_biased, ObjectLeft, ObjectRow, ObjectCovers, ObjectColumn}
+use Rattle.drawing_pixel.specs.inner.BiasedObject.{object_left_biased, object_row_biased, object_column_biased, object_covers_biased}
+use Rattle.drawing_pixel.specs.inner.BiasedObject.{ObjectLeft, ObjectRow, ObjectCovers, ObjectColumn}
 use Rattle.word.specs.Integers.{above_zero}
 use Rattle.word.proofs.Integers.{Is, is_pos, is-difference, is-moved, is_tied, is-natural, le_is, is-above}
 use Rattle.word.proofs.Floors.{is-mod}

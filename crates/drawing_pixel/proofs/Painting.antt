@@ -1,9 +1,9 @@
 -- `background-formula`, `object-formula` and `pixel-formula`: the statements of specs/inner/Painting.
-use Prim.Native.Nat.{ℕ, zero, suc, ◌+◌, ◌%◌}
+use Prim.Native.Nat.{ℕ, zero, suc, ◌%◌}
 use mathlib.Core.Path.{◌≡◌, refl, ap, ◌∙◌}
 use mathlib.Core.Bool.{true, ◌&&◌}
 use mathlib.Core.List.{List}
-use lib.IntN.{ℤ, pos, ◌+ℤ◌, ◌-ℤ◌}
+use lib.IntN.{ℤ, pos, ◌+ℤ◌}
 use Rattle.word.specs.Choose.{pick}
 use Rattle.bus.specs.Registers.{spt_of, bkcol_of}
 use Rattle.drawing_pixel.specs.World.{world_of, world_shown_of}

@@ -1,6 +1,6 @@
 -- The laws of pairs of bits in a halfword (`two_bits_of`, `with_pair_of`, `repainted_of`): a pair that was put is read back, and no
 -- other one changes. Each is shown at every place 0 to 7 by linear arithmetic. Assumes nothing.
-use Prim.Native.Nat.{ℕ, zero, suc, ◌+◌, ◌-◌, ◌*◌, ◌/◌, ◌%◌, ◌^◌, ◌<◌, ◌≤◌}
+use Prim.Native.Nat.{ℕ, zero, suc, ◌+◌, ◌-◌, ◌*◌, ◌/◌, ◌%◌, ◌^◌, ◌<◌}
 use native.Mathlib.Omega.{arith}
 use mathlib.Core.Path.{◌≡◌}
 use Rattle.drawing_pixel.specs.Character.{two_bits_of, pixel_value_of}

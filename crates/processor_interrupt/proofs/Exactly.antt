@@ -1,19 +1,18 @@
 -- `accepts-taken`, `acceptable-accepts` and `entry-regular`: the statements of specs/Accepted. Assumes nothing.
-use Prim.Native.Nat.{ℕ, ◌+◌, ◌/◌, ◌%◌, ◌<◌, ◌≤◌}
+use Prim.Native.Nat.{ℕ, ◌/◌, ◌%◌, ◌≤◌}
 use mathlib.Core.Bool.{Bool, true, false}
-use mathlib.Core.Path.{◌≡◌, refl, sym, ◌∙◌}
+use mathlib.Core.Path.{◌≡◌, refl}
 use native.Mathlib.Omega.{arith}
-use borrow.Author.Tests.{eqb-true, eqb-false, ne_eqb, leb-true, le-leb}
-use lib.Dec.{eqb, leb}
+use borrow.Author.Tests.{eqb-false, ne_eqb, leb-true, le-leb}
+use lib.Dec.{eqb}
 use Rattle.word.specs.Bit.{bit_at}
 use Rattle.word.specs.Choose.{pick}
 use Rattle.word.proofs.Choices.{pick-both}
 use Rattle.processor_arithmetic.specs.Flag.{id_flag, ep_flag, np_flag}
-use Rattle.processor_machine.specs.Exception.{regular_entry_of}
 use Rattle.processor_machine.specs.declared.Mode.{Mode}
 use Rattle.processor_machine.specs.declared.Mode.TheVariants.{Running, Halted, Fatal}
-use Rattle.processor_interrupt.specs.Interrupt.{line_of, masking_level_of, level_of, allows_of, awake_of, accepts_of, interrupted_of}
-use Rattle.processor_interrupt.specs.Accepted.{Acceptable, Taken, AcceptsTaken, AcceptableAccepts, EntryRegular}
+use Rattle.processor_interrupt.specs.Interrupt.{masking_level_of, level_of, allows_of, awake_of, accepts_of, interrupted_of}
+use Rattle.processor_interrupt.specs.Accepted.{AcceptsTaken, AcceptableAccepts, EntryRegular}
 use Rattle.processor_interrupt.proofs.Levels.{level-raised, level-highest, level-none, level-five}
 
 false-not-true : false ≡ true → ⊥

@@ -1,5 +1,5 @@
 -- Worked rows of W6: what an interrupt leaves of PC, PSW, EIPC, EIPSW and ECR, and which lines are not accepted.
-use Rattle.std.specs.Prelude.{ℕ, Bool, true, false, List, [], ◌∷◌, map, ◌≡◌, refl, get_or, replicate}
+use Rattle.std.specs.Prelude.{ℕ, true, false, List, [], ◌∷◌, map, ◌≡◌, refl, get_or, replicate}
 use Rattle.processor_arithmetic.specs.Flag.{regular_of}
 use Rattle.processor_machine.specs.State.{state_of, eipc_place, eipsw_place, ecr_place}
 use Rattle.processor_machine.specs.declared.Mode.{Mode}

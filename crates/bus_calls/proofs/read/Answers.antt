@@ -1,5 +1,4 @@
 -- `bus_calls::read` meets its contract: the fast path, or an access that borrows the device registers. Assumes nothing.
-use borrow.Author.Rules.{rules}
 use mathlib.Core.List.{[]}
 use mathlib.Core.Path.{subst}
 use Rattle.bus.specs.Memory.{memory_of}
@@ -20,15 +19,15 @@ elsewhere-requires c =
     let m = memory_of a.rom.now a.wram.now a.vram.now [] [] in (
       b.requires.0.pak-ok,
       b.requires.1,
-      subst (Finds m a.size a.address) c.enum_told-1.given.1
+      subst (Finds m a.size a.address) c.in-Elsewhere.is
           (c.direct.ensures [] []),
     )
 
 pub returns-in-Value : goal.returns-in-Value
 returns-in-Value c =
     let a = c.args in
-    let m = memory_of a.rom.now a.wram.now a.vram.now a.pak.now (device_of a.drawing.regs-1 a.hardware) in
-    subst (Finds m a.size a.address) c.value-1.given.1 (c.direct.ensures _ _)
+    let m = memory_of a.rom.now a.wram.now a.vram.now a.pak.now (device_of a.drawing.regs a.hardware) in
+    subst (Finds m a.size a.address) c.in-Value.is (c.direct.ensures _ _)
 
 pub returns-in-Elsewhere : goal.returns-in-Elsewhere
 returns-in-Elsewhere c = load-lent _ _ _ _ c.device_of-lent.ensures _ (c.elsewhere.ensures _ _ _)

@@ -1,20 +1,20 @@
 -- `bus_calls::store_byte` meets its contract, by the laws of Verdicts. Assumes nothing.
-use borrow.Author.Rules.{rules}
 use mathlib.Core.Path.{refl}
 use Rattle.bus_calls.proofs.Verdicts.{found-lengths, store-refused, store-done}
 use Rattle.bus_calls.proofs.store_byte.Goals as goal
 
 pub write-requires : goal.write-requires
 write-requires c =
-    let h = found-lengths _ _ _ _ _ _ c.call_verdict-verdict.ensures c.enum_told-1.given.1 in
+    let h = found-lengths _ _ _ _ _ _ c.call_verdict-verdict.ensures c.in-Accepted.is in
     (h.wram-ok, h.vram-ok, h.pak-ok, refl)
 
 pub returns-in-Accepted : goal.returns-in-Accepted
 returns-in-Accepted c =
     let w = c in
-    store-done _ _ _ _ w.call_verdict-verdict.ensures _
-    w.enum_told-1.given.1 _ w.write.ensures.verdict _
-    (w.write.ensures.memory _)
+    let both = store-done _ _ _ _ w.call_verdict-verdict.ensures _ w.in-Accepted.is _ w.write.ensures.verdict _ (w.write.ensures.memory _) in
+    record { verdict = both.0; memory = both.1 }
 
 pub returns-in-Refused : goal.returns-in-Refused
-returns-in-Refused c = store-refused _ _ _ _ c.call_verdict-verdict.ensures _ _ c.verdict-1.given.1
+returns-in-Refused c =
+    let both = store-refused _ _ _ _ c.call_verdict-verdict.ensures _ _ c.in-Refused.is in
+    record { verdict = both.0; memory = both.1 }

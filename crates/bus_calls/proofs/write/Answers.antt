@@ -1,5 +1,4 @@
 -- `bus_calls::write` meets its contract: the fast path, or an access that borrows the device registers. Assumes nothing.
-use borrow.Author.Rules.{rules}
 use mathlib.Core.List.{[]}
 use mathlib.Core.Path.{refl, ap, ◌∙◌}
 use Rattle.bus.specs.Memory.{Memory, store_of}
@@ -14,7 +13,10 @@ direct-requires c =
     (b.requires.0, b.requires.1, b.requires.3)
 
 pub returns-then-direct : goal.returns-then-direct
-returns-then-direct c = (refl, λ rom. stored-all _ _ _ _ _ _ c.if-direct.true (c.direct.ensures rom _ _))
+returns-then-direct c = record {
+  verdict = refl;
+  memory = λ rom. stored-all _ _ _ _ _ _ c.if-direct.true (c.direct.ensures rom _ _);
+}
 
 pub elsewhere-requires : goal.elsewhere-requires
 elsewhere-requires c =
@@ -28,12 +30,12 @@ elsewhere-requires c =
 pub returns : goal.returns
 returns c =
     let d = c in
-    let a = d.args in (
-      refl,
-      λ rom.
+    let a = d.args in record {
+      verdict = refl;
+      memory = λ rom.
           store-lent _ _ _ _ c.device_of-lent.ensures a.value (device-length _ _) _
           (c.elsewhere.ensures rom _ _
           ∙ ap (λ (x : Memory). store_of x a.size a.address a.value)
           (stored-not _ _ _ _ _ _ d.if-direct.false (d.direct.ensures rom _ _)).0) _
-          c.drawing_in-regs.ensures _ c.hardware_in-timer.ensures,
-    )
+          c.drawing_in-regs.ensures _ c.hardware_in-timer.ensures;
+    }

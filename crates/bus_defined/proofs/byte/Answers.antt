@@ -1,6 +1,4 @@
 -- `bus_defined::byte` meets its contract: the low bit of the halfword's mask. Assumes nothing.
-use borrow.Author.Rules.{rules}
-use mathlib.Core.Path.{◌∙◌}
 use Rattle.bus_defined.proofs.Masks.{byte-undefined}
 use Rattle.bus_defined.proofs.byte.Goals as goal
 

@@ -5,7 +5,7 @@ use Rattle.word.proofs.Listed.{arm-member, rest-member}
 use Rattle.bus_defined.proofs.listed.Goals as goal
 
 pub returns-in-391168 : goal.returns-in-391168
-returns-in-391168 c = sym (arm-member c.args.h register_addresses c.in-391168.keys1)
+returns-in-391168 c = sym (arm-member c.args.h register_addresses c.in-391168.is)
 
 pub returns-in_default : goal.returns-in_default
-returns-in_default c = sym (rest-member c.args.h register_addresses c.in-391168.rest.1)
+returns-in_default c = sym (rest-member c.args.h register_addresses c.in_default.in_default-own.rest.1)

@@ -1,6 +1,4 @@
 -- `bus_defined::word` meets its contract: the masks of its two halfwords. Assumes nothing.
-use borrow.Author.Rules.{rules}
-use native.Mathlib.Omega.{arith}
 use Rattle.bus_defined.proofs.Masks.{word-undefined}
 use Rattle.bus_defined.proofs.word.Goals as goal
 

@@ -1,5 +1,4 @@
 -- `bus_list::access`: a read or a write, by its words. Assumes nothing.
-use borrow.Author.Rules.{rules}
 use Rattle.bus_list.proofs.InOrder.{access-reads, access-writes}
 use Rattle.bus_list.proofs.access.Goals as goal
 

@@ -1,6 +1,5 @@
 -- `bus_list::access_list`: refused as the definition says, else every access with the device registers borrowed.
 -- Assumes nothing.
-use borrow.Author.Rules.{rules}
 use mathlib.Core.Path.{sym, ◌∙◌}
 use Rattle.bus.specs.TimerLines.{device_of}
 use Rattle.bus.specs.Memory.{memory_of}
@@ -11,26 +10,29 @@ use Rattle.bus_list.proofs.access_list.Goals as goal
 pub accesses-requires : goal.accesses-requires
 accesses-requires c =
     let e = sym c.verdict-verdict.ensures
-    ∙ c.enum_told-1.given.1 in
+    ∙ c.in-Accepted.is in
     (passed-lengths _ _ _ _ _ _ e, passed-list _ _ _ _ _ _ e)
 
 pub returns-in-Refused : goal.returns-in-Refused
 returns-in-Refused c =
     let a = c.args in
-    let m = memory_of a.rom.now a.wram-1.now a.vram-1.now a.pak-1.now (device_of a.t5.regs a.hardware) in
-    let told = c.verdict-1.given.1 in
+    let m = memory_of a.rom.now a.wram.now a.vram.now a.pak.now (device_of a.drawing.regs a.hardware) in
+    let told = c.in-Refused.is in
     let found = c.verdict-verdict in
-    (sym told ∙ found.ensures, list-kept m a.list-1.now found.result found.ensures _ told)
+    record {
+      verdict = sym told ∙ found.ensures;
+      made = list-kept m a.list.now found.result found.ensures _ told;
+    }
 
 pub returns-in-Accepted : goal.returns-in-Accepted
 returns-in-Accepted c =
     let a = c.args in
-    let m = memory_of a.rom.now a.wram-1.now a.vram-1.now a.pak-1.now (device_of a.t5.regs a.hardware) in
-    let told = c.enum_told-1.given.1 in
+    let m = memory_of a.rom.now a.wram.now a.vram.now a.pak.now (device_of a.drawing.regs a.hardware) in
+    let told = c.in-Accepted.is in
     let found = c.verdict-verdict in
-    let lent = c.device_of-lent in (
-      sym told ∙ found.ensures,
-      list-lent m a.list-1.now found.result found.ensures told (device-length _ _)
+    let lent = c.device_of-lent in record {
+      verdict = sym told ∙ found.ensures;
+      made = list-lent m a.list.now found.result found.ensures told (device-length _ _)
           lent.result lent.ensures _ c.accesses.ensures _ _ c.drawing_in-regs.ensures
-          c.hardware_in-timer.ensures,
-    )
+          c.hardware_in-timer.ensures;
+    }

@@ -1,12 +1,9 @@
 -- `bus_list::accesses`: what is left of the list follows the list from the start. Assumes nothing.
-use Prim.Native.Nat.{◌-◌}
-use mathlib.Core.Path.{◌≡◌, refl, ◌∙◌}
+use mathlib.Core.Path.{refl, ◌∙◌}
 use native.Mathlib.Omega.{arith}
-use lib.ListN.{length}
-use Rattle.bus.specs.Memory.{memory_of}
 use Rattle.bus_list.specs.List.{count_of}
 use Rattle.bus_list.proofs.Sizes.{list-sizes}
-use Rattle.bus_list.proofs.InOrder.{Follows, follows-start, follows_next, follows-finished}
+use Rattle.bus_list.proofs.InOrder.{follows-start, follows_next, follows-finished}
 use Rattle.bus_list.proofs.accesses.Goals as goal
 
 pub loop-k-init : goal.loop-k-init
@@ -39,11 +36,11 @@ loop-k-preserved c =
     let i = c.loop-k.invariant in
     let done = c.access in (
       follows_next _ _ _ _ _ _ i.0 c.loop-k-test.true _ done.ensures,
-      done.auto.1.0
+      done.auto.wram
           ∙ i.1,
-      done.auto.1.1.0 ∙ i.2,
-      done.auto.1.1.1.0 ∙ i.3,
-      done.auto.1.1.1.1.1.0 ∙ i.4,
+      done.auto.vram ∙ i.2,
+      done.auto.pak ∙ i.3,
+      done.auto.list ∙ i.4,
     )
 
 pub shape_of-wram : goal.shape_of-wram

@@ -1,11 +1,8 @@
 use Prim.Native.Nat.{◌-◌}
-use mathlib.Core.Path.{◌≡◌, refl, ◌∙◌}
-use native.Mathlib.Omega.{arith}
+use mathlib.Core.Path.{◌≡◌}
 use lib.ListN.{length}
 use Rattle.bus.specs.Memory.{memory_of}
-use Rattle.bus_list.specs.List.{count_of}
-use Rattle.bus_list.proofs.Sizes.{list-sizes}
-use Rattle.bus_list.proofs.InOrder.{Follows, follows-start, follows_next, follows-finished}
+use Rattle.bus_list.proofs.InOrder.{Follows}
 use Rattle.bus_list.proofs.accesses.Given as goal
 
 abbrev pub invariant-loop-k : goal.invariant-loop-k

@@ -1,5 +1,4 @@
 -- `bus_list::list_ok`: too many accesses, or their sizes. Assumes nothing.
-use borrow.Author.Rules.{rules}
 use mathlib.Core.Path.{sym, ◌∙◌}
 use Rattle.bus_list.proofs.Sizes.{list-few, list-many}
 use Rattle.bus_list.proofs.list_ok.Goals as goal

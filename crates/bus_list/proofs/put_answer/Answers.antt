@@ -1,6 +1,4 @@
 -- `bus_list::put_answer`: two words. Assumes nothing.
-use borrow.Author.Rules.{rules}
-use mathlib.Core.Path.{◌≡◌, ap, ◌∙◌}
 use Rattle.bus_list.specs.List.{answered_of}
 use Rattle.bus_list.proofs.put_answer.Goals as goal
 

@@ -1,9 +1,7 @@
 -- `bus_list::sizes_ok`: all sizes are right exactly if those from k on are. Assumes nothing.
-use Prim.Native.Nat.{◌≤◌, ◌-◌}
-use mathlib.Core.Path.{◌≡◌, sym, ◌∙◌}
+use mathlib.Core.Path.{sym, ◌∙◌}
 use native.Mathlib.Omega.{arith}
 use borrow.Author.Rules.{rules}
-use Rattle.bus_list.specs.List.{sizes_ok}
 use Rattle.bus_list.proofs.Sizes.{sizes-start, sizes-next, sizes-not, sizes-none}
 use Rattle.bus_list.proofs.sizes_ok.Goals as goal
 

@@ -1,9 +1,6 @@
 use Prim.Native.Nat.{◌≤◌, ◌-◌}
-use mathlib.Core.Path.{◌≡◌, sym, ◌∙◌}
-use native.Mathlib.Omega.{arith}
-use borrow.Author.Rules.{rules}
+use mathlib.Core.Path.{◌≡◌}
 use Rattle.bus_list.specs.List.{sizes_ok}
-use Rattle.bus_list.proofs.Sizes.{sizes-start, sizes-next, sizes-not, sizes-none}
 use Rattle.bus_list.proofs.sizes_ok.Given as goal
 
 abbrev pub invariant-loop-k : goal.invariant-loop-k

@@ -1,15 +1,14 @@
 -- `bus_list::verdict`: the bus's refusals, then 11. Assumes nothing.
-use borrow.Author.Rules.{rules}
 use Rattle.bus_list.proofs.Tested.{bus-refused, list-refused, list-accepted}
 use Rattle.bus_list.proofs.verdict.Goals as goal
 
 pub returns-then-not-list_ok : goal.returns-then-not-list_ok
 returns-then-not-list_ok c = list-refused _ _ _ _ _ _ _ c.call_verdict.ensures
-    c.enum_told-1.given.1 _ c.list_ok.ensures c.if-not-list_ok.true
+    c.in-Accepted.is _ c.list_ok.ensures c.if-not-list_ok.true
 
 pub returns-in-Refused : goal.returns-in-Refused
-returns-in-Refused c = bus-refused _ _ _ _ _ _ _ c.call_verdict.ensures _ c.n-1.given.1
+returns-in-Refused c = bus-refused _ _ _ _ _ _ _ c.call_verdict.ensures _ c.in-Refused.is
 
 pub returns-else-not-list_ok : goal.returns-else-not-list_ok
 returns-else-not-list_ok c = list-accepted _ _ _ _ _ _ _ c.call_verdict.ensures
-    c.enum_told-1.given.1 _ c.list_ok.ensures c.if-not-list_ok.false
+    c.in-Accepted.is _ c.list_ok.ensures c.if-not-list_ok.false

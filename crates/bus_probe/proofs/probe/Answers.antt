@@ -2,7 +2,6 @@
 use mathlib.Core.Path.{sym, ◌∙◌}
 use native.Mathlib.Omega.{arith}
 use lib.ListN.{length}
-use borrow.Author.Rules.{rules}
 use Rattle.bus.proofs.Sizes.{size-range}
 use Rattle.bus_probe.proofs.Verdicts.{target_found, room, verdict-found, found-allowed, vram-accepted, vram-refused}
 use Rattle.bus_probe.proofs.probe.Goals as goal
@@ -15,8 +14,8 @@ put_number-requires c =
     let found = c.verdict-verdict in
     let t = target_found a.size a.address _ _ _ index.result c.aligned.ensures
     (index.ensures (length a.rom.now) (length a.pak.now)) in
-    let r = room _ _ (found-allowed a.size a.rom.now a.wram.now a.vram-1.now a.pak.now a.address
-    index.result found.result t found.ensures c.enum_told-1.given.1) in
+    let r = room _ _ (found-allowed a.size a.rom.now a.wram.now a.vram.now a.pak.now a.address
+    index.result found.result t found.ensures c.in-Accepted.is) in
     let small = (size-range a.size b.requires).1 in
     (b.requires, omega arith)
 
@@ -26,16 +25,16 @@ returns-in-Accepted c =
     let a = b.args in
     let index = b.vram_index-at in
     let found = b.verdict-verdict in
-    let told = c.enum_told-1.given.1 in
+    let told = c.in-Accepted.is in
     let t = target_found a.size a.address _ _ _ index.result b.aligned.ensures
-    (index.ensures (length a.rom.now) (length a.pak.now)) in (
-      sym told
-          ∙ verdict-found a.size a.rom.now a.wram.now a.vram-1.now a.pak.now a.address
-          index.result found.result t found.ensures,
-      c.put_number.ensures
-          ∙ vram-accepted a.size a.rom.now a.wram.now a.vram-1.now a.pak.now a.address
-          index.result found.result t found.ensures told a.value,
-    )
+    (index.ensures (length a.rom.now) (length a.pak.now)) in record {
+      verdict = sym told
+          ∙ verdict-found a.size a.rom.now a.wram.now a.vram.now a.pak.now a.address
+          index.result found.result t found.ensures;
+      memory = c.put_number.ensures
+          ∙ vram-accepted a.size a.rom.now a.wram.now a.vram.now a.pak.now a.address
+          index.result found.result t found.ensures told a.value;
+    }
 
 pub returns-in-Refused : goal.returns-in-Refused
 returns-in-Refused c =
@@ -43,12 +42,12 @@ returns-in-Refused c =
     let a = b.args in
     let index = b.vram_index-at in
     let found = b.verdict-verdict in
-    let told = c.verdict-1.given.1 in
+    let told = c.in-Refused.is in
     let t = target_found a.size a.address _ _ _ index.result b.aligned.ensures
-    (index.ensures (length a.rom.now) (length a.pak.now)) in (
-      sym told
-          ∙ verdict-found a.size a.rom.now a.wram.now a.vram-1.now a.pak.now a.address
-          index.result found.result t found.ensures,
-      vram-refused a.size a.rom.now a.wram.now a.vram-1.now a.pak.now a.address
-          index.result found.result t found.ensures _ told a.value,
-    )
+    (index.ensures (length a.rom.now) (length a.pak.now)) in record {
+      verdict = sym told
+          ∙ verdict-found a.size a.rom.now a.wram.now a.vram.now a.pak.now a.address
+          index.result found.result t found.ensures;
+      memory = vram-refused a.size a.rom.now a.wram.now a.vram.now a.pak.now a.address
+          index.result found.result t found.ensures _ told a.value;
+    }

@@ -1,10 +1,9 @@
 -- `drawing_objects::group` meets its contract: what is left of the group, applied to the strip now, is the whole group applied to the strip at first.
 -- Assumes nothing.
-use Prim.Native.Nat.{◌<◌}
 use native.Mathlib.Omega.{arith}
 use borrow.Author.Rules.{rules}
 use Rattle.bus.specs.Registers.{spt_of}
-use Rattle.drawing_objects.proofs.Groups.{Drawing, group-begun, group-more, group-done}
+use Rattle.drawing_objects.proofs.Groups.{group-begun, group-more, group-done}
 use Rattle.drawing_objects.proofs.group.Goals as goal
 
 pub group_count-left-requires : goal.group_count-left-requires
@@ -27,7 +26,10 @@ loop-left-init c = (
 )
 
 pub paint_object-requires : goal.paint_object-requires
-paint_object-requires c = (omega (arith, c.loop-left.invariant.1.size), omega arith)
+paint_object-requires c = record {
+  buffer_len = omega (arith, c.loop-left.invariant.1.size);
+  vram_len = omega arith;
+}
 
 pub overflow_add-k : goal.overflow_add-k
 overflow_add-k c = omega arith

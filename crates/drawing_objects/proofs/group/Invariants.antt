@@ -1,8 +1,5 @@
 use Prim.Native.Nat.{◌<◌}
-use native.Mathlib.Omega.{arith}
-use borrow.Author.Rules.{rules}
-use Rattle.bus.specs.Registers.{spt_of}
-use Rattle.drawing_objects.proofs.Groups.{Drawing, group-begun, group-more, group-done}
+use Rattle.drawing_objects.proofs.Groups.{Drawing}
 use Rattle.drawing_objects.proofs.group.Given as goal
 
 abbrev pub invariant-loop-left : goal.invariant-loop-left

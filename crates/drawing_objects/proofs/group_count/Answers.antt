@@ -1,5 +1,4 @@
 -- `drawing_objects::group_count` meets its contract. Assumes nothing.
-use borrow.Author.Rules.{rules}
 use native.Mathlib.Omega.{arith}
 use Prim.Native.Nat.{◌-◌}
 use Rattle.bus.specs.Registers.{spt_of}

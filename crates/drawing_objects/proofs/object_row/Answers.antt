@@ -1,5 +1,4 @@
 -- `drawing_objects::object_row` meets its contract. Assumes nothing.
-use borrow.Author.Rules.{rules}
 use Rattle.drawing_pixel.specs.inner.BiasedObject.{object_row_biased}
 use Rattle.drawing_objects.proofs.object_row.Goals as goal
 

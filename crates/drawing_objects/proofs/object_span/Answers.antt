@@ -1,5 +1,4 @@
 -- `drawing_objects::object_span` meets its contract: a row outside the square is kept. Assumes nothing.
-use borrow.Author.Rules.{rules}
 use Prim.Native.Nat.{◌+◌, ◌*◌}
 use native.Mathlib.Omega.{arith}
 use mathlib.Core.Path.{◌∙◌}
@@ -20,7 +19,7 @@ returns c = let a = c.args in
     span-change _ _ _ _ _ _ _
     (λ x v l h. square-inside a.vram.now a.registers.now a.o.now a.view.eye x
     (8 * a.view.strip + a.run.row) v a.run.from _ _ _ _ _
-    pre.1.1.0 c.object_row-row.ensures c.if-row-ge8.false c.object_left.ensures.0 (omega arith) l (omega arith)
+    pre.eye_value.0 c.object_row-row.ensures c.if-row-ge8.false c.object_left.ensures.0 (omega arith) l (omega arith)
     c.wide-cell.ensures.0
     (c.wide-pixels.ensures.0 ∙ rw (
       c.half.ensures,

@@ -1,11 +1,8 @@
 -- `drawing_objects::object_strip` meets its contract: row after row, the square's columns are painted and all others kept. Assumes nothing.
-use Prim.Native.Nat.{◌+◌, ◌-◌, ◌*◌, ◌≤◌}
+use Prim.Native.Nat.{◌+◌, ◌*◌}
 use native.Mathlib.Omega.{arith}
 use borrow.Author.Rules.{rules}
-use borrow.Author.Tests.{not-true, not-false}
 use mathlib.Core.Path.{◌≡◌, sym, ◌∙◌}
-use Rattle.drawing_pixel.specs.inner.BiasedObject.{object_pixel_biased}
-use Rattle.drawing_pixel.specs.inner.Buffer.{Rows}
 use Rattle.drawing_pixel.proofs.Spans.{rows_none, rows_more, rows_all, strip-kept}
 use Rattle.drawing_pixel.proofs.Small.{object-small}
 use Rattle.drawing_pixel.proofs.Windows.{object-hidden}
@@ -18,7 +15,7 @@ shown-requires c = search rules
 pub returns-then-not-shown : goal.returns-then-not-shown
 returns-then-not-shown c = let a = c.args in
     strip-kept _ _ (λ x r v u q. object-hidden a.vram.now a.registers.now a.o.now a.eye x
-    (8 * a.strip + r) v (sym c.shown.ensures ∙ not-true _ c.if-not-shown.true))
+    (8 * a.strip + r) v (sym c.shown.ensures ∙ c.if-not-shown.true))
 
 pub object_left-left-requires : goal.object_left-left-requires
 object_left-left-requires c = search rules
@@ -41,17 +38,11 @@ pub loop-r-init : goal.loop-r-init
 loop-r-init c = (omega arith, rows_none _ _)
 
 pub object_span-requires : goal.object_span-requires
-object_span-requires c = (
-  omega (arith, c.loop-r.invariant.1.size),
-  (
-    (omega arith, (omega arith, (omega arith, (omega arith, omega arith)))),
-    (
-      sym c.shown.ensures ∙ not-false _
-          c.if-not-shown.false,
-      (omega arith, omega arith),
-    ),
-  ),
-)
+object_span-requires c = record {
+  buffer_len = omega (arith, c.loop-r.invariant.1.size);
+  vram_len = (omega arith, (omega arith, (omega arith, (omega arith, omega arith))));
+  eye_value = (sym c.shown.ensures ∙ c.if-not-shown.false, (omega arith, omega arith));
+}
 
 pub overflow_add-r : goal.overflow_add-r
 overflow_add-r c = omega arith

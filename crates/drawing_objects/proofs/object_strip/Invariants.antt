@@ -1,14 +1,6 @@
 use Prim.Native.Nat.{◌+◌, ◌-◌, ◌*◌, ◌≤◌}
-use native.Mathlib.Omega.{arith}
-use borrow.Author.Rules.{rules}
-use borrow.Author.Tests.{not-true, not-false}
-use mathlib.Core.Path.{◌≡◌, sym, ◌∙◌}
 use Rattle.drawing_pixel.specs.inner.BiasedObject.{object_pixel_biased}
 use Rattle.drawing_pixel.specs.inner.Buffer.{Rows}
-use Rattle.drawing_pixel.proofs.Spans.{rows_none, rows_more, rows_all, strip-kept}
-use Rattle.drawing_pixel.proofs.Small.{object-small}
-use Rattle.drawing_pixel.proofs.Windows.{object-hidden}
-use Rattle.drawing_objects.proofs.Squares.{square-outside, square-empty}
 use Rattle.drawing_objects.proofs.object_strip.Given as goal
 
 abbrev pub invariant-loop-r : goal.invariant-loop-r

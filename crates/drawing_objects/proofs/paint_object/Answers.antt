@@ -1,5 +1,4 @@
 -- `drawing_objects::paint_object` meets its contract: an object with no row in the strip keeps it. Assumes nothing.
-use borrow.Author.Rules.{rules}
 use native.Mathlib.Omega.{arith}
 use Rattle.drawing_pixel.proofs.Spans.{strip-kept}
 use Rattle.drawing_objects.proofs.Squares.{square-far}

@@ -1,5 +1,4 @@
 -- `drawing_objects::shown` meets its contract. Assumes nothing.
-use borrow.Author.Rules.{rules}
 use Rattle.drawing_pixel.specs.Object.{object_shown_of}
 use Rattle.drawing_objects.proofs.shown.Goals as goal
 

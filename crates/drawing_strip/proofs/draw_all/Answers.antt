@@ -1,8 +1,6 @@
 -- `drawing_strip::draw_all` meets its contract: strip after strip. Assumes nothing.
-use Prim.Native.Nat.{◌-◌, ◌≤◌}
 use native.Mathlib.Omega.{arith}
 use mathlib.Core.Path.{◌≡◌, refl, ap, ◌∙◌}
-use lib.ListN.{length}
 use Rattle.drawing_pixel.specs.Strip.{strips_of, frame_of}
 use Rattle.drawing_pixel.specs.Strip.{strip_of}
 use Rattle.drawing_strip.proofs.Frames.{strips-more}
@@ -14,7 +12,10 @@ loop-strip-init c = (omega arith, (refl, refl))
 
 pub draw-requires : goal.draw-requires
 draw-requires c = let pre = c.requires in
-    ((c.loop-strip.invariant.1.0 ∙ pre.0.0, (pre.0.1, c.loop-strip-test.true)), pre.1)
+    record {
+      vram_len = (c.loop-strip.invariant.1.0 ∙ pre.vram_len.0, (pre.vram_len.1, c.loop-strip-test.true));
+      by_index = pre.by_index;
+    }
 
 pub overflow_add-strip : goal.overflow_add-strip
 overflow_add-strip c = omega arith
@@ -27,10 +28,10 @@ loop-strip-preserved c = let a = c.args in
     let inv = c.loop-strip.invariant in (
       omega arith,
       (
-        c.draw.auto.0 ∙ inv.1.0,
+        c.draw.auto.vram ∙ inv.1.0,
         c.draw.ensures
             ∙ (ap (λ v. strip_of v a.registers.now a.frame c.loop-strip.strip) inv.1.1
-            ∙ strips-more a.vram-1.now a.registers.now a.frame c.loop-strip.strip),
+            ∙ strips-more a.vram.now a.registers.now a.frame c.loop-strip.strip),
       ),
     )
 

@@ -1,10 +1,7 @@
 use Prim.Native.Nat.{◌-◌, ◌≤◌}
-use native.Mathlib.Omega.{arith}
-use mathlib.Core.Path.{◌≡◌, refl, ap, ◌∙◌}
+use mathlib.Core.Path.{◌≡◌}
 use lib.ListN.{length}
-use Rattle.drawing_pixel.specs.Strip.{strips_of, frame_of}
-use Rattle.drawing_pixel.specs.Strip.{strip_of}
-use Rattle.drawing_strip.proofs.Frames.{strips-more}
+use Rattle.drawing_pixel.specs.Strip.{strips_of}
 use Rattle.drawing_strip.proofs.draw_all.Given as goal
 
 abbrev pub invariant-loop-strip : goal.invariant-loop-strip

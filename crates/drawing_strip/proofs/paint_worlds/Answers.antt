@@ -1,13 +1,13 @@
 -- `drawing_strip::paint_worlds` meets its contract: what is left of the loop, applied to the strip now, is the whole loop applied to the strip at first.
 -- Assumes nothing.
-use Prim.Native.Nat.{◌-◌, ◌<◌, ◌≤◌, ◌/◌, ◌%◌}
+use Prim.Native.Nat.{◌-◌, ◌/◌, ◌%◌}
 use native.Mathlib.Omega.{arith}
 use borrow.Author.Rules.{rules}
 use borrow.Author.Tests.{eq-eqb, ne_eqb}
 use mathlib.Core.Path.{◌≡◌, ◌∙◌}
 use lib.ListN.{get_or}
 use Rattle.drawing_pixel.specs.World.{world_of}
-use Rattle.drawing_strip.proofs.Worlds.{Painting, world-flags, worlds-begun, worlds-more, worlds-ended, worlds-done}
+use Rattle.drawing_strip.proofs.Worlds.{world-flags, worlds-begun, worlds-more, worlds-ended, worlds-done}
 use Rattle.drawing_strip.proofs.paint_worlds.Goals as goal
 
 pub loop-n-init : goal.loop-n-init
@@ -40,10 +40,11 @@ pub overflow_sub-n-in-loop-n : goal.overflow_sub-n-in-loop-n
 overflow_sub-n-in-loop-n c = omega arith
 
 pub paint_world-counter-requires : goal.paint_world-counter-requires
-paint_world-counter-requires c = (
-  omega (arith, c.loop-n.invariant.1.1.size),
-  ((omega arith, (omega arith, (omega arith, omega arith))), c.requires.by_index),
-)
+paint_world-counter-requires c = record {
+  buffer_len = omega (arith, c.loop-n.invariant.1.1.size);
+  vram_len = (omega arith, (omega arith, (omega arith, omega arith)));
+  by_index = c.requires.by_index;
+}
 
 pub overflow_sub-n-in-loop-n-2 : goal.overflow_sub-n-in-loop-n-2
 overflow_sub-n-in-loop-n-2 c = omega arith

@@ -1,11 +1,5 @@
-use Prim.Native.Nat.{◌-◌, ◌<◌, ◌≤◌, ◌/◌, ◌%◌}
-use native.Mathlib.Omega.{arith}
-use borrow.Author.Rules.{rules}
-use borrow.Author.Tests.{eq-eqb, ne_eqb}
-use mathlib.Core.Path.{◌≡◌, ◌∙◌}
-use lib.ListN.{get_or}
-use Rattle.drawing_pixel.specs.World.{world_of}
-use Rattle.drawing_strip.proofs.Worlds.{Painting, world-flags, worlds-begun, worlds-more, worlds-ended, worlds-done}
+use Prim.Native.Nat.{◌<◌, ◌≤◌}
+use Rattle.drawing_strip.proofs.Worlds.{Painting}
 use Rattle.drawing_strip.proofs.paint_worlds.Given as goal
 
 abbrev pub invariant-loop-n : goal.invariant-loop-n

@@ -1,10 +1,8 @@
 -- `drawing_strip::store_columns` meets its contract: the columns so far are stored, and no other byte changed. Assumes nothing.
-use Prim.Native.Nat.{◌-◌, ◌≤◌}
 use native.Mathlib.Omega.{arith}
 use borrow.Author.Rules.{rules}
 use mathlib.Core.Path.{◌≡◌}
 use lib.ListN.{length-set}
-use Rattle.drawing_strip.specs.inner.Stored.{Stored}
 use Rattle.drawing_strip.proofs.Stores.{stored-none, stored_more}
 use Rattle.drawing_strip.proofs.store_columns.Goals as goal
 

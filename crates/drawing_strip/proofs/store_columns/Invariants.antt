@@ -1,10 +1,5 @@
 use Prim.Native.Nat.{◌-◌, ◌≤◌}
-use native.Mathlib.Omega.{arith}
-use borrow.Author.Rules.{rules}
-use mathlib.Core.Path.{◌≡◌}
-use lib.ListN.{length-set}
 use Rattle.drawing_strip.specs.inner.Stored.{Stored}
-use Rattle.drawing_strip.proofs.Stores.{stored-none, stored_more}
 use Rattle.drawing_strip.proofs.store_columns.Given as goal
 
 abbrev pub invariant-loop-x : goal.invariant-loop-x

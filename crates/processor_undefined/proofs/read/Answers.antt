@@ -1,5 +1,4 @@
 -- `processor_undefined::read`: each mask by its own function.
-use Rattle.std.proofs.Common.{rules}
 use Rattle.processor_undefined.proofs.read.Goals as goal
 
 pub returns : goal.returns

@@ -1,12 +1,10 @@
 -- `processor_undefined::second`: nothing where the first halfword asks for none, else the mask two bytes on.
-use Rattle.std.proofs.Common.{rules}
-use borrow.Author.Tests.{not-true, not-false}
 use Rattle.processor_undefined.specs.Reads.{second_undefined_of}
 use Rattle.processor_undefined.proofs.second.Goals as goal
 
 pub returns-then-not-two : goal.returns-then-not-two
 unfolding second_undefined_of
-returns-then-not-two c = λ m. rw (← c.two.ensures, not-true c.two.result c.if-not-two.true)
+returns-then-not-two c = λ m. rw (← c.two.ensures, c.if-not-two.true)
 
 pub returns : goal.returns
 unfolding second_undefined_of
@@ -14,8 +12,7 @@ returns c =
     λ m.
     rw (
       ← c.two.ensures,
-      not-false c.two.result
-          c.if-not-two.false,
-      ← c.wrapping_add_u32.ensures,
+      c.if-not-two.false,
+      ← c.wrapping_add_u32.ensures.value,
     )
     (c.half.ensures.0 m)

@@ -10,7 +10,7 @@ pub write-requires : goal.write-requires
 write-requires c =
     let c13 = c
     in
-    ((search rules, (search rules, search rules)), (c13.pre.0, (search rules, c13.pre.1)))
+    record { regs_len = (search rules, (search rules, search rules)); wram_len = c13.requires.wram_len; hardware_len = (search rules, c13.requires.output_len) }
 
 pub returns : goal.returns
 returns c =
@@ -18,5 +18,5 @@ returns c =
     let c10 = c8 in
     let c16 = c10 in
     c.write.ensures ∙ file-of-records c16.args.form c16.args.processor
-    (memory_of [] c16.args.wram.now c16.args.vram.now c16.args.pak.now c16.args.drawing.regs-1) _ _
+    (memory_of [] c16.args.wram.now c16.args.vram.now c16.args.pak.now c16.args.drawing.regs) _ _
     c10.rest-rest.ensures c8.lines-lines.ensures

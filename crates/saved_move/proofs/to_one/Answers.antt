@@ -23,6 +23,6 @@ returns c =
     let c13 = c10 in
     let from = c10.first-from.result in
     let at = c9.first-at.result in
-    moved-one c13.args.pak c13.args.file.now c13.args.output-1.now c13.requires.file_len.0 c13.requires.output_len from at
+    moved-one c13.args.pak c13.args.file.now c13.args.output.now c13.requires.file_len.0 c13.requires.output_len from at
     (from + 327878 + c13.args.pak - from) _ _ c10.first-from.ensures.0 c9.first-at.ensures.0 (omega arith)
     c.put_bytes.ensures c.put.ensures

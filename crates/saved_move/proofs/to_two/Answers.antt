@@ -27,7 +27,7 @@ returns c =
     let c17 = c14 in
     let from = c14.first-from.result in
     let at = c13.first-at.result in
-    moved-two c17.args.pak c17.args.file.now c17.args.output-1.now c17.requires.file_len.0 c17.requires.output_len from at
+    moved-two c17.args.pak c17.args.file.now c17.args.output.now c17.requires.file_len.0 c17.requires.output_len from at
     (from + 327878 + c17.args.pak - from) _ _ _ c14.first-from.ensures.0 c13.first-at.ensures.0 (omega arith)
     c10.put_bytes.ensures c.put_zeros.ensures
     c.put.ensures

@@ -1,8 +1,7 @@
 -- `capi_bus::accesses::load_word` meets its contract: the public call's answer, as numbers.
 -- Assumes nothing.
-use mathlib.Core.Path.{◌≡◌, ap, ◌∙◌}
+use mathlib.Core.Path.{ap, ◌∙◌}
 use Rattle.capi_bus.specs.Answers.{load_out}
-use borrow.Author.Rules.{rules}
 use Rattle.capi_bus.proofs.accesses.load_word.Goals as goal
 
 pub returns : goal.returns

@@ -1,5 +1,4 @@
 -- `capi_bus::accesses::stored` meets its contract: the verdict as a number, and both records. Assumes nothing.
-use borrow.Author.Rules.{rules}
 use Rattle.capi_bus.proofs.accesses.stored.Goals as goal
 
 pub returns : goal.returns

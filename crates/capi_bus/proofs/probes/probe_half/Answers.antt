@@ -1,9 +1,11 @@
 -- `capi_bus::probes::probe_half` meets its contract: the call's verdict as a number. Assumes nothing.
-use borrow.Author.Rules.{rules}
 use mathlib.Core.Path.{◌∙◌, ap}
 use Rattle.refusal.specs.Number.{verdict_number}
 use Rattle.capi_bus.proofs.probes.probe_half.Goals as goal
 
 pub returns : goal.returns
 returns c = let written = c.probe_half.ensures in
-    (c.verdict_number.ensures ∙ ap verdict_number written.0, written.1)
+    record {
+      refusal = c.verdict_number.ensures ∙ ap verdict_number written.verdict;
+      memory = written.memory;
+    }

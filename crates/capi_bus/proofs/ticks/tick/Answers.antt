@@ -1,7 +1,6 @@
 -- `capi_bus::ticks::tick` meets its contract: the public call's answer, as numbers. Assumes nothing.
-use mathlib.Core.Path.{◌≡◌, ap, ◌∙◌}
+use mathlib.Core.Path.{ap}
 use Rattle.capi_bus.specs.Answers.{tick_out}
-use borrow.Author.Rules.{rules}
 use Rattle.capi_bus.proofs.ticks.tick.Goals as goal
 
 pub returns : goal.returns

@@ -1,5 +1,4 @@
 -- `capi_code::instructions::decode`: the decoder's answer, and how many halfwords it took.
-use borrow.Author.Rules.{rules}
 use Rattle.capi_code.proofs.instructions.decode.Goals as goal
 
 pub returns : goal.returns

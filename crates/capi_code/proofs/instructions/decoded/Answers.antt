@@ -1,9 +1,8 @@
 -- `capi_code::instructions::decoded`: the instruction's fields, or refusal 6.
-use borrow.Author.Rules.{rules}
 use Rattle.capi_code.proofs.instructions.decoded.Goals as goal
 
 pub returns-in-Modelled : goal.returns-in-Modelled
-returns-in-Modelled c = rw (c.d-1.given.1, c.length.ensures, c.fields_out-instruction.ensures, c.fields.ensures)
+returns-in-Modelled c = rw (c.in-Modelled.is, c.length.ensures, c.fields_out-instruction.ensures, c.fields.ensures)
 
 pub returns-in-NotModelled : goal.returns-in-NotModelled
-returns-in-NotModelled c = rw (c.enum_told-1.given.1, c.number.ensures)
+returns-in-NotModelled c = rw (c.in-NotModelled.is, c.number.ensures)

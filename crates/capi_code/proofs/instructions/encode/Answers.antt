@@ -1,5 +1,4 @@
 -- `capi_code::instructions::encode`: the encoder's answer, of the record's fields.
-use borrow.Author.Rules.{rules}
 use Rattle.capi_code.proofs.instructions.encode.Goals as goal
 
 pub returns : goal.returns

@@ -6,4 +6,8 @@ use Rattle.capi_drawing.proofs.brightness.display.Goals as goal
 
 pub returns : goal.returns
 returns c = let done = c.display.ensures in
-    (c.verdict_number.ensures ∙ ap verdict_number done.0, done.1)
+    record {
+      refusal = c.verdict_number.ensures ∙ ap verdict_number done.verdict;
+      room = done.output;
+    }
+

@@ -10,12 +10,21 @@ pub character_address-requires : goal.character_address-requires
 character_address-requires c =
     let asked = c in
     let a = asked.args in
-    character-small a.vram.now a.character-part (sym asked.character_refusal-verdict.ensures ∙ c.enum_told-1.given.1)
+    character-small a.vram.now a.character-part (sym asked.character_refusal-verdict.ensures ∙ c.in-Accepted.is)
 
 pub returns-in-Accepted : goal.returns-in-Accepted
-returns-in-Accepted c = let e = sym c.character_refusal-verdict.ensures ∙ c.enum_told-1.given.1 in
-    (rw e, (rw e c.character_address.ensures.0, ap length c.character-part.ensures.bytes))
+returns-in-Accepted c = let e = sym c.character_refusal-verdict.ensures ∙ c.in-Accepted.is in
+    record {
+      refusal = rw e;
+      offset = rw e c.character_address.ensures.0;
+      length = ap length c.character-part.ensures.bytes;
+    }
 
 pub returns-in-Refused : goal.returns-in-Refused
-returns-in-Refused c = let e = sym c.character_refusal-verdict.ensures ∙ c.verdict-1.given.1 in
-    (rw e c.number.ensures, (rw e, ap length c.character-part.ensures.bytes))
+returns-in-Refused c = let e = sym c.character_refusal-verdict.ensures ∙ c.in-Refused.is in
+    record {
+      refusal = rw e c.number.ensures;
+      offset = rw e;
+      length = ap length c.character-part.ensures.bytes;
+    }
+

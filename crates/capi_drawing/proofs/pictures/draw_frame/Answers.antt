@@ -6,4 +6,8 @@ use Rattle.capi_drawing.proofs.pictures.draw_frame.Goals as goal
 
 pub returns : goal.returns
 returns c = let drawn = c.draw_frame.ensures in
-    (c.verdict_number.ensures ∙ ap verdict_number drawn.0, drawn.1)
+    record {
+      refusal = c.verdict_number.ensures ∙ ap verdict_number drawn.verdict;
+      memory = drawn.memory;
+    }
+

@@ -5,15 +5,25 @@ use Rattle.capi_drawing.proofs.pixel_bytes.pixel_bytes.Goals as goal
 
 pub returns-in-Count : goal.returns-in-Count
 returns-in-Count c =
-    let e = sym c.pixel_bytes-listed.ensures.answer ∙ c.listed-1.given.1 in
-    (rw e, c.pixel_bytes-listed.ensures.output)
+    let e = sym c.pixel_bytes-listed.ensures.answer ∙ c.in-Count.is in
+    record {
+      answer = rw e;
+      room = c.pixel_bytes-listed.ensures.output;
+    }
 
 pub returns-in-Refused : goal.returns-in-Refused
 returns-in-Refused c =
-    let e = sym c.pixel_bytes-listed.ensures.answer ∙ c.listed-in-Refused-1.given.1 in
-    (rw (e, c.number.ensures), c.pixel_bytes-listed.ensures.output)
+    let e = sym c.pixel_bytes-listed.ensures.answer ∙ c.in-Refused.is in
+    record {
+      answer = rw (e, c.number.ensures);
+      room = c.pixel_bytes-listed.ensures.output;
+    }
 
 pub returns-in-Outside : goal.returns-in-Outside
 returns-in-Outside c =
-    let e = sym c.pixel_bytes-listed.ensures.answer ∙ c.enum_told-1.given.1 in
-    (rw e, c.pixel_bytes-listed.ensures.output)
+    let e = sym c.pixel_bytes-listed.ensures.answer ∙ c.in-Outside.is in
+    record {
+      answer = rw e;
+      room = c.pixel_bytes-listed.ensures.output;
+    }
+

@@ -17,34 +17,34 @@ overflow_add-level c =
 pub returns-in-Ended : goal.returns-in-Ended
 returns-in-Ended c =
     λ u p m. rw (c.numbers.ensures.0, c.numbers.ensures.1, c.numbers.ensures.2)
-    (rw c.enum_told-1.given.1)
+    (rw c.in-Ended.is)
 
 pub returns-in-Trapped : goal.returns-in-Trapped
 returns-in-Trapped c =
     λ u p m. rw (c.numbers-in-Trapped.ensures.0, c.numbers-in-Trapped.ensures.1, c.numbers-in-Trapped.ensures.2)
-    (rw (c.code.ensures.0, c.answer-1.given.1))
+    (rw (c.code.ensures.0, c.in-Trapped.is))
 
 pub returns-in-TurnedFatal : goal.returns-in-TurnedFatal
 returns-in-TurnedFatal c =
     λ u p m. rw (c.numbers-in-TurnedFatal.ensures.0, c.numbers-in-TurnedFatal.ensures.1, c.numbers-in-TurnedFatal.ensures.2)
-    (rw (c.code-in-TurnedFatal.ensures.0, c.answer-in-TurnedFatal-1.given.1))
+    (rw (c.code-in-TurnedFatal.ensures.0, c.in-TurnedFatal.is))
 
 pub returns-in-WasHalted : goal.returns-in-WasHalted
 returns-in-WasHalted c =
     λ u p m. rw (c.numbers-in-WasHalted.ensures.0, c.numbers-in-WasHalted.ensures.1, c.numbers-in-WasHalted.ensures.2)
-    (rw c.enum_told-in-WasHalted-1.given.1)
+    (rw c.in-WasHalted.is)
 
 pub returns-in-WasFatal : goal.returns-in-WasFatal
 returns-in-WasFatal c =
     λ u p m. rw (c.numbers-in-WasFatal.ensures.0, c.numbers-in-WasFatal.ensures.1, c.numbers-in-WasFatal.ensures.2)
-    (rw c.enum_told-in-WasFatal-1.given.1)
+    (rw c.in-WasFatal.is)
 
 pub returns-in-Interrupted : goal.returns-in-Interrupted
 returns-in-Interrupted c =
     λ u p m. rw (c.numbers-in-Interrupted.ensures.0, c.numbers-in-Interrupted.ensures.1, c.numbers-in-Interrupted.ensures.2)
-    (rw c.answer-in-Interrupted-1.given.1)
+    (rw c.in-Interrupted.is)
 
 pub returns-in-Refused : goal.returns-in-Refused
 returns-in-Refused c =
     λ u p m. rw (c.numbers-in-Refused.ensures.0, c.numbers-in-Refused.ensures.1, c.numbers-in-Refused.ensures.2)
-    (rw (c.number.ensures, c.answer-in-Refused-1.given.1))
+    (rw (c.number.ensures, c.in-Refused.is))

@@ -3,4 +3,4 @@ use borrow.Author.Rules.{rules}
 use Rattle.capi_processor.proofs.replays.end_refusal.Goals as goal
 
 pub returns-in-Refused : goal.returns-in-Refused
-returns-in-Refused c = rw c.end-1.given.1 c.number.ensures
+returns-in-Refused c = rw c.in-Refused.is c.number.ensures

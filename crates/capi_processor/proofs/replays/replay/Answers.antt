@@ -7,7 +7,7 @@ use Rattle.capi_processor.proofs.replays.replay.Goals as goal
 pub returns-then-misused-ne0 : goal.returns-then-misused-ne0
 returns-then-misused-ne0 c =
     let a = c.args in
-    let m = memory_of a.rom.now a.wram-1.now a.vram-1.now a.pak-1.now a.drawing.regs-1 in
+    let m = memory_of a.rom.now a.wram.now a.vram.now a.pak.now a.drawing.regs in
     replay-misused a.processor m _ c.misuse-misused.ensures a.trace.now c.if-misused-ne0.true
 
 pub returns : goal.returns
@@ -15,7 +15,7 @@ returns c =
     let called = c in
     let tested = called in
     let a = tested.args in
-    let m = memory_of a.rom.now a.wram-1.now a.vram-1.now a.pak-1.now a.drawing.regs-1 in
+    let m = memory_of a.rom.now a.wram.now a.vram.now a.pak.now a.drawing.regs in
     let given = called.processor_in-p.ensures in
     rw (c.processor_out.ensures, c.end_word.ensures, c.end_number.ensures)
     (rw c.end_refusal.ensures

@@ -7,4 +7,8 @@ use Rattle.capi_saved.proofs.states.move_state.Goals as goal
 pub returns : goal.returns
 returns c =
     let done = c.move_state.ensures in
-    (c.verdict_number.ensures ∙ ap verdict_number done.0, done.1)
+    record {
+      refusal = c.verdict_number.ensures ∙ ap verdict_number done.verdict;
+      output = done.output;
+    }
+

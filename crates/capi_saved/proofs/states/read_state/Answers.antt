@@ -7,7 +7,7 @@ use Rattle.capi_saved.proofs.states.read_state.Goals as goal
 pub returns-then-misused-ne0 : goal.returns-then-misused-ne0
 returns-then-misused-ne0 c =
     let a = c.args in
-    let m = memory_of a.rom.now a.wram-1.now a.vram-1.now a.pak-1.now a.drawing.regs-1 in
+    let m = memory_of a.rom.now a.wram.now a.vram.now a.pak.now a.drawing.regs in
     read-misused a.processor m _ c.misuse-misused.ensures a.file.now c.if-misused-ne0.true
 
 pub returns : goal.returns
@@ -15,7 +15,7 @@ returns c =
     let called = c in
     let tested = called in
     let a = tested.args in
-    let m = memory_of a.rom.now a.wram-1.now a.vram-1.now a.pak-1.now a.drawing.regs-1 in
+    let m = memory_of a.rom.now a.wram.now a.vram.now a.pak.now a.drawing.regs in
     let given = called.processor_in-p.ensures in
     rw (c.processor_out.ensures, c.verdict_number.ensures)
     (read_done a.processor m _ tested.misuse-misused.ensures a.file.now _ given tested.if-misused-ne0.false _

@@ -7,4 +7,8 @@ use Rattle.capi_saved.proofs.states.salvage_state.Goals as goal
 pub returns : goal.returns
 returns c =
     let done = c.salvage_state.ensures in
-    (c.salvaged.ensures ∙ ap salvaged_at done.0, done.1)
+    record {
+      reported = c.salvaged.ensures ∙ ap salvaged_at done.reported;
+      output = done.output;
+    }
+

@@ -1,10 +1,8 @@
-use Rattle.std.proofs.Common.{◌≡◌, ℕ, ◌+◌, ◌-◌, ◌/◌, ◌<◌, ◌≤◌, get_or, sym, ap, ◌∙◌, arith}
+use Rattle.std.proofs.Common.{◌≡◌, ◌+◌, ◌-◌, ◌≤◌}
 use Rattle.drawing_pixel.specs.inner.BiasedCell.{source_pixel_biased}
 use Rattle.drawing_pixel.specs.inner.BiasedSource.{affine_floor_biased}
-use Rattle.drawing_pixel.specs.inner.Buffer.{repainted_of, Span}
-use Rattle.drawing_pixel.proofs.Spans.{span_none, span_more}
+use Rattle.drawing_pixel.specs.inner.Buffer.{Span}
 use Rattle.drawing_background.specs.inner.Row.{affine_sum_of, CellAt, Inked}
-use Rattle.drawing_background.proofs.Sources.{source-repainted, sum-least, sum-most, sum-on, floor-sum}
 use Rattle.drawing_pixel.specs.inner.Halfwords.{halfwords_of}
 use Rattle.drawing_background.proofs.affine.affine_span.Given as goal
 

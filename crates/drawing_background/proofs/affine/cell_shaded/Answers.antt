@@ -1,10 +1,10 @@
 -- `drawing_background::affine::cell_shaded` meets its contract: the pixel is picked from the cell's row at the turned position, and
 -- takes its shade from the inks. Assumes nothing.
-use Rattle.std.proofs.Common.{◌≡◌, ◌+◌, ◌*◌, ◌%◌, ◌≤◌, ap, ◌∙◌, arith, rules}
+use Rattle.std.proofs.Common.{◌≡◌, ◌+◌, ◌*◌, ◌%◌, ◌∙◌, arith, rules}
 use lib.Bits.{and_le_l}
 use Rattle.word.specs.LittleEndian.{half_at}
 use Rattle.word.specs.Bit.{is_set}
-use Rattle.drawing_pixel.specs.Character.{two_bits_of, flipped_of, pixel_value_of}
+use Rattle.drawing_pixel.specs.Character.{flipped_of, pixel_value_of}
 use Rattle.drawing_background.proofs.Inks.{bits_small, value-turned, inked-of, inked-fits}
 use Rattle.drawing_background.proofs.affine.cell_shaded.Goals as goal
 

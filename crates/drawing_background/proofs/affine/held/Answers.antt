@@ -1,5 +1,4 @@
 -- `drawing_background::affine::held` meets its contract: the last cell, or a new one. Assumes nothing.
-use Rattle.std.proofs.Common.{rules}
 use Rattle.drawing_background.proofs.affine.held.Goals as goal
 
 pub returns-then-is_of : goal.returns-then-is_of

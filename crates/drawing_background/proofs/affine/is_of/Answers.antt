@@ -1,5 +1,5 @@
 -- `drawing_background::affine::is_of` meets its contract. Assumes nothing.
-use Rattle.std.proofs.Common.{rules, eqb-true}
+use Rattle.std.proofs.Common.{eqb-true}
 use mathlib.Core.Bool.{false≢true}
 use Rattle.drawing_background.proofs.affine.is_of.Goals as goal
 

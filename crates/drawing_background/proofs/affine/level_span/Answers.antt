@@ -1,5 +1,5 @@
 -- `drawing_background::affine::level_span` meets its contract: a step is one pixel to the right. Assumes nothing.
-use Rattle.std.proofs.Common.{◌+◌, ◌-◌, ◌<◌, ◌∙◌, arith, rules}
+use Rattle.std.proofs.Common.{◌+◌, ◌-◌, ◌<◌, ◌∙◌, arith}
 use Rattle.drawing_pixel.proofs.Spans.{span-change}
 use Rattle.drawing_background.proofs.Sources.{level-low, level-pixel, level-steps}
 use Rattle.drawing_pixel.specs.inner.Halfwords.{halfwords_of}
@@ -9,8 +9,8 @@ pub plain_span-requires : goal.plain_span-requires
 plain_span-requires c =
     let pre = c.requires in
     let low : c.affine_floor-sx.result < 33554432 = rw c.affine_floor-sx.ensures
-    (level-low _ _ pre.1.1.1.1.1.0 (omega arith)) in
-    omega (arith, low)
+    (level-low _ _ pre.vram_len.1.1.1.1.0 (omega arith)) in
+    record { buffer_len = omega arith; vram_len = omega (arith, low) }
 
 pub returns : goal.returns
 returns c =

@@ -1,5 +1,5 @@
 -- `drawing_background::affine::read` meets its contract. Assumes nothing.
-use Rattle.std.proofs.Common.{refl, arith, rules}
+use Rattle.std.proofs.Common.{refl, arith}
 use Rattle.bus.specs.Registers.{gplt_of}
 use Rattle.drawing_background.proofs.Inks.{bits_of}
 use Rattle.drawing_background.proofs.affine.read.Goals as goal

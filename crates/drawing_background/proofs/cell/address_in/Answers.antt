@@ -1,5 +1,5 @@
 -- `drawing_background::cell::address_in` meets its contract. Assumes nothing.
-use Rattle.std.proofs.Common.{sym, ◌∙◌, arith, rules}
+use Rattle.std.proofs.Common.{sym, ◌∙◌, arith}
 use Rattle.drawing_background.proofs.Inside.{cell-overplane, cell-arranged}
 use Rattle.drawing_background.proofs.cell.address_in.Goals as goal
 

@@ -1,5 +1,5 @@
 -- `drawing_background::cell::cells` meets its contract. Assumes nothing.
-use Rattle.std.proofs.Common.{arith, rules}
+use Rattle.std.proofs.Common.{arith}
 use Rattle.drawing_background.proofs.Powers.{shifted_one, cells-le}
 use Rattle.drawing_background.proofs.cell.cells.Goals as goal
 

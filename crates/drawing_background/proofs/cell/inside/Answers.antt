@@ -1,5 +1,4 @@
 -- `drawing_background::cell::inside` meets its contract: each test that fails makes it false. Assumes nothing.
-use Rattle.std.proofs.Common.{rules}
 use Rattle.drawing_background.proofs.Inside.{outside-left, outside-right, outside_above, inside-down}
 use Rattle.drawing_background.proofs.cell.inside.Goals as goal
 

@@ -1,5 +1,5 @@
 -- `drawing_background::cell::low_bits` meets its contract: a mask of ones is a remainder. Assumes nothing.
-use Rattle.std.proofs.Common.{arith, rules}
+use Rattle.std.proofs.Common.{arith}
 use Rattle.drawing_background.proofs.Powers.{shifted_one, one-le-power, masked, low-lt}
 use Rattle.drawing_background.proofs.cell.low_bits.Goals as goal
 

@@ -1,5 +1,4 @@
 -- `drawing_background::cell::maps_above` meets its contract. Assumes nothing.
-use Rattle.std.proofs.Common.{rules}
 use Rattle.drawing_background.proofs.Powers.{shifted-maps}
 use Rattle.drawing_background.proofs.cell.maps_above.Goals as goal
 

@@ -1,5 +1,4 @@
 -- `drawing_background::cell::maps_of` meets its contract. Assumes nothing.
-use Rattle.std.proofs.Common.{rules}
 use Rattle.drawing_background.proofs.cell.maps_of.Goals as goal
 
 pub returns : goal.returns

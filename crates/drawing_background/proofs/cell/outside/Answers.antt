@@ -1,5 +1,5 @@
 -- `drawing_background::cell::outside` meets its contract. Assumes nothing.
-use Rattle.std.proofs.Common.{sym, ◌∙◌, rules}
+use Rattle.std.proofs.Common.{sym, ◌∙◌}
 use borrow.Author.Tests.{not-true, not-false}
 use Rattle.drawing_background.proofs.cell.outside.Goals as goal
 

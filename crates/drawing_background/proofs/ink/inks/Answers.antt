@@ -1,5 +1,5 @@
 -- `drawing_background::ink::inks` meets its contract: three shades stay within 64 bits at every row. Assumes nothing.
-use Rattle.std.proofs.Common.{arith, rules}
+use Rattle.std.proofs.Common.{arith}
 use Rattle.drawing_pixel.specs.Character.{two_bits_of}
 use Rattle.drawing_background.specs.inner.Row.{inks_of}
 use Rattle.drawing_background.proofs.Inks.{inks-fit}

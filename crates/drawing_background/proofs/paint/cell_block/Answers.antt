@@ -1,5 +1,4 @@
 -- `drawing_background::paint::cell_block` meets its contract: all pixels share a cell and its palette. Assumes nothing.
-use Rattle.std.proofs.Common.{rules}
 use Rattle.drawing_background.proofs.Sources.{block-of-whole, block-of-part}
 use Rattle.drawing_pixel.specs.inner.Halfwords.{halfwords_of}
 use Rattle.drawing_background.proofs.paint.cell_block.Goals as goal

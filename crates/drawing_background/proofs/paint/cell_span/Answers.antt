@@ -1,5 +1,5 @@
 -- `drawing_background::paint::cell_span` meets its contract: the columns share a cell, its character row and its palette. Assumes nothing.
-use Rattle.std.proofs.Common.{◌-◌, arith, rules}
+use Rattle.std.proofs.Common.{◌-◌, arith}
 use Rattle.drawing_pixel.proofs.Spans.{span-change}
 use Rattle.drawing_background.proofs.Sources.{source-pixel-along}
 use Rattle.drawing_background.proofs.paint.cell_span.Goals as goal

@@ -1,7 +1,6 @@
 -- `drawing_background::paint::cells_block` meets its contract: cell after cell of a row of cells. Assumes nothing.
-use Rattle.std.proofs.Common.{◌≡◌, ◌+◌, ◌-◌, ◌≤◌, ap, arith, rules}
+use Rattle.std.proofs.Common.{◌≡◌, ◌+◌, ◌-◌, ap, arith, rules}
 use Rattle.drawing_pixel.specs.inner.BiasedCell.{source_pixel_biased}
-use Rattle.drawing_pixel.specs.inner.Buffer.{Block}
 use Rattle.drawing_pixel.proofs.Blocks.{block-no-column, block-beside, block-change}
 use Rattle.drawing_pixel.specs.inner.Halfwords.{halfwords_of}
 use Rattle.drawing_background.proofs.paint.cells_block.Goals as goal

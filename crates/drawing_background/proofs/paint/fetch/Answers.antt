@@ -1,5 +1,4 @@
 -- `drawing_background::paint::fetch` meets its contract. Assumes nothing.
-use Rattle.std.proofs.Common.{rules}
 use Rattle.drawing_background.proofs.paint.fetch.Goals as goal
 
 pub returns : goal.returns

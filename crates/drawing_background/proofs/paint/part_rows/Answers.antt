@@ -1,8 +1,7 @@
 -- `drawing_background::paint::part_rows` meets its contract: row after row of one cell. Assumes nothing.
-use Rattle.std.proofs.Common.{◌≡◌, ◌+◌, ◌-◌, ◌≤◌, ap, ◌∙◌, arith}
+use Rattle.std.proofs.Common.{◌≡◌, ◌+◌, ◌-◌, ap, ◌∙◌, arith}
 use Rattle.word.specs.LittleEndian.{half_at}
 use Rattle.drawing_pixel.specs.Character.{row_address_of, pixel_value_of, shade_of}
-use Rattle.drawing_pixel.specs.inner.Buffer.{Block}
 use Rattle.drawing_pixel.proofs.Spans.{span-change}
 use Rattle.drawing_pixel.proofs.Blocks.{block-no-row, block_row}
 use Rattle.drawing_pixel.proofs.Small.{shade-small}

@@ -1,7 +1,6 @@
-use Rattle.std.proofs.Common.{◌≡◌, ◌+◌, ◌-◌, ◌≤◌, ap, arith, rules}
+use Rattle.std.proofs.Common.{◌+◌, ◌-◌, ◌≤◌}
 use Rattle.drawing_pixel.specs.inner.BiasedCell.{source_pixel_biased}
 use Rattle.drawing_pixel.specs.inner.Buffer.{Span}
-use Rattle.drawing_pixel.proofs.Spans.{span_none, span-join, span-change}
 use Rattle.drawing_pixel.specs.inner.Halfwords.{halfwords_of}
 use Rattle.drawing_background.proofs.paint.plain_span.Given as goal
 

@@ -1,5 +1,4 @@
 -- `drawing_background::source::affine_floor` meets its contract: the sum, without what is below one. Assumes nothing.
-use Rattle.std.proofs.Common.{refl}
 use Rattle.drawing_pixel.specs.inner.BiasedSource.{affine_floor_biased}
 use Rattle.drawing_background.specs.inner.Row.{affine_sum_of}
 use Rattle.drawing_background.proofs.source.affine_floor.Goals as goal

@@ -1,5 +1,5 @@
 -- `drawing_background::source::affine_parameter` meets its contract. Assumes nothing.
-use Rattle.std.proofs.Common.{arith, rules}
+use Rattle.std.proofs.Common.{arith}
 use Rattle.drawing_pixel.specs.inner.BiasedSource.{affine_parameter_biased}
 use Rattle.drawing_background.proofs.source.affine_parameter.Goals as goal
 

@@ -1,5 +1,5 @@
 -- `drawing_background::source::affine_shift` meets its contract. Assumes nothing.
-use Rattle.std.proofs.Common.{arith, rules, eq-eqb, ne_eqb}
+use Rattle.std.proofs.Common.{arith, eq-eqb, ne_eqb}
 use Rattle.drawing_pixel.specs.inner.BiasedSource.{affine_shift_biased}
 use Rattle.drawing_background.proofs.source.affine_shift.Goals as goal
 

@@ -1,5 +1,5 @@
 -- `drawing_background::source::affine_sum` meets its contract: the product of two halfwords fits. Assumes nothing.
-use Rattle.std.proofs.Common.{refl, arith, rules}
+use Rattle.std.proofs.Common.{refl, arith}
 use Rattle.drawing_background.specs.inner.Row.{affine_sum_of}
 use Rattle.drawing_background.proofs.Powers.{product_lt}
 use Rattle.drawing_background.proofs.source.affine_sum.Goals as goal

@@ -1,5 +1,5 @@
 -- `drawing_background::source::bias_index` meets its contract. Assumes nothing.
-use Rattle.std.proofs.Common.{rules, eq-eqb, ne_eqb}
+use Rattle.std.proofs.Common.{eq-eqb, ne_eqb}
 use Rattle.drawing_pixel.specs.Background.{bias_index_of}
 use Rattle.drawing_background.proofs.source.bias_index.Goals as goal
 

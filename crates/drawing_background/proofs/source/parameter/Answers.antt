@@ -1,5 +1,4 @@
 -- `drawing_background::source::parameter` meets its contract. Assumes nothing.
-use Rattle.std.proofs.Common.{rules}
 use Rattle.drawing_pixel.specs.Background.{parameter_of}
 use Rattle.drawing_background.proofs.source.parameter.Goals as goal
 

@@ -1,5 +1,5 @@
 -- `drawing_background::source::parameter_address` meets its contract: the index wraps at 16 bits. Assumes nothing.
-use Rattle.std.proofs.Common.{arith, rules}
+use Rattle.std.proofs.Common.{arith}
 use Rattle.drawing_pixel.specs.Background.{parameter_address_of}
 use Rattle.drawing_background.proofs.source.parameter_address.Goals as goal
 

@@ -1,5 +1,5 @@
 -- `drawing_background::source::plain_left` meets its contract. Assumes nothing.
-use Rattle.std.proofs.Common.{arith, rules, eq-eqb, ne_eqb}
+use Rattle.std.proofs.Common.{arith, eq-eqb, ne_eqb}
 use Rattle.drawing_pixel.specs.inner.BiasedSource.{plain_left_biased}
 use Rattle.drawing_background.proofs.source.plain_left.Goals as goal
 

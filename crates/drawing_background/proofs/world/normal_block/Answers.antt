@@ -1,5 +1,5 @@
 -- `drawing_background::world::normal_block` meets its contract: the rows in the window are painted, the others kept. Assumes nothing.
-use Rattle.std.proofs.Common.{◌≡◌, ◌+◌, ◌-◌, ◌*◌, ◌%◌, ap, ◌∙◌, arith, rules}
+use Rattle.std.proofs.Common.{◌≡◌, ◌+◌, ◌-◌, ◌*◌, ◌%◌, ap, ◌∙◌, arith}
 use Rattle.drawing_pixel.specs.inner.BiasedFields.{gy_biased}
 use Rattle.drawing_pixel.specs.inner.BiasedSource.{normal_y_biased}
 use Rattle.drawing_background.proofs.Clipping.{no-row-inside, rows_inside}
@@ -18,6 +18,6 @@ returns c =
     let pre = c.requires in
     let t : (c.wide.result + 32768) % 65536 ≡ gy_biased (halfwords_of a.w) = omega arith in
     rows_inside a.vram.now a.registers.now (halfwords_of a.w) a.view.eye a.view.strip _ _ (omega arith) (omega arith)
-    (omega arith) pre.1.1.0 (omega arith) a.from a.to (omega arith) (omega arith) _ _ (omega arith)
+    (omega arith) pre.eye_value.0 (omega arith) a.from a.to (omega arith) (omega arith) _ _ (omega arith)
     (c.normal_y-sy.ensures.0 ∙ ap (λ n. normal_y_biased (halfwords_of a.w)
     (8 * a.view.strip + 32768 + c.least-first.result - n)) t) _ _ c.plain_block.ensures

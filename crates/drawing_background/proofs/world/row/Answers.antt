@@ -1,5 +1,5 @@
 -- `drawing_background::world::row` meets its contract. Assumes nothing.
-use Rattle.std.proofs.Common.{◌-◌, arith, rules}
+use Rattle.std.proofs.Common.{◌-◌, arith}
 use Rattle.drawing_pixel.proofs.Spans.{span-change}
 use Rattle.drawing_background.proofs.Modes.{plain-pixel}
 use Rattle.drawing_pixel.specs.inner.Halfwords.{halfwords_of}

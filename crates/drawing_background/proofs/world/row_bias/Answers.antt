@@ -1,5 +1,5 @@
 -- `drawing_background::world::row_bias` meets its contract. Assumes nothing.
-use Rattle.std.proofs.Common.{arith, rules, eq-eqb, ne_eqb}
+use Rattle.std.proofs.Common.{arith, eq-eqb, ne_eqb}
 use Rattle.drawing_background.specs.inner.Row.{row_bias_of}
 use Rattle.drawing_background.proofs.world.row_bias.Goals as goal
 

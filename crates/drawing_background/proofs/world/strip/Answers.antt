@@ -1,10 +1,7 @@
 -- `drawing_background::world::strip` meets its contract: at once or row after row, the window's columns are painted
 -- and all others kept. Assumes nothing.
-use Rattle.std.proofs.Common.{◌≡◌, ◌+◌, ◌-◌, ◌*◌, ◌≤◌, sym, ◌∙◌, arith, rules}
-use borrow.Author.Tests.{not-true, not-false}
+use Rattle.std.proofs.Common.{◌≡◌, ◌+◌, ◌*◌, sym, ◌∙◌, arith, rules}
 use Rattle.drawing_pixel.specs.World.{world_shown_of}
-use Rattle.drawing_pixel.specs.inner.BiasedCell.{background_pixel_biased}
-use Rattle.drawing_pixel.specs.inner.Buffer.{Rows}
 use Rattle.drawing_pixel.proofs.Spans.{rows_none, rows_more, rows_all, strip-kept}
 use Rattle.drawing_pixel.proofs.Blocks.{block-strip}
 use Rattle.drawing_pixel.proofs.Small.{background-small}
@@ -20,7 +17,7 @@ pub returns-then-not-flag : goal.returns-then-not-flag
 unfolding world_shown_of
 returns-then-not-flag c = let a = c.args in
     strip-kept _ _ (λ x r v u q. background-hidden a.vram.now a.registers.now (halfwords_of a.w) a.eye x
-    (8 * a.strip + r) v (sym c.flag.ensures ∙ not-true _ c.if-not-flag.true))
+    (8 * a.strip + r) v (sym c.flag.ensures ∙ c.if-not-flag.true))
 
 pub window_left-left-requires : goal.window_left-left-requires
 window_left-left-requires c = search rules
@@ -44,17 +41,11 @@ returns-then-to-from c = let a = c.args in
 
 pub normal_block-requires : goal.normal_block-requires
 unfolding world_shown_of
-normal_block-requires c = (
-  omega arith,
-  (
-    (omega arith, (omega arith, (omega arith, (omega arith, c.if-w-eq0.true)))),
-    (
-      sym c.flag.ensures ∙ not-false _
-          c.if-not-flag.false,
-      (omega arith, omega arith),
-    ),
-  ),
-)
+normal_block-requires c = record {
+  buffer_len = omega arith;
+  vram_len = (omega arith, (omega arith, (omega arith, (omega arith, c.if-w-eq0.true))));
+  eye_value = (sym c.flag.ensures ∙ c.if-not-flag.false, (omega arith, omega arith));
+}
 
 pub returns-then-w-eq0 : goal.returns-then-w-eq0
 returns-then-w-eq0 c =
@@ -70,17 +61,11 @@ loop-r-init c = (omega arith, rows_none _ _)
 
 pub strip_row-requires : goal.strip_row-requires
 unfolding world_shown_of
-strip_row-requires c = (
-  omega (arith, c.loop-r.invariant.1.size),
-  (
-    (omega arith, (omega arith, (omega arith, (omega arith, omega arith)))),
-    (
-      sym c.flag.ensures
-          ∙ not-false _ c.if-not-flag.false,
-      (omega arith, omega arith),
-    ),
-  ),
-)
+strip_row-requires c = record {
+  buffer_len = omega (arith, c.loop-r.invariant.1.size);
+  vram_len = (omega arith, (omega arith, (omega arith, (omega arith, omega arith))));
+  eye_value = (sym c.flag.ensures ∙ c.if-not-flag.false, (omega arith, omega arith));
+}
 
 pub overflow_add-r : goal.overflow_add-r
 overflow_add-r c = omega arith

@@ -1,13 +1,6 @@
-use Rattle.std.proofs.Common.{◌≡◌, ◌+◌, ◌-◌, ◌*◌, ◌≤◌, sym, ◌∙◌, arith, rules}
-use borrow.Author.Tests.{not-true, not-false}
-use Rattle.drawing_pixel.specs.World.{world_shown_of}
+use Rattle.std.proofs.Common.{◌+◌, ◌-◌, ◌*◌, ◌≤◌}
 use Rattle.drawing_pixel.specs.inner.BiasedCell.{background_pixel_biased}
 use Rattle.drawing_pixel.specs.inner.Buffer.{Rows}
-use Rattle.drawing_pixel.proofs.Spans.{rows_none, rows_more, rows_all, strip-kept}
-use Rattle.drawing_pixel.proofs.Blocks.{block-strip}
-use Rattle.drawing_pixel.proofs.Small.{background-small}
-use Rattle.drawing_pixel.proofs.Windows.{background-hidden}
-use Rattle.drawing_background.proofs.Clipping.{clipped-outside, clipped-empty}
 use Rattle.drawing_pixel.specs.inner.Halfwords.{halfwords_of}
 use Rattle.drawing_background.proofs.world.strip.Given as goal
 

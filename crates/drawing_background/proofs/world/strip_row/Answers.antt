@@ -1,5 +1,5 @@
 -- `drawing_background::world::strip_row` meets its contract: a row above or below the window is kept. Assumes nothing.
-use Rattle.std.proofs.Common.{◌+◌, ◌*◌, arith, rules}
+use Rattle.std.proofs.Common.{◌+◌, ◌*◌, arith}
 use Rattle.drawing_pixel.proofs.Spans.{span-kept, span-change}
 use Rattle.drawing_pixel.proofs.Windows.{background-above, background-below}
 use Rattle.drawing_background.proofs.Clipping.{row_inside}
@@ -21,5 +21,5 @@ returns c = let a = c.args in
     let pre = c.requires in
     span-change _ _ _ _ _ _ _
     (λ x v l h. row_inside a.vram.now a.registers.now (halfwords_of a.w) a.view.eye x (8 * a.view.strip + a.run.row) v a.run.from _ _
-    pre.1.1.0 (omega arith) (omega arith) pre.1.1.1.0 l (omega arith) (omega arith) (omega arith))
+    pre.eye_value.0 (omega arith) (omega arith) pre.eye_value.1.0 l (omega arith) (omega arith) (omega arith))
     c.row.ensures

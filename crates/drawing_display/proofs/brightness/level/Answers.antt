@@ -1,5 +1,4 @@
 -- `drawing_display::brightness::level` meets its contract: the lesser of 128 and the product. Assumes nothing.
-use borrow.Author.Rules.{rules}
 use native.Mathlib.Omega.{arith}
 use Rattle.drawing_display.proofs.Levels.{light-small, level-full, level-less}
 use Rattle.drawing_display.proofs.brightness.level.Goals as goal

@@ -1,9 +1,7 @@
 -- `drawing_display::brightness::levels` meets its contract: the levels so far stand in the array. Assumes nothing.
 use borrow.Author.Rules.{rules}
-use Prim.Native.Nat.{◌-◌, ◌≤◌}
 use native.Mathlib.Omega.{arith}
 use mathlib.Core.Path.{◌≡◌}
-use Rattle.drawing_display.specs.inner.Output.{Levels}
 use Rattle.drawing_display.proofs.Levels.{levels-none, levels-more}
 use Rattle.drawing_display.proofs.brightness.levels.Goals as goal
 

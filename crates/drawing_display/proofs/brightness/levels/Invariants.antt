@@ -1,9 +1,5 @@
-use borrow.Author.Rules.{rules}
 use Prim.Native.Nat.{◌-◌, ◌≤◌}
-use native.Mathlib.Omega.{arith}
-use mathlib.Core.Path.{◌≡◌}
 use Rattle.drawing_display.specs.inner.Output.{Levels}
-use Rattle.drawing_display.proofs.Levels.{levels-none, levels-more}
 use Rattle.drawing_display.proofs.brightness.levels.Given as goal
 
 abbrev pub invariant-loop-k : goal.invariant-loop-k

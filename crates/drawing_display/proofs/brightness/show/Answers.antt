@@ -1,8 +1,6 @@
 -- `drawing_display::brightness::show` meets its contract: the strips so far stand in the buffer, and 28 are all of it. Assumes nothing.
-use Prim.Native.Nat.{◌-◌, ◌≤◌}
 use native.Mathlib.Omega.{arith}
 use mathlib.Core.Path.{◌≡◌, refl, sym, ◌∙◌}
-use Rattle.drawing_display.specs.inner.Output.{Strips, pixel_in}
 use Rattle.drawing_display.proofs.Filling.{strips-none, strips-more, all_shown}
 use borrow.Author.Rules.{rules}
 use Rattle.drawing_display.proofs.brightness.show.Goals as goal

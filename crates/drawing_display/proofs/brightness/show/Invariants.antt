@@ -1,9 +1,5 @@
 use Prim.Native.Nat.{◌-◌, ◌≤◌}
-use native.Mathlib.Omega.{arith}
-use mathlib.Core.Path.{◌≡◌, refl, sym, ◌∙◌}
 use Rattle.drawing_display.specs.inner.Output.{Strips, pixel_in}
-use Rattle.drawing_display.proofs.Filling.{strips-none, strips-more, all_shown}
-use borrow.Author.Rules.{rules}
 use Rattle.drawing_display.proofs.brightness.show.Given as goal
 
 abbrev pub invariant-loop-strip : goal.invariant-loop-strip

@@ -1,12 +1,10 @@
 -- `drawing_display::brightness::show_column` meets its contract: the pixels so far stand in the buffer, and no other byte changed. Assumes
 -- nothing.
 use borrow.Author.Rules.{rules}
-use Prim.Native.Nat.{ℕ, ◌+◌, ◌-◌, ◌≤◌}
+use Prim.Native.Nat.{ℕ, ◌+◌}
 use native.Mathlib.Omega.{arith}
 use mathlib.Core.Path.{◌≡◌, ap}
 use lib.ListN.{get_or}
-use Rattle.drawing_pixel.specs.Character.{two_bits_of}
-use Rattle.drawing_display.specs.inner.Output.{Column}
 use Rattle.drawing_display.proofs.Filling.{column-none, column-more}
 use Rattle.drawing_display.proofs.brightness.show_column.Goals as goal
 

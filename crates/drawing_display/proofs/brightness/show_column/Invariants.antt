@@ -1,11 +1,7 @@
-use borrow.Author.Rules.{rules}
-use Prim.Native.Nat.{ℕ, ◌+◌, ◌-◌, ◌≤◌}
-use native.Mathlib.Omega.{arith}
-use mathlib.Core.Path.{◌≡◌, ap}
+use Prim.Native.Nat.{◌+◌, ◌-◌, ◌≤◌}
 use lib.ListN.{get_or}
 use Rattle.drawing_pixel.specs.Character.{two_bits_of}
 use Rattle.drawing_display.specs.inner.Output.{Column}
-use Rattle.drawing_display.proofs.Filling.{column-none, column-more}
 use Rattle.drawing_display.proofs.brightness.show_column.Given as goal
 
 abbrev pub invariant-loop-r : goal.invariant-loop-r

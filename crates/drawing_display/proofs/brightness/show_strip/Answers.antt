@@ -1,9 +1,7 @@
 -- `drawing_display::brightness::show_strip` meets its contract: the columns so far stand in the buffer. Assumes nothing.
 use borrow.Author.Rules.{rules}
-use Prim.Native.Nat.{◌-◌, ◌≤◌}
 use native.Mathlib.Omega.{arith}
 use mathlib.Core.Path.{◌≡◌, refl, ◌∙◌}
-use Rattle.drawing_display.specs.inner.Output.{Columns, pixel_in}
 use Rattle.drawing_display.proofs.Filling.{columns-none, columns-more, column-pixels}
 use Rattle.drawing_display.proofs.brightness.show_strip.Goals as goal
 

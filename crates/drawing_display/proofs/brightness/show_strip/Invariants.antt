@@ -1,9 +1,5 @@
-use borrow.Author.Rules.{rules}
 use Prim.Native.Nat.{◌-◌, ◌≤◌}
-use native.Mathlib.Omega.{arith}
-use mathlib.Core.Path.{◌≡◌, refl, ◌∙◌}
 use Rattle.drawing_display.specs.inner.Output.{Columns, pixel_in}
-use Rattle.drawing_display.proofs.Filling.{columns-none, columns-more, column-pixels}
 use Rattle.drawing_display.proofs.brightness.show_strip.Given as goal
 
 abbrev pub invariant-loop-x : goal.invariant-loop-x

@@ -1,5 +1,4 @@
 -- `drawing_display::brightness::time` meets its contract: one test a shade. Assumes nothing.
-use borrow.Author.Rules.{rules}
 use borrow.Author.Tests.{eq-eqb, ne_eqb}
 use native.Mathlib.Omega.{arith}
 use Rattle.drawing_display.specs.Brightness.{time_of}

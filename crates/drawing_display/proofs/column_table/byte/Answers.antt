@@ -1,5 +1,4 @@
 -- `drawing_display::column_table::byte` meets its contract: the low byte at an even place, the high one at an odd. Assumes nothing.
-use borrow.Author.Rules.{rules}
 use native.Mathlib.Omega.{arith}
 use Rattle.drawing_display.proofs.Loading.{byte_low, byte_high}
 use Rattle.drawing_display.proofs.column_table.byte.Goals as goal

@@ -1,5 +1,4 @@
 -- `drawing_display::column_table::entry` meets its contract: the const array is the printed table. Assumes nothing.
-use borrow.Author.Rules.{rules}
 use mathlib.Core.Path.{refl}
 use Rattle.drawing_display.specs.ColumnTable.{joined_rows, printed_rows, column_table}
 use Rattle.drawing_display.proofs.column_table.entry.Goals as goal

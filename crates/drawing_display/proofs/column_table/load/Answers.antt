@@ -1,9 +1,7 @@
 -- `drawing_display::column_table::load` meets its contract: the bytes so far are loaded, and no other byte changed. Assumes nothing.
 use borrow.Author.Rules.{rules}
-use Prim.Native.Nat.{◌-◌, ◌≤◌}
 use native.Mathlib.Omega.{arith}
 use mathlib.Core.Path.{◌≡◌}
-use Rattle.drawing_display.specs.inner.Output.{Loaded}
 use Rattle.drawing_display.proofs.Loading.{loaded-none, loaded-more, all-loaded}
 use Rattle.drawing_display.proofs.column_table.load.Goals as goal
 

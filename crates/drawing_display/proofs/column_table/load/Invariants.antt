@@ -1,9 +1,5 @@
-use borrow.Author.Rules.{rules}
 use Prim.Native.Nat.{◌-◌, ◌≤◌}
-use native.Mathlib.Omega.{arith}
-use mathlib.Core.Path.{◌≡◌}
 use Rattle.drawing_display.specs.inner.Output.{Loaded}
-use Rattle.drawing_display.proofs.Loading.{loaded-none, loaded-more, all-loaded}
 use Rattle.drawing_display.proofs.column_table.load.Given as goal
 
 abbrev pub invariant-loop-k : goal.invariant-loop-k

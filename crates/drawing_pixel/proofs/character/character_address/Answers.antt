@@ -1,5 +1,4 @@
 -- `drawing_pixel::character::character_address` meets its contract. Assumes nothing.
-use borrow.Author.Rules.{rules}
 use native.Mathlib.Omega.{arith}
 use mathlib.Core.Path.{refl}
 use Rattle.drawing_pixel.specs.Character.{character_address_of}

@@ -1,5 +1,4 @@
 -- `drawing_pixel::character::flipped` meets its contract. Assumes nothing.
-use borrow.Author.Rules.{rules}
 use native.Mathlib.Omega.{arith}
 use Rattle.drawing_pixel.specs.Character.{flipped_of}
 use Rattle.drawing_pixel.proofs.character.flipped.Goals as goal

@@ -1,5 +1,4 @@
 -- `drawing_pixel::character::picked` meets its contract: it is the one statement of RowBits, at the position that the flip gives. Assumes nothing.
-use borrow.Author.Rules.{rules}
 use Rattle.drawing_pixel.proofs.RowBits.{bits-picked}
 use Rattle.drawing_pixel.proofs.character.picked.Goals as goal
 

@@ -1,5 +1,4 @@
 -- `drawing_pixel::character::row_address` meets its contract. Assumes nothing.
-use borrow.Author.Rules.{rules}
 use native.Mathlib.Omega.{arith}
 use Rattle.drawing_pixel.specs.Character.{row_address_of}
 use Rattle.drawing_pixel.proofs.character.row_address.Goals as goal

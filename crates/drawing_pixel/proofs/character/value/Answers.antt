@@ -1,5 +1,4 @@
 -- `drawing_pixel::character::value` meets its contract: what is picked is the definition's value. Assumes nothing.
-use borrow.Author.Rules.{rules}
 use Rattle.drawing_pixel.proofs.RowBits.{picked_value}
 use Rattle.drawing_pixel.proofs.Pairs.{value-small}
 use Rattle.drawing_pixel.proofs.character.value.Goals as goal

@@ -1,5 +1,4 @@
 -- `drawing_pixel::field::edge` meets its contract: each eye's branch is its case. Assumes nothing.
-use borrow.Author.Rules.{rules}
 use borrow.Author.Tests.{eq-eqb, ne_eqb}
 use Rattle.drawing_pixel.specs.inner.BiasedFields.{edge_biased}
 use native.Mathlib.Omega.{arith}

@@ -1,5 +1,4 @@
 -- `drawing_pixel::object::object_left` meets its contract. Assumes nothing.
-use borrow.Author.Rules.{rules}
 use Rattle.drawing_pixel.specs.inner.BiasedObject.{object_left_biased}
 use Rattle.drawing_pixel.proofs.object.object_left.Goals as goal
 

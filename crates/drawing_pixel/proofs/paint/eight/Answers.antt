@@ -1,10 +1,9 @@
 -- `drawing_pixel::paint::eight` meets its contract: as `whole`. Assumes nothing.
-use Prim.Native.Nat.{◌+◌, ◌-◌, ◌%◌, ◌≤◌}
+use Prim.Native.Nat.{◌+◌, ◌-◌, ◌%◌}
 use native.Mathlib.Omega.{arith}
-use mathlib.Core.Path.{◌≡◌, sym, ap, ◌∙◌}
+use mathlib.Core.Path.{◌≡◌, ap, ◌∙◌}
 use Rattle.word.specs.Bit.{is_set}
 use Rattle.drawing_pixel.specs.Character.{two_bits_of, flipped_of, shade_of, pixel_value_of}
-use Rattle.drawing_pixel.specs.inner.Buffer.{Span}
 use Rattle.drawing_pixel.proofs.Places.{flipped-small, value-placed, unit-placed}
 use Rattle.drawing_pixel.proofs.Spans.{span_none, span-next}
 use Rattle.drawing_pixel.proofs.paint.eight.Goals as goal

@@ -1,5 +1,4 @@
 -- `drawing_pixel::paint::kept` meets its contract: nothing or the two bits of row r are taken out. Assumes nothing.
-use borrow.Author.Rules.{rules}
 use native.Mathlib.Omega.{arith}
 use lib.Bits.{and_le_l}
 use Rattle.drawing_pixel.proofs.Masks.{kept-of}

@@ -1,5 +1,4 @@
 -- `drawing_pixel::paint::place` meets its contract: of two units the mask takes one. Assumes nothing.
-use borrow.Author.Rules.{rules}
 use Rattle.drawing_pixel.proofs.Places.{unit-of}
 use Rattle.drawing_pixel.proofs.paint.place.Goals as goal
 

@@ -1,5 +1,4 @@
 -- `drawing_pixel::paint::placed` meets its contract: the shift stays within 16 bits. Assumes nothing.
-use borrow.Author.Rules.{rules}
 use Rattle.drawing_pixel.proofs.Masks.{placed_same}
 use Rattle.drawing_pixel.proofs.paint.placed.Goals as goal
 

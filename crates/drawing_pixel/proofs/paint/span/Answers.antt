@@ -1,10 +1,9 @@
 -- `drawing_pixel::paint::span` meets its contract: eight columns at once, else column after column, the pixels so far are taken through their
 -- values. Assumes nothing.
-use Prim.Native.Nat.{◌+◌, ◌-◌, ◌≤◌}
+use Prim.Native.Nat.{◌+◌, ◌-◌}
 use native.Mathlib.Omega.{arith}
 use Rattle.drawing_pixel.specs.Character.{shade_of, pixel_value_of}
 use mathlib.Core.Path.{◌≡◌, ap}
-use Rattle.drawing_pixel.specs.inner.Buffer.{Span}
 use Rattle.drawing_pixel.proofs.Spans.{span_none, span_more, span-change}
 use Rattle.drawing_pixel.proofs.paint.span.Goals as goal
 

@@ -1,9 +1,6 @@
 use Prim.Native.Nat.{◌+◌, ◌-◌, ◌≤◌}
-use native.Mathlib.Omega.{arith}
 use Rattle.drawing_pixel.specs.Character.{shade_of, pixel_value_of}
-use mathlib.Core.Path.{◌≡◌, ap}
 use Rattle.drawing_pixel.specs.inner.Buffer.{Span}
-use Rattle.drawing_pixel.proofs.Spans.{span_none, span_more, span-change}
 use Rattle.drawing_pixel.proofs.paint.span.Given as goal
 
 abbrev pub invariant-loop-x : goal.invariant-loop-x

@@ -1,5 +1,4 @@
 -- `drawing_pixel::paint::tint` meets its contract: of three shades the one of the value is taken. Assumes nothing.
-use borrow.Author.Rules.{rules}
 use Prim.Native.Nat.{◌<◌}
 use native.Mathlib.Omega.{arith}
 use Rattle.drawing_pixel.specs.Character.{two_bits_of}

@@ -1,5 +1,4 @@
 -- `drawing_pixel::world::columns` meets its contract: a width that is not above 0 has no columns. Assumes nothing.
-use borrow.Author.Rules.{rules}
 use borrow.Author.Tests.{eq-eqb, ne_eqb}
 use native.Mathlib.Omega.{arith}
 use Rattle.drawing_pixel.specs.inner.BiasedWindow.{columns_biased}

@@ -1,5 +1,4 @@
 -- `drawing_pixel::world::rows` meets its contract: each branch is a case of the rows of a world. Assumes nothing.
-use borrow.Author.Rules.{rules}
 use native.Mathlib.Omega.{arith}
 use Rattle.drawing_pixel.proofs.Heights.{rows-affine, rows-in-image, rows-outside}
 use Rattle.drawing_pixel.specs.inner.Halfwords.{halfwords_of}

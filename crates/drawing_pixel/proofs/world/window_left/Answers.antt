@@ -1,5 +1,4 @@
 -- `drawing_pixel::world::window_left` meets its contract. Assumes nothing.
-use borrow.Author.Rules.{rules}
 use Rattle.drawing_pixel.specs.inner.BiasedWindow.{window_left_biased}
 use Rattle.drawing_pixel.proofs.world.window_left.Goals as goal
 

@@ -1,5 +1,4 @@
 -- `drawing_pixel::world::world_at` meets its contract: each halfword is read at its place. Assumes nothing.
-use borrow.Author.Rules.{rules}
 use native.Mathlib.Nat.{add-zero}
 use Rattle.drawing_pixel.specs.Lists.{list_of}
 use Rattle.drawing_pixel.specs.World.{world_of}

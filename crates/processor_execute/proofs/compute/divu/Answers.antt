@@ -1,5 +1,5 @@
 -- `processor_execute::compute::divu`: its own case, by the divisor.
-use Rattle.std.proofs.Common.{rules, eq-eqb, ne_eqb}
+use Rattle.std.proofs.Common.{eq-eqb, ne_eqb}
 use Rattle.processor_execute.specs.Execute.{execute_of}
 use Rattle.processor_execute.proofs.compute.divu.Goals as goal
 

@@ -1,5 +1,4 @@
 -- `processor_execute::compute::immediate`: its own case.
-use Rattle.std.proofs.Common.{rules}
 use Rattle.processor_execute.specs.Execute.{execute_of}
 use Rattle.processor_execute.proofs.compute.immediate.Goals as goal
 

@@ -1,5 +1,5 @@
 -- `processor_execute::control::ldsr`: its own case.
-use Rattle.std.proofs.Common.{ap, rules}
+use Rattle.std.proofs.Common.{ap}
 use Rattle.processor_machine.specs.declared.Mode.TheVariants.{Running}
 use Rattle.processor_machine.specs.declared.Answer.TheVariants.{Ended}
 use Rattle.processor_machine.specs.System.{Status}

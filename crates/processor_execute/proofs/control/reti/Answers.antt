@@ -1,5 +1,5 @@
 -- `processor_execute::control::reti`: its own case, by NP.
-use Rattle.std.proofs.Common.{rules, eq-eqb, ne_eqb}
+use Rattle.std.proofs.Common.{eq-eqb, ne_eqb}
 use Rattle.processor_execute.specs.Execute.{execute_of}
 use Rattle.processor_execute.proofs.control.reti.Goals as goal
 

@@ -1,6 +1,5 @@
 -- `processor_execute::floating::floating`: its own case.
 use Rattle.processor_execute.specs.Execute.{execute_of}
-use Rattle.std.proofs.Common.{rules}
 use Rattle.processor_execute.proofs.floating.floating.Goals as goal
 
 pub returns : goal.returns

@@ -1,5 +1,4 @@
 -- `processor_execute::floating::whole`: its own case of settles_of.
-use Rattle.std.proofs.Common.{rules}
 use Rattle.processor_execute.proofs.floating.whole.Goals as goal
 
 pub returns : goal.returns

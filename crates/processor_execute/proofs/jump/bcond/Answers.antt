@@ -1,6 +1,4 @@
 -- `processor_execute::jump::bcond`: its own case, by the condition.
-use borrow.Author.Tests.{not-true, not-false}
-use Rattle.std.proofs.Common.{rules}
 use Rattle.processor_arithmetic.specs.Condition.{condition_of}
 use Rattle.processor_execute.specs.Execute.{execute_of}
 use Rattle.processor_execute.proofs.jump.bcond.Goals as goal
@@ -11,7 +9,7 @@ returns-then-cond-eq5 c = λ regs sys m. rw (c.ended.ensures, c.target.ensures, 
 
 pub returns-then-not-holds : goal.returns-then-not-holds
 unfolding execute_of
-returns-then-not-holds c = λ regs sys m. rw (c.ended-then-not-holds.ensures, ← c.holds.ensures, not-true c.holds.result c.if-not-holds.true)
+returns-then-not-holds c = λ regs sys m. rw (c.ended-then-not-holds.ensures, ← c.holds.ensures, c.if-not-holds.true)
 
 pub returns : goal.returns
 unfolding execute_of
@@ -19,5 +17,5 @@ returns c = λ regs sys m. rw (
   c.ended-2.ensures,
   c.target-2.ensures,
   ← c.holds.ensures,
-  not-false c.holds.result c.if-not-holds.false,
+  c.if-not-holds.false,
 )

@@ -1,5 +1,4 @@
 -- `processor_execute::jump::jal`: its own case.
-use Rattle.std.proofs.Common.{rules}
 use Rattle.processor_execute.specs.Execute.{execute_of}
 use Rattle.processor_execute.proofs.jump.jal.Goals as goal
 
@@ -9,5 +8,5 @@ returns c = λ next sys m. rw (
   c.ended.ensures,
   c.target.ensures,
   c.put.ensures,
-  c.wrapping_add_u32-link.ensures,
+  c.wrapping_add_u32-link.ensures.value,
 )

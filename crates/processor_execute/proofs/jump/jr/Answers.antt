@@ -1,5 +1,4 @@
 -- `processor_execute::jump::jr`: its own case.
-use Rattle.std.proofs.Common.{rules}
 use Rattle.processor_execute.specs.Execute.{execute_of}
 use Rattle.processor_execute.proofs.jump.jr.Goals as goal
 

@@ -1,12 +1,11 @@
 -- `processor_execute::transfer::store`: by the width.
-use Rattle.std.proofs.Common.{rules}
 use Rattle.processor_execute.proofs.transfer.store.Goals as goal
 
 pub returns-in-Byte : goal.returns-in-Byte
-returns-in-Byte c = rw c.enum_told-1.given.1 c.byte.ensures
+returns-in-Byte c = rw c.in-Byte.is c.byte.ensures
 
 pub returns-in-Half : goal.returns-in-Half
-returns-in-Half c = rw c.enum_told-in-Half-1.given.1 c.half.ensures
+returns-in-Half c = rw c.in-Half.is c.half.ensures
 
 pub returns-in-Word : goal.returns-in-Word
-returns-in-Word c = rw c.enum_told-in-Word-1.given.1 c.word.ensures
+returns-in-Word c = rw c.in-Word.is c.word.ensures

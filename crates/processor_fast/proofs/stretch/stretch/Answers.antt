@@ -14,7 +14,7 @@ pub inside-q-requires : goal.inside-q-requires
 inside-q-requires c =
     let b = c in (
       b.requires,
-      subst (Standing (length b.args.rom.now)) c.base-1.given.1
+      subst (Standing (length b.args.rom.now)) c.in-Rom.is
           c.code_at.ensures,
       omega (arith, c.if-pc-ne0.false),
       c.if-psw-eq3.false,
@@ -24,7 +24,7 @@ pub inside-q-requires-in-Wram : goal.inside-q-requires-in-Wram
 inside-q-requires-in-Wram c =
     let b = c in (
       b.requires,
-      subst (Standing (length b.args.rom.now)) c.base-in-Wram-1.given.1
+      subst (Standing (length b.args.rom.now)) c.in-Wram.is
           c.code_at.ensures,
       omega (arith, c.if-pc-ne0.false),
       c.if-psw-eq3.false,

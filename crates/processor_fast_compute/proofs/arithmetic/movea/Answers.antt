@@ -10,4 +10,4 @@ returns c = λ m base psw sys even aligned.
     let b = c in
     let a = b.args in
     value-does true base a.x psw _ _ _ sys a.flags m _ _ aligned c.after_two.ensures _
-    (rw (b.wrapping_add_u32-v.ensures, b.extend16.ensures, b.reg1-a.ensures) at c.value.ensures)
+    (rw (b.wrapping_add_u32-v.ensures.value, b.extend16.ensures, b.reg1-a.ensures) at c.value.ensures)

@@ -9,4 +9,4 @@ unfolding execute_of
 returns c = λ m base psw sys even aligned.
     let a = c.args in
     value-does true base a.x psw _ _ _ sys a.flags m _ _ aligned c.after_two.ensures _
-    (rw (c.wrapping_add_u32-v.ensures, c.reg1-a.ensures) at c.value.ensures)
+    (rw (c.wrapping_add_u32-v.ensures.value, c.reg1-a.ensures) at c.value.ensures)

@@ -14,7 +14,7 @@ returns-in-Lower c = λ m base psw sys even aligned.
       ← c.reg2-a.ensures,
       ← c.reg1-b.ensures,
       ← c.compare.ensures,
-      c.enum_told-1.given.1,
+      c.in-Lower.is,
     )
     (goes-on base a.x psw a.regs.now _ sys a.flags m _ _ (after_two base a.x) (two-even a.x aligned) _ _ _
     (c.lower.ensures psw ∙ sym (order-over psw a.flags false true)) refl)
@@ -28,7 +28,7 @@ returns-in-Equal c = λ m base psw sys even aligned.
       ← c.reg2-a.ensures,
       ← c.reg1-b.ensures,
       ← c.compare.ensures,
-      c.enum_told-in-Equal-1.given.1,
+      c.in-Equal.is,
     )
     (goes-on base a.x psw a.regs.now _ sys a.flags m _ _ (after_two base a.x) (two-even a.x aligned) _ _ _
     (c.equal.ensures psw ∙ sym (order-over psw a.flags true false)) refl)
@@ -42,7 +42,7 @@ returns-in-Higher c = λ m base psw sys even aligned.
       ← c.reg2-a.ensures,
       ← c.reg1-b.ensures,
       ← c.compare.ensures,
-      c.enum_told-in-Higher-1.given.1,
+      c.in-Higher.is,
     )
     (goes-on base a.x psw a.regs.now _ sys a.flags m _ _ (after_two base a.x) (two-even a.x aligned) _ _ _
     (c.higher.ensures psw ∙ sym (order-over psw a.flags false false)) refl)

@@ -9,7 +9,7 @@ pub returns-else-underflowed : goal.returns-else-underflowed
 returns-else-underflowed c = λ m base psw sys even aligned.
     let a = c.args in
     let w = c.word_of-w in
-    rw (c.o-1.given.1, c.if-underflowed.false, c.after_two.ensures)
+    rw (c.in-Number.is, c.if-underflowed.false, c.after_two.ensures)
     (goes-on base a.x psw a.regs.now _ sys a.flags m _ _ (after_two base a.x) (two-even a.x aligned) _ _ _
     (rw w.ensures at (c.number-g.ensures psw ∙ sym (number-over psw a.flags w.result))) (rw w.ensures at c.put.ensures))
 
@@ -17,6 +17,6 @@ pub returns-in-Word : goal.returns-in-Word
 unfolding conversion_flags_of
 returns-in-Word c = λ m base psw sys even aligned.
     let a = c.args in
-    rw (c.o-in-Word-1.given.1, c.after_two-in-Word.ensures)
+    rw (c.in-Word.is, c.after_two-in-Word.ensures)
     (goes-on base a.x psw a.regs.now _ sys a.flags m _ _ (after_two base a.x) (two-even a.x aligned) _ _ _
     (c.value-g.ensures psw).flags c.put-in-Word.ensures)

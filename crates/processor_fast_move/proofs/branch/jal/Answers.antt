@@ -16,7 +16,7 @@ returns c = λ m psw sys even aligned.
     rw (
       c.target-to.ensures,
       c.put.ensures,
-      c.wrapping_add_u32-link.ensures,
+      c.wrapping_add_u32-link.ensures.value,
       c.after_two.ensures,
       sum_moved a.base a.x 4,
     )

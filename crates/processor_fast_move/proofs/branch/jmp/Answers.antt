@@ -13,5 +13,5 @@ returns c = λ m psw sys even aligned.
     let t = c.reg1-t in
     let w = c.wrapping_sub_u32-to in
     let e : address_of a.base w.result ≡ even_of (get_or a.regs.now (a.f % 32 % 32) 0) =
-    address-jump (even_of t.result) a.base w.result (omega arith) (omega arith) w.ensures ∙ ap even_of t.ensures in
-    (rw e, address-even t.result a.base w.result (omega arith) even w.ensures)
+    address-jump (even_of t.result) a.base w.result (omega arith) (omega arith) w.ensures.value ∙ ap even_of t.ensures in
+    (rw e, address-even t.result a.base w.result (omega arith) even w.ensures.value)

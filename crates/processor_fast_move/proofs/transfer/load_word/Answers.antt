@@ -4,12 +4,16 @@ use Rattle.processor_execute.specs.Execute.{execute_of}
 use Rattle.processor_fast_compute.proofs.Results.{value-does}
 use Rattle.processor_fast_move.proofs.transfer.load_word.Goals as goal
 
-pub returns : goal.returns
+pub returns-clause-loads : goal.returns-clause-loads
 unfolding execute_of
-returns c =
-    let a = c.args in (
-      λ base psw sys even aligned. value-does true base a.x psw _ _ _ sys a.flags _ _ _ aligned c.after_two.ensures _
-          (rw (c.word-v.ensures.means, c.address-a.ensures) at c.loaded.ensures),
-      λ base psw sys even aligned. value-does true base a.x psw _ _ _ sys a.flags _ _ _ aligned c.after_two.ensures _
-          (rw (c.word-v.ensures.means, c.address-a.ensures) at c.loaded.ensures),
-    )
+returns-clause-loads c = λ base psw sys even aligned.
+    let a = c.args in
+    value-does true base a.x psw _ _ _ sys a.flags _ _ _ aligned c.after_two.ensures _
+    (rw (c.word-v.ensures.means, c.address-a.ensures) at c.loaded.ensures)
+
+pub returns-clause-inputs : goal.returns-clause-inputs
+unfolding execute_of
+returns-clause-inputs c = λ base psw sys even aligned.
+    let a = c.args in
+    value-does true base a.x psw _ _ _ sys a.flags _ _ _ aligned c.after_two.ensures _
+    (rw (c.word-v.ensures.means, c.address-a.ensures) at c.loaded.ensures)

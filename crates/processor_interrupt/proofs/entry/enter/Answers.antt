@@ -1,6 +1,5 @@
 -- `processor_interrupt::entry::enter`: what it stores, and PSW.
 use Rattle.processor_interrupt.specs.Interrupt.{interrupted_of}
-use borrow.Author.Rules.{rules}
 use Rattle.processor_interrupt.proofs.entry.enter.Goals as goal
 
 pub returns : goal.returns

@@ -1,7 +1,6 @@
 -- `processor_machine::exception::code`: by the cause.
 use native.Mathlib.Omega.{arith}
-use borrow.Author.Rules.{rules}
 use Rattle.processor_machine.proofs.exception.code.Goals as goal
 
 pub returns-in-Trap : goal.returns-in-Trap
-returns-in-Trap c = (rw c.cause-1.given.1, omega arith)
+returns-in-Trap c = (rw c.in-Trap.is, omega arith)

@@ -1,6 +1,5 @@
 -- `processor_machine::exception::enter`: the two tests, and what each entry stores.
 use borrow.Author.Tests.{eq-eqb, ne_eqb}
-use borrow.Author.Rules.{rules}
 use Rattle.processor_machine.specs.Exception.{enter_of}
 use Rattle.processor_machine.proofs.exception.enter.Goals as goal
 

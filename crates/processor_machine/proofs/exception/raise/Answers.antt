@@ -1,6 +1,5 @@
 -- `processor_machine::exception::raise`: the entry with the cause's own code, handler, restore PC and PSW to save.
 use Rattle.processor_machine.specs.Exception.{raise_of}
-use borrow.Author.Rules.{rules}
 use Rattle.processor_machine.proofs.exception.raise.Goals as goal
 
 pub returns : goal.returns

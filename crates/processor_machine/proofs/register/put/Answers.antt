@@ -1,6 +1,5 @@
 -- `processor_machine::register::put`: one test.
 use borrow.Author.Tests.{eq-eqb, ne_eqb}
-use borrow.Author.Rules.{rules}
 use Rattle.processor_machine.specs.State.{put_of}
 use Rattle.processor_machine.proofs.register.put.Goals as goal
 

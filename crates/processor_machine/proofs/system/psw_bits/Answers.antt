@@ -1,6 +1,5 @@
 -- `processor_machine::system::psw_bits`: the bits of the mask, as a sum.
 use mathlib.Core.Path.{sym}
-use borrow.Author.Rules.{rules}
 use Rattle.processor_machine.proofs.PswMask.{psw-bits-kept}
 use Rattle.processor_machine.proofs.system.psw_bits.Goals as goal
 

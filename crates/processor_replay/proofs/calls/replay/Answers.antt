@@ -21,7 +21,7 @@ pub returns-in-Refused : goal.returns-in-Refused
 returns-in-Refused c =
     let a = c.args in
     let m = memory_of a.rom.now a.wram-1.now a.vram-1.now a.pak-1.now a.drawing.regs-1 in
-    replay-refused a.processor m a.trace.now _ c.verdict.ensures _ c.n-1.given.1
+    replay-refused a.processor m a.trace.now _ c.verdict.ensures _ c.in-Refused.is
 
 pub returns-else-trace-ne0 : goal.returns-else-trace-ne0
 returns-else-trace-ne0 c =

@@ -93,7 +93,7 @@ returns-in-Ends c =
     let i = c.loop-k.invariant in
     let s = c.step-t in
     along-ended _ _ _ _ _ _ _ i.0 c.loop-k-test.true _ _ s.ensures.0 (sym
-    c.progress.ensures ∙ c.end-1.given.1)
+    c.progress.ensures ∙ c.in-Ends.is)
 
 pub shape_of-wram : goal.shape_of-wram
 shape_of-wram c = c.loop-k.invariant.1

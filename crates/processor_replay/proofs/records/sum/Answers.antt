@@ -22,7 +22,7 @@ pub loop-i-smaller : goal.loop-i-smaller
 loop-i-smaller c = omega arith
 
 pub loop-i-preserved : goal.loop-i-preserved
-loop-i-preserved c = summed-next _ _ _ _ c.loop-i.invariant c.loop-i-test.true c.wrapping_add_u32-s.ensures
+loop-i-preserved c = summed-next _ _ _ _ c.loop-i.invariant c.loop-i-test.true c.wrapping_add_u32-s.ensures.value
 
 pub returns : goal.returns
 returns c = summed-all _ _ _ c.loop-i.invariant c.loop-i-test.false

@@ -1,6 +1,6 @@
 -- `processor_step::step::half`: the bus's halfword.
-use Rattle.std.proofs.Common.{◌≡◌, refl, rules}
+use Rattle.std.proofs.Common.{refl}
 use Rattle.processor_step.proofs.step.half.Goals as goal
 
 pub returns : goal.returns
-returns c = (c.half-v.ensures.means, refl)
+returns c = record { value = c.half-v.ensures.means; kept = refl }

@@ -1,86 +1,69 @@
 -- `processor_step::step::running`: what was fetched is what the definition fetches; then the instruction's own case.
-use Rattle.std.proofs.Common.{◌≡◌, sym, ◌∙◌, rules}
+use Rattle.std.proofs.Common.{◌∙◌}
 use Rattle.processor_step.specs.Step.{running_step_of}
 use Rattle.processor_step.proofs.step.running.Goals as goal
 
 pub second-second-requires : goal.second-second-requires
 second-second-requires c =
     let pre = c.requires in
-    let k = c.half-first.auto.1 in
-    record { rom-ok = pre.rom-ok; wram-ok = k.0 ∙ pre.wram-ok; vram-ok = k.1.0 ∙ pre.vram-ok; pak-ok = rw k.1.1.0 pre.pak-ok }
+    let k = c.half-first.auto in
+    record { rom-ok = pre.rom-ok; wram-ok = k.wram ∙ pre.wram-ok; vram-ok = k.vram ∙ pre.vram-ok; pak-ok = rw k.pak pre.pak-ok }
 
 pub execute-control-requires : goal.execute-control-requires
 execute-control-requires c =
     let pre = c.requires in
-    let k = c.half-first.auto.1 in
-    let l = c.second-second.auto.1 in
+    let k = c.half-first.auto in
+    let l = c.second-second.auto in
     record {
       rom-ok = pre.rom-ok;
-      wram-ok = l.0 ∙ k.0 ∙ pre.wram-ok;
-      vram-ok = l.1.0 ∙ k.1.0
-          ∙ pre.vram-ok;
-      pak-ok = rw (l.1.1.0, k.1.1.0) pre.pak-ok;
+      wram-ok = l.wram ∙ k.wram ∙ pre.wram-ok;
+      vram-ok = l.vram ∙ k.vram ∙ pre.vram-ok;
+      pak-ok = rw (l.pak, k.pak) pre.pak-ok;
     }
 
 pub shape_of-wram-in-Modelled : goal.shape_of-wram-in-Modelled
-shape_of-wram-in-Modelled c = c.execute-control.auto.1.0
-    ∙ c.second-second.auto.1.0
-    ∙ c.half-first.auto.1.0
+shape_of-wram-in-Modelled c = c.execute-control.auto.wram ∙ c.second-second.auto.wram ∙ c.half-first.auto.wram
 
 pub shape_of-vram-in-Modelled : goal.shape_of-vram-in-Modelled
-shape_of-vram-in-Modelled c = c.execute-control.auto.1.1.0
-    ∙ c.second-second.auto.1.1.0
-    ∙ c.half-first.auto.1.1.0
+shape_of-vram-in-Modelled c = c.execute-control.auto.vram ∙ c.second-second.auto.vram ∙ c.half-first.auto.vram
 
 pub shape_of-pak-in-Modelled : goal.shape_of-pak-in-Modelled
-shape_of-pak-in-Modelled c = c.execute-control.auto.1.1.1.0
-    ∙ c.second-second.auto.1.1.1.0
-    ∙ c.half-first.auto.1.1.1.0
+shape_of-pak-in-Modelled c = c.execute-control.auto.pak ∙ c.second-second.auto.pak ∙ c.half-first.auto.pak
 
 pub returns-in-Modelled : goal.returns-in-Modelled
 unfolding running_step_of
 returns-in-Modelled c =
     let first = c.half-first.ensures in
-    let second = c.second-second.ensures
-    in (
-      rw (
-        ← first.0,
+    let second = c.second-second.ensures in
+    record {
+      done = rw (
+        ← first.value,
         ← c.two-two.ensures,
-        ← first.1,
-        ← second.0,
-        ← second.1,
+        ← first.kept,
+        ← second.value,
+        ← second.kept,
         ← c.following-next.ensures,
         ← c.decode.ensures,
-        c.i-1.given.1,
-      )
-          c.execute-control.ensures,
-      rw (
-        ← first.0,
-        ← c.two-two.ensures,
-        ← first.1,
-        ← second.0,
-      ),
-    )
+        c.in-Modelled.is,
+      ) c.execute-control.ensures;
+      fetched = rw (← first.value, ← c.two-two.ensures, ← first.kept, ← second.value);
+    }
 
 pub returns-in-NotModelled : goal.returns-in-NotModelled
 unfolding running_step_of
 returns-in-NotModelled c =
     let first = c.half-first.ensures in
-    let second = c.second-second.ensures in (
-      rw (
-        ← first.0,
+    let second = c.second-second.ensures in
+    record {
+      done = rw (
+        ← first.value,
         ← c.two-two.ensures,
-        ← first.1,
-        ← second.0,
-        ← second.1,
+        ← first.kept,
+        ← second.value,
+        ← second.kept,
         ← c.following-next.ensures,
         ← c.decode.ensures,
-        c.enum_told-1.given.1,
-      ),
-      rw (
-        ← first.0,
-        ← c.two-two.ensures,
-        ← first.1,
-        ← second.0,
-      ),
-    )
+        c.in-NotModelled.is,
+      );
+      fetched = rw (← first.value, ← c.two-two.ensures, ← first.kept, ← second.value);
+    }

@@ -112,7 +112,7 @@ returns c =
     let file = file-given in
     let first = c24.first-at.ensures.0 in
     bodies-put c27.args.kept (bodies_in Two pak file-given) (sized-in pak file-given Two c27.requires.file_len.0) pak
-    (length-pak-in pak file-given Two c27.requires.file_len.0) c27.args.output-1.now at
+    (length-pak-in pak file-given Two c27.requires.file_len.0) c27.args.output.now at
     (omega (arith, length-is Two pak, c27.requires.output_len, first)) _ _ _ _ _ _ _ _ _ _ _ _
     (processor-part Two pak at file first at 172 refl refl) (drawing-part Two pak at file first (at + 172) 26 refl refl)
     (wram-part Two pak at file first (at + 198) 65536 refl refl)
@@ -121,5 +121,5 @@ returns c =
     (hardware-part pak at file first (at + 327878 + pak) 8 refl refl) c22.put_processor.ensures
     c18.put_body.ensures c14.put_body-2.ensures c10.put_body-3.ensures
     c.put_body-4.ensures c.put_body-5.ensures ∙ ap
-    (λ (n : ℕ). put_at c27.args.output-1.now n (joined_of Two
+    (λ (n : ℕ). put_at c27.args.output.now n (joined_of Two
     (kept_bodies_of c27.args.kept (bodies_in Two pak file-given)))) first

@@ -14,10 +14,10 @@ pub returns-then-kept : goal.returns-then-kept
 returns-then-kept c = let a = c.args in
     let n : a.at + a.size - a.at ≡ a.size = omega arith in
     rw (c.if-kept.true) (c.put_bytes.ensures ∙ ap (λ
-    (k : ℕ). put_at a.output-1.now a.at (take k (drop a.at a.file.now))) n)
+    (k : ℕ). put_at a.output.now a.at (take k (drop a.at a.file.now))) n)
 
 pub returns : goal.returns
 returns c = let a = c.args in
     let n : length (take a.size (drop a.at a.file.now)) ≡ a.size = simp (length-take, length-drop) (omega arith) in
     rw (c.if-kept.false) (c.put_zeros.ensures ∙ ap (λ (k : ℕ). put_at
-    a.output-1.now a.at (replicate k 0)) (sym n))
+    a.output.now a.at (replicate k 0)) (sym n))

@@ -18,7 +18,7 @@ returns-then-kept c =
     let n : a.at + 172 - a.at ≡ 172 = omega arith in
     rw c5.if-kept.true
     (c.put_bytes.ensures
-    ∙ ap (λ (k : ℕ). put_at a.output-1.now a.at (take k (drop a.at a.file.now))) n)
+    ∙ ap (λ (k : ℕ). put_at a.output.now a.at (take k (drop a.at a.file.now))) n)
 
 pub put_words-requires : goal.put_words-requires
 put_words-requires c =
@@ -32,5 +32,5 @@ returns c =
     let c13 = c10 in
     let c17 = c13 in
     rw c13.if-kept.false
-    (reset-put c17.args.output-1.now _ _ c17.args.at _ _ c17.requires.1 c13.reset-reset.ensures c10.rest-rest.ensures
+    (reset-put c17.args.output.now _ _ c17.args.at _ _ c17.requires.1 c13.reset-reset.ensures c10.rest-rest.ensures
     c7.put_words.ensures c.put_words-2.ensures)
