@@ -1,10 +1,7 @@
 -- `saved_salvage::salvage_state` meets its contract. Assumes nothing.
-use mathlib.Core.Path.{◌≡◌, sym, ◌∙◌}
-use borrow.Author.Tests.{not-true, not-false}
-use native.Mathlib.Omega.{arith}
+use mathlib.Core.Path.{sym, ◌∙◌}
 use lib.ListN.{length}
 use Rattle.saved_salvage.proofs.Salvaging.{no_length, no-layout, accepted, fit}
-use borrow.Author.Rules.{rules}
 use Rattle.saved_salvage.proofs.salvage_state.Goals as goal
 
 pub returns-then-output-file : goal.returns-then-output-file
@@ -26,13 +23,13 @@ kept-kept-requires c = (fit (length (c.args.file.now))
 
 pub put_bodies-requires : goal.put_bodies-requires
 put_bodies-requires c = record {
-      file_len = (fit (length (c.args.file.now)) (c.pak_length-pak.result) (c.pak_length-pak.ensures) (sym
+  file_len = (fit (length (c.args.file.now)) (c.pak_length-pak.result) (c.pak_length-pak.ensures) (sym
       (c.fits.ensures) ∙ (c.if-not-fits.false)));
-      output_len = c.if-output-file.false ∙ (fit (length
+  output_len = c.if-output-file.false ∙ (fit (length
       (c.args.file.now))
       (c.pak_length-pak.result) (c.pak_length-pak.ensures) (sym
       (c.fits.ensures) ∙ (c.if-not-fits.false))).0;
-    }
+}
 
 pub put-requires : goal.put-requires
 put-requires c =
@@ -78,4 +75,3 @@ returns c =
     c.put.ensures c.replaced.ensures
     c.contents_differ-differ.ensures in
     record { reported = both.0; output = both.1 }
-
