@@ -1,9 +1,8 @@
 -- What follows from an accepted machine: the lengths of 1 to 4 and the validity of its records by 5; and the reverse. Assumes nothing.
 use Prim.Native.Nat.{ℕ, ◌≤◌}
 use native.Mathlib.Omega.{arith}
-use mathlib.Core.Bool.{Bool, true, false}
-use mathlib.Core.List.{List}
-use mathlib.Core.Path.{◌≡◌, refl, sym, ap, ◌∙◌}
+use mathlib.Core.Bool.{true}
+use mathlib.Core.Path.{◌≡◌, refl, sym, ◌∙◌}
 use lib.ListN.{length}
 use Rattle.word.proofs.Choices.{pick-both}
 use Rattle.refusal.specs.Number.{unless, then_of}
@@ -16,9 +15,8 @@ use Rattle.bus.specs.TimerLines.{device_of, registers_ok}
 use Rattle.bus.specs.Memory.{Memory, verdict_at, Lengths}
 use Rattle.bus.proofs.Devices.{device-ok}
 use Rattle.bus.proofs.Accepted.{accepted-lengths, accepted-registers, lengths-accepted, unless-passed}
-use Rattle.processor.specs.Record.{system_in, state_in}
-use Rattle.processor.specs.Lines.{bus_of}
-use Rattle.processor.specs.Acceptance.{both, state_ok, acceptance_at, acceptance_in}
+use Rattle.processor.specs.Record.{system_in}
+use Rattle.processor.specs.Acceptance.{state_ok, acceptance_at, acceptance_in}
 use Rattle.processor.specs.declared.Processor.{Processor}
 use Rattle.saved_kinds.proofs.Sizes.{pak-small}
 

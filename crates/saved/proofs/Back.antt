@@ -5,20 +5,19 @@ use native.Mathlib.Decide.{dec_lt}
 use mathlib.Core.Bool.{true}
 use mathlib.Core.List.{List, [], ◌∷◌, ◌++◌, append-nil}
 use mathlib.Core.Path.{◌≡◌, refl, sym, ap, ◌∙◌}
-use lib.ListN.{length, get_or, take, drop, replicate, length-append, length-take, length-drop, drop_of_length-le}
+use lib.ListN.{length, get_or, take, drop, replicate, length-append, length-take, drop_of_length-le}
 use lib.ListN.{length-replicate, get_or-replicate, get_or-eq_default}
 use lib.Seq.{drop-cons, get_or-drop, get_or-take, take_all}
-use Rattle.word.specs.LittleEndian.{half_at}
 use Rattle.bus_timer.specs.declared.TimerLines.{TimerLines}
 use Rattle.bus.specs.Memory.{Memory, memory_of}
 use Rattle.processor_machine.specs.declared.Mode.{Mode}
 use Rattle.processor_machine.specs.declared.Mode.TheVariants.{Running, Halted, Fatal}
 use Rattle.processor.specs.declared.Processor.{Processor}
-use Rattle.saved_bytes.specs.Numbers.{bytes_of, halves_of, halves_from, words_from, same_of}
+use Rattle.saved_bytes.specs.Numbers.{bytes_of, halves_of, halves_from, words_from}
 use Rattle.saved_bytes.proofs.LittleEndian.{length-bytes, length-halves, length-words-from, words-from-append}
 use Rattle.saved_bytes.proofs.Reading as reading
 use Rattle.saved_bytes.proofs.Reading.{Under, under, halves-back, words_back, same-equal, halves-again}
-use Rattle.saved_layout.specs.File.{Bodies, bodies_of, SizedBodies, HeldBy, hardware_reset}
+use Rattle.saved_layout.specs.File.{Bodies, SizedBodies, HeldBy, hardware_reset}
 use Rattle.saved_layout.specs.declared.Form.{Form}
 use Rattle.saved_layout.specs.declared.Form.TheVariants.{One, Two}
 use Rattle.saved_layout.proofs.Files.{bodies-same}

@@ -1,15 +1,13 @@
 -- Whether a form holds four halfwords, by the first that is not 0. Assumes nothing.
 use Prim.Native.Nat.{ℕ}
 use native.Mathlib.Omega.{arith}
-use mathlib.Core.Bool.{Bool, true, false}
+use mathlib.Core.Bool.{true, false}
 use mathlib.Core.List.{List, [], ◌∷◌}
 use mathlib.Core.Path.{◌≡◌, refl, sym}
 use borrow.Author.Tests.{eq-eqb, ne_eqb}
 use lib.Dec.{eqb}
-use lib.ListN.{length, get_or, replicate}
-use Rattle.word.specs.Choose.{pick}
+use lib.ListN.{length, get_or}
 use Rattle.word.proofs.Choices.{pick-self}
-use Rattle.saved_bytes.specs.Numbers.{same_of}
 use Rattle.saved_layout.specs.declared.Form.TheVariants.{One, Two}
 use Rattle.saved.specs.Calls.{form_holds}
 

@@ -4,25 +4,22 @@ use Prim.Native.Nat.{ℕ, ◌+◌, ◌*◌, ◌^◌, ◌<◌, ◌≤◌}
 use native.Mathlib.Omega.{arith}
 use native.Mathlib.Decide.{dec_lt}
 use mathlib.Core.Bool.{Bool, true, false}
-use mathlib.Core.List.{List, [], ◌∷◌, ◌++◌}
+use mathlib.Core.List.{List}
 use mathlib.Core.Path.{◌≡◌, refl, sym, ap, ◌∙◌}
 use borrow.Author.Tests.{le-leb, leb-true}
 use lib.Dec.{leb}
-use lib.ListN.{length, get_or, take, drop, replicate, get_or-eq_default}
+use lib.ListN.{length, get_or, get_or-eq_default}
 use Rattle.word.specs.LittleEndian.{half_at, word_at}
 use Rattle.word.proofs.Choices.{pick-both}
 use Rattle.refusal.specs.declared.Verdict.TheVariants.{Accepted}
-use Rattle.bus_timer.specs.declared.TimerLines.{TimerLines}
-use Rattle.bus.specs.Registers.{drawing_ok}
 use Rattle.bus.specs.Memory.{Memory, memory_of, Lengths}
 use Rattle.processor.specs.Record.{system_in}
 use Rattle.processor.specs.Acceptance.{both, state_ok, acceptance_in}
 use Rattle.processor.specs.declared.Processor.{Processor}
-use Rattle.saved_bytes.specs.Numbers.{bytes_of, words_from, halves_from}
+use Rattle.saved_bytes.specs.Numbers.{words_from, halves_from}
 use Rattle.saved_bytes.proofs.LittleEndian.{length-words-from, get_or-words-from, length-halves-from, get_or-halves-from}
-use Rattle.saved_bytes.proofs.Reading.{same_self}
 use Rattle.saved_layout.specs.Layout.{body_place_of, last_place_of, file_length_of}
-use Rattle.saved_layout.specs.File.{Bodies, file_of, bodies_in, contents_ok, hardware_bytes_in, hardware_reset, SizedBodies, HeldBy}
+use Rattle.saved_layout.specs.File.{Bodies, file_of, bodies_in, contents_ok, hardware_bytes_in, SizedBodies, HeldBy}
 use Rattle.saved_layout.specs.declared.Form.{Form}
 use Rattle.saved_layout.specs.declared.Form.TheVariants.{One, Two}
 use Rattle.saved_layout.proofs.Files.{file-length, file-held, contents-back, file-again, length-pak-in, sized-in}
@@ -32,8 +29,8 @@ use Rattle.saved_kinds.specs.Kinds.{processor_body_ok, drawing_body_ok, hardware
 use Rattle.saved_move.proofs.Returning.{form-back}
 use Rattle.saved.specs.Body.{lines_of, machine_bodies_of, restored_processor_of, processor_in_bodies, memory_in}
 use Rattle.saved_kinds.specs.Words.{rest_of, record_words_of, mode_number}
-use Rattle.saved.specs.Calls.{state_file_of, held_bodies_of, held_processor_of, held_memory_of, form_holds, restored_of, read_back_of}
-use Rattle.saved.specs.Exactly.{Savable, ReadWritten, Exactly, WrittenExactly}
+use Rattle.saved.specs.Calls.{state_file_of, held_bodies_of, held_processor_of, held_memory_of, form_holds}
+use Rattle.saved.specs.Exactly.{Savable, ReadWritten, WrittenExactly}
 use Rattle.saved.proofs.Accepting.{Passed, passed, accepts, small}
 use Rattle.saved.proofs.Back.{mode_small, general-back, rest_back, drawing-back, lines-back, processor-in-back}
 use Rattle.saved.proofs.Back.{memory-in-back, machine-sized, machine-held, bodies-again, words-held, lines_are}

@@ -1,19 +1,16 @@
 -- `move-writes`. Assumes nothing.
-use Prim.Native.Nat.{ℕ, ◌<◌}
+use Prim.Native.Nat.{ℕ}
 use mathlib.Core.Bool.{true}
 use mathlib.Core.List.{List}
-use mathlib.Core.Path.{◌≡◌, refl, sym, ap, ◌∙◌}
-use lib.ListN.{length, get_or}
-use Rattle.refusal.specs.declared.Verdict.TheVariants.{Accepted}
+use mathlib.Core.Path.{◌≡◌, sym, ap, ◌∙◌}
+use lib.ListN.{length}
 use Rattle.bus.specs.Memory.{Memory}
 use Rattle.saved_layout.specs.Layout.{other_of, file_length_of}
-use Rattle.saved_layout.specs.File.{Bodies, file_of, bodies_in}
-use Rattle.saved_layout.specs.declared.Form.{Form}
+use Rattle.saved_layout.specs.File.{file_of, bodies_in}
 use Rattle.saved_kinds.specs.Fits.{form_of, pak_length_of}
 use Rattle.saved_kinds.specs.Kinds.{file_ok}
-use Rattle.saved_move.specs.Move.{pak_in, held_in, move_verdict_of, moved_of}
+use Rattle.saved_move.specs.Move.{pak_in, held_in}
 use Rattle.saved_move.proofs.Returning.{all-passed, lengths-passed, left, fit-in}
-use Rattle.saved.specs.Body.{machine_bodies_of, processor_in_bodies, memory_in}
 use Rattle.saved.specs.Calls.{state_file_of, held_bodies_of, held_processor_of, held_memory_of}
 use Rattle.saved.specs.Exactly.{MoveWrites}
 use Rattle.saved.proofs.Made.{bodies-are}

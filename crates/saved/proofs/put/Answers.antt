@@ -1,6 +1,6 @@
 -- `saved::put` meets its contract. Assumes nothing.
 use mathlib.Core.List.{[]}
-use mathlib.Core.Path.{◌≡◌, sym, ap, ◌∙◌}
+use mathlib.Core.Path.{◌∙◌}
 use Rattle.bus.specs.Memory.{memory_of}
 use Rattle.saved.proofs.Verdicts.{file-of-records}
 use borrow.Author.Rules.{rules}

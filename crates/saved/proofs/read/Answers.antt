@@ -1,19 +1,17 @@
 -- `saved::read` meets its contract. Assumes nothing.
 use mathlib.Core.Bool.{true, false}
-use mathlib.Core.Path.{◌≡◌, sym, ap, ◌∙◌}
-use borrow.Author.Tests.{not-true, not-false}
+use mathlib.Core.Path.{sym, ◌∙◌}
 use Rattle.bus.specs.Memory.{memory_of}
 use lib.ListN.{length}
 use Rattle.saved.proofs.Accepting.{passed, small}
 use Rattle.saved.proofs.Verdicts.{read-refused, read_length, read-bytes, read-accepted, restored-held, due-held, due-form, ok-held}
-use borrow.Author.Rules.{rules}
 use Rattle.saved.proofs.read.Goals as goal
 
 pub file_length-requires : goal.file_length-requires
 file_length-requires c =
     let c12 = c in
     small c12.args.processor (memory_of c12.args.rom.now c12.args.wram.now c12.args.vram.now
-    c12.args.pak.now c12.args.drawing-halves.regs) (sym c.verdict.ensures ∙
+    c12.args.pak.now c12.args.drawing.regs) (sym c.verdict.ensures ∙
     c.in-Accepted.is)
 
 pub returns-then-file-file_length : goal.returns-then-file-file_length
@@ -22,10 +20,10 @@ returns-then-file-file_length c =
     let c14 = c2 in
     let file = c14.args.file.now in
     read_length c14.args.processor (memory_of c14.args.rom.now c14.args.wram.now c14.args.vram.now
-    c14.args.pak.now c14.args.drawing-halves.regs) file
+    c14.args.pak.now c14.args.drawing.regs) file
     (sym c2.verdict.ensures ∙ c2.in-Accepted.is)
     (λ e. c.if-file-file_length.true (due-form (memory_of c14.args.rom.now c14.args.wram.now c14.args.vram.now
-    c14.args.pak.now c14.args.drawing-halves.regs) file c2.form_of-form.result c2.form_of-form.ensures (length file) e
+    c14.args.pak.now c14.args.drawing.regs) file c2.form_of-form.result c2.form_of-form.ensures (length file) e
     ∙ sym c.file_length.ensures))
 
 pub file_ok-requires : goal.file_ok-requires
@@ -34,7 +32,7 @@ file_ok-requires c =
       (c.if-file-file_length.false ∙ c.file_length.ensures),
       small c14.args.processor
           (memory_of c14.args.rom.now c14.args.wram.now c14.args.vram.now c14.args.pak.now
-          c14.args.drawing-halves.regs) (sym c.verdict.ensures ∙
+          c14.args.drawing.regs) (sym c.verdict.ensures ∙
           c.in-Accepted.is),
     )
 
@@ -47,12 +45,12 @@ returns-then-not-file_ok c =
     let file = c16.args.file.now in
     let rom = c16.args.rom.now in
     let pak = c16.args.pak.now in
-    let drawing = c16.args.drawing-halves in
-    read-bytes c16.args.processor (memory_of rom wram vram pak c16.args.drawing-halves.regs) file
+    let drawing = c16.args.drawing in
+    read-bytes c16.args.processor (memory_of rom wram vram pak c16.args.drawing.regs) file
     (sym c4.verdict.ensures ∙ c4.in-Accepted.is)
-    (due-held (memory_of rom wram vram pak c16.args.drawing-halves.regs) file c4.form_of-form.result c4.form_of-form.ensures
+    (due-held (memory_of rom wram vram pak c16.args.drawing.regs) file c4.form_of-form.result c4.form_of-form.ensures
     (length file) (c.if-file-file_length.false ∙ c.file_length.ensures))
-    (ok-held (memory_of rom wram vram pak c16.args.drawing-halves.regs) file c4.form_of-form.result c4.form_of-form.ensures _
+    (ok-held (memory_of rom wram vram pak c16.args.drawing.regs) file c4.form_of-form.result c4.form_of-form.ensures _
     false c.file_ok.ensures (c.if-not-file_ok.true))
 
 pub held-state-requires : goal.held-state-requires
@@ -61,7 +59,7 @@ held-state-requires c =
       (c.if-file-file_length.false ∙ c.file_length.ensures),
       small c16.args.processor
           (memory_of c16.args.rom.now c16.args.wram.now c16.args.vram.now c16.args.pak.now
-          c16.args.drawing-halves.regs) (sym c.verdict.ensures ∙
+          c16.args.drawing.regs) (sym c.verdict.ensures ∙
           c.in-Accepted.is),
     )
 
@@ -72,7 +70,7 @@ drawing-halves-requires c =
       (c.if-file-file_length.false ∙ c.file_length.ensures),
       small
           c17.args.processor (memory_of c17.args.rom.now c17.args.wram.now c17.args.vram.now
-          c17.args.pak.now c17.args.drawing-halves.regs) (sym c8.verdict.ensures ∙
+          c17.args.pak.now c17.args.drawing.regs) (sym c8.verdict.ensures ∙
           c.in-Accepted.is),
     )
 
@@ -83,7 +81,7 @@ take_memories-requires c =
     let c12 = c10 in
     let c21 = c12 in
     let l = (passed c21.args.processor (memory_of c21.args.rom.now c21.args.wram.now c21.args.vram.now
-    c21.args.pak.now c21.args.drawing-halves.regs) (sym c12.verdict.ensures ∙
+    c21.args.pak.now c21.args.drawing.regs) (sym c12.verdict.ensures ∙
     c10.in-Accepted.is)).lengths in record {
       wram_len = (l.wram-ok, l.vram-ok);
       file_len = (
@@ -91,7 +89,7 @@ take_memories-requires c =
             c8.file_length.ensures),
         small c21.args.processor
             (memory_of c21.args.rom.now c21.args.wram.now c21.args.vram.now c21.args.pak.now
-            c21.args.drawing-halves.regs) (sym c12.verdict.ensures ∙ c10.in-Accepted.is),
+            c21.args.drawing.regs) (sym c12.verdict.ensures ∙ c10.in-Accepted.is),
       );
     }
 
@@ -99,7 +97,7 @@ pub returns-in-Refused : goal.returns-in-Refused
 returns-in-Refused c =
     let c12 = c in
     read-refused c12.args.processor (memory_of c12.args.rom.now c12.args.wram.now c12.args.vram.now
-    c12.args.pak.now c12.args.drawing-halves.regs) c12.args.file.now _
+    c12.args.pak.now c12.args.drawing.regs) c12.args.file.now _
     (sym c.verdict.ensures ∙ c.in-Refused.is)
 
 pub returns-else-not-file_ok : goal.returns-else-not-file_ok
@@ -119,13 +117,13 @@ returns-else-not-file_ok c =
     let file = c28.args.file.now in
     let rom = c28.args.rom.now in
     let pak = c28.args.pak.now in
-    let drawing = c28.args.drawing-halves in
+    let drawing = c28.args.drawing in
     let t = c.take_memories.ensures in
-    restored-held (memory_of rom wram vram pak c28.args.drawing-halves.regs) file c16.form_of-form.result
-    c16.form_of-form.ensures _ _ _ _ _ c11.held-state.ensures t.0 t.1.0 t.1.1 c10.drawing-halves.ensures ∙
-    read-accepted c28.args.processor (memory_of rom wram vram pak c28.args.drawing-halves.regs) file
+    restored-held (memory_of rom wram vram pak c28.args.drawing.regs) file c16.form_of-form.result
+    c16.form_of-form.ensures _ _ _ _ _ c11.held-state.ensures t.wram_after t.vram_after t.pak_after c10.drawing-halves.ensures ∙
+    read-accepted c28.args.processor (memory_of rom wram vram pak c28.args.drawing.regs) file
     (sym c19.verdict.ensures ∙ c17.in-Accepted.is)
-    (due-held (memory_of rom wram vram pak c28.args.drawing-halves.regs) file c16.form_of-form.result
+    (due-held (memory_of rom wram vram pak c28.args.drawing.regs) file c16.form_of-form.result
     c16.form_of-form.ensures (length file) (c14.if-file-file_length.false ∙ c15.file_length.ensures))
-    (ok-held (memory_of rom wram vram pak c28.args.drawing-halves.regs) file c16.form_of-form.result c16.form_of-form.ensures
+    (ok-held (memory_of rom wram vram pak c28.args.drawing.regs) file c16.form_of-form.result c16.form_of-form.ensures
     _ true c13.file_ok.ensures (c12.if-not-file_ok.false))

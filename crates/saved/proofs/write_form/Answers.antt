@@ -1,11 +1,9 @@
 -- `saved::write_form` meets its contract. Assumes nothing.
-use mathlib.Core.Path.{◌≡◌, sym, ap, ◌∙◌}
-use borrow.Author.Tests.{not-true, not-false}
+use mathlib.Core.Path.{sym, ap, ◌∙◌}
 use Rattle.bus.specs.Memory.{memory_of}
 use Rattle.saved.specs.Calls.{form_holds}
 use Rattle.saved.proofs.Accepting.{passed, small}
 use Rattle.saved.proofs.Verdicts.{write-refused, write-length, write-reset, write-accepted, file-without-rom}
-use borrow.Author.Rules.{rules}
 use Rattle.saved.proofs.write_form.Goals as goal
 
 pub file_length-requires : goal.file_length-requires
@@ -83,4 +81,3 @@ returns-else-not-holds c =
           (memory_of c17.args.rom.now c17.args.wram.now c17.args.vram.now c17.args.pak.now
           c17.args.drawing.regs) ∙ w.1);
     }
-

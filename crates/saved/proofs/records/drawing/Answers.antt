@@ -1,14 +1,13 @@
 -- `saved::records::drawing` meets its contract. Assumes nothing.
 use native.Mathlib.Omega.{arith}
 use Prim.Native.Nat.{◌+◌, ◌-◌}
-use mathlib.Core.Path.{◌≡◌, refl, ap, ◌∙◌}
+use mathlib.Core.Path.{refl, ap, ◌∙◌}
 use mathlib.Core.List.{List}
 use Prim.Native.Nat.{ℕ}
 use Rattle.saved_bytes.specs.Numbers.{halves_from}
 use Rattle.saved_layout.proofs.Positions.{length-is}
-use Rattle.saved_layout.proofs.Written.{processor-part, drawing-part, hardware-part}
+use Rattle.saved_layout.proofs.Written.{drawing-part}
 use Rattle.saved_kinds.specs.Kinds.{drawing_from}
-use borrow.Author.Rules.{rules}
 use Rattle.saved.proofs.records.drawing.Goals as goal
 
 pub slice_bounds-take_halves-end : goal.slice_bounds-take_halves-end

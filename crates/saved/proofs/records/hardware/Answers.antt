@@ -1,15 +1,14 @@
 -- `saved::records::hardware` meets its contract. Assumes nothing.
 use native.Mathlib.Omega.{arith}
 use Prim.Native.Nat.{◌+◌, ◌-◌}
-use mathlib.Core.Path.{◌≡◌, refl, sym, ap, ◌∙◌}
+use mathlib.Core.Path.{◌≡◌, refl, ap, ◌∙◌}
 use lib.ListN.{length}
-use Rattle.saved_layout.specs.Layout.{body_place_of, file_length_of}
+use Rattle.saved_layout.specs.Layout.{file_length_of}
 use Rattle.saved_layout.specs.File.{bodies_in}
 use Rattle.saved_kinds.specs.Kinds.{hardware_from}
-use Rattle.saved_layout.specs.declared.Form.TheVariants.{One, Two}
+use Rattle.saved_layout.specs.declared.Form.TheVariants.{Two}
 use Rattle.saved_layout.proofs.Positions.{length-is}
-use Rattle.saved_layout.proofs.Written.{processor-part, drawing-part, hardware-part}
-use borrow.Author.Rules.{rules}
+use Rattle.saved_layout.proofs.Written.{hardware-part}
 use Rattle.saved.proofs.records.hardware.Goals as goal
 
 pub slice_bounds-hardware-end : goal.slice_bounds-hardware-end

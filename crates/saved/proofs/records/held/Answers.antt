@@ -3,14 +3,13 @@ use native.Mathlib.Omega.{arith}
 use Prim.Native.Nat.{◌+◌, ◌-◌}
 use mathlib.Core.List.{List}
 use Prim.Native.Nat.{ℕ}
-use mathlib.Core.Path.{◌≡◌, refl, ap, ◌∙◌}
+use mathlib.Core.Path.{refl, ap, ◌∙◌}
 use Rattle.bus_timer.specs.declared.TimerLines.{TimerLines}
 use Rattle.saved_layout.specs.File.{bodies_in}
 use Rattle.saved_kinds.specs.Kinds.{general_from, rest_from}
 use Rattle.saved_layout.proofs.Positions.{length-is}
-use Rattle.saved_layout.proofs.Written.{processor-part, drawing-part, hardware-part}
+use Rattle.saved_layout.proofs.Written.{processor-part}
 use Rattle.saved.specs.Body.{restored_processor_of, processor_in_bodies}
-use borrow.Author.Rules.{rules}
 use Rattle.saved.proofs.records.held.Goals as goal
 
 pub slice_bounds-processor-end : goal.slice_bounds-processor-end

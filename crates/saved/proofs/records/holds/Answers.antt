@@ -1,10 +1,6 @@
 -- `saved::records::holds` meets its contract. Assumes nothing.
 use native.Mathlib.Omega.{arith}
-use mathlib.Core.Bool.{true, false}
-use borrow.Author.Tests.{eq-eqb, ne_eqb}
-use Rattle.saved.specs.Calls.{form_holds}
 use Rattle.saved.proofs.Holding.{holds-0, holds-1, holds-2, holds-3, holds-any}
-use borrow.Author.Rules.{rules}
 use Rattle.saved.proofs.records.holds.Goals as goal
 
 pub returns-then-lines-ne0 : goal.returns-then-lines-ne0

@@ -1,10 +1,5 @@
 -- `saved::records::processor` meets its contract. Assumes nothing.
-use mathlib.Core.Path.{◌≡◌, ap, ◌∙◌}
-use mathlib.Core.List.{List}
-use Prim.Native.Nat.{ℕ}
 use Rattle.saved_kinds.specs.Kinds.{general_from, rest_from}
-use Rattle.saved.specs.Body.{restored_processor_of}
-use borrow.Author.Rules.{rules}
 use Rattle.saved.proofs.records.processor.Goals as goal
 
 pub returns : goal.returns
