@@ -1,8 +1,7 @@
 -- `demo_characters::put` meets its contract: each byte is within VRAM. Assumes nothing.
 use native.Mathlib.Omega.{arith}
-use Prim.Native.Nat.{◌-◌, ◌≤◌}
-use mathlib.Core.Path.{◌≡◌, refl}
-use lib.ListN.{length, length-set}
+use mathlib.Core.Path.{refl}
+use lib.ListN.{length-set}
 use Rattle.demo_characters.proofs.put.Goals as goal
 
 pub loop-i-init : goal.loop-i-init

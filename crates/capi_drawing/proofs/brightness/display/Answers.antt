@@ -7,7 +7,7 @@ use Rattle.capi_drawing.proofs.brightness.display.Goals as goal
 pub returns : goal.returns
 returns c = let done = c.display.ensures in
     record {
-      refusal = c.verdict_number.ensures ∙ ap verdict_number done.0;
-      room = done.1;
+      refusal = c.verdict_number.ensures ∙ ap verdict_number done.verdict;
+      room = done.output;
     }
 

@@ -7,7 +7,7 @@ use Rattle.capi_drawing.proofs.brightness.load_column_table.Goals as goal
 pub returns : goal.returns
 returns c = let done = c.load_column_table.ensures in
     record {
-      refusal = c.verdict_number.ensures ∙ ap verdict_number done.0;
-      memory = done.1;
+      refusal = c.verdict_number.ensures ∙ ap verdict_number done.verdict;
+      memory = done.memory;
     }
 

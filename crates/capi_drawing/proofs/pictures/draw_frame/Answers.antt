@@ -7,7 +7,7 @@ use Rattle.capi_drawing.proofs.pictures.draw_frame.Goals as goal
 pub returns : goal.returns
 returns c = let drawn = c.draw_frame.ensures in
     record {
-      refusal = c.verdict_number.ensures ∙ ap verdict_number drawn.0;
-      memory = drawn.1;
+      refusal = c.verdict_number.ensures ∙ ap verdict_number drawn.verdict;
+      memory = drawn.memory;
     }
 

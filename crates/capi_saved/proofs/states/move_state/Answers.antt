@@ -8,7 +8,7 @@ pub returns : goal.returns
 returns c =
     let done = c.move_state.ensures in
     record {
-      refusal = c.verdict_number.ensures ∙ ap verdict_number done.0;
-      output = done.1;
+      refusal = c.verdict_number.ensures ∙ ap verdict_number done.verdict;
+      output = done.output;
     }
 

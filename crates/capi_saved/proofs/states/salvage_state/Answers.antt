@@ -8,7 +8,7 @@ pub returns : goal.returns
 returns c =
     let done = c.salvage_state.ensures in
     record {
-      reported = c.salvaged.ensures ∙ ap salvaged_at done.0;
-      output = done.1;
+      reported = c.salvaged.ensures ∙ ap salvaged_at done.reported;
+      output = done.output;
     }
 

@@ -23,7 +23,7 @@ returns c =
     let done = called.write.ensures in
     let w =
     write_done a.processor m _ tested.misuse-misused.ensures a.output.now _ given tested.if-misused-ne0.false One
-    _ _ done.0 done.1 in
+    _ _ done.verdict done.output in
     record {
       refusal = c.verdict_number.ensures ∙ w.0;
       output = w.1;

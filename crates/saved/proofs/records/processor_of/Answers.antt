@@ -5,4 +5,4 @@ use Rattle.saved.proofs.records.processor_of.Goals as goal
 
 pub returns : goal.returns
 unfolding restored_processor_of
-returns c = rw (c.Mode-of.ensures)
+returns c = rw (c.mode_of.ensures)
