@@ -5,7 +5,7 @@ use Rattle.word.specs.Choose.{pick}
 use Rattle.refusal.specs.Number.{unless, then_of}
 use Rattle.bus.specs.Memory.{Memory, verdict_at}
 use Rattle.refusal.specs.declared.Verdict.{Verdict}
-use Rattle.refusal.specs.declared.Verdict.TheVariants.{Accepted, Refused}
+use Rattle.refusal.specs.declared.Verdict.TheVariants.{Accepted}
 use Rattle.refusal.specs.declared.Refusal as refusal
 use Rattle.processor_machine.specs.State.{State, eipc_place, eipsw_place, fepc_place, fepsw_place, sr25_place, sr31_place}
 use Rattle.processor_machine.specs.System.{psw_bits_of}
