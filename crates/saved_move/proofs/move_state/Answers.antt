@@ -1,12 +1,10 @@
 -- `saved_move::move_state` meets its contract. Assumes nothing.
 use mathlib.Core.Bool.{true, false}
-use mathlib.Core.Path.{◌≡◌, refl, sym, ap, ◌∙◌}
-use borrow.Author.Tests.{not-true, not-false}
+use mathlib.Core.Path.{refl, sym, ap, ◌∙◌}
 use lib.ListN.{length}
 use Rattle.saved_layout.specs.Layout.{file_length_of}
 use Rattle.saved_layout.specs.declared.Form.{Form}
 use Rattle.saved_move.proofs.Verdicts.{no_length, other_length, no_bytes, no-reset, accepted, fit, fits-is, due-is, due-back, ok-is, holds-is, wrote-is}
-use borrow.Author.Rules.{rules}
 use Rattle.saved_move.proofs.move_state.Goals as goal
 
 pub returns-then-not-fits : goal.returns-then-not-fits
@@ -189,4 +187,3 @@ returns-else-not-at_reset c =
     c13.pak_length-pak.result c16.form_of-form.ensures c13.pak_length-pak.ensures _
     (rw c6.in-Two.is c.to_one.ensures)) in
     record { verdict = both.0; output = both.1 }
-
