@@ -1,7 +1,7 @@
 -- Whether a body is one that a writer makes for some accepted state: paper 02, W1's refusal 10 of kinds 1 and 2 and
 -- W12's of kind 6, by the tests of refusal 5 (processor, Acceptance; bus, Registers; bus_timer, Ports). Kinds 3 to 5
 -- are free. And the same of a whole file, whose contents are valid.
-use Rattle.std.specs.Prelude.{ℕ, Bool, true, false, List, [], ◌∷◌, leb, get_or}
+use Rattle.std.specs.Prelude.{ℕ, Bool, List, [], ◌∷◌, leb, get_or}
 use Rattle.word.specs.LittleEndian.{half_at}
 use Rattle.bus.specs.Registers.{drawing_ok}
 use Rattle.bus_timer.specs.Record.{hardware_of}

@@ -2,7 +2,7 @@
 -- have made for some accepted state, and sets every other to reset values (3 to 5: zeros)". A stored sum is the word at
 -- its own place in the contents, whatever stands next to it; pak RAM that is empty has no entry and no body, and counts
 -- as kept.
-use Rattle.std.specs.Prelude.{ℕ, Bool, true, false, List, eqb, length, replicate}
+use Rattle.std.specs.Prelude.{ℕ, Bool, true, List, eqb, length, replicate}
 use Rattle.word.specs.Choose.{pick}
 use Rattle.word.specs.LittleEndian.{word_at}
 use Rattle.processor.specs.Acceptance.{both}
@@ -10,7 +10,7 @@ use Rattle.processor.specs.Calls.{reset_of}
 use Rattle.saved_bytes.specs.Numbers.{bytes_of, halves_of}
 use Rattle.saved_bytes.specs.Parts.{body_sum_of}
 use Rattle.saved_layout.specs.Layout.{sum_place_of}
-use Rattle.saved_layout.specs.File.{Bodies, bodies_of, bodies_in, hardware_reset}
+use Rattle.saved_layout.specs.File.{Bodies, bodies_of, bodies_in}
 use Rattle.saved_layout.specs.declared.Form.TheVariants.{Two}
 use Rattle.saved_kinds.specs.Kinds.{processor_body_ok, drawing_body_ok, hardware_body_ok}
 use Rattle.saved_kinds.specs.Words.{record_words_of}
