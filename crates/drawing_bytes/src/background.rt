@@ -83,7 +83,7 @@ pub fn source_y(vram: &[u8], w: World, eye: usize, i: usize, j: usize) -> usize
 // The five parameters of row j of an affine world.
 pub fn list_affine(output: &mut [u32], n: usize, w: World, j: usize) -> usize
     requires { (n < 4096) × (j < 65536) }
-    ensures { Lists output n (affine_bytes_of (halfwords_of w) j) result }
+    ensures { Lists output.old output.new n (affine_bytes_of (halfwords_of w) j) result }
 {
     let mut next = put_half(output, n, parameter_address(w, 8 * j));
     next = put_half(output, next, parameter_address(w, 8 * j + 1));
@@ -95,7 +95,7 @@ pub fn list_affine(output: &mut [u32], n: usize, w: World, j: usize) -> usize
 // The parameters of row j of a background world, by BGM.
 pub fn list_parameters(output: &mut [u32], n: usize, w: World, eye: usize, j: usize) -> usize
     requires { (n < 4096) × (j < 65536) }
-    ensures lists { Lists output n (parameter_bytes_of (halfwords_of w) eye j) result }
+    ensures lists { Lists output.old output.new n (parameter_bytes_of (halfwords_of w) eye j) result }
     ensures upper_bound { result ≤ n + 10 }
 {
     let bgm = w.flags / 4096 % 4;
@@ -111,7 +111,7 @@ pub fn list_parameters(output: &mut [u32], n: usize, w: World, eye: usize, j: us
 // The cell of a source pixel and the character row that it leads to.
 pub fn list_cell(vram: &[u8], output: &mut [u32], n: usize, w: World, sx: usize, sy: usize) -> usize
     requires { (length vram.now ≡ vram_bytes) × (n < 8192) }
-    ensures { Lists output n (cell_bytes_biased vram.now (halfwords_of w) sx sy) result }
+    ensures { Lists output.old output.new n (cell_bytes_biased vram.now (halfwords_of w) sx sy) result }
 {
     let at = cell_address(w, sx / 8, sy / 8);
     let cell = wide(half(vram, at));
@@ -130,7 +130,7 @@ pub fn list_background(
     y: usize,
 ) -> usize
     requires { (length vram.now ≡ vram_bytes) × ((n < 4096) × ((x < 384) × (y < 224))) }
-    ensures lists { Lists output n (background_bytes_biased vram.now (halfwords_of w) eye x y) result }
+    ensures lists { Lists output.old output.new n (background_bytes_biased vram.now (halfwords_of w) eye x y) result }
     ensures upper_bound { result ≤ n + 14 }
 {
     if !covers(w, eye, x, y) {
@@ -160,7 +160,7 @@ pub fn list_world(
     y: usize,
 ) -> usize
     requires { (length vram.now ≡ vram_bytes) × ((n < 4096) × ((k < 32) × ((x < 384) × (y < 224)))) }
-    ensures lists { Lists output n (world_bytes_biased vram.now (world_of vram.now k) eye x y) result }
+    ensures lists { Lists output.old output.new n (world_bytes_biased vram.now (world_of vram.now k) eye x y) result }
     ensures upper_bound { result ≤ n + 14 }
 {
     let w = world_at(vram, k);
@@ -177,7 +177,7 @@ pub fn list_world(
 // The bytes of worlds 31 to 0; END stops.
 pub fn list_worlds(vram: &[u8], output: &mut [u32], eye: usize, x: usize, y: usize) -> usize
     requires { (length vram.now ≡ vram_bytes) × ((x < 384) × (y < 224)) }
-    ensures lists { Lists output 0 (worlds_bytes_biased vram.now eye x y 32) result }
+    ensures lists { Lists output.old output.new 0 (worlds_bytes_biased vram.now eye x y 32) result }
     ensures upper_bound { result ≤ 448 }
 {
     let mut n = 0;

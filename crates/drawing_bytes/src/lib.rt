@@ -36,7 +36,7 @@ fn list(
 ) -> usize
     requires vram_len { (length vram.now ≡ vram_bytes) × ((x < 384) × (y < 224)) }
     requires by_index { (g : ℕ) → g < 4 → spt_of registers.now g < 1024 }
-    ensures { Lists output 0 (pixel_bytes_biased vram.now registers.now eye x y) result }
+    ensures { Lists output.old output.new 0 (pixel_bytes_biased vram.now registers.now eye x y) result }
 {
     let n = background::list_worlds(vram, output, eye, x, y);
     let worlds = objects::object_worlds(vram);

@@ -113,7 +113,7 @@ pub fn list_object(
     requires vram_len { (length vram.now ≡ vram_bytes) × ((n < 4096) × ((k < 1024) × ((pixel.x < 384) × (pixel.y < 224)))) }
     requires worlds_value { (worlds ≡ reached_object_worlds_of vram.now 32) × (worlds ≤ 32) }
     requires by_index { (g : ℕ) → g < 4 → spt_of registers.now g < 1024 }
-    ensures lists { Lists output n
+    ensures lists { Lists output.old output.new n
         (object_list_of vram.now registers.now pixel.eye pixel.x pixel.y k) result }
     ensures upper_bound { result ≤ n + 2 }
 {
@@ -143,7 +143,7 @@ pub fn list_objects(
     requires vram_len { (length vram.now ≡ vram_bytes) × ((start < 1024) × ((pixel.x < 384) × (pixel.y < 224))) }
     requires worlds_value { (worlds ≡ reached_object_worlds_of vram.now 32) × (worlds ≤ 32) }
     requires by_index { (g : ℕ) → g < 4 → spt_of registers.now g < 1024 }
-    ensures { Lists output start
+    ensures { Lists output.old output.new start
         (objects_bytes_biased vram.now registers.now pixel.eye pixel.x pixel.y 1024) result }
 {
     let mut n = start;

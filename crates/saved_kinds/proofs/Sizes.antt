@@ -1,13 +1,12 @@
 -- The form of a file and its pak RAM's length; `fits-exactly`. Assumes nothing.
 use Prim.Native.Nat.{ℕ, zero, suc, ◌-◌, ◌<◌, ◌≤◌}
 use native.Mathlib.Omega.{arith}
-use mathlib.Core.Bool.{Bool, true, false}
+use mathlib.Core.Bool.{true, false}
 use mathlib.Core.List.{List, ◌∷◌}
-use mathlib.Core.Path.{◌≡◌, refl, sym, ap, ◌∙◌}
+use mathlib.Core.Path.{◌≡◌, sym, ap, ◌∙◌}
 use borrow.Author.Tests.{eqb-true, leb-true, eq-eqb, ne_eqb}
 use lib.Dec.{eqb, leb}
 use lib.ListN.{get_or}
-use Rattle.word.specs.Choose.{pick}
 use Rattle.word.specs.LittleEndian.{half_at}
 use Rattle.word.proofs.Choices.{pick-both}
 use Rattle.word.proofs.Listed.{member-every}

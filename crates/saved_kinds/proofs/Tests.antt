@@ -1,19 +1,17 @@
 -- The tests of bodies and of a file, taken apart. Assumes nothing.
 use Prim.Native.Nat.{ℕ, ◌+◌, ◌<◌, ◌≤◌}
-use native.Mathlib.Omega.{arith}
-use mathlib.Core.Bool.{Bool, true, false}
-use mathlib.Core.List.{List, [], ◌∷◌}
-use mathlib.Core.Path.{◌≡◌, refl, sym, ap, ◌∙◌}
+use mathlib.Core.Bool.{true, false}
+use mathlib.Core.List.{List}
+use mathlib.Core.Path.{◌≡◌, refl, sym, ◌∙◌}
 use borrow.Author.Tests.{le-leb, lt-leb}
-use lib.ListN.{get_or, take, drop}
+use lib.ListN.{get_or}
 use Rattle.processor.specs.Acceptance.{both, state_ok}
 use Rattle.bus_timer.specs.Ports.{control_bits_of, hardware_ok}
 use Rattle.saved_bytes.specs.Numbers.{words_from}
 use Rattle.saved_layout.specs.Layout.{body_place_of}
-use Rattle.saved_layout.specs.File.{Bodies, bodies_in, contents_ok, hardware_reset}
+use Rattle.saved_layout.specs.File.{bodies_in, contents_ok, hardware_reset}
 use Rattle.saved_layout.specs.declared.Form.{Form}
-use Rattle.saved_layout.specs.declared.Form.TheVariants.{One, Two}
-use Rattle.saved_layout.proofs.Positions.{second}
+use Rattle.saved_layout.specs.declared.Form.TheVariants.{One}
 use Rattle.saved_layout.proofs.Written.{processor-part, drawing-part}
 use Rattle.saved_kinds.specs.Kinds.{general_from, rest_from, system_from, words_ok, processor_body_ok, drawing_body_ok}
 use Rattle.saved_kinds.specs.Kinds.{hardware_from, hardware_body_ok, bodies_ok, file_ok}

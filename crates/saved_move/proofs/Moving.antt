@@ -1,15 +1,15 @@
 -- The five bodies that both forms have, taken from a file and put into a buffer; what each direction leaves. Assumes nothing.
-use Prim.Native.Nat.{ℕ, ◌+◌, ◌-◌, ◌≤◌}
+use Prim.Native.Nat.{ℕ, ◌+◌}
 use native.Mathlib.Omega.{arith}
 use mathlib.Core.Path.{◌≡◌, refl, sym, ap, ◌∙◌}
-use mathlib.Core.List.{List, [], ◌++◌, append_assoc, append-nil}
-use lib.ListN.{length, take, drop, length-append, length-replicate, replicate}
+use mathlib.Core.List.{List, ◌++◌, append_assoc, append-nil}
+use lib.ListN.{length, take, drop, length-append, replicate}
 use lib.Seq.{take_at, drop_at, length-take-le}
 use Rattle.saved_bytes.specs.Numbers.{bytes_of}
 use Rattle.saved_bytes.specs.inner.Put.{put_at}
 use Rattle.saved_bytes.proofs.Putting.{put-put, put_last}
 use Rattle.saved_layout.specs.Layout.{body_place_of, file_length_of}
-use Rattle.saved_layout.specs.File.{Bodies, bodies_of, last_of, joined_of, file_of, hardware_reset, bodies_in, contents_in, SizedBodies}
+use Rattle.saved_layout.specs.File.{Bodies, last_of, joined_of, file_of, hardware_reset, bodies_in, contents_in, SizedBodies}
 use Rattle.saved_layout.specs.declared.Form.{Form}
 use Rattle.saved_layout.specs.declared.Form.TheVariants.{One, Two}
 use Rattle.saved_layout.proofs.Positions.{length-is}

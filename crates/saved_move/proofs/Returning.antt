@@ -1,15 +1,14 @@
 -- `there_and_back` and `sixteen-exactly`. Assumes nothing.
-use Prim.Native.Nat.{ℕ, zero, suc, ◌+◌, ◌*◌, ◌<◌}
+use Prim.Native.Nat.{ℕ, zero, suc, ◌<◌}
 use native.Mathlib.Omega.{arith}
 use mathlib.Core.Bool.{Bool, true, false}
-use mathlib.Core.List.{List, [], ◌∷◌, ◌++◌}
-use mathlib.Core.Path.{◌≡◌, refl, sym, ap, ◌∙◌}
+use mathlib.Core.List.{List, ◌++◌}
+use mathlib.Core.Path.{◌≡◌, refl, sym, ◌∙◌}
 use borrow.Author.Tests.{eqb-true, eq-eqb, ne_eqb}
-use lib.Dec.{eqb}
 use lib.ListN.{length, get_or}
 use Rattle.word.specs.LittleEndian.{half_at}
 use Rattle.word.proofs.Choices.{pick-both, bool-refuted}
-use Rattle.refusal.specs.Number.{unless, when_accepted}
+use Rattle.refusal.specs.Number.{unless}
 use Rattle.refusal.specs.declared.Verdict.TheVariants.{Accepted, Refused}
 use Rattle.refusal.specs.declared.Refusal.TheVariants.{FileLength, FileBytes, NotAtReset}
 use Rattle.bus.specs.Refusal.{pak_ok}
@@ -27,7 +26,7 @@ use Rattle.saved_kinds.specs.Kinds.{bodies_ok, file_ok}
 use Rattle.saved_kinds.proofs.Sizes.{pak-small, fits-exactly}
 use Rattle.saved_move.specs.Move.{pak_in, held_in, lengths_ok, holds_body_ok, move_verdict_of, moved_of}
 use Rattle.saved_move.specs.Back.{ThereAndBack, SixteenExactly}
-use Rattle.saved_move.proofs.Verdicts.{lengths-yes, fit, accepted, no-reset}
+use Rattle.saved_move.proofs.Verdicts.{accepted}
 
 -- the first halfword gives the form of a file that was written
 one-first : (p : ℕ) (s rest : List ℕ) → half_at (bytes_of (contents_of One p s) ++ rest) 0 ≡ 0 → ⊥

@@ -2,20 +2,17 @@
 use Prim.Native.Nat.{ℕ, ◌≤◌}
 use mathlib.Core.Bool.{Bool, true, false}
 use mathlib.Core.List.{List}
-use mathlib.Core.Path.{◌≡◌, refl, sym, ap, ◌∙◌}
+use mathlib.Core.Path.{◌≡◌, sym, ap, ◌∙◌}
 use borrow.Author.Tests.{eq-eqb, ne_eqb}
 use lib.ListN.{length}
-use Rattle.refusal.specs.Number.{unless, when_accepted}
+use Rattle.refusal.specs.Number.{when_accepted}
 use Rattle.refusal.specs.declared.Verdict.{Verdict}
 use Rattle.refusal.specs.declared.Verdict.TheVariants.{Accepted, Refused}
 use Rattle.refusal.specs.declared.Refusal.TheVariants.{FileLength, FileBytes, NotAtReset}
 use Rattle.bus.specs.Refusal.{pak_ok}
-use Rattle.processor.specs.Acceptance.{both}
-use Rattle.saved_bytes.specs.Numbers.{same_of}
 use Rattle.saved_layout.specs.Layout.{other_of, file_length_of}
-use Rattle.saved_layout.specs.File.{file_of, bodies_in, hardware_reset}
+use Rattle.saved_layout.specs.File.{file_of, bodies_in}
 use Rattle.saved_layout.specs.declared.Form.{Form}
-use Rattle.saved_layout.specs.declared.Form.TheVariants.{One, Two}
 use Rattle.saved_kinds.specs.Fits.{form_of, pak_length_of, fits_ok}
 use Rattle.saved_kinds.specs.Kinds.{file_ok}
 use Rattle.saved_kinds.proofs.Sizes.{pak-small, fits-exactly}

@@ -1,12 +1,11 @@
 -- The comparison of the contents, entry by entry. Assumes nothing.
-use Prim.Native.Nat.{ℕ, ◌+◌, ◌<◌}
+use Prim.Native.Nat.{ℕ, ◌<◌}
 use native.Mathlib.Omega.{arith}
 use mathlib.Core.Bool.{Bool, true, false, not}
 use mathlib.Core.List.{List}
-use mathlib.Core.Path.{◌≡◌, refl, sym, ap, ◌∙◌}
+use mathlib.Core.Path.{◌≡◌, refl, sym, ◌∙◌}
 use borrow.Author.Tests.{ne_eqb}
 use lib.ListN.{take, drop}
-use Rattle.word.specs.Choose.{pick}
 use Rattle.word.proofs.Choices.{pick-self, pick-opposite}
 use Rattle.saved_bytes.specs.Numbers.{same_of}
 use Rattle.saved_salvage.specs.declared.Kept.{Kept}

@@ -1,9 +1,9 @@
 -- Which bodies are kept, from what the code found. Assumes nothing.
 use Prim.Native.Nat.{ℕ, ◌<◌}
 use native.Mathlib.Omega.{arith}
-use mathlib.Core.Bool.{Bool, true, false}
-use mathlib.Core.List.{List, [], ◌∷◌}
-use mathlib.Core.Path.{◌≡◌, refl, sym, ap, ◌∙◌}
+use mathlib.Core.Bool.{Bool, true}
+use mathlib.Core.List.{List}
+use mathlib.Core.Path.{◌≡◌, ◌∙◌}
 use borrow.Author.Tests.{eq-eqb, ne_eqb}
 use lib.Dec.{eqb}
 use lib.ListN.{get_or}
@@ -13,8 +13,7 @@ use Rattle.saved_bytes.specs.Parts.{body_sum_of}
 use Rattle.saved_layout.specs.File.{Bodies, sums_of, bodies_in}
 use Rattle.saved_layout.specs.declared.Form.TheVariants.{Two}
 use Rattle.saved_kinds.specs.Kinds.{processor_body_ok, drawing_body_ok, hardware_body_ok}
-use Rattle.saved_salvage.specs.declared.Kept.{Kept}
-use Rattle.saved_salvage.specs.Keep.{keeps_of, last_sum_place, kept_from, kept_in}
+use Rattle.saved_salvage.specs.Keep.{keeps_of, kept_from, kept_in}
 
 -- one body
 pub keeps-is : {r : Bool} {stored sum : ℕ} {made : Bool} (word : ℕ) (body : List ℕ) (m : Bool)

@@ -1,12 +1,11 @@
 -- The list of kinds that were replaced, as it is reported. Assumes nothing.
-use Prim.Native.Nat.{ℕ, zero, suc, ◌+◌, ◌-◌, ◌<◌, ◌≤◌}
+use Prim.Native.Nat.{ℕ, suc, ◌+◌, ◌-◌, ◌<◌, ◌≤◌}
 use native.Mathlib.Omega.{arith}
 use mathlib.Core.Bool.{Bool, true, false}
 use mathlib.Core.List.{List, [], ◌∷◌, ◌++◌, append_assoc}
-use mathlib.Core.Path.{◌≡◌, refl, sym, ap, ◌∙◌}
-use lib.ListN.{length, set, replicate, length-append}
-use lib.Seq.{set-append_seam, append_snoc}
-use Rattle.word.specs.Choose.{pick}
+use mathlib.Core.Path.{◌≡◌, refl, ap, ◌∙◌}
+use lib.ListN.{length, replicate, length-append}
+use lib.Seq.{set-append_seam}
 use Rattle.saved_salvage.specs.declared.Kept.{Kept}
 use Rattle.saved_salvage.specs.declared.ListedKinds.{ListedKinds}
 use Rattle.saved_salvage.specs.Listed.{with_kind, replaced_of, listed_kinds_of}

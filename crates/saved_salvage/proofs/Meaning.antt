@@ -8,7 +8,7 @@ use mathlib.Core.Path.{◌≡◌, refl, sym, ap, subst, ◌∙◌}
 use borrow.Author.Tests.{eqb-true, eq-eqb, ne_eqb}
 use lib.Dec.{eqb, eqb-suc-zero}
 use lib.ListN.{length, get_or, take, drop, replicate, length-append}
-use lib.Seq.{take_at, drop_at, drop-drop, drop-cons, take-append-le}
+use lib.Seq.{take_at, drop_at, drop-drop, drop-cons}
 use Rattle.word.specs.Choose.{pick}
 use Rattle.word.specs.LittleEndian.{half_at, word_at}
 use Rattle.word.proofs.Choices.{pick-both}
@@ -21,7 +21,7 @@ use Rattle.saved_bytes.proofs.Reading.{Under, same_self}
 use Rattle.saved_layout.specs.Layout.{Part, parts_of, sum_at, entries_from, contents_end_of, contents_of, file_length_of, body_place_of}
 use Rattle.saved_layout.specs.File.{Bodies, sums_of, joined_of, file_of, bodies_in}
 use Rattle.saved_layout.specs.declared.Form.TheVariants.{Two}
-use Rattle.saved_layout.proofs.Positions.{contents-end, length-is}
+use Rattle.saved_layout.proofs.Positions.{length-is}
 use Rattle.saved_layout.proofs.Files.{contents-under, sums-small}
 use Rattle.saved_kinds.specs.Kinds.{processor_body_ok, drawing_body_ok, hardware_body_ok}
 use Rattle.saved_kinds.proofs.Sizes.{pak-small}
@@ -29,7 +29,7 @@ use Rattle.saved_salvage.specs.declared.Kept.{Kept}
 use Rattle.saved_salvage.specs.declared.Salvaged.{Salvaged}
 use Rattle.saved_salvage.specs.Keep.{keeps_of, kept_from, kept_in, processor_reset, kept_bodies_of}
 use Rattle.saved_salvage.specs.Differ.{either, part_differs, entry_differs, entries_differ, entries_kept, contents_differ}
-use Rattle.saved_salvage.specs.Salvage.{output_of, pak_in_form_two, report_when, salvage_verdict_of, salvage_of}
+use Rattle.saved_salvage.specs.Salvage.{output_of, pak_in_form_two, salvage_verdict_of}
 use Rattle.saved_salvage.specs.Means.{entry_valid, entries_valid, contents_valid, ContentsDifferMeans}
 use Rattle.saved_salvage.proofs.Salvaging.{by-verdict}
 use Rattle.saved_salvage.proofs.Unharmed.{fit, whole, size}

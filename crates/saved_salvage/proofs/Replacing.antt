@@ -2,9 +2,9 @@
 use Prim.Native.Nat.{ℕ, ◌+◌, ◌≤◌}
 use native.Mathlib.Omega.{arith}
 use mathlib.Core.Bool.{Bool, true, false}
-use mathlib.Core.List.{List, [], ◌∷◌, ◌++◌, append_assoc}
-use mathlib.Core.Path.{◌≡◌, refl, sym, ap, ◌∙◌}
-use lib.ListN.{length, take, drop, replicate, length-append, length-replicate}
+use mathlib.Core.List.{List, ◌++◌, append_assoc}
+use mathlib.Core.Path.{◌≡◌, refl, ap, ◌∙◌}
+use lib.ListN.{length, take, drop, length-append, length-replicate}
 use lib.Seq.{drop_at, length-take-le}
 use Rattle.word.specs.Choose.{pick}
 use Rattle.saved_bytes.specs.Numbers.{bytes_of, halves_of}
@@ -15,9 +15,8 @@ use Rattle.processor.specs.Calls.{reset_of}
 use Rattle.processor.specs.declared.Machine.{Machine}
 use Rattle.saved_kinds.specs.Words.{rest_of, record_words_of}
 use Rattle.saved_layout.specs.Layout.{body_place_of, file_length_of}
-use Rattle.saved_layout.specs.File.{Bodies, bodies_of, joined_of, file_of, bodies_in, contents_in, SizedBodies}
+use Rattle.saved_layout.specs.File.{Bodies, joined_of, file_of, contents_in, SizedBodies}
 use Rattle.saved_layout.specs.declared.Form.TheVariants.{Two}
-use Rattle.saved_layout.proofs.Positions.{length-is}
 use Rattle.saved_layout.proofs.Files.{sealed, joined_length}
 use Rattle.saved_layout.proofs.Written.{put_three, words-put}
 use Rattle.saved_salvage.specs.declared.Kept.{Kept}

@@ -2,7 +2,7 @@
 use Prim.Native.Nat.{ℕ, ◌≤◌}
 use mathlib.Core.Bool.{Bool, true, false}
 use mathlib.Core.List.{List, []}
-use mathlib.Core.Path.{◌≡◌, refl, sym, ap, ◌∙◌}
+use mathlib.Core.Path.{◌≡◌, sym, ap, ◌∙◌}
 use borrow.Author.Tests.{eq-eqb, ne_eqb}
 use lib.ListN.{length}
 use Rattle.refusal.specs.declared.Verdict.{Verdict}
@@ -13,7 +13,7 @@ use Rattle.bus.specs.Refusal.{pak_ok}
 use Rattle.saved_bytes.specs.Numbers.{bytes_of}
 use Rattle.saved_bytes.specs.inner.Put.{put_at}
 use Rattle.saved_layout.specs.Layout.{body_place_of, file_length_of}
-use Rattle.saved_layout.specs.File.{Bodies, joined_of, file_of, bodies_in, contents_in}
+use Rattle.saved_layout.specs.File.{joined_of, file_of, bodies_in, contents_in}
 use Rattle.saved_layout.specs.declared.Form.TheVariants.{Two}
 use Rattle.saved_layout.proofs.Files.{length-pak-in, sized-in}
 use Rattle.saved_kinds.specs.Fits.{pak_length_of, fits_ok}

@@ -1,18 +1,17 @@
 -- `salvaged-valid`, `undamaged-equal`, `salvage-again` and `kept-exactly`. Assumes nothing.
-use Prim.Native.Nat.{ℕ, zero, suc, ◌+◌, ◌*◌, ◌/◌, ◌%◌, ◌^◌, ◌<◌, ◌≤◌}
+use Prim.Native.Nat.{ℕ, zero, suc, ◌+◌, ◌^◌, ◌<◌}
 use native.Mathlib.Omega.{arith}
 use mathlib.Core.Bool.{Bool, true, false}
 use mathlib.Core.List.{List, [], ◌∷◌, ◌++◌}
 use mathlib.Core.Path.{◌≡◌, refl, sym, ap, ◌∙◌}
-use borrow.Author.Tests.{eqb-true, eq-eqb, ne_eqb}
+use borrow.Author.Tests.{eqb-true, eq-eqb}
 use lib.Dec.{eqb, eqb-suc-zero}
 use lib.ListN.{length, get_or, take, drop, replicate}
 use Rattle.word.specs.Choose.{pick, member}
-use Rattle.word.specs.LittleEndian.{half_at, word_at}
+use Rattle.word.specs.LittleEndian.{word_at}
 use Rattle.word.proofs.Choices.{pick-both, pick-self, pick-either}
 use Rattle.word.proofs.Listed.{member-append}
-use Rattle.refusal.specs.Number.{when_accepted}
-use Rattle.refusal.specs.declared.Verdict.TheVariants.{Accepted, Refused}
+use Rattle.refusal.specs.declared.Verdict.TheVariants.{Accepted}
 use Rattle.refusal.specs.declared.Refusal.TheVariants.{FileLength, NoLayout}
 use Rattle.bus.specs.Refusal.{pak_ok}
 use Rattle.bus.proofs.Accepted.{unless-passed}
@@ -21,23 +20,23 @@ use Rattle.processor_machine.specs.System.{psw_bits_of}
 use Rattle.processor.specs.Acceptance.{both, even_ok, formats_ok, state_ok}
 use Rattle.processor.specs.Calls.{reset_of}
 use Rattle.saved_kinds.specs.Words.{rest_of, record_words_of}
-use Rattle.saved_bytes.specs.Numbers.{bytes_of, halves_of, halves_from, words_from, same_of}
+use Rattle.saved_bytes.specs.Numbers.{bytes_of, halves_of, halves_from, words_from}
 use Rattle.saved_bytes.specs.Parts.{body_sum_of}
 use Rattle.saved_bytes.proofs.Reading.{word-joined, same_self}
 use Rattle.saved_layout.specs.Layout.{contents_of, file_length_of}
-use Rattle.saved_layout.specs.File.{Bodies, sums_of, joined_of, file_of, bodies_in, contents_ok, SizedBodies, HeldBy}
+use Rattle.saved_layout.specs.File.{Bodies, sums_of, joined_of, file_of, bodies_in, contents_ok, SizedBodies}
 use Rattle.saved_layout.specs.declared.Form.TheVariants.{Two}
 use Rattle.saved_layout.proofs.Files.{sums-small, file-length, file-held, contents-back, file-again, length-pak-in, sized-in}
-use Rattle.saved_kinds.specs.Fits.{pak_length_of, fits_ok}
-use Rattle.saved_kinds.specs.Kinds.{general_from, rest_from, words_ok, processor_body_ok, drawing_from, drawing_body_ok, hardware_from, hardware_body_ok, bodies_ok, file_ok}
+use Rattle.saved_kinds.specs.Fits.{fits_ok}
+use Rattle.saved_kinds.specs.Kinds.{general_from, rest_from, words_ok, processor_body_ok, drawing_from, drawing_body_ok, hardware_body_ok, bodies_ok, file_ok}
 use Rattle.saved_kinds.proofs.Sizes.{pak-small, fits-exactly}
 use Rattle.saved_kinds.proofs.Tests.{reset-ok}
 use Rattle.saved_salvage.specs.declared.Kept.{Kept}
 use Rattle.saved_salvage.specs.Keep.{keeps_of, last_sum_place, kept_from, kept_in, processor_reset, or_zeros, kept_bodies_of}
 use Rattle.saved_salvage.specs.Listed.{with_kind, replaced_of, listed_kinds_of}
 use Rattle.saved_salvage.specs.Differ.{part_differs, entry_differs, entries_differ, entries_kept, contents_differ}
-use Rattle.saved_salvage.specs.Salvage.{output_of, pak_in_form_two, report_of, report_when, salvage_verdict_of, salvage_of, salvaged_output_of}
-use Rattle.saved_salvage.specs.Valid.{Valid, SalvagedValid, Unchanged, UndamagedEqual, SalvageAgain, lists_of, KeptExactly, KeptExactlyAll}
+use Rattle.saved_salvage.specs.Salvage.{output_of, pak_in_form_two, report_of, salvage_verdict_of, salvaged_output_of}
+use Rattle.saved_salvage.specs.Valid.{SalvagedValid, Unchanged, UndamagedEqual, SalvageAgain, lists_of, KeptExactlyAll}
 use Rattle.saved_salvage.proofs.Replacing.{kept-sized, kept-pak}
 use Rattle.saved_salvage.proofs.Salvaging.{by-verdict, verdict-accepted}
 

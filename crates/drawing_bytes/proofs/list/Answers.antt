@@ -1,5 +1,4 @@
 -- `drawing_bytes::list` meets its contract: the worlds' bytes, then the objects'. Assumes nothing.
-use borrow.Author.Rules.{rules}
 use Rattle.drawing_laws.specs.inner.SourceBytes.{pixel_bytes_biased}
 use Rattle.drawing_bytes.proofs.Listings.{listing-more}
 use Rattle.drawing_bytes.proofs.list.Goals as goal

@@ -6,10 +6,9 @@ use Prim.Native.Nat.{ℕ}
 use mathlib.Core.Path.{refl, ap, ◌∙◌}
 use Rattle.saved_bytes.specs.Numbers.{same_of}
 use Rattle.saved_layout.specs.File.{hardware_reset}
-use Rattle.saved_layout.specs.declared.Form.TheVariants.{One, Two}
+use Rattle.saved_layout.specs.declared.Form.TheVariants.{Two}
 use Rattle.saved_layout.proofs.Positions.{length-is}
 use Rattle.saved_layout.proofs.Written.{hardware-part}
-use borrow.Author.Rules.{rules}
 use Rattle.saved_move.proofs.at_reset.Goals as goal
 
 pub slice_bounds-same-end : goal.slice_bounds-same-end

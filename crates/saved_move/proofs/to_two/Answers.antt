@@ -4,8 +4,7 @@ use Prim.Native.Nat.{◌+◌, ◌-◌}
 use lib.ListN.{length-take, length-drop}
 use Rattle.saved_layout.specs.declared.Form.TheVariants.{One, Two}
 use Rattle.saved_layout.proofs.Positions.{length-is}
-use Rattle.saved_move.proofs.Moving.{moved-two, moved-one}
-use borrow.Author.Rules.{rules}
+use Rattle.saved_move.proofs.Moving.{moved-two}
 use Rattle.saved_move.proofs.to_two.Goals as goal
 
 pub slice_bounds-put_bytes-end : goal.slice_bounds-put_bytes-end

@@ -1,8 +1,6 @@
 -- `drawing_bytes::background::covers` meets its contract: each test that fails makes it false. Assumes nothing.
-use borrow.Author.Rules.{rules}
 use native.Mathlib.Omega.{arith}
 use mathlib.Core.Path.{sym, ◌∙◌}
-use borrow.Author.Tests.{not-true, not-false}
 use Rattle.drawing_bytes.proofs.Covering.{world-hidden, world-below, world-above, world-right, world-there}
 use Rattle.drawing_pixel.specs.inner.Halfwords.{halfwords_of}
 use Rattle.drawing_bytes.proofs.background.covers.Goals as goal
@@ -10,7 +8,7 @@ use Rattle.drawing_bytes.proofs.background.covers.Goals as goal
 pub returns-then-not-flag : goal.returns-then-not-flag
 returns-then-not-flag c = world-hidden (halfwords_of c.args.w) c.args.eye
     c.args.x c.args.y (sym c.flag.ensures
-    ∙ not-true _ c.if-not-flag.true)
+    ∙ c.if-not-flag.true)
 
 pub returns-then-y-top : goal.returns-then-y-top
 returns-then-y-top c = world-below (halfwords_of c.args.w)
@@ -35,6 +33,5 @@ returns c =
     (world-there (halfwords_of c.args.w) c.args.eye
     c.args.x
     c.args.y (sym
-    c.flag.ensures ∙ not-false _
-    c.if-not-flag.false) (omega arith) (omega arith)
+    c.flag.ensures ∙ c.if-not-flag.false) (omega arith) (omega arith)
     (omega arith))

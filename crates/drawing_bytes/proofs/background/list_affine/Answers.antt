@@ -1,5 +1,4 @@
 -- `drawing_bytes::background::list_affine` meets its contract: five halfwords, one after the other. Assumes nothing.
-use borrow.Author.Rules.{rules}
 use Rattle.drawing_bytes.proofs.Sources.{affine-listing}
 use Rattle.drawing_pixel.specs.inner.Halfwords.{halfwords_of}
 use Rattle.drawing_bytes.proofs.background.list_affine.Goals as goal

@@ -1,5 +1,4 @@
 -- `drawing_bytes::background::list_cell` meets its contract: the cell, then its character row. Assumes nothing.
-use borrow.Author.Rules.{rules}
 use mathlib.Core.Path.{◌∙◌}
 use Rattle.drawing_bytes.proofs.Sources.{cell-listing}
 use Rattle.drawing_pixel.specs.inner.Halfwords.{halfwords_of}

@@ -1,5 +1,4 @@
 -- `drawing_bytes::background::list_parameters` meets its contract, by BGM. Assumes nothing.
-use borrow.Author.Rules.{rules}
 use native.Mathlib.Omega.{arith}
 use mathlib.Core.Path.{◌≡◌}
 use Rattle.drawing_laws.specs.PixelBytes.{half_bytes_of, parameter_bytes_of}
@@ -9,12 +8,12 @@ use Rattle.drawing_pixel.specs.inner.Halfwords.{halfwords_of}
 use Rattle.drawing_bytes.proofs.background.list_parameters.Goals as goal
 
 pub returns-then-bgm-eq0 : goal.returns-then-bgm-eq0
-returns-then-bgm-eq0 c = (
-  listing-as _ _ _ _ _ _ (normal-parameters (halfwords_of c.args.w)
+returns-then-bgm-eq0 c = record {
+  lists = listing-as _ _ _ _ _ _ (normal-parameters (halfwords_of c.args.w)
       c.args.eye c.args.j c.if-bgm-eq0.true)
-      (listing_none _ _),
-  omega arith,
-)
+      (listing_none _ _);
+  upper_bound = omega arith;
+}
 
 pub returns-then-bgm-eq1 : goal.returns-then-bgm-eq1
 returns-then-bgm-eq1 c =
@@ -28,21 +27,21 @@ returns-then-bgm-eq1 c =
     ) (bias-parameters (halfwords_of c.args.w) c.args.eye
     c.args.j
     c.if-bgm-eq1.true) in
-    (listing-as _ _ _ _ _ _ e c.put_half.ensures, omega (arith, c.put_half.ensures.count))
+    record { lists = listing-as _ _ _ _ _ _ e c.put_half.ensures; upper_bound = omega (arith, c.put_half.ensures.count) }
 
 pub returns : goal.returns
-returns c = (
-  listing-as _ _ _ _ _ _ (affine-parameters
+returns c = record {
+  lists = listing-as _ _ _ _ _ _ (affine-parameters
       (halfwords_of c.args.w)
       c.args.eye
       c.args.j
       c.if-bgm-eq0.false c.if-bgm-eq1.false)
-      c.list_affine.ensures,
-  omega (
+      c.list_affine.ensures;
+  upper_bound = omega (
     arith,
     c.list_affine.ensures.count,
     affine-length
         (halfwords_of c.args.w)
         c.args.j,
-  ),
-)
+  );
+}

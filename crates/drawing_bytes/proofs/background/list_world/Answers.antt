@@ -1,5 +1,4 @@
 -- `drawing_bytes::background::list_world` meets its contract: skipped and object worlds have no bytes here. Assumes nothing.
-use borrow.Author.Rules.{rules}
 use native.Mathlib.Omega.{arith}
 use mathlib.Core.List.{List}
 use mathlib.Core.Path.{◌≡◌, ap, ◌∙◌}
@@ -17,7 +16,7 @@ returns-then-flags-lt16384 c =
     let f : c.wide-flags.result ≡ get_or (world_of a.vram.now a.k) 0 0 = c.wide-flags.ensures.0 ∙ ap (λ
     (w : List ℕ). get_or w 0 0) c.world_at-w.ensures in
     let s = flags-skipped (world_of a.vram.now a.k) (omega arith) in
-    (listing-as _ _ _ _ _ _ (world-skipped a.vram.now (world_of a.vram.now a.k) a.eye a.x a.y s) (listing_none _ _), omega arith)
+    record { lists = listing-as _ _ _ _ _ _ (world-skipped a.vram.now (world_of a.vram.now a.k) a.eye a.x a.y s) (listing_none _ _); upper_bound = omega arith }
 
 pub returns-then-flags-eq3 : goal.returns-then-flags-eq3
 returns-then-flags-eq3 c =
@@ -27,7 +26,7 @@ returns-then-flags-eq3 c =
     c.world_at-w.ensures in
     let s = flags-shown (world_of a.vram.now a.k) (omega arith) (omega arith) in
     let g : bgm_of (world_of a.vram.now a.k) ≡ 3 = omega arith in
-    (listing-as _ _ _ _ _ _ (world-objects a.vram.now (world_of a.vram.now a.k) a.eye a.x a.y s g) (listing_none _ _), omega arith)
+    record { lists = listing-as _ _ _ _ _ _ (world-objects a.vram.now (world_of a.vram.now a.k) a.eye a.x a.y s g) (listing_none _ _); upper_bound = omega arith }
 
 pub returns : goal.returns
 returns c =
@@ -38,4 +37,4 @@ returns c =
     let s = flags-shown (world_of a.vram.now a.k) (omega arith) (omega arith) in
     let g : (bgm_of (world_of a.vram.now a.k) ≡ 3 → ⊥) = (λ e. c.if-flags-eq3.false (omega arith)) in
     let done = rw c.world_at-w.ensures at c.list_background.ensures in
-    (listing-as _ _ _ _ _ _ (world-background a.vram.now (world_of a.vram.now a.k) a.eye a.x a.y s g) done.0, done.1)
+    record { lists = listing-as _ _ _ _ _ _ (world-background a.vram.now (world_of a.vram.now a.k) a.eye a.x a.y s g) done.lists; upper_bound = done.upper_bound }

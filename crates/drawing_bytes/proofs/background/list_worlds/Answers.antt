@@ -2,14 +2,13 @@
 -- list written into the buffer at first. Assumes nothing.
 use borrow.Author.Rules.{rules}
 use native.Mathlib.Omega.{arith}
-use Prim.Native.Nat.{◌-◌, ◌*◌, ◌≤◌, ◌/◌, ◌%◌}
+use Prim.Native.Nat.{◌-◌, ◌/◌, ◌%◌}
 use mathlib.Core.Path.{◌≡◌, ◌∙◌}
 use lib.ListN.{get_or}
 use borrow.Author.Tests.{eq-eqb, ne_eqb}
 use Rattle.drawing_pixel.specs.World.{world_of}
 use Rattle.drawing_strip.proofs.Worlds.{world-flags}
-use Rattle.drawing_laws.specs.inner.SourceBytes.{worlds_bytes_biased}
-use Rattle.drawing_bytes.proofs.Listings.{Left, left-begun, left-more, left-done, left-size}
+use Rattle.drawing_bytes.proofs.Listings.{left-begun, left-more, left-done, left-size}
 use Rattle.drawing_bytes.proofs.Worlds.{worlds-step, worlds-ended, worlds-none}
 use Rattle.drawing_bytes.proofs.background.list_worlds.Goals as goal
 
@@ -39,12 +38,12 @@ returns-then-wide-eq1 c =
     let a = c.args in
     let k = c.loop-k.k in
     let f : c.wide.result ≡ get_or (world_of a.vram.now (k - 1)) 0 0 = c.wide.ensures.0 ∙
-    (c.half.ensures ∙ world-flags a.vram.now (k - 1)) in (
-      left-done _ _ _ _ _ _ (worlds-ended a.vram.now a.eye a.x a.y k
+    (c.half.ensures ∙ world-flags a.vram.now (k - 1)) in record {
+      lists = left-done _ _ _ _ _ _ (worlds-ended a.vram.now a.eye a.x a.y k
           c.loop-k-test.true (eq-eqb (get_or (world_of a.vram.now (k - 1)) 0 0 / 64 % 2) 1
-          (omega arith))) c.loop-k.invariant.1.1,
-      omega arith,
-    )
+          (omega arith))) c.loop-k.invariant.1.1;
+      upper_bound = omega arith;
+    }
 
 pub overflow_sub-k-in-loop-k : goal.overflow_sub-k-in-loop-k
 overflow_sub-k-in-loop-k c = omega arith
@@ -81,10 +80,10 @@ pub shape_of-output : goal.shape_of-output
 shape_of-output c = left-size _ _ _ _ _ _ c.loop-k.invariant.1.1
 
 pub returns : goal.returns
-returns c = (
-  left-done _ _ _ _ _ _ (worlds-none c.args.vram.now
+returns c = record {
+  lists = left-done _ _ _ _ _ _ (worlds-none c.args.vram.now
       c.args.eye c.args.x
       c.args.y c.loop-k.k (omega arith))
-      c.loop-k.invariant.1.1,
-  omega arith,
-)
+      c.loop-k.invariant.1.1;
+  upper_bound = omega arith;
+}

@@ -1,14 +1,6 @@
-use borrow.Author.Rules.{rules}
-use native.Mathlib.Omega.{arith}
-use Prim.Native.Nat.{◌-◌, ◌*◌, ◌≤◌, ◌/◌, ◌%◌}
-use mathlib.Core.Path.{◌≡◌, ◌∙◌}
-use lib.ListN.{get_or}
-use borrow.Author.Tests.{eq-eqb, ne_eqb}
-use Rattle.drawing_pixel.specs.World.{world_of}
-use Rattle.drawing_strip.proofs.Worlds.{world-flags}
+use Prim.Native.Nat.{◌-◌, ◌*◌, ◌≤◌}
 use Rattle.drawing_laws.specs.inner.SourceBytes.{worlds_bytes_biased}
-use Rattle.drawing_bytes.proofs.Listings.{Left, left-begun, left-more, left-done, left-size}
-use Rattle.drawing_bytes.proofs.Worlds.{worlds-step, worlds-ended, worlds-none}
+use Rattle.drawing_bytes.proofs.Listings.{Left}
 use Rattle.drawing_bytes.proofs.background.list_worlds.Given as goal
 
 abbrev pub invariant-loop-k : goal.invariant-loop-k

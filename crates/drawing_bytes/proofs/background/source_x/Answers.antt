@@ -1,5 +1,4 @@
 -- `drawing_bytes::background::source_x` meets its contract, by BGM. Assumes nothing.
-use borrow.Author.Rules.{rules}
 use Rattle.drawing_bytes.proofs.Sources.{normal-x, bias-x, affine-x}
 use Rattle.drawing_pixel.specs.inner.Halfwords.{halfwords_of}
 use Rattle.drawing_bytes.proofs.background.source_x.Goals as goal

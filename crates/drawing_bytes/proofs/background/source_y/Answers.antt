@@ -1,5 +1,4 @@
 -- `drawing_bytes::background::source_y` meets its contract, by BGM. Assumes nothing.
-use borrow.Author.Rules.{rules}
 use mathlib.Core.Path.{◌∙◌}
 use Rattle.drawing_bytes.proofs.Sources.{plain-y, affine-y}
 use Rattle.drawing_pixel.specs.inner.Halfwords.{halfwords_of}

@@ -1,15 +1,13 @@
 -- `drawing_bytes::objects::covers` meets its contract: each test that fails makes it false. Assumes nothing.
-use borrow.Author.Rules.{rules}
 use native.Mathlib.Omega.{arith}
 use mathlib.Core.Path.{sym, ◌∙◌}
-use borrow.Author.Tests.{not-true, not-false}
 use Rattle.drawing_bytes.proofs.Covering.{object-hidden, object-elsewhere, object-right, object-there}
 use Rattle.drawing_bytes.proofs.objects.covers.Goals as goal
 
 pub returns-then-not-flag : goal.returns-then-not-flag
 returns-then-not-flag c = object-hidden c.args.o.now c.args.eye
     c.args.x c.args.y (sym c.flag.ensures
-    ∙ not-true _ c.if-not-flag.true)
+    ∙ c.if-not-flag.true)
 
 pub returns-then-object_row-ge8 : goal.returns-then-object_row-ge8
 returns-then-object_row-ge8 c = object-elsewhere c.args.o.now
@@ -29,5 +27,4 @@ returns c =
     c.args.eye
     c.args.x
     c.args.y (sym
-    c.flag.ensures ∙ not-false _
-    c.if-not-flag.false) (omega arith) (omega arith))
+    c.flag.ensures ∙ c.if-not-flag.false) (omega arith) (omega arith))

@@ -1,5 +1,4 @@
 -- `drawing_bytes::objects::draws_objects` meets its contract. Assumes nothing.
-use borrow.Author.Rules.{rules}
 use native.Mathlib.Omega.{arith}
 use Rattle.drawing_strip.proofs.Worlds.{flags-skipped, flags-shown}
 use Rattle.drawing_bytes.proofs.Worlds.{draws-skipped, draws-objects, draws-background}

@@ -1,5 +1,4 @@
 -- `drawing_bytes::objects::in_group` meets its contract. Assumes nothing.
-use borrow.Author.Rules.{rules}
 use Rattle.bus.specs.Registers.{spt_of}
 use Rattle.drawing_laws.specs.Covers.{in_group_of}
 use Rattle.drawing_bytes.proofs.objects.in_group.Goals as goal

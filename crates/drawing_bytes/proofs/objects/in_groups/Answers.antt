@@ -2,9 +2,7 @@
 -- Assumes nothing.
 use borrow.Author.Rules.{rules}
 use native.Mathlib.Omega.{arith}
-use Prim.Native.Nat.{◌<◌, ◌≤◌}
-use mathlib.Core.Path.{◌≡◌, sym, ◌∙◌}
-use Rattle.drawing_bytes.specs.inner.Groups.{in_groups_of}
+use mathlib.Core.Path.{sym, ◌∙◌}
 use Rattle.drawing_bytes.proofs.Drawn.{groups_none, groups-found, groups-on}
 use Rattle.drawing_bytes.proofs.objects.in_groups.Goals as goal
 

@@ -1,9 +1,6 @@
-use borrow.Author.Rules.{rules}
-use native.Mathlib.Omega.{arith}
 use Prim.Native.Nat.{◌<◌, ◌≤◌}
-use mathlib.Core.Path.{◌≡◌, sym, ◌∙◌}
+use mathlib.Core.Path.{◌≡◌}
 use Rattle.drawing_bytes.specs.inner.Groups.{in_groups_of}
-use Rattle.drawing_bytes.proofs.Drawn.{groups_none, groups-found, groups-on}
 use Rattle.drawing_bytes.proofs.objects.in_groups.Given as goal
 
 abbrev pub invariant-loop-left : goal.invariant-loop-left

@@ -1,9 +1,6 @@
-use borrow.Author.Rules.{rules}
-use native.Mathlib.Omega.{arith}
 use Prim.Native.Nat.{◌+◌, ◌-◌, ◌*◌, ◌≤◌}
 use Rattle.drawing_laws.specs.inner.SourceBytes.{objects_bytes_biased}
-use Rattle.drawing_bytes.proofs.Listings.{Left, left-begun, left-more, left-done, left-size}
-use Rattle.drawing_bytes.proofs.Drawn.{objects-step, objects-none}
+use Rattle.drawing_bytes.proofs.Listings.{Left}
 use Rattle.drawing_bytes.proofs.objects.list_objects.Given as goal
 
 abbrev pub invariant-loop-k : goal.invariant-loop-k

@@ -1,13 +1,12 @@
 -- `drawing_bytes::objects::object_worlds` meets its contract: those found and those left are all. Assumes nothing.
 use borrow.Author.Rules.{rules}
 use native.Mathlib.Omega.{arith}
-use Prim.Native.Nat.{◌+◌, ◌-◌, ◌≤◌, ◌/◌, ◌%◌}
+use Prim.Native.Nat.{◌-◌, ◌/◌, ◌%◌}
 use mathlib.Core.Path.{◌≡◌, ◌∙◌}
 use lib.ListN.{get_or}
 use borrow.Author.Tests.{eq-eqb, ne_eqb}
 use Rattle.drawing_pixel.specs.World.{world_of}
 use Rattle.drawing_strip.proofs.Worlds.{world-flags}
-use Rattle.drawing_bytes.specs.inner.Groups.{reached_object_worlds_of}
 use Rattle.drawing_bytes.proofs.Worlds.{reached-step, reached-ended, reached-none}
 use Rattle.drawing_bytes.proofs.objects.object_worlds.Goals as goal
 

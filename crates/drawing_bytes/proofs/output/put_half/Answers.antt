@@ -1,5 +1,4 @@
 -- `drawing_bytes::output::put_half` meets its contract: one address after the other. Assumes nothing.
-use borrow.Author.Rules.{rules}
 use Rattle.drawing_bytes.proofs.Listings.{listing-more}
 use Rattle.drawing_bytes.proofs.output.put_half.Goals as goal
 

@@ -1,6 +1,5 @@
 -- `processor::acceptance::formats_ok`: the tests in the definition's order.
 use borrow.Author.Tests.{eq-eqb, ne_eqb}
-use borrow.Author.Rules.{rules}
 use Rattle.processor.specs.Acceptance.{formats_ok}
 use Rattle.processor.proofs.acceptance.formats_ok.Goals as goal
 

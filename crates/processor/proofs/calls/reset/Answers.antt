@@ -1,6 +1,5 @@
 -- `processor::calls::reset`: the definition's own values.
 use Rattle.bus.specs.TimerLines.{hardware_in}
-use borrow.Author.Rules.{rules}
 use Rattle.processor.specs.Calls.{reset_of}
 use Rattle.processor.proofs.calls.reset.Goals as goal
 

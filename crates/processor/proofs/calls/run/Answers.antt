@@ -1,17 +1,14 @@
 -- `processor::calls::run`: refused as the definition says, else the inner call's promise.
-use mathlib.Core.Path.{sym, ◌∙◌, ap}
-use borrow.Author.Rules.{rules}
+use mathlib.Core.Path.{sym, ◌∙◌}
 use Rattle.processor.proofs.Checked.{run-accepted}
-use Rattle.processor.specs.Run.{Run}
 use Rattle.processor.proofs.Lengths.{lengths-of-accepted}
-use Rattle.processor.specs.Record.{processor_of}
-use Rattle.processor.specs.Calls.{checked_run_of, ran_of}
+use Rattle.processor.specs.Calls.{checked_run_of}
 use Rattle.processor.proofs.calls.run.Goals as goal
 
 pub run-f-requires : goal.run-f-requires
 run-f-requires c = lengths-of-accepted _ _ _ _ _ _ _ _ _ (sym
     c.acceptance.ensures
-    ∙ c.enum_told-1.given.1)
+    ∙ c.in-Accepted.is)
 
 pub returns-in-Refused : goal.returns-in-Refused
 unfolding checked_run_of
@@ -19,7 +16,7 @@ returns-in-Refused c = rw (
   ← c.device_of-device.ensures,
   ← c.system-sys.ensures,
   ← c.acceptance.ensures,
-  c.n-1.given.1,
+  c.in-Refused.is,
 )
 
 pub returns-in-Accepted : goal.returns-in-Accepted
@@ -29,5 +26,5 @@ returns-in-Accepted c =
     (run-accepted a.processor _ _ _ _ c.system-sys.ensures
     c.device_of-device.ensures
     c.acceptance.ensures
-    c.enum_told-1.given.1 _ _
+    c.in-Accepted.is _ _
     c.run-f.ensures)

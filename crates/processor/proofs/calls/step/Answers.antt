@@ -1,7 +1,6 @@
 -- `processor::calls::step`: refused as the definition says, else what a step promises, and the masks of what it
 -- fetched.
 use mathlib.Core.Path.{sym, ◌∙◌}
-use borrow.Author.Rules.{rules}
 use Rattle.processor.proofs.Checked.{step-accepted}
 use Rattle.processor.proofs.Lengths.{lengths-of-accepted}
 use Rattle.processor.specs.Calls.{checked_step_of}
@@ -10,7 +9,7 @@ use Rattle.processor.proofs.calls.step.Goals as goal
 pub step-t-requires : goal.step-t-requires
 step-t-requires c = lengths-of-accepted _ _ _ _ _ _ _ _ _ (sym
     c.acceptance.ensures
-    ∙ c.enum_told-1.given.1)
+    ∙ c.in-Accepted.is)
 
 pub returns-in-Refused : goal.returns-in-Refused
 unfolding checked_step_of
@@ -19,7 +18,7 @@ returns-in-Refused c = rw (
   ← c.device_of-device.ensures,
   ← c.system-sys.ensures,
   ← c.acceptance.ensures,
-  c.n-1.given.1,
+  c.in-Refused.is,
 )
 
 pub returns-in-Accepted : goal.returns-in-Accepted
@@ -29,6 +28,6 @@ returns-in-Accepted c =
     let step = c.step-t.ensures in
     rw (c.drawing_in-registers.ensures, c.joined-processor.ensures)
     (step-accepted a.processor _ _ _ _ system.ensures
-    c.device_of-device.ensures c.acceptance.ensures c.enum_told-1.given.1 _
-    step.0 _ step.1 _ (c.masks-undefined.ensures system.result a.processor.psw
+    c.device_of-device.ensures c.acceptance.ensures c.in-Accepted.is _
+    step.done _ step.fetched _ (c.masks-undefined.ensures system.result a.processor.psw
     a.processor.mode _))

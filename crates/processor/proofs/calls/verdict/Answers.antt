@@ -1,5 +1,4 @@
 -- `processor::calls::verdict`: the record's own system registers, its lines and its timer.
-use borrow.Author.Rules.{rules}
 use Rattle.processor.proofs.calls.verdict.Goals as goal
 
 pub returns : goal.returns

@@ -1,5 +1,4 @@
 -- `processor::record::joined`: field by field.
-use borrow.Author.Rules.{rules}
 use Rattle.processor.proofs.record.joined.Goals as goal
 
 pub returns : goal.returns

@@ -1,15 +1,14 @@
 -- `processor::run::after`: by the answer.
-use borrow.Author.Rules.{rules}
 use Rattle.processor.proofs.run.after.Goals as goal
 
 pub returns-in-TurnedFatal : goal.returns-in-TurnedFatal
-returns-in-TurnedFatal c = rw c.enum_told-in-TurnedFatal-1.given.1
+returns-in-TurnedFatal c = rw c.in-TurnedFatal.is
 
 pub returns-in-WasHalted : goal.returns-in-WasHalted
-returns-in-WasHalted c = rw c.enum_told-in-WasHalted-1.given.1
+returns-in-WasHalted c = rw c.in-WasHalted.is
 
 pub returns-in-WasFatal : goal.returns-in-WasFatal
-returns-in-WasFatal c = rw c.enum_told-in-WasFatal-1.given.1
+returns-in-WasFatal c = rw c.in-WasFatal.is
 
 pub returns-in-Refused : goal.returns-in-Refused
-returns-in-Refused c = rw c.answer-1.given.1
+returns-in-Refused c = rw c.in-Refused.is

@@ -1,12 +1,8 @@
 -- `processor::run::fast`: a stretch in running mode where nothing is accepted, else nothing.
-use mathlib.Core.Path.{◌≡◌, refl, sym, ◌∙◌}
-use borrow.Author.Rules.{rules}
+use mathlib.Core.Path.{sym, ◌∙◌}
 use Rattle.processor.proofs.Follows.{follows-start}
 use Rattle.processor.proofs.FastSteps.{follows-leads}
 use Rattle.processor.proofs.run.fast.Goals as goal
-
-pub enum_told-1 : goal.enum_told-1
-enum_told-1 c = c.in-Running.keys1
 
 pub returns-then-accepts : goal.returns-then-accepts
 returns-then-accepts c = follows-start _ _ _
@@ -14,22 +10,16 @@ returns-then-accepts c = follows-start _ _ _
 pub stretch-requires : goal.stretch-requires
 stretch-requires c = c.requires
 
-pub enum_told-in-Halted : goal.enum_told-in-Halted
-enum_told-in-Halted c = c.in-Running.keys2
-
-pub enum_told-in-Fatal : goal.enum_told-in-Fatal
-enum_told-in-Fatal c = c.in-Running.keys3
-
 pub shape_of-wram : goal.shape_of-wram
-shape_of-wram c = c.stretch.auto.1.0
+shape_of-wram c = c.stretch.auto.wram
 
 pub shape_of-vram : goal.shape_of-vram
-shape_of-vram c = c.stretch.auto.1.1.0
+shape_of-vram c = c.stretch.auto.vram
 
 pub returns-else-accepts : goal.returns-else-accepts
 returns-else-accepts c =
     let a = c.args in
-    let mode = c.enum_told-1.given.1 in
+    let mode = c.in-Running.is in
     let t = c.stretch.ensures in
     let none = rw mode at (sym c.accepts.ensures ∙ c.if-accepts.false) in
     rw mode (follows-leads _ _ none a.budget _ _ _ t.within t.leads)

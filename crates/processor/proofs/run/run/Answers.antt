@@ -2,10 +2,6 @@
 use mathlib.Core.Path.{◌≡◌, refl, sym, ◌∙◌}
 use Prim.Native.Nat.{◌+◌, ◌-◌}
 use native.Mathlib.Omega.{arith}
-use lib.ListN.{length}
-use Rattle.bus.specs.Memory.{memory_of}
-use Rattle.processor_machine.specs.State.{state_of}
-use Rattle.processor.specs.inner.Follows.{Follows}
 use Rattle.processor.proofs.Follows.{follows-start, follows-counted, follows_on, follows-stopped, follows-finished}
 use Rattle.processor.proofs.run.run.Goals as goal
 
@@ -30,11 +26,11 @@ overflow_add-n c = omega (
 )
 
 pub shape_of-wram-then-budget-n : goal.shape_of-wram-then-budget-n
-shape_of-wram-then-budget-n c = c.fast-q.auto.1.0
+shape_of-wram-then-budget-n c = c.fast-q.auto.wram
     ∙ c.loop-n.invariant.1
 
 pub shape_of-vram-then-budget-n : goal.shape_of-vram-then-budget-n
-shape_of-vram-then-budget-n c = c.fast-q.auto.1.1.0
+shape_of-vram-then-budget-n c = c.fast-q.auto.vram
     ∙ c.loop-n.invariant.2
 
 pub shape_of-pak-then-budget-n : goal.shape_of-pak-then-budget-n
@@ -55,14 +51,11 @@ pub step-t-requires : goal.step-t-requires
 step-t-requires c =
     let pre = c.requires in
     let i = c.loop-n.invariant in
-    let k = c.fast-q.auto.1 in
-    record { rom-ok = pre.rom-ok; wram-ok = k.0 ∙ i.1 ∙ pre.wram-ok; vram-ok = k.1.0 ∙ i.2 ∙ pre.vram-ok; pak-ok = rw i.3 pre.pak-ok }
+    let k = c.fast-q.auto in
+    record { rom-ok = pre.rom-ok; wram-ok = k.wram ∙ i.1 ∙ pre.wram-ok; vram-ok = k.vram ∙ i.2 ∙ pre.vram-ok; pak-ok = rw i.3 pre.pak-ok }
 
 pub after-requires : goal.after-requires
 after-requires c = tt
-
-pub enum_told-1 : goal.enum_told-1
-enum_told-1 c = c.in-Counted.keys1
 
 pub overflow_add-n-in-Counted : goal.overflow_add-n-in-Counted
 overflow_add-n-in-Counted c = omega (
@@ -85,30 +78,27 @@ loop-n-preserved c =
       arith,
       c.loop-n-test.true,
     ) in
-    let f = follows_on _ _ _ _ _ _ l.inv.0 (a.budget - l.n) _ _ _ e
+    let f = follows_on _ _ _ _ _ _ l.invariant.0 (a.budget - l.n) _ _ _ e
     c.fast-q.ensures in
     let s = c.step-t in
-    let q = c.fast-q.auto.1 in (
-      follows-counted _ _ _ _ _ _ f c.if-budget-n.false _ s.ensures.0 (sym
-          c.after.ensures ∙ c.enum_told-1.given.1),
-      s.auto.1.0 ∙ q.0 ∙ l.inv.1,
-      s.auto.1.1.0 ∙ q.1.0 ∙ l.inv.2,
-      s.auto.1.1.1.0 ∙ l.inv.3,
+    let q = c.fast-q.auto in (
+      follows-counted _ _ _ _ _ _ f c.if-budget-n.false _ s.ensures.done (sym
+          c.after.ensures ∙ c.in-Counted.is),
+      s.auto.wram ∙ q.wram ∙ l.invariant.1,
+      s.auto.vram ∙ q.vram ∙ l.invariant.2,
+      s.auto.pak ∙ l.invariant.3,
     )
 
-pub enum_known-verdict : goal.enum_known-verdict
-enum_known-verdict c = c.in-Counted.keys2
-
 pub shape_of-wram-in-Stopped : goal.shape_of-wram-in-Stopped
-shape_of-wram-in-Stopped c = c.step-t.auto.1.0 ∙ c.fast-q.auto.1.0
+shape_of-wram-in-Stopped c = c.step-t.auto.wram ∙ c.fast-q.auto.wram
     ∙ c.loop-n.invariant.1
 
 pub shape_of-vram-in-Stopped : goal.shape_of-vram-in-Stopped
-shape_of-vram-in-Stopped c = c.step-t.auto.1.1.0 ∙ c.fast-q.auto.1.1.0
+shape_of-vram-in-Stopped c = c.step-t.auto.vram ∙ c.fast-q.auto.vram
     ∙ c.loop-n.invariant.2
 
 pub shape_of-pak-in-Stopped : goal.shape_of-pak-in-Stopped
-shape_of-pak-in-Stopped c = c.step-t.auto.1.1.1.0 ∙ c.loop-n.invariant.3
+shape_of-pak-in-Stopped c = c.step-t.auto.pak ∙ c.loop-n.invariant.3
 
 pub returns-in-Stopped : goal.returns-in-Stopped
 returns-in-Stopped c =
@@ -118,11 +108,11 @@ returns-in-Stopped c =
       arith,
       c.loop-n-test.true,
     ) in
-    let f = follows_on _ _ _ _ _ _ l.inv.0 (a.budget - l.n) _ _ _ e
+    let f = follows_on _ _ _ _ _ _ l.invariant.0 (a.budget - l.n) _ _ _ e
     c.fast-q.ensures in
     follows-stopped _ _ _ _ _ _ f c.if-budget-n.false _ _
     c.step-t.ensures.done
-    (sym c.after.ensures ∙ c.verdict-1.given.1)
+    (sym c.after.ensures ∙ c.in-Stopped.is)
 
 pub shape_of-wram : goal.shape_of-wram
 shape_of-wram c = c.loop-n.invariant.1

@@ -1,11 +1,9 @@
-use mathlib.Core.Path.{◌≡◌, refl, sym, ◌∙◌}
-use Prim.Native.Nat.{◌+◌, ◌-◌}
-use native.Mathlib.Omega.{arith}
+use mathlib.Core.Path.{◌≡◌}
+use Prim.Native.Nat.{◌-◌}
 use lib.ListN.{length}
 use Rattle.bus.specs.Memory.{memory_of}
 use Rattle.processor_machine.specs.State.{state_of}
 use Rattle.processor.specs.inner.Follows.{Follows}
-use Rattle.processor.proofs.Follows.{follows-start, follows-counted, follows_on, follows-stopped, follows-finished}
 use Rattle.processor.proofs.run.run.Given as goal
 
 abbrev pub invariant-loop-n : goal.invariant-loop-n

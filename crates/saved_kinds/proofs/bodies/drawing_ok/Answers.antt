@@ -2,7 +2,6 @@
 use mathlib.Core.Path.{ap, ◌∙◌}
 use Rattle.bus.specs.Registers.{drawing_ok}
 use Rattle.saved_kinds.specs.Kinds.{drawing_body_ok, drawing_from}
-use borrow.Author.Rules.{rules}
 use Rattle.saved_kinds.proofs.bodies.drawing_ok.Goals as goal
 
 pub returns : goal.returns

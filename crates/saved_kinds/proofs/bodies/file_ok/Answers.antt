@@ -2,9 +2,6 @@
 use native.Mathlib.Omega.{arith}
 use Prim.Native.Nat.{◌+◌, ◌-◌}
 use mathlib.Core.Path.{◌≡◌, refl, sym, ap, ◌∙◌}
-use mathlib.Core.List.{List}
-use Prim.Native.Nat.{ℕ}
-use borrow.Author.Tests.{not-true, not-false}
 use lib.ListN.{length}
 use Rattle.saved_layout.specs.Layout.{body_place_of, file_length_of}
 use Rattle.saved_layout.specs.declared.Form.TheVariants.{One, Two}
@@ -12,7 +9,6 @@ use Rattle.saved_layout.proofs.Positions.{length-is}
 use Rattle.saved_layout.proofs.Written.{hardware-part}
 use Rattle.saved_kinds.specs.Kinds.{hardware_body_ok}
 use Rattle.saved_kinds.proofs.Tests.{file-contents, file-records, file-last, one-hardware}
-use borrow.Author.Rules.{rules}
 use Rattle.saved_kinds.proofs.bodies.file_ok.Goals as goal
 
 pub returns-then-not-ok : goal.returns-then-not-ok

@@ -1,6 +1,5 @@
 -- `saved_kinds::bodies::hardware` meets its contract. Assumes nothing.
 use Rattle.saved_kinds.specs.Kinds.{hardware_from}
-use borrow.Author.Rules.{rules}
 use Rattle.saved_kinds.proofs.bodies.hardware.Goals as goal
 
 pub returns : goal.returns

@@ -2,7 +2,6 @@
 use mathlib.Core.Path.{ap, ◌∙◌}
 use Rattle.bus_timer.specs.Ports.{hardware_ok}
 use Rattle.saved_kinds.specs.Kinds.{hardware_body_ok}
-use borrow.Author.Rules.{rules}
 use Rattle.saved_kinds.proofs.bodies.hardware_ok.Goals as goal
 
 pub returns : goal.returns

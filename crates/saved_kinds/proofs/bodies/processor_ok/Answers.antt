@@ -2,7 +2,6 @@
 use native.Mathlib.Omega.{arith}
 use mathlib.Core.Path.{◌∙◌}
 use Rattle.saved_kinds.proofs.Tests.{mode-none, state-decides}
-use borrow.Author.Rules.{rules}
 use Rattle.saved_kinds.proofs.bodies.processor_ok.Goals as goal
 
 pub returns-then-rest-gt2 : goal.returns-then-rest-gt2

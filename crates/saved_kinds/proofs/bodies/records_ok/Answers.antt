@@ -3,11 +3,9 @@ use native.Mathlib.Omega.{arith}
 use Prim.Native.Nat.{ℕ, ◌+◌, ◌-◌}
 use mathlib.Core.Bool.{false}
 use mathlib.Core.Path.{◌≡◌, sym, ap, ◌∙◌}
-use borrow.Author.Tests.{not-true, not-false}
 use lib.ListN.{take, drop}
 use Rattle.word.proofs.Choices.{pick_true, pick-false}
 use Rattle.saved_kinds.specs.Kinds.{processor_body_ok, drawing_body_ok}
-use borrow.Author.Rules.{rules}
 use Rattle.saved_kinds.proofs.bodies.records_ok.Goals as goal
 
 pub returns-then-not-processor_ok : goal.returns-then-not-processor_ok

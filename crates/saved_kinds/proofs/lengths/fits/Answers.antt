@@ -1,13 +1,10 @@
 -- `saved_kinds::lengths::fits` meets its contract. Assumes nothing.
-use mathlib.Core.Path.{◌≡◌, sym, ap, ◌∙◌}
-use borrow.Author.Tests.{not-true, not-false}
+use mathlib.Core.Path.{sym, ap, ◌∙◌}
 use Prim.Native.Nat.{ℕ}
 use lib.Dec.{eqb}
 use Rattle.bus.specs.Refusal.{pak_ok}
 use Rattle.saved_layout.specs.Layout.{file_length_of}
-use Rattle.saved_kinds.specs.Fits.{pak_length_of}
 use Rattle.saved_kinds.proofs.Sizes.{pak-small, fits_not, fits-length}
-use borrow.Author.Rules.{rules}
 use Rattle.saved_kinds.proofs.lengths.fits.Goals as goal
 
 pub returns-then-not-pak_ok : goal.returns-then-not-pak_ok

@@ -2,7 +2,6 @@
 use native.Mathlib.Omega.{arith}
 use lib.ListN.{get_or-eq_default}
 use Rattle.saved_kinds.proofs.Sizes.{form-two, form-one}
-use borrow.Author.Rules.{rules}
 use Rattle.saved_kinds.proofs.lengths.form_of.Goals as goal
 
 pub returns-then-file-eq0 : goal.returns-then-file-eq0

@@ -1,7 +1,6 @@
 -- `saved_kinds::lengths::pak_length` meets its contract. Assumes nothing.
 use native.Mathlib.Omega.{arith}
 use Rattle.saved_kinds.proofs.Sizes.{one_byte, pak-length-is}
-use borrow.Author.Rules.{rules}
 use Rattle.saved_kinds.proofs.lengths.pak_length.Goals as goal
 
 pub overflow_sub-besides : goal.overflow_sub-besides

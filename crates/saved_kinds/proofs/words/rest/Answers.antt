@@ -1,6 +1,5 @@
 -- `saved_kinds::words::rest` meets its contract: word by word. Assumes nothing.
 use Rattle.saved_kinds.specs.Words.{rest_of}
-use borrow.Author.Rules.{rules}
 use Rattle.saved_kinds.proofs.words.rest.Goals as goal
 
 pub returns : goal.returns

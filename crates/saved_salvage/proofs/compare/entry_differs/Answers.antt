@@ -1,6 +1,5 @@
 -- `saved_salvage::compare::entry_differs` meets its contract. Assumes nothing.
 use Rattle.saved_salvage.specs.Differ.{entry_differs}
-use borrow.Author.Rules.{rules}
 use Rattle.saved_salvage.proofs.compare.entry_differs.Goals as goal
 
 pub returns-then-found : goal.returns-then-found

@@ -2,7 +2,6 @@
 use native.Mathlib.Omega.{arith}
 use Prim.Native.Nat.{◌+◌, ◌-◌}
 use Rattle.saved_salvage.proofs.Differing.{part-is}
-use borrow.Author.Rules.{rules}
 use Rattle.saved_salvage.proofs.compare.part_differs.Goals as goal
 
 pub returns : goal.returns

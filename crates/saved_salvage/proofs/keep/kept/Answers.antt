@@ -10,7 +10,6 @@ use Rattle.saved_layout.proofs.Positions.{length-is, first_small}
 use Rattle.saved_layout.proofs.Written.{processor-part, drawing-part, hardware-part}
 use Rattle.saved_kinds.specs.Kinds.{processor_body_ok, drawing_body_ok, hardware_body_ok}
 use Rattle.saved_salvage.proofs.Keeping.{keeps-is, sum-1, sum-2, sum-3, sum-4, sum-5, sum-6, kept-empty, kept-some}
-use borrow.Author.Rules.{rules}
 use Rattle.saved_salvage.proofs.keep.kept.Goals as goal
 
 pub word_at-requires : goal.word_at-requires

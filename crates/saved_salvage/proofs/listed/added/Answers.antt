@@ -1,7 +1,6 @@
 -- `saved_salvage::listed::added` meets its contract. Assumes nothing.
 use native.Mathlib.Omega.{arith}
 use Rattle.saved_salvage.specs.inner.Added.{added_of}
-use borrow.Author.Rules.{rules}
 use Rattle.saved_salvage.proofs.listed.added.Goals as goal
 
 pub returns-then-kept : goal.returns-then-kept

@@ -1,7 +1,6 @@
 -- `saved_salvage::listed::replaced` meets its contract. Assumes nothing.
 use native.Mathlib.Omega.{arith}
 use Rattle.saved_salvage.proofs.Listing.{none-count, all_listed}
-use borrow.Author.Rules.{rules}
 use Rattle.saved_salvage.proofs.listed.replaced.Goals as goal
 
 pub added-one-requires : goal.added-one-requires

@@ -1,16 +1,15 @@
 -- `saved_salvage::replace::put_bodies` meets its contract. Assumes nothing.
 use native.Mathlib.Omega.{arith}
 use Prim.Native.Nat.{ℕ, ◌+◌}
-use mathlib.Core.Path.{◌≡◌, refl, ap, ◌∙◌}
+use mathlib.Core.Path.{refl, ap, ◌∙◌}
 use Rattle.saved_bytes.specs.inner.Put.{put_at}
 use Rattle.saved_layout.specs.File.{bodies_in, joined_of}
 use Rattle.saved_layout.specs.declared.Form.TheVariants.{Two}
-use Rattle.saved_layout.proofs.Positions.{length-is, first_small}
+use Rattle.saved_layout.proofs.Positions.{length-is}
 use Rattle.saved_layout.proofs.Files.{length-pak-in, sized-in}
 use Rattle.saved_layout.proofs.Written.{processor-part, drawing-part, wram-part, vram-part, pak-part, hardware-part}
 use Rattle.saved_salvage.specs.Keep.{kept_bodies_of}
 use Rattle.saved_salvage.proofs.Replacing.{bodies-put}
-use borrow.Author.Rules.{rules}
 use Rattle.saved_salvage.proofs.replace.put_bodies.Goals as goal
 
 pub put_processor-requires : goal.put_processor-requires

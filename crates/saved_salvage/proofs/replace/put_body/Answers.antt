@@ -4,7 +4,6 @@ use Prim.Native.Nat.{ℕ, ◌+◌, ◌-◌}
 use mathlib.Core.Path.{◌≡◌, sym, ap, ◌∙◌}
 use lib.ListN.{length, take, drop, length-take, length-drop, replicate}
 use Rattle.saved_bytes.specs.inner.Put.{put_at}
-use borrow.Author.Rules.{rules}
 use Rattle.saved_salvage.proofs.replace.put_body.Goals as goal
 
 pub put_bytes-requires : goal.put_bytes-requires

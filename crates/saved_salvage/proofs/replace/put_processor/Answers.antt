@@ -5,7 +5,6 @@ use mathlib.Core.Path.{◌≡◌, ap, ◌∙◌}
 use lib.ListN.{take, drop, length-take, length-drop}
 use Rattle.saved_bytes.specs.inner.Put.{put_at}
 use Rattle.saved_salvage.proofs.Replacing.{machine-general, reset-put}
-use borrow.Author.Rules.{rules}
 use Rattle.saved_salvage.proofs.replace.put_processor.Goals as goal
 
 pub put_bytes-requires : goal.put_bytes-requires
