@@ -32,4 +32,4 @@ package:
 	packaging/package
 
 clean:
-	rm -rf target rust/target tool/target
+	rm -rf target rust/target tool/target crates/*/out

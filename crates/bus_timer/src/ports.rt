@@ -1,7 +1,7 @@
 // The timer's registers: TLR, THR and TCR, bytes of region 2 by their offset there.
 ghost use Rattle.std.specs.Prelude.{◌≡◌, ◌%◌, ◌<◌};
 ghost use Rattle.bus_timer.specs.Ports.{control_bits_of, port_byte_of, control_written_of, line_after_control};
-ghost use Rattle.bus_timer.specs.Ports.{tcr_written_of, port_written_of, hardware_ok};
+ghost use Rattle.bus_timer.specs.Ports.{port_written_of, hardware_ok};
 
 use crate::{TimerLines, bits, record};
 

@@ -1,6 +1,5 @@
 -- What the C boundary gives for the bytes that a pixel answers to (include/vb.h): how many there are, the
 -- refusal's number, or VB_MISUSE for a pixel outside the image, for which the specification has no number.
-use Rattle.std.specs.Prelude.{ℕ}
 use Rattle.refusal.specs.Number.{number_of}
 use Rattle.drawing_bytes.specs.declared.Listed.{Listed}
 use Rattle.drawing_bytes.specs.declared.Listed.TheVariants.{Count, Refused, Outside}

@@ -1,7 +1,7 @@
 -- What the C boundary gives for a saved state (include/vb.h): the papers' refusal number or VB_MISUSE, which comes
 -- after 1 to 5 and before 9, 10 and 16, the output buffer or the records and memories afterwards; and for a move and a
 -- salvage, which take a file and an output buffer (paper 02: "room").
-use Rattle.std.specs.Prelude.{ℕ, Bool, List}
+use Rattle.std.specs.Prelude.{ℕ, List}
 use Rattle.word.specs.Choose.{pick}
 use Rattle.refusal.specs.Number.{verdict_number}
 use Rattle.bus.specs.Memory.{Memory}

@@ -3,7 +3,6 @@ ghost use Rattle.std.specs.Prelude.{◌≡◌, List, ℕ, ◌+◌, ◌*◌, ◌<
 ghost use Rattle.bus.specs.Refusal.{vram_bytes};
 ghost use Rattle.word.specs.Choose.{pick};
 ghost use Rattle.bus.specs.Registers.{spt_of};
-ghost use Rattle.drawing_pixel.specs.Object.{object_of};
 ghost use Rattle.drawing_pixel.specs.inner.BiasedObject.{object_covers_biased};
 ghost use Rattle.drawing_pixel.specs.Pixel.{draws_objects_of};
 ghost use Rattle.drawing_laws.specs.Covers.{in_group_of};

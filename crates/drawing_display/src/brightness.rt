@@ -1,7 +1,6 @@
 // What is shown: the levels of every group of four columns first, then the pixels, strip by strip.
-ghost use Rattle.std.specs.Prelude.{◌≡◌, ℕ, ◌+◌, ◌-◌, ◌*◌, ◌/◌, ◌%◌, ◌<◌, ◌≤◌, length, get_or};
+ghost use Rattle.std.specs.Prelude.{◌≡◌, ◌+◌, ◌-◌, ◌*◌, ◌/◌, ◌%◌, ◌<◌, ◌≤◌, length, get_or};
 ghost use Rattle.bus.specs.Refusal.{vram_bytes};
-ghost use Rattle.word.specs.LittleEndian.{half_at};
 ghost use Rattle.drawing_pixel.specs.Character.{two_bits_of};
 ghost use Rattle.drawing_display.specs.Brightness.{time_of, lamp_level_of, repeats_of};
 ghost use Rattle.drawing_display.specs.Calls.{shown_of};

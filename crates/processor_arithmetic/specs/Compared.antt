@@ -2,7 +2,7 @@
 -- condition is named after, of the words as they stand and of their signed readings.
 use Rattle.std.specs.Prelude.{◌≡◌, ℕ, ◌^◌, ◌<◌, not, ◌==◌, int_le, int_lt, nat_le, nat_lt}
 use Rattle.processor_arithmetic.specs.Sum.{compare_of}
-use Rattle.processor_arithmetic.specs.Condition.{condition_of, ◌or◌}
+use Rattle.processor_arithmetic.specs.Condition.{condition_of}
 use Rattle.processor_arithmetic.specs.Integer.{signed}
 
 -- what each condition says after CMP of a with b

@@ -1,7 +1,7 @@
 -- Products over the whole numbers (document 000, "Arithmetic"; paper 01): the two words of MUL, read as one signed
 -- number of 64 bits, are the product of the signed readings; those of MULU are the product. OV says that the 64-bit
 -- product is not the sign extension of its low word, for both.
-use Rattle.std.specs.Prelude.{◌≡◌, ℕ, ◌+◌, ◌-◌, ◌*◌, ◌%◌, ◌^◌, ◌<◌, ◌*ℤ◌, nat_le}
+use Rattle.std.specs.Prelude.{◌≡◌, ℕ, ◌+◌, ◌*◌, ◌%◌, ◌^◌, ◌<◌, ◌*ℤ◌, nat_le}
 use Rattle.word.specs.Bit.{bit_at}
 use Rattle.processor_arithmetic.specs.Flag.{bit_of}
 use Rattle.processor_arithmetic.specs.Product.{overflows_of, words_of, product_of, multiply_of, multiply_unsigned_of}

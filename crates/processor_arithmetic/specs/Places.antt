@@ -1,6 +1,6 @@
 -- Each flag at its place (document 000, "PSW"): Z is bit 0, S bit 1, OV bit 2, CY bit 3, and a result leaves every
 -- other bit as it was. To set or clear a flag changes that bit alone.
-use Rattle.std.specs.Prelude.{◌≡◌, ℕ, ◌-◌, ◌^◌, ◌<◌, ◌≤◌, ◌≢◌}
+use Rattle.std.specs.Prelude.{◌≡◌, ℕ, ◌^◌, ◌<◌, ◌≤◌, ◌≢◌}
 use Rattle.word.specs.Bit.{bit_at, without_bit, with_bit}
 use Rattle.processor_arithmetic.specs.Flag.{sign_of, zero_of, flags_of, keep_carry_of}
 

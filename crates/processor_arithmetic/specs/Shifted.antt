@@ -1,6 +1,6 @@
 -- Shifts (document 000, "Bitwise"; paper 01: amounts mod 32): SAR divides the signed reading by 2 ^ n and rounds down,
 -- and CY is the last bit out: bit 32 - n to the left, bit n - 1 to the right, and 0 for amount 0.
-use Rattle.std.specs.Prelude.{◌≡◌, ℕ, ◌-◌, ◌*◌, ◌%◌, ◌^◌, ◌<◌, pos, ◌+ℤ◌, ◌*ℤ◌}
+use Rattle.std.specs.Prelude.{◌≡◌, ℕ, ◌-◌, ◌%◌, ◌^◌, ◌<◌, pos, ◌+ℤ◌, ◌*ℤ◌}
 use Rattle.word.specs.Bit.{bit_at}
 use Rattle.processor_arithmetic.specs.Shift.{left_out_of, right_out_of, shift_left_of, shift_right_of, shift_arithmetic_of}
 use Rattle.processor_arithmetic.specs.Integer.{signed}

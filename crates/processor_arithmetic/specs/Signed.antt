@@ -1,6 +1,6 @@
 -- Sums and differences over the whole numbers (document 000, "Arithmetic"): OV is "signed wrap-around", CY "unsigned
 -- wrap-around", and where OV is 0 the result read signed is the sum or the difference.
-use Rattle.std.specs.Prelude.{◌≡◌, ℕ, ◌+◌, ◌-◌, ◌/◌, ◌%◌, ◌^◌, ◌<◌, ◌+ℤ◌, ◌-ℤ◌, nat_le, nat_lt}
+use Rattle.std.specs.Prelude.{◌≡◌, ℕ, ◌+◌, ◌-◌, ◌%◌, ◌^◌, ◌<◌, ◌+ℤ◌, ◌-ℤ◌, nat_le, nat_lt}
 use Rattle.word.specs.Bit.{bit_at}
 use Rattle.processor_arithmetic.specs.Flag.{bit_of}
 use Rattle.processor_arithmetic.specs.Sum.{sum_of, difference_of}

@@ -1,5 +1,5 @@
 -- Division towards zero: what it means that a quotient and a remainder are those of a truncated division.
-use Rattle.std.specs.Prelude.{◌≡◌, zero, ◌+◌, ◌*◌, ◌<◌, ◌≤◌, ℤ, pos, ◌+ℤ◌, ◌*ℤ◌, ◌≤ℤ◌, unsigned_abs}
+use Rattle.std.specs.Prelude.{◌≡◌, ◌<◌, ℤ, pos, ◌+ℤ◌, ◌*ℤ◌, ◌≤ℤ◌, unsigned_abs}
 
 -- n divided by d, towards zero: the quotient q, and the remainder r, zero or of the dividend's sign
 pub record Truncated (n d q r : ℤ) : Type 0 where

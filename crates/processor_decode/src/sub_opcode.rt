@@ -1,5 +1,5 @@
 // Opcode 111110, Format VII: the top six bits of the second halfword are the sub-opcode, its other bits are ignored.
-ghost use Rattle.std.specs.Prelude.{◌≡◌, get_or};
+ghost use Rattle.std.specs.Prelude.{◌≡◌};
 ghost use Rattle.processor_decode.specs.SubOpcode.{cmpf, floating, nintendo, exchange, extended_of};
 
 use crate::{Decoded, Instruction};

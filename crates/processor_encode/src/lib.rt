@@ -10,7 +10,6 @@ mod range;
 ghost use Rattle.std.specs.Prelude.{◌≡◌};
 ghost use Rattle.processor_encode.specs.Encode.{encode_of, encoded_of};
 
-use format::Format;
 use operation::fields;
 use processor_decode::Instruction;
 use refusal::Refusal;

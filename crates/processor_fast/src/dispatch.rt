@@ -1,5 +1,5 @@
 // One instruction, by its opcode: a common one, or one on the system registers.
-ghost use Rattle.std.specs.Prelude.{◌≡◌, ◌/◌, ◌<◌, length, slice_index};
+ghost use Rattle.std.specs.Prelude.{◌/◌, ◌<◌, length, slice_index};
 ghost use Rattle.bus.specs.Memory.{Lengths};
 ghost use Rattle.bus.specs.Lent.{entering, leaving_ram};
 ghost use Rattle.bus.specs.TimerLines.{lines_place};

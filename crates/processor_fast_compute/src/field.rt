@@ -1,5 +1,5 @@
 // The fields of an instruction, as the decoder has them: f is the first halfword, s the second.
-ghost use Rattle.std.specs.Prelude.{◌≡◌, ◌+◌, ◌*◌, ◌/◌, ◌%◌, ◌^◌, ◌<◌, slice_index};
+ghost use Rattle.std.specs.Prelude.{◌≡◌, ◌+◌, ◌/◌, ◌%◌, ◌^◌, ◌<◌, slice_index};
 ghost use Rattle.word.specs.Extend.{extend_of};
 
 use processor_machine::register::get;

@@ -1,6 +1,6 @@
 -- The flags of the floating instructions (document 000, "Floating-Point", "PSW"; request W4). A number leaves the flags
 -- of its comparison with zero, so that a zero of either sign is not negative. FRO, FIV, FZD, FOV and FPR are kept.
-use Rattle.std.specs.Prelude.{ℕ, ◌+◌, ◌*◌, ◌/◌, ◌%◌, ◌^◌, Bool, true, false, nat_lt}
+use Rattle.std.specs.Prelude.{ℕ, ◌+◌, ◌*◌, ◌/◌, ◌^◌, Bool, true, false, nat_lt}
 use Rattle.word.specs.Bit.{with_bit}
 use Rattle.word.specs.Choose.{pick}
 use Rattle.processor_arithmetic.specs.Flag.{bit_of, keep_carry_of, s_flag, cy_flag}

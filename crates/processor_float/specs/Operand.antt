@@ -1,7 +1,7 @@
 -- A word as an IEEE 754 single float (document 000, "Floating-Point"; request W4): bit 31 is the sign, bits 30-23 the
 -- exponent's field, bits 22-0 the digits. An infinity, a NaN or a subnormal that is not zero is a reserved operand.
 -- The value of any other word, and of a subnormal, is a whole number of units of 2 ^ -149, with the sign.
-use Rattle.std.specs.Prelude.{ℕ, zero, suc, ◌+◌, ◌-◌, ◌*◌, ◌/◌, ◌%◌, ◌^◌, Bool, ◌&&◌, ◌||◌, ℤ, pos, neg_ℤ, ◌==◌, from_bits, nat_le, nat_lt, Float}
+use Rattle.std.specs.Prelude.{ℕ, zero, suc, ◌+◌, ◌*◌, ◌/◌, ◌%◌, ◌^◌, Bool, ◌&&◌, ◌||◌, ℤ, pos, neg_ℤ, ◌==◌, from_bits, nat_le, nat_lt, Float}
 use Rattle.std.specs.Float.{binary32}
 use Rattle.word.specs.Choose.{pick}
 

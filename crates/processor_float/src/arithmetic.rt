@@ -1,8 +1,7 @@
 // ADDF.S, SUBF.S, MULF.S and DIVF.S on words. The tests come in the order of 000's priorities: reserved operand,
 // invalid, zero divide, overflow.
-ghost use Rattle.std.specs.Prelude.{◌≡◌, not, T, to_bits};
+ghost use Rattle.std.specs.Prelude.{◌≡◌, to_bits};
 ghost use Rattle.std.specs.Float.{binary32};
-ghost use Rattle.std.specs.Float.Ieee.{nan_bits};
 ghost use Rattle.processor_float.specs.Operand.{reserved_of, is_zero};
 ghost use Rattle.processor_float.specs.Arithmetic.{computed_of, is_divide, vanishes_of, settled_of, outcome_of};
 

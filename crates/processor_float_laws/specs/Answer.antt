@@ -1,13 +1,11 @@
 -- What each of the four operations answers, by the exact result and its rounding alone (request W4). The statements;
 -- their proofs are `each-answered` and `traps-first` in proofs/Answering.
-use Rattle.std.specs.Prelude.{ℕ, ◌^◌, ◌<◌, ◌≤◌, ◌≡◌, Bool, true, false, not, ◌&&◌, ◌||◌, eqb, ℤ, pos, nat_abs, Float}
+use Rattle.std.specs.Prelude.{ℕ, ◌^◌, ◌<◌, ◌≤◌, ◌≡◌, Bool, true, false, not, ◌&&◌, ◌||◌, eqb, pos, nat_abs, Float}
 use Rattle.std.specs.Float.{fin, binary32}
 use Rattle.std.specs.Float.Ieee.{to_bits}
-use Rattle.word.specs.Choose.{pick}
 use Rattle.processor_float.specs.Operand.{reserved_of, is_zero}
-use Rattle.processor_float.specs.Arithmetic.{is_divide, float_result_of, outcome_of}
+use Rattle.processor_float.specs.Arithmetic.{is_divide, outcome_of}
 use Rattle.processor_float.specs.declared.Operation.{Operation}
-use Rattle.processor_float.specs.declared.FloatOutcome.{FloatOutcome}
 use Rattle.processor_float.specs.declared.FloatOutcome.TheVariants.{Number, Reserved, Invalid, ZeroDivide, Overflow}
 use Rattle.processor_float_laws.specs.Exact.{numerator_of, denominator_of, zero_sign_of, signed_size}
 use Rattle.processor_float_laws.specs.Nearest.{NearestEven}

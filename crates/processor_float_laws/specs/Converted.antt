@@ -1,7 +1,7 @@
 -- The conversions over whole numbers (request W4): CVT.SW gives the whole number within a half of the operand's value,
 -- the even one at a tie, TRNC.SW the value without its fraction, both invalid just outside the signed word; CVT.WS
 -- gives the nearest float, and the number itself up to 16,777,216. The proofs are in proofs/Converting.
-use Rattle.std.specs.Prelude.{ℕ, suc, ◌+◌, ◌*◌, ◌%◌, ◌^◌, ◌<◌, ◌≤◌, ◌≡◌, ◌≢◌, true, false, ℤ, pos, nat_abs, ◌*ℤ◌}
+use Rattle.std.specs.Prelude.{ℕ, suc, ◌+◌, ◌*◌, ◌%◌, ◌^◌, ◌<◌, ◌≤◌, ◌≡◌, true, false, ℤ, pos, nat_abs, ◌*ℤ◌}
 use Rattle.std.specs.Float.{binary32}
 use Rattle.std.specs.Float.Ieee.{of_int, to_bits}
 use Rattle.processor_arithmetic.specs.Integer.{signed, outside}

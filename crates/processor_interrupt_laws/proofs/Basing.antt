@@ -1,15 +1,13 @@
 -- `step-masked` and `run-instructions`: the statements of specs/Instructions. Assumes nothing.
-use Prim.Native.Nat.{ℕ, zero, suc, ◌<◌}
+use Prim.Native.Nat.{zero, suc}
 use mathlib.Core.Bool.{Bool, true, false}
 use mathlib.Core.Path.{◌≡◌, refl, ap, ◌∙◌}
 use native.Mathlib.Omega.{arith}
-use Rattle.bus.specs.Memory.{Memory}
-use Rattle.processor_machine.specs.State.{State, Stepped}
+use Rattle.processor_machine.specs.State.{Stepped}
 use Rattle.processor_interrupt.specs.Interrupt.{level_of}
-use Rattle.processor_interrupt.specs.Accepted.{Acceptable}
 use Rattle.processor_interrupt.proofs.Exactly.{accepts-taken}
 use Rattle.processor_step.specs.Interrupted.{lines_in, accepts_in}
-use Rattle.processor_step.specs.Step.{instruction_step_of, step_of}
+use Rattle.processor_step.specs.Step.{step_of}
 use Rattle.processor_step.proofs.Choosing.{step-instruction, fetched-instruction}
 use Rattle.processor.specs.Run.{Run, after_of, after_step, run_of}
 use Rattle.processor_laws.specs.Steps.{steps_of}

@@ -1,14 +1,10 @@
 -- `accepts-exactly`, `step-interrupted` and `step-independent`: statements of specs/Interrupts. Assumes nothing.
-use Prim.Native.Nat.{ℕ, ◌+◌}
 use mathlib.Core.Bool.{true}
-use mathlib.Core.Path.{◌≡◌, refl, sym, ap, ◌∙◌}
-use Rattle.bus.specs.Memory.{Memory}
-use Rattle.processor_machine.specs.State.{State, Stepped}
-use Rattle.processor_machine.specs.declared.Answer.{Answer}
-use Rattle.processor_interrupt.specs.Interrupt.{level_of, accepts_of}
+use mathlib.Core.Path.{◌≡◌, sym, ap, ◌∙◌}
+use Rattle.processor_machine.specs.State.{Stepped}
+use Rattle.processor_interrupt.specs.Interrupt.{level_of}
 use Rattle.processor_interrupt.proofs.Exactly.{accepts-taken, acceptable-accepts, entry-regular}
 use Rattle.processor_step.specs.Interrupted.{lines_in, accepts_in, interrupt_step_of}
-use Rattle.processor_step.specs.Step.{step_of}
 use Rattle.processor_step.proofs.Choosing.{step-interrupt, fetched-interrupt}
 use Rattle.processor_interrupt_laws.specs.Interrupts.{AcceptsAsSaid, StepInterrupted, StepIndependent}
 

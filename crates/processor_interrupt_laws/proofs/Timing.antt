@@ -12,7 +12,6 @@ use Rattle.processor_machine.specs.State.{State, reg_of}
 use Rattle.processor_execute.specs.Transfer.{stored_of}
 use Rattle.processor_execute.specs.Execute.{plus_of}
 use Rattle.processor_step.specs.Step.{step_of}
-use Rattle.processor.specs.Run.{run_of}
 use Rattle.processor_laws.specs.Steps.{steps_of}
 use Rattle.processor_laws.proofs.Runs.{run-steps}
 use Rattle.processor_interrupt_laws.specs.Timer.{StoresElsewhere, StepTimer, RunTimer}

@@ -2,7 +2,7 @@
 -- `accepts-exactly`, `step-interrupted`, `step-independent` and `run-halted` in proofs/Interrupting and proofs/Halting.
 use Rattle.std.specs.Prelude.{ℕ, ◌+◌, ◌<◌, true, false, ◌≡◌}
 use Rattle.bus.specs.Memory.{Memory}
-use Rattle.processor_machine.specs.State.{State, Stepped}
+use Rattle.processor_machine.specs.State.{State}
 use Rattle.processor_machine.specs.Exception.{regular_entry_of}
 use Rattle.processor_machine.specs.declared.Cause.{Cause}
 use Rattle.processor_machine.specs.declared.Mode.TheVariants.{Halted}

@@ -1,7 +1,6 @@
 -- `step-accepted`, `run-accepted`, `run-count`, `machine-accepted-means` and `machine-means-accepted`: the statements of specs/Accepted.
 use Prim.Native.Nat.{ℕ, zero, suc, ◌+◌, ◌%◌, ◌^◌, ◌≤◌, ◌<◌}
 use mathlib.Core.Bool.{Bool}
-use mathlib.Core.Path.{sym, ◌∙◌}
 use native.Mathlib.Omega.{arith}
 use lib.ListN.{length}
 use Rattle.word.proofs.Choices.{pick-cases, pick-each}

@@ -8,7 +8,6 @@ use lib.IntN.{◌+ℤ◌, ◌-ℤ◌}
 use lib.Signed.{quot_z, rem_z}
 use Rattle.processor_arithmetic.specs.declared.Outcome.{Outcome}
 use Rattle.processor_arithmetic.specs.declared.Pair.{Pair}
-use Rattle.processor_arithmetic.specs.Flag.{bit_of}
 use Rattle.processor_arithmetic.proofs.Bits.{bit-small}
 use Rattle.processor_arithmetic.specs.Sum.{sum_of, difference_of, compare_of}
 use Rattle.processor_arithmetic.specs.Integer.{signed, outside, complement_of}

@@ -10,7 +10,6 @@ use Rattle.bus.specs.Memory.{Memory}
 use Rattle.processor_decode.specs.SubOpcode.{extended_of}
 use Rattle.processor_decode.specs.Opcode.{decode_of}
 use Rattle.processor_decode.specs.declared.Decoded.TheVariants.{NotModelled}
-use Rattle.processor_decode.specs.declared.Instruction.{Instruction}
 use Rattle.processor_decode.specs.declared.Instruction.TheVariants.{Cmpf, Floating, Nintendo}
 use Rattle.processor_decode.specs.declared.sub_opcode.FloatingOperation.{FloatingOperation}
 use Rattle.processor_decode.specs.declared.sub_opcode.NintendoOperation.{NintendoOperation}

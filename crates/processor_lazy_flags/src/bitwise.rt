@@ -1,5 +1,5 @@
 // AND, OR, XOR and NOT: OV is cleared, CY kept.
-ghost use Rattle.std.specs.Prelude.{◌≡◌, ℕ};
+ghost use Rattle.std.specs.Prelude.{ℕ};
 ghost use Rattle.processor_arithmetic.specs.Bitwise.{bits_of, and_of, or_of, xor_of, not_of};
 ghost use Rattle.processor_lazy_flags.specs.inner.Packed.{packed_of, Gives};
 

@@ -1,5 +1,5 @@
 // DIV and DIVU, for a divisor that is not zero.
-ghost use Rattle.std.specs.Prelude.{◌≡◌, ℕ, ◌<◌};
+ghost use Rattle.std.specs.Prelude.{ℕ, ◌<◌};
 ghost use Rattle.processor_arithmetic.specs.Quotient.{divide_of, divide_unsigned_of};
 ghost use Rattle.processor_lazy_flags.specs.inner.Packed.{packed_of, GivesPair};
 

@@ -1,6 +1,6 @@
 // PSW and the lazy flags.
 ghost use Rattle.std.specs.Prelude.{◌≡◌, ◌+◌, ◌*◌, ◌/◌, ◌%◌, ◌^◌, ◌<◌, ◌≢◌};
-ghost use Rattle.processor_lazy_flags.specs.inner.Packed.{packed_of, packed_value_of, carry_of, overflow_of, Holds};
+ghost use Rattle.processor_lazy_flags.specs.inner.Packed.{packed_of, carry_of, overflow_of, Holds};
 ghost use Rattle.processor_arithmetic.specs.Flag.{zero_of};
 
 use crate::Flags;

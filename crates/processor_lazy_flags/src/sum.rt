@@ -1,5 +1,5 @@
 // ADD, ADDI, SUB and CMP.
-ghost use Rattle.std.specs.Prelude.{◌≡◌, ℕ};
+ghost use Rattle.std.specs.Prelude.{ℕ};
 ghost use Rattle.processor_arithmetic.specs.Sum.{sum_of, difference_of};
 ghost use Rattle.processor_lazy_flags.specs.inner.Packed.{packed_of, Gives};
 

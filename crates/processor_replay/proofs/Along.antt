@@ -1,11 +1,11 @@
 -- A replay in the middle: what is left of the trace, replayed from here, is what the whole trace gives from the start, with the
 -- records so far added. Each law is one turn of the loop. Assumes nothing.
-use Rattle.std.proofs.Common.{◌≡◌, ℕ, zero, suc, ◌+◌, ◌-◌, ◌<◌, ◌≤◌, List, sym, refl, ap, ◌∙◌, zero-add, arith, le-ltb, lt-ltb}
+use Rattle.std.proofs.Common.{◌≡◌, ℕ, suc, ◌+◌, ◌-◌, ◌<◌, ◌≤◌, List, sym, zero-add, arith, le-ltb, lt-ltb}
 use Rattle.bus.specs.Memory.{Memory}
 use Rattle.processor_machine.specs.State.{State, Stepped}
 use Rattle.processor_step.specs.Step.{step_of}
 use Rattle.processor_replay.specs.Replay.{record_with, record_at, record_of, register_sum_of, first_difference_of, progress_of}
-use Rattle.processor_replay.specs.Replay.{Replay, replay_with, one_record_more, after_record, replay_of}
+use Rattle.processor_replay.specs.Replay.{Replay, replay_with, after_record, replay_of}
 use Rattle.processor_replay.specs.declared.End.{End}
 use Rattle.processor_replay.specs.declared.End.TheVariants.{Agreed, Differed}
 use Rattle.processor_replay.specs.declared.Progress.TheVariants.{Completed, Ends}

@@ -15,7 +15,7 @@ use Rattle.processor.specs.Acceptance.{state_ok, acceptance_at, acceptance_in}
 use Rattle.processor.specs.declared.Processor.{Processor}
 use Rattle.processor_replay.specs.declared.End.TheVariants.{Refused}
 use Rattle.processor_replay.specs.Replay.{Replay, records_of, replay_of}
-use Rattle.processor_replay.specs.Calls.{trace_ok, replay_verdict_of, replayed_of, checked_replay_of}
+use Rattle.processor_replay.specs.Calls.{replay_verdict_of, replayed_of, checked_replay_of}
 
 module _ (p : Processor) (m : Memory) (trace : List ℕ) (v : Verdict) (tested : v ≡ acceptance_in p m) where
   pub replay-refused : (n : Refusal) → v ≡ verdict.Refused n → replayed_of (Refused n) 0 p m ≡ checked_replay_of p m trace

@@ -1,6 +1,6 @@
 -- The sum of the general registers, register by register: what is summed so far and what is left come to the whole sum.
 -- Assumes nothing.
-use Rattle.std.proofs.Common.{◌≡◌, ℕ, suc, ◌+◌, ◌-◌, ◌%◌, ◌^◌, ◌<◌, ◌≤◌, List, get_or, sym, refl, ap, ◌∙◌, arith}
+use Rattle.std.proofs.Common.{◌≡◌, ℕ, suc, ◌+◌, ◌-◌, ◌%◌, ◌^◌, ◌<◌, ◌≤◌, List, get_or, arith}
 use Rattle.processor_replay.specs.Replay.{sum_from, register_sum_of}
 
 -- the first i registers come to s

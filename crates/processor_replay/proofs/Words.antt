@@ -1,5 +1,5 @@
 -- The first word in which a record of a trace differs, word by word. Assumes nothing.
-use Rattle.std.proofs.Common.{◌≡◌, ℕ, ◌+◌, ◌*◌, eqb, List, sym, ◌∙◌, eq-eqb, ne_eqb}
+use Rattle.std.proofs.Common.{◌≡◌, ℕ, ◌+◌, ◌*◌, List, sym, ◌∙◌, eq-eqb, ne_eqb}
 use Rattle.word.specs.LittleEndian.{word_at}
 use Rattle.processor_replay.specs.Replay.{record_with, record_at, first_difference_of}
 

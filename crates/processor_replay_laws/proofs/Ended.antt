@@ -2,7 +2,7 @@
 use Prim.Native.Nat.{ℕ, zero, suc, ◌+◌, ◌≤◌, ◌<◌}
 use mathlib.Core.List.{List}
 use mathlib.Core.Logic.{◌⊎◌, inl, inr}
-use mathlib.Core.Path.{◌≡◌, refl, sym, ap, ◌∙◌}
+use mathlib.Core.Path.{◌≡◌, refl}
 use native.Mathlib.Decide.{dec_lt}
 use native.Mathlib.Nat.{zero-add}
 use native.Mathlib.Omega.{arith}
@@ -15,7 +15,7 @@ use Rattle.processor_replay.specs.Replay.{record_at, record_of, first_difference
 use Rattle.processor_replay.specs.declared.End.TheVariants.{Agreed, Differed}
 use Rattle.processor_replay.specs.declared.Progress.{Progress}
 use Rattle.processor_replay.specs.declared.Progress.TheVariants.{Completed, Ends}
-use Rattle.processor_replay_laws.specs.Ending.{progress_at, step_record_at, Differs, Parts, EndsSo, ReplayEnds}
+use Rattle.processor_replay_laws.specs.Ending.{progress_at, step_record_at, Differs, Parts, ReplayEnds}
 use Rattle.processor_replay_laws.proofs.Records.{first_word, no_word}
 
 -- the same from record k on

@@ -5,8 +5,6 @@ use mathlib.Core.Logic.{◌⊎◌, inl, inr, ⊎_elim}
 use native.Mathlib.Decide.{ℕ_discrete}
 use native.Mathlib.Omega.{arith}
 use borrow.Author.Tests.{eq-eqb, ne_eqb}
-use lib.Dec.{eqb}
-use Rattle.word.specs.Choose.{pick}
 use Rattle.processor_replay.specs.Replay.{Record, record_with, first_difference_of}
 use Rattle.processor_replay_laws.specs.Ending.{word_of, Differs}
 

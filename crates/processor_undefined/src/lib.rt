@@ -5,11 +5,8 @@
 
 mod load;
 
-ghost use Rattle.std.specs.Prelude.{◌≡◌, ℕ, ◌+◌, ◌%◌, ◌^◌, List};
-ghost use Rattle.word.specs.Choose.{pick};
+ghost use Rattle.std.specs.Prelude.{◌≡◌, ℕ, List};
 ghost use Rattle.bus.specs.Memory.{Memory};
-ghost use Rattle.bus_defined.specs.Defined.{undefined_of};
-ghost use Rattle.processor_decode.specs.Format.{two_of};
 ghost use Rattle.processor_machine.specs.State.{state_of};
 ghost use Rattle.processor_machine.specs.declared.Mode.{Mode};
 ghost use Rattle.processor_undefined.specs.Reads.{read_of, undefined_when, none_of, second_undefined_of};

@@ -1,6 +1,5 @@
 // The records of a machine as the words and halfwords of a file.
-ghost use Rattle.std.specs.Prelude.{◌≡◌, ◌≤◌, length, replicate};
-ghost use Rattle.saved_bytes.specs.Numbers.{same_of};
+ghost use Rattle.std.specs.Prelude.{◌≡◌, ◌≤◌, length};
 ghost use Rattle.saved_layout.specs.Layout.{file_length_of};
 ghost use Rattle.saved_layout.specs.File.{bodies_in};
 ghost use Rattle.saved_kinds.specs.Kinds.{general_from, rest_from, drawing_from, hardware_from};

@@ -1,5 +1,4 @@
 -- `processor_replay::records::difference`: the words in their order. Assumes nothing.
-use Rattle.std.proofs.Common.{rules}
 use Rattle.processor_replay.proofs.Words.{first-differs, second-differs, third-differs, fourth-differs, none-differs}
 use Rattle.processor_replay.proofs.records.difference.Goals as goal
 

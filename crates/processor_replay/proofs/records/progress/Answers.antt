@@ -1,5 +1,4 @@
 -- `processor_replay::records::progress`: by the answer. Assumes nothing.
-use Rattle.std.proofs.Common.{rules}
 use Rattle.processor_replay.proofs.records.progress.Goals as goal
 
 pub returns-in-TurnedFatal : goal.returns-in-TurnedFatal

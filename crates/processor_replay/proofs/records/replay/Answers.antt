@@ -1,9 +1,7 @@
 -- `processor_replay::records::replay`: what is left of the trace follows the replay from the start. Assumes nothing.
-use Rattle.std.proofs.Common.{◌≡◌, ◌-◌, ◌^◌, ◌<◌, length, sym, refl, ◌∙◌, arith}
-use Rattle.bus.specs.Memory.{memory_of}
-use Rattle.processor_machine.specs.State.{state_of}
+use Rattle.std.proofs.Common.{sym, refl, ◌∙◌, arith}
 use Rattle.processor_replay.specs.Replay.{records_of}
-use Rattle.processor_replay.proofs.Along.{Along, along-start, along-agreed, along-differed, along-ended, along-finished}
+use Rattle.processor_replay.proofs.Along.{along-start, along-agreed, along-differed, along-ended, along-finished}
 use Rattle.processor_replay.proofs.records.replay.Goals as goal
 
 pub loop-k-init : goal.loop-k-init
@@ -18,9 +16,6 @@ step-t-requires c =
 pub progress-requires : goal.progress-requires
 progress-requires c = tt
 
-pub enum_told-1 : goal.enum_told-1
-enum_told-1 c = c.in-Completed.keys1
-
 pub sum-s-requires : goal.sum-s-requires
 sum-s-requires c = tt
 
@@ -31,13 +26,13 @@ difference-word-requires c = omega (
 )
 
 pub shape_of-wram-then-word-lt4 : goal.shape_of-wram-then-word-lt4
-shape_of-wram-then-word-lt4 c = c.step-t.auto.1.0 ∙ c.loop-k.invariant.1
+shape_of-wram-then-word-lt4 c = c.step-t.auto.wram ∙ c.loop-k.invariant.1
 
 pub shape_of-vram-then-word-lt4 : goal.shape_of-vram-then-word-lt4
-shape_of-vram-then-word-lt4 c = c.step-t.auto.1.1.0 ∙ c.loop-k.invariant.2
+shape_of-vram-then-word-lt4 c = c.step-t.auto.vram ∙ c.loop-k.invariant.2
 
 pub shape_of-pak-then-word-lt4 : goal.shape_of-pak-then-word-lt4
-shape_of-pak-then-word-lt4 c = c.step-t.auto.1.1.1.0
+shape_of-pak-then-word-lt4 c = c.step-t.auto.pak
     ∙ c.loop-k.invariant.3
 
 pub returns-then-word-lt4 : goal.returns-then-word-lt4
@@ -45,8 +40,8 @@ unfolding records_of
 returns-then-word-lt4 c =
     let i = c.loop-k.invariant in
     let s = c.step-t in
-    let told = sym c.progress.ensures ∙ c.enum_told-1.given.1 in
-    along-differed _ _ _ _ _ _ _ i.0 c.loop-k-test.true _ s.ensures.0 told _ c.sum-s.ensures _ c.difference-word.ensures
+    let told = sym c.progress.ensures ∙ c.in-Completed.is in
+    along-differed _ _ _ _ _ _ _ i.0 c.loop-k-test.true _ s.ensures.done told _ c.sum-s.ensures _ c.difference-word.ensures
     c.if-word-lt4.true
 
 pub overflow_add-k : goal.overflow_add-k
@@ -66,33 +61,30 @@ pub loop-k-preserved : goal.loop-k-preserved
 loop-k-preserved c =
     let i = c.loop-k.invariant in
     let s = c.step-t in
-    let told = sym c.progress.ensures ∙ c.enum_told-1.given.1 in (
-      along-agreed _ _ _ _ _ _ _ i.0 c.loop-k-test.true _ s.ensures.0 told _ c.sum-s.ensures _ c.difference-word.ensures
+    let told = sym c.progress.ensures ∙ c.in-Completed.is in (
+      along-agreed _ _ _ _ _ _ _ i.0 c.loop-k-test.true _ s.ensures.done told _ c.sum-s.ensures _ c.difference-word.ensures
           c.if-word-lt4.false,
-      s.auto.1.0 ∙ i.1,
-      s.auto.1.1.0 ∙ i.2,
-      s.auto.1.1.1.0 ∙ i.3,
+      s.auto.wram ∙ i.1,
+      s.auto.vram ∙ i.2,
+      s.auto.pak ∙ i.3,
       i.4,
     )
 
-pub enum_known-end : goal.enum_known-end
-enum_known-end c = c.in-Completed.keys2
-
 pub shape_of-wram-in-Ends : goal.shape_of-wram-in-Ends
-shape_of-wram-in-Ends c = c.step-t.auto.1.0 ∙ c.loop-k.invariant.1
+shape_of-wram-in-Ends c = c.step-t.auto.wram ∙ c.loop-k.invariant.1
 
 pub shape_of-vram-in-Ends : goal.shape_of-vram-in-Ends
-shape_of-vram-in-Ends c = c.step-t.auto.1.1.0 ∙ c.loop-k.invariant.2
+shape_of-vram-in-Ends c = c.step-t.auto.vram ∙ c.loop-k.invariant.2
 
 pub shape_of-pak-in-Ends : goal.shape_of-pak-in-Ends
-shape_of-pak-in-Ends c = c.step-t.auto.1.1.1.0 ∙ c.loop-k.invariant.3
+shape_of-pak-in-Ends c = c.step-t.auto.pak ∙ c.loop-k.invariant.3
 
 pub returns-in-Ends : goal.returns-in-Ends
 unfolding records_of
 returns-in-Ends c =
     let i = c.loop-k.invariant in
     let s = c.step-t in
-    along-ended _ _ _ _ _ _ _ i.0 c.loop-k-test.true _ _ s.ensures.0 (sym
+    along-ended _ _ _ _ _ _ _ i.0 c.loop-k-test.true _ _ s.ensures.done (sym
     c.progress.ensures ∙ c.in-Ends.is)
 
 pub shape_of-wram : goal.shape_of-wram

@@ -1,8 +1,7 @@
-use Rattle.std.proofs.Common.{◌≡◌, ◌-◌, ◌^◌, ◌<◌, length, sym, refl, ◌∙◌, arith}
+use Rattle.std.proofs.Common.{◌≡◌, ◌-◌, ◌^◌, ◌<◌, length}
 use Rattle.bus.specs.Memory.{memory_of}
 use Rattle.processor_machine.specs.State.{state_of}
-use Rattle.processor_replay.specs.Replay.{records_of}
-use Rattle.processor_replay.proofs.Along.{Along, along-start, along-agreed, along-differed, along-ended, along-finished}
+use Rattle.processor_replay.proofs.Along.{Along}
 use Rattle.processor_replay.proofs.records.replay.Given as goal
 
 abbrev pub invariant-loop-k : goal.invariant-loop-k

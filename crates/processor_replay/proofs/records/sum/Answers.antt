@@ -1,6 +1,6 @@
 -- `processor_replay::records::sum`: what is summed so far and what is left come to the whole sum. Assumes nothing.
-use Rattle.std.proofs.Common.{◌-◌, arith, rules}
-use Rattle.processor_replay.proofs.Sums.{Summed, summed-none, summed-next, summed-all}
+use Rattle.std.proofs.Common.{arith, rules}
+use Rattle.processor_replay.proofs.Sums.{summed-none, summed-next, summed-all}
 use Rattle.processor_replay.proofs.records.sum.Goals as goal
 
 pub loop-i-init : goal.loop-i-init

@@ -1,5 +1,5 @@
-use Rattle.std.proofs.Common.{◌-◌, arith, rules}
-use Rattle.processor_replay.proofs.Sums.{Summed, summed-none, summed-next, summed-all}
+use Rattle.std.proofs.Common.{◌-◌}
+use Rattle.processor_replay.proofs.Sums.{Summed}
 use Rattle.processor_replay.proofs.records.sum.Given as goal
 
 abbrev pub invariant-loop-i : goal.invariant-loop-i
