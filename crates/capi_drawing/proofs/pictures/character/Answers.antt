@@ -1,7 +1,6 @@
 -- `capi_drawing::pictures::character` meets its contract: the verdict as a number, the address where accepted, and the part's length.
 -- Assumes nothing.
-use borrow.Author.Rules.{rules}
-use mathlib.Core.Path.{◌≡◌, sym, ap, ◌∙◌}
+use mathlib.Core.Path.{sym, ap, ◌∙◌}
 use lib.ListN.{length}
 use Rattle.drawing.proofs.Verdicts.{character-small}
 use Rattle.capi_drawing.proofs.pictures.character.Goals as goal
@@ -10,7 +9,7 @@ pub character_address-requires : goal.character_address-requires
 character_address-requires c =
     let asked = c in
     let a = asked.args in
-    character-small a.vram.now a.character-part (sym asked.character_refusal-verdict.ensures ∙ c.in-Accepted.is)
+    character-small a.vram.now a.character (sym asked.character_refusal-verdict.ensures ∙ c.in-Accepted.is)
 
 pub returns-in-Accepted : goal.returns-in-Accepted
 returns-in-Accepted c = let e = sym c.character_refusal-verdict.ensures ∙ c.in-Accepted.is in
@@ -27,4 +26,3 @@ returns-in-Refused c = let e = sym c.character_refusal-verdict.ensures ∙ c.in-
       offset = rw e;
       length = ap length c.character-part.ensures.bytes;
     }
-

@@ -1,5 +1,4 @@
 -- `capi_drawing::pictures::draw_frame` meets its contract: the call's verdict as a number. Assumes nothing.
-use borrow.Author.Rules.{rules}
 use mathlib.Core.Path.{◌∙◌, ap}
 use Rattle.refusal.specs.Number.{verdict_number}
 use Rattle.capi_drawing.proofs.pictures.draw_frame.Goals as goal
@@ -10,4 +9,3 @@ returns c = let drawn = c.draw_frame.ensures in
       refusal = c.verdict_number.ensures ∙ ap verdict_number drawn.verdict;
       memory = drawn.memory;
     }
-

@@ -1,5 +1,4 @@
 -- `capi_drawing::pixel_bytes::pixel_bytes` meets its contract: the call's answer as numbers. Assumes nothing.
-use borrow.Author.Rules.{rules}
 use mathlib.Core.Path.{sym, ◌∙◌}
 use Rattle.capi_drawing.proofs.pixel_bytes.pixel_bytes.Goals as goal
 
@@ -26,4 +25,3 @@ returns-in-Outside c =
       answer = rw e;
       room = c.pixel_bytes-listed.ensures.output;
     }
-
