@@ -2,7 +2,7 @@
 use Prim.Native.Nat.{ℕ}
 use mathlib.Core.Bool.{false}
 use mathlib.Core.List.{List}
-use mathlib.Core.Path.{◌≡◌, refl, ap, ◌∙◌}
+use mathlib.Core.Path.{◌≡◌, ap}
 use Rattle.bus.specs.TimerLines.{hardware_in}
 use Rattle.processor.specs.Calls.{reset_of}
 use Rattle.saved_bytes.specs.Numbers.{bytes_of}

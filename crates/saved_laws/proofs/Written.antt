@@ -2,7 +2,7 @@
 use Prim.Native.Nat.{ℕ, ◌<◌}
 use mathlib.Core.Bool.{true}
 use mathlib.Core.List.{List}
-use mathlib.Core.Path.{◌≡◌, refl, sym, ap, ◌∙◌}
+use mathlib.Core.Path.{◌≡◌, sym, ap, ◌∙◌}
 use lib.ListN.{length, get_or}
 use Rattle.refusal.specs.declared.Verdict.TheVariants.{Accepted}
 use Rattle.bus.specs.Refusal.{pak_ok}
@@ -11,13 +11,13 @@ use Rattle.processor.specs.Acceptance.{acceptance_in}
 use Rattle.processor.specs.declared.Processor.{Processor}
 use Rattle.saved_bytes.specs.Numbers.{bytes_of}
 use Rattle.saved_layout.specs.Layout.{other_of, file_length_of}
-use Rattle.saved_layout.specs.File.{Bodies, bodies_in}
+use Rattle.saved_layout.specs.File.{Bodies}
 use Rattle.saved_layout.specs.declared.Form.TheVariants.{Two}
 use Rattle.saved_kinds.specs.Fits.{form_of, pak_length_of}
 use Rattle.saved_kinds.specs.Kinds.{file_ok}
 use Rattle.saved_move.specs.Move.{pak_in, held_in, holds_body_ok, move_verdict_of}
 use Rattle.saved_move.proofs.Returning.{all-passed, lengths-passed, fit-in}
-use Rattle.saved.specs.Body.{lines_of, machine_bodies_of, processor_in_bodies, memory_in}
+use Rattle.saved.specs.Body.{lines_of, machine_bodies_of}
 use Rattle.saved.specs.Calls.{state_file_of, held_bodies_of, held_processor_of, held_memory_of, holds_ok}
 use Rattle.saved.specs.Exactly.{Savable}
 use Rattle.saved.proofs.Accepting.{passed}
