@@ -199,7 +199,7 @@ impl Die {
     }
 
     /// The instruction at PC. One of ROM is decoded once, as long as no fault writes ROM.
-    pub fn next(&mut self) -> Next {
+    pub fn at_pc(&mut self) -> Next {
         let pc = self.state.processor.pc;
         let in_rom = pc >> 24 & 7 == 7 && !self.rom_written;
         let place = pc as usize / 2 % CACHED;

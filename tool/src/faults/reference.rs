@@ -205,7 +205,7 @@ impl Follow for Watcher {
                 }
             }
             let before = die.state.processor;
-            let next = die.runs().then(|| die.next());
+            let next = die.runs().then(|| die.at_pc());
             if let Some(next) = next.as_ref().filter(|_| !self.frames.is_empty()) {
                 self.reads_pictures |= self.reads(next, die);
             }

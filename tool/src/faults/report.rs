@@ -197,7 +197,7 @@ impl Coverage {
         );
         for count in classes.iter().chain([&all]) {
             let Count { class, faults, equivalent, detected, never_exercised, masked } = count;
-            let percent = count.percent().map_or("-".to_string(), |percent| short(percent));
+            let percent = count.percent().map_or("-".to_string(), short);
             text += &format!(
                 "{class:<36} {:>7} {equivalent:>6} {:>9} {percent:>8} {:>7} {masked:>7}\n",
                 grouped(*faults as u64),
@@ -221,7 +221,7 @@ impl Coverage {
     fn last_line(&self, all: &Count) -> String {
         let Header { list, list_sha256, plan, coverage_at_least, .. } = &self.header;
         let counted = all.faults - all.equivalent;
-        let percent = all.percent().map_or("-".to_string(), |percent| short(percent));
+        let percent = all.percent().map_or("-".to_string(), short);
         let mut line = format!(
             "plan {}: {percent} % of {} faults of list {list} ({}) detected",
             printable(plan),

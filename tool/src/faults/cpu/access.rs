@@ -76,7 +76,7 @@ impl Inject for Effect {
         if !die.runs() {
             return die.step();
         }
-        let next = die.next();
+        let next = die.at_pc();
         match *self {
             Effect::Late { op } => late(die, &next, op),
             Effect::LostAfter { op } => lost_after(die, &next, op),

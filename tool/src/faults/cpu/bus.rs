@@ -79,7 +79,7 @@ impl Inject for Effect {
         if !die.runs() {
             return die.step();
         }
-        let next = die.next();
+        let next = die.at_pc();
         match (load_of(next.op()), store_of(next.op())) {
             (Some((width, signed)), _) => self.load(die, &next, width, signed),
             (_, Some(width)) => self.store(die, &next, width),

@@ -100,7 +100,7 @@ impl Inject for Effect {
         {
             return die.step();
         }
-        let next = die.next();
+        let next = die.at_pc();
         let did = die.step();
         if did == Did::Fatal && *self == Effect::FatalGoesOn && before.mode == vbsys::RUNNING {
             die.state.processor.mode = vbsys::RUNNING;

@@ -40,7 +40,7 @@ impl Inject for Effect {
         if !die.runs() {
             return die.step();
         }
-        let next = die.next();
+        let next = die.at_pc();
         if next.op() != self.op() {
             return die.step();
         }

@@ -91,7 +91,7 @@ impl Inject for Effect {
         if !die.runs() {
             return die.step();
         }
-        let next = die.next();
+        let next = die.at_pc();
         match *self {
             Effect::Field { field, bit, value } => with_field(die, &next, field, bit, value),
             Effect::TrapVector if next.op() == op::TRAP => {
@@ -237,7 +237,7 @@ fn signed_logic(die: &mut Die, next: &Next, reg1: u32) -> Did {
 
 /// A jump backwards whose displacement is so much more.
 fn jump_further(die: &mut Die, more: u32) -> Did {
-    let (pc, next) = (die.state.processor.pc, die.next());
+    let (pc, next) = (die.state.processor.pc, die.at_pc());
     let did = die.step();
     let fell = next.op() == op::BCOND && die.state.processor.pc == pc.wrapping_add(2);
     if did == Did::Ended && !fell {

@@ -114,7 +114,7 @@ impl Inject for Effect {
         if die.state.processor.mode != vbsys::RUNNING {
             return die.step();
         }
-        let next = die.next();
+        let next = die.at_pc();
         if next.op() != self.op() {
             return die.step();
         }

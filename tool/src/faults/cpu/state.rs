@@ -131,7 +131,7 @@ fn set(processor: &mut Processor, cell: Cell, value: u32) {
 }
 
 fn read_sr31(die: &mut Die, bit: u8, value: bool) -> Did {
-    let next = die.next();
+    let next = die.at_pc();
     let did = die.step();
     if did == Did::Ended && next.op() == op::STSR && next.instruction.immediate == 31 {
         let read = die.state.processor.regs[next.instruction.reg2 as usize];
@@ -141,7 +141,7 @@ fn read_sr31(die: &mut Die, bit: u8, value: bool) -> Did {
 }
 
 fn write_elsewhere(die: &mut Die, register: u32, other: u32, also: bool) -> Did {
-    let (next, before) = (die.next(), die.state.processor.regs);
+    let (next, before) = (die.at_pc(), die.state.processor.regs);
     let did = die.step();
     let after = die.state.processor.regs[register as usize];
     let op = next.op();
@@ -163,7 +163,7 @@ fn write_elsewhere(die: &mut Die, register: u32, other: u32, also: bool) -> Did 
 
 /// PC after an instruction that is no jump, its increment without the carry into a bit.
 fn increment(die: &mut Die, bit: u8) -> Did {
-    let (next, pc) = (die.next(), die.state.processor.pc);
+    let (next, pc) = (die.at_pc(), die.state.processor.pc);
     let did = die.step();
     let length = 2 * next.halfwords;
     let after = pc.wrapping_add(length);

@@ -77,7 +77,7 @@ impl Inject for Effect {
         if !rules.contains(self) || !die.runs() {
             return die.step();
         }
-        let next = die.next();
+        let next = die.at_pc();
         let Some(_) = store_of(next.op()) else { return die.step() };
         let before = die.state.processor.hardware;
         let did = die.step();
@@ -107,7 +107,7 @@ impl Effect {
             Effect::CountsTwice => die.tick(),
             Effect::PrescalerFast if !fast => (0..4).for_each(|_| die.tick()),
             Effect::EverySecond if die.ticks % 2 == 1 => die.state.processor.hardware = *before,
-            Effect::PrescalerSlow if fast && die.ticks % 5 != 0 => {
+            Effect::PrescalerSlow if fast && !die.ticks.is_multiple_of(5) => {
                 die.state.processor.hardware = *before;
             }
             Effect::AlwaysCounts if before.control & T_ENB == 0 => {

@@ -68,7 +68,7 @@ impl Inject for Effect {
         if !die.runs() {
             return die.step();
         }
-        let next = die.next();
+        let next = die.at_pc();
         let op = next.op();
         let reg1 = die.state.processor.regs[next.instruction.reg1 as usize];
         match *self {

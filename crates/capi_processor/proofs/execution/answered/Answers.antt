@@ -1,17 +1,16 @@
 -- `capi_processor::execution::answered`: by the answer; a level below 5 makes no sum that overflows.
 use native.Mathlib.Omega.{arith}
 use Rattle.capi_processor.proofs.Levels.{interrupted-level}
-use borrow.Author.Rules.{rules}
 use Rattle.capi_processor.proofs.execution.answered.Goals as goal
 
 pub overflow_mul-level : goal.overflow_mul-level
 overflow_mul-level c =
-    let below = interrupted-level _ _ c.answer-in-Interrupted-1.given.1 c.requires in
+    let below = interrupted-level _ _ c.in-Interrupted.is c.requires in
     omega (arith, below)
 
 pub overflow_add-level : goal.overflow_add-level
 overflow_add-level c =
-    let below = interrupted-level _ _ c.answer-in-Interrupted-1.given.1 c.requires in
+    let below = interrupted-level _ _ c.in-Interrupted.is c.requires in
     omega (arith, below)
 
 pub returns-in-Ended : goal.returns-in-Ended

@@ -1,6 +1,5 @@
 -- `capi_processor::execution::reset`: both records of the reset.
 use mathlib.Core.Path.{refl}
-use borrow.Author.Rules.{rules}
 use Rattle.capi_processor.proofs.execution.reset.Goals as goal
 
 pub returns : goal.returns

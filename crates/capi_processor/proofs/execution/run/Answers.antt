@@ -1,5 +1,4 @@
 -- `capi_processor::execution::run`: misused, or what the call below gives.
-use borrow.Author.Rules.{rules}
 use Rattle.capi_processor.proofs.Boundary.{run-misused, run-done}
 use Rattle.capi_processor.proofs.execution.run.Goals as goal
 

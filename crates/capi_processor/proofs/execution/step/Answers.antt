@@ -1,6 +1,5 @@
 -- `capi_processor::execution::step`: misused, or what the call below gives.
 use mathlib.Core.Path.{◌∙◌}
-use borrow.Author.Rules.{rules}
 use Rattle.capi_processor.proofs.Boundary.{step-misused, step-done}
 use Rattle.capi_processor.proofs.Levels.{done-level}
 use Rattle.capi_processor.proofs.execution.step.Goals as goal

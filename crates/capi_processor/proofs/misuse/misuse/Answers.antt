@@ -1,5 +1,4 @@
 -- `capi_processor::misuse::misuse`: 0, or the number of what the call below answers.
-use borrow.Author.Rules.{rules}
 use borrow.Author.Tests.{lt-ltb, le-ltb}
 use Rattle.capi_processor.specs.inner.Misuse.{misuse_at}
 use Rattle.capi_processor.proofs.misuse.misuse.Goals as goal

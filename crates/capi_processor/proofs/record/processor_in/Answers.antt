@@ -1,8 +1,7 @@
 -- `capi_processor::record::processor_in`: field by field.
-use borrow.Author.Rules.{rules}
 use Rattle.capi_processor.specs.Record.{processor_in}
 use Rattle.capi_processor.proofs.record.processor_in.Goals as goal
 
 pub returns : goal.returns
 unfolding processor_in
-returns c = rw (c.mode_of.ensures, c.hardware_given-hardware.ensures)
+returns c = rw (c.mode_of-mode.ensures, c.hardware_given-hardware.ensures)

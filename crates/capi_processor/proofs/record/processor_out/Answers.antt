@@ -1,5 +1,4 @@
 -- `capi_processor::record::processor_out`: field by field.
-use borrow.Author.Rules.{rules}
 use Rattle.capi_processor.specs.Record.{processor_out}
 use Rattle.capi_processor.proofs.record.processor_out.Goals as goal
 

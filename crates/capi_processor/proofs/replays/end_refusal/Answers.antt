@@ -1,5 +1,4 @@
 -- `capi_processor::replays::end_refusal`: by the end. Assumes nothing.
-use borrow.Author.Rules.{rules}
 use Rattle.capi_processor.proofs.replays.end_refusal.Goals as goal
 
 pub returns-in-Refused : goal.returns-in-Refused

@@ -1,5 +1,4 @@
 -- `capi_processor::replays::replay`: misused, or what the call below gives.
-use borrow.Author.Rules.{rules}
 use Rattle.bus.specs.Memory.{memory_of}
 use Rattle.capi_processor.proofs.Boundary.{replay-misused, replay-done}
 use Rattle.capi_processor.proofs.replays.replay.Goals as goal

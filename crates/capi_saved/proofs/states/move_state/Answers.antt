@@ -1,7 +1,6 @@
 -- `capi_saved::states::move_state`: what the call gives. Assumes nothing.
 use mathlib.Core.Path.{ap, ◌∙◌}
 use Rattle.refusal.specs.Number.{verdict_number}
-use borrow.Author.Rules.{rules}
 use Rattle.capi_saved.proofs.states.move_state.Goals as goal
 
 pub returns : goal.returns
@@ -11,4 +10,3 @@ returns c =
       refusal = c.verdict_number.ensures ∙ ap verdict_number done.verdict;
       output = done.output;
     }
-

@@ -1,5 +1,4 @@
 -- `capi_saved::states::read_state`: misused, or what the call below gives.
-use borrow.Author.Rules.{rules}
 use Rattle.bus.specs.Memory.{memory_of}
 use Rattle.capi_saved.proofs.Saving.{read-misused, read_done}
 use Rattle.capi_saved.proofs.states.read_state.Goals as goal

@@ -1,7 +1,6 @@
 -- `capi_saved::states::salvage_state`: what the call gives. Assumes nothing.
 use mathlib.Core.Path.{ap, ◌∙◌}
 use Rattle.capi_saved.specs.States.{salvaged_at}
-use borrow.Author.Rules.{rules}
 use Rattle.capi_saved.proofs.states.salvage_state.Goals as goal
 
 pub returns : goal.returns
@@ -11,4 +10,3 @@ returns c =
       reported = c.salvaged.ensures ∙ ap salvaged_at done.reported;
       output = done.output;
     }
-

@@ -1,6 +1,5 @@
 -- `capi_saved::states::salvaged` meets its contract. Assumes nothing.
 use Rattle.capi_saved.specs.States.{salvaged_at}
-use borrow.Author.Rules.{rules}
 use Rattle.capi_saved.proofs.states.salvaged.Goals as goal
 
 pub returns-then-report : goal.returns-then-report

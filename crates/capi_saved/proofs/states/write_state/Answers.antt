@@ -1,6 +1,5 @@
 -- `capi_saved::states::write_state`: misused, or what the call below gives.
 use mathlib.Core.Path.{◌∙◌}
-use borrow.Author.Rules.{rules}
 use Rattle.bus.specs.Memory.{memory_of}
 use Rattle.saved_layout.specs.declared.Form.TheVariants.{One}
 use Rattle.capi_saved.proofs.Saving.{write-misused, write_done}
@@ -28,4 +27,3 @@ returns c =
       refusal = c.verdict_number.ensures ∙ w.0;
       output = w.1;
     }
-
