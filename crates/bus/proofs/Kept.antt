@@ -1,4 +1,5 @@
 -- A store keeps every length and every register width, so an accepted machine stays accepted. Assumes nothing.
+use Rattle.std.specs.Prelude.{Ok}
 use Prim.Native.Nat.{ℕ, zero, suc, ◌+◌, ◌-◌, ◌^◌, ◌<◌}
 use mathlib.Core.Bool.{true, false≢true}
 use mathlib.Core.List.{List}
@@ -10,7 +11,6 @@ use borrow.Author.Tests.{lt-ltb, le-ltb}
 use lib.ListN.{length, get_or, set, length-set}
 use lib.Pow.{pow_pos}
 use lib.Seq.{get_or-set_same, get_or-set_other, set_out}
-use Rattle.refusal.specs.declared.Verdict.TheVariants.{Accepted}
 use Rattle.bus_timer.specs.Ports.{hardware_ok, port_written_of}
 use Rattle.bus_timer.specs.declared.TimerLines.{TimerLines}
 use Rattle.bus_timer.proofs.Accepting.{ok-fits, fits-ok, write-accepted}
@@ -210,7 +210,7 @@ pub shape-lengths : (m n : Memory) → Shape m n → Lengths (length m.rom) (len
     → Lengths (length n.rom) (length n.wram) (length n.vram) (length n.pak)
 shape-lengths m n p h = rw (p.same_rom, p.same_wram, p.same_vram, p.same_pak) h
 
-pub shape-accepted : (m n : Memory) → Shape m n → verdict_of m ≡ Accepted → verdict_of n ≡ Accepted
+pub shape-accepted : (m n : Memory) → Shape m n → verdict_of m ≡ (Ok tt) → verdict_of n ≡ (Ok tt)
 shape-accepted m n p e =
     lengths-accepted (length n.rom) (length n.wram) (length n.vram) (length n.pak) n.regs
     (shape-lengths m n p (accepted-lengths (length m.rom) (length m.wram) (length m.vram) (length m.pak) m.regs e))

@@ -1,7 +1,7 @@
 -- The caller's memories with the device registers, and what loads and stores mean: paper 01, "Addresses".
 -- A load is the little-endian number of its bytes, at every size. A store is a composition of steps
 -- that are total: put a byte (nothing at a VIP register), put a VIP register (nothing elsewhere).
-use Rattle.std.specs.Prelude.{ℕ, zero, suc, ◌+◌, ◌-◌, ◌/◌, ◌%◌, ◌^◌, ◌<◌, Bool, true, List, [], ◌∷◌, ◌≡◌, get_or, set, length}
+use Rattle.std.specs.Prelude.{ℕ, zero, suc, ◌+◌, ◌-◌, ◌/◌, ◌%◌, ◌^◌, ◌<◌, Bool, true, List, [], ◌∷◌, ◌≡◌, get_or, set, length, Ok}
 use Rattle.word.specs.Choose.{member}
 use Rattle.word.specs.LittleEndian.{little_endian}
 use Rattle.bus_timer.specs.Ports.{port_byte_of, port_written_of}
@@ -10,9 +10,7 @@ use Rattle.bus.specs.TimerLines.{hardware_in, with_hardware, registers_ok}
 use Rattle.bus.specs.Place.{Place, vram_at, wram_at, pak_at, rom_at, drawing_at, version_at, silent, unmapped}
 use Rattle.bus.specs.Place.{hardware_at, place_of}
 use Rattle.bus.specs.Refusal.{wram_bytes, vram_bytes, rom_ok, wram_ok, vram_ok, pak_ok}
-use Rattle.refusal.specs.Number.{unless}
-use Rattle.refusal.specs.declared.Verdict.{Verdict}
-use Rattle.refusal.specs.declared.Verdict.TheVariants.{Accepted}
+use Rattle.refusal.specs.Number.{unless, Verdict}
 use Rattle.refusal.specs.declared.Refusal.TheVariants.{RomLength, WramLength, VramLength, PakLength, State}
 
 -- the caller's memories, each a list of bytes, and the device registers
@@ -44,7 +42,7 @@ abbrev pub verdict_when : ℕ → ℕ → ℕ → ℕ → Bool → Verdict
 verdict_when rom wram vram pak state_ok =
     unless (rom_ok rom) RomLength
     (unless (wram_ok wram) WramLength
-    (unless (vram_ok vram) VramLength (unless (pak_ok pak) PakLength (unless state_ok State Accepted))))
+    (unless (vram_ok vram) VramLength (unless (pak_ok pak) PakLength (unless state_ok State (Ok tt)))))
 
 -- refusals 1 to 5, as far as the lengths of the memories and the device registers are their subject
 unfoldable pub verdict_at : ℕ → ℕ → ℕ → ℕ → List ℕ → Verdict

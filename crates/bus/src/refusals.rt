@@ -7,7 +7,7 @@ ghost use Rattle.bus.specs.Memory.{verdict_when, verdict_at};
 
 use crate::{Device, DrawingRegisters, device};
 use bus_timer::TimerLines;
-use refusal::{Refusal, Verdict};
+use refusal::Refusal;
 
 // Whether a ROM may be n bytes long.
 pub fn rom_ok(n: usize) -> bool
@@ -118,29 +118,29 @@ pub fn registers_ok(device: &Device) -> bool
 }
 
 // The lowest of refusals 1 to 5 whose condition holds, where it is known whether 5's does.
-fn first(rom: usize, wram: usize, vram: usize, pak: usize, state: bool) -> Verdict
+fn first(rom: usize, wram: usize, vram: usize, pak: usize, state: bool) -> Result<(), Refusal>
     ensures { result ≡ verdict_when rom wram vram pak state }
 {
     if !rom_ok(rom) {
-        return Verdict::Refused(Refusal::RomLength);
+        return Err(Refusal::RomLength);
     }
     if wram != 65536 {
-        return Verdict::Refused(Refusal::WramLength);
+        return Err(Refusal::WramLength);
     }
     if vram != 262144 {
-        return Verdict::Refused(Refusal::VramLength);
+        return Err(Refusal::VramLength);
     }
     if !pak_ok(pak) {
-        return Verdict::Refused(Refusal::PakLength);
+        return Err(Refusal::PakLength);
     }
     if !state {
-        return Verdict::Refused(Refusal::State);
+        return Err(Refusal::State);
     }
-    Verdict::Accepted
+    Ok(())
 }
 
 // The lowest of refusals 1 to 5 whose condition holds of the memories' lengths and the device registers.
-pub fn verdict(rom: usize, wram: usize, vram: usize, pak: usize, regs: &Device) -> Verdict
+pub fn verdict(rom: usize, wram: usize, vram: usize, pak: usize, regs: &Device) -> Result<(), Refusal>
     ensures { result ≡ verdict_at rom wram vram pak regs.now }
 {
     first(rom, wram, vram, pak, registers_ok(regs))
@@ -154,7 +154,7 @@ pub fn call_verdict(
     pak: usize,
     drawing: &DrawingRegisters,
     hardware: TimerLines,
-) -> Verdict
+) -> Result<(), Refusal>
     ensures { result ≡ verdict_at rom wram vram pak (device_of drawing.now hardware) }
 {
     first(rom, wram, vram, pak, records_ok(drawing, hardware))

@@ -1,12 +1,12 @@
 -- From the verdict that a call found to its answer, for a load and a store of any size: refused or done; and what an
 -- access does that borrows a copy of the device registers. Assumes nothing.
+use Rattle.std.specs.Prelude.{Ok, Err}
+use Rattle.refusal.specs.Number.{Verdict}
 use Prim.Native.Nat.{ℕ}
 use mathlib.Core.List.{List}
 use mathlib.Core.Path.{◌≡◌, sym, ap, subst, ◌∙◌}
 use lib.ListN.{length}
 use Rattle.refusal.specs.declared.Refusal.{Refusal}
-use Rattle.refusal.specs.declared.Verdict.{Verdict}
-use Rattle.refusal.specs.declared.Verdict.TheVariants.{Accepted, Refused}
 use Rattle.bus_timer.specs.declared.TimerLines.{TimerLines}
 use Rattle.bus.specs.Registers.{drawing_in}
 use Rattle.bus.specs.TimerLines.{device_length, hardware_in, device_of}
@@ -20,16 +20,16 @@ use Rattle.bus_calls.specs.declared.Load.TheVariants as load
 use Rattle.bus_calls.specs.Access.{checked_load_of, checked_store_of}
 
 -- the lengths that a call goes on with
-pub found-lengths : (rom wram vram pak : ℕ) (regs : List ℕ) (found : Verdict) → found ≡ verdict_at rom wram vram pak regs → found ≡ Accepted
+pub found-lengths : (rom wram vram pak : ℕ) (regs : List ℕ) (found : Verdict) → found ≡ verdict_at rom wram vram pak regs → found ≡ (Ok tt)
     → Lengths rom wram vram pak
 found-lengths rom wram vram pak regs found e h = accepted-lengths rom wram vram pak regs (sym e ∙ h)
 
 module _ (m : Memory) (size a : ℕ) (found : Verdict) (e : found ≡ verdict_of m) where
-  pub load-refused : (n : Refusal) → found ≡ Refused n → load.Refused n ≡ checked_load_of m size a
+  pub load-refused : (n : Refusal) → found ≡ Err n → load.Refused n ≡ checked_load_of m size a
   unfolding checked_load_of
   load-refused n h = sym (rw (sym e ∙ h))
 
-  pub load-done : found ≡ Accepted → (r : Reading) → r.undefined ≡ undefined_of m size a → Reads m size a r.value → load.Value r ≡ checked_load_of m size a
+  pub load-done : found ≡ (Ok tt) → (r : Reading) → r.undefined ≡ undefined_of m size a → Reads m size a r.value → load.Value r ≡ checked_load_of m size a
   unfolding checked_load_of
   load-done h r u p = sym (rw (sym e ∙ h) (rw (← p.means, ← u)))
 
@@ -38,11 +38,11 @@ module _ (m : Memory) (size a : ℕ) (found : Verdict) (e : found ≡ verdict_of
     abbrev Answers : Verdict → Memory → Type 0
     Answers verdict left = (verdict ≡ verdict_of m) × (left ≡ checked_store_of m (store_of m size a v))
 
-    pub store-refused : (n : Refusal) → found ≡ Refused n → Answers (Refused n) m
+    pub store-refused : (n : Refusal) → found ≡ Err n → Answers (Err n) m
     unfolding checked_store_of
     store-refused n h = (sym h ∙ e, sym (rw (sym e ∙ h)))
 
-    pub store-done : found ≡ Accepted → (verdict : Verdict) → verdict ≡ Accepted → (left : Memory) → left ≡ store_of m size a v → Answers verdict left
+    pub store-done : found ≡ (Ok tt) → (verdict : Verdict) → verdict ≡ (Ok tt) → (left : Memory) → left ≡ store_of m size a v → Answers verdict left
     unfolding checked_store_of
     store-done h verdict k left p = (k ∙ (sym h ∙ e), p ∙ sym (rw (sym e ∙ h)))
 

@@ -1,7 +1,6 @@
 -- What the bus's public calls answer, for every input: the refusal, or the access done. A refusal changes nothing.
-use Rattle.std.specs.Prelude.{ℕ}
-use Rattle.refusal.specs.declared.Verdict.{Verdict}
-use Rattle.refusal.specs.declared.Verdict.TheVariants as verdict
+use Rattle.refusal.specs.Number.{Verdict}
+use Rattle.std.specs.Prelude.{ℕ, Ok, Err}
 use Rattle.bus.specs.Memory.{Memory, verdict_of, load_of}
 use Rattle.bus_defined.specs.Defined.{undefined_of}
 use Rattle.bus_calls.specs.declared.Load.{Load}
@@ -9,13 +8,13 @@ use Rattle.bus_calls.specs.declared.Load.TheVariants as load
 
 -- a load's answer: the value and the mask of its undefined bytes, unless refused
 abbrev pub answer_when : Verdict → ℕ → ℕ → Load
-answer_when verdict.Accepted v u = load.Value (record { value = v; undefined = u })
-answer_when (verdict.Refused n) v u = load.Refused n
+answer_when (Ok tt) v u = load.Value (record { value = v; undefined = u })
+answer_when (Err n) v u = load.Refused n
 
 -- the memory afterwards: the second unless refused
 abbrev pub memory_when : Verdict → Memory → Memory → Memory
-memory_when verdict.Accepted before after = after
-memory_when (verdict.Refused n) before after = before
+memory_when (Ok tt) before after = after
+memory_when (Err n) before after = before
 
 -- the answer of a checked load of `size` bytes
 unfoldable pub checked_load_of : Memory → ℕ → ℕ → Load

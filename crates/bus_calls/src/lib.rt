@@ -3,8 +3,7 @@
 // answer borrow a copy of them as device registers.
 #![tactic(auto)]
 
-ghost use Rattle.std.specs.Prelude.{◌≡◌, true, List, ℕ, length};
-ghost use Rattle.refusal.specs.declared.Verdict.TheVariants.{Accepted};
+ghost use Rattle.std.specs.Prelude.{◌≡◌, true, List, ℕ, length, Ok};
 ghost use Rattle.bus.specs.Refusal.{vram_bytes, pak_ok};
 ghost use Rattle.bus.specs.Memory.{memory_of, verdict_of, store_of, Lengths, Reads, size_ok};
 ghost use Rattle.bus.specs.Lent.{entering_with, leaving_with};
@@ -13,7 +12,7 @@ ghost use Rattle.bus_calls.specs.Access.{checked_load_of, checked_store_of};
 
 use bus::{Drawing, Found, device, load, refusals, store};
 use bus_timer::TimerLines;
-use refusal::{Refusal, Verdict};
+use refusal::Refusal;
 
 // What a load read: its value, and bit k of `undefined` set where byte k, counted from the aligned address, is
 // undefined.
@@ -33,7 +32,7 @@ pub enum Load {
 // The answer of a store: the drawing registers, the request lines and the timer afterwards next to the verdict.
 #[derive(Clone, Copy)]
 pub struct Stored {
-    pub verdict: Verdict,
+    pub verdict: Result<(), Refusal>,
     pub drawing: Drawing,
     pub hardware: TimerLines,
 }
@@ -75,7 +74,7 @@ fn write(
 ) -> Stored
     requires { (length wram.old ≡ 65536) × (length vram.old ≡ vram_bytes) × (pak_ok (length pak.old) ≡ true)
         × (size_ok size ≡ true) }
-    ensures verdict { result.verdict ≡ Accepted }
+    ensures verdict { result.verdict ≡ Ok tt }
     ensures memory { (rom : List ℕ)
         → memory_of rom wram.new vram.new pak.new
         (device_of result.drawing.regs result.hardware)
@@ -84,7 +83,7 @@ fn write(
 {
     if store::direct(wram, vram, size, address, value) {
         return Stored {
-            verdict: Verdict::Accepted,
+            verdict: Ok(()),
             drawing,
             hardware,
         };
@@ -95,7 +94,7 @@ fn write(
     let regs = device::drawing_in(&lent);
     let timer = device::hardware_in(&lent);
     Stored {
-        verdict: Verdict::Accepted,
+        verdict: Ok(()),
         drawing: Drawing { regs },
         hardware: timer,
     }
@@ -122,12 +121,12 @@ pub fn load_byte(
         hardware,
     );
     match verdict {
-        Verdict::Accepted => {
+        Ok(()) => {
             let undefined = bus_defined::byte(address);
             let value = read(rom, wram, vram, pak, drawing, hardware, 1, address);
             Load::Value(Reading { value, undefined })
         }
-        Verdict::Refused(refusal) => Load::Refused(refusal),
+        Err(refusal) => Load::Refused(refusal),
     }
 }
 
@@ -152,12 +151,12 @@ pub fn load_half(
         hardware,
     );
     match verdict {
-        Verdict::Accepted => {
+        Ok(()) => {
             let undefined = bus_defined::half(address);
             let value = read(rom, wram, vram, pak, drawing, hardware, 2, address);
             Load::Value(Reading { value, undefined })
         }
-        Verdict::Refused(refusal) => Load::Refused(refusal),
+        Err(refusal) => Load::Refused(refusal),
     }
 }
 
@@ -182,12 +181,12 @@ pub fn load_word(
         hardware,
     );
     match verdict {
-        Verdict::Accepted => {
+        Ok(()) => {
             let undefined = bus_defined::word(address);
             let value = read(rom, wram, vram, pak, drawing, hardware, 4, address);
             Load::Value(Reading { value, undefined })
         }
-        Verdict::Refused(refusal) => Load::Refused(refusal),
+        Err(refusal) => Load::Refused(refusal),
     }
 }
 
@@ -216,9 +215,9 @@ pub fn store_byte(
         hardware,
     );
     match verdict {
-        Verdict::Accepted => write(wram, vram, pak, drawing, hardware, 1, address, value),
-        Verdict::Refused(refusal) => Stored {
-            verdict: Verdict::Refused(refusal),
+        Ok(()) => write(wram, vram, pak, drawing, hardware, 1, address, value),
+        Err(refusal) => Stored {
+            verdict: Err(refusal),
             drawing,
             hardware,
         },
@@ -250,9 +249,9 @@ pub fn store_half(
         hardware,
     );
     match verdict {
-        Verdict::Accepted => write(wram, vram, pak, drawing, hardware, 2, address, value),
-        Verdict::Refused(refusal) => Stored {
-            verdict: Verdict::Refused(refusal),
+        Ok(()) => write(wram, vram, pak, drawing, hardware, 2, address, value),
+        Err(refusal) => Stored {
+            verdict: Err(refusal),
             drawing,
             hardware,
         },
@@ -284,9 +283,9 @@ pub fn store_word(
         hardware,
     );
     match verdict {
-        Verdict::Accepted => write(wram, vram, pak, drawing, hardware, 4, address, value),
-        Verdict::Refused(refusal) => Stored {
-            verdict: Verdict::Refused(refusal),
+        Ok(()) => write(wram, vram, pak, drawing, hardware, 4, address, value),
+        Err(refusal) => Stored {
+            verdict: Err(refusal),
             drawing,
             hardware,
         },

@@ -1,15 +1,14 @@
 -- From the tests that a call made to its verdict, and from the verdict to what the call leaves. Assumes nothing.
+use Rattle.std.specs.Prelude.{Ok, Err}
 use Prim.Native.Nat.{ℕ}
 use mathlib.Core.Bool.{Bool, true, false}
 use mathlib.Core.List.{List}
 use mathlib.Core.Path.{◌≡◌, refl, sym, ap, ◌∙◌}
 use native.Mathlib.Omega.{arith}
 use lib.ListN.{length}
-use Rattle.refusal.specs.Number.{unless, then_of}
+use Rattle.refusal.specs.Number.{unless, then_of, Verdict}
 use Rattle.refusal.specs.declared.Refusal.{Refusal}
 use Rattle.refusal.specs.declared.Refusal.TheVariants.{AccessList}
-use Rattle.refusal.specs.declared.Verdict.{Verdict}
-use Rattle.refusal.specs.declared.Verdict.TheVariants.{Accepted, Refused}
 use Rattle.bus_timer.specs.declared.TimerLines.{TimerLines}
 use Rattle.bus.specs.Registers.{drawing_in}
 use Rattle.bus.specs.TimerLines.{device_length, hardware_in, device_of}
@@ -20,49 +19,49 @@ use Rattle.bus_list.specs.List.{count_of, Made, made_of, accesses_of, list_ok}
 use Rattle.bus_list.proofs.Registers.{accesses-registers}
 use Rattle.bus_list.specs.Calls.{list_verdict_at, list_verdict_of, access_list_of}
 
-then-passed : (v later : Verdict) → then_of v later ≡ Accepted → (v ≡ Accepted) × (later ≡ Accepted)
-then-passed Accepted later e = (refl, e)
-then-passed (Refused n) later e =
+then-passed : (v later : Verdict) → then_of v later ≡ (Ok tt) → (v ≡ (Ok tt)) × (later ≡ (Ok tt))
+then-passed (Ok tt) later e = (refl, e)
+then-passed (Err n) later e =
     let z : ◌≡◌ {A = ℕ} 0 1 = cc in
     absurd (omega arith)
 
 module _ (rom wram vram pak : ℕ) (regs xs : List ℕ) where
-  passed : list_verdict_at rom wram vram pak regs xs ≡ Accepted → (verdict_at rom wram vram pak regs ≡ Accepted) × (unless
-      (list_ok xs) AccessList Accepted ≡ Accepted)
+  passed : list_verdict_at rom wram vram pak regs xs ≡ (Ok tt) → (verdict_at rom wram vram pak regs ≡ (Ok tt)) × (unless
+      (list_ok xs) AccessList (Ok tt) ≡ (Ok tt))
   unfolding list_verdict_at
-  passed e = then-passed (verdict_at rom wram vram pak regs) (unless (list_ok xs) AccessList Accepted) e
+  passed e = then-passed (verdict_at rom wram vram pak regs) (unless (list_ok xs) AccessList (Ok tt)) e
 
-  pub passed-lengths : list_verdict_at rom wram vram pak regs xs ≡ Accepted → Lengths rom wram vram pak
+  pub passed-lengths : list_verdict_at rom wram vram pak regs xs ≡ (Ok tt) → Lengths rom wram vram pak
   passed-lengths e = accepted-lengths rom wram vram pak regs (passed e).0
 
-  pub passed-list : list_verdict_at rom wram vram pak regs xs ≡ Accepted → list_ok xs ≡ true
-  passed-list e = (unless-passed (list_ok xs) AccessList Accepted (passed e).1).0
+  pub passed-list : list_verdict_at rom wram vram pak regs xs ≡ (Ok tt) → list_ok xs ≡ true
+  passed-list e = (unless-passed (list_ok xs) AccessList (Ok tt) (passed e).1).0
 
   module _ (found : Verdict) (e : found ≡ verdict_at rom wram vram pak regs) where
-    pub bus-refused : (n : Refusal) → found ≡ Refused n → Refused n ≡ list_verdict_at rom wram vram pak regs xs
+    pub bus-refused : (n : Refusal) → found ≡ Err n → Err n ≡ list_verdict_at rom wram vram pak regs xs
     unfolding list_verdict_at
     bus-refused n h = rw (← e, h)
 
-    module _ (h : found ≡ Accepted) (b : Bool) (t : b ≡ list_ok xs) where
-      pub list-refused : b ≡ false → Refused AccessList ≡ list_verdict_at rom wram vram pak regs xs
+    module _ (h : found ≡ (Ok tt)) (b : Bool) (t : b ≡ list_ok xs) where
+      pub list-refused : b ≡ false → Err AccessList ≡ list_verdict_at rom wram vram pak regs xs
       unfolding list_verdict_at
       list-refused f = rw (← e, h, ← t, f)
 
-      pub list-accepted : b ≡ true → Accepted ≡ list_verdict_at rom wram vram pak regs xs
+      pub list-accepted : b ≡ true → (Ok tt) ≡ list_verdict_at rom wram vram pak regs xs
       unfolding list_verdict_at
       list-accepted f = rw (← e, h, ← t, f)
 
 module _ (m : Memory) (xs : List ℕ) (v : Verdict) (e : v ≡ list_verdict_of m xs) where
-  pub bus-passed : v ≡ Accepted → verdict_of m ≡ Accepted
+  pub bus-passed : v ≡ (Ok tt) → verdict_of m ≡ (Ok tt)
   bus-passed h =
       (passed (length m.rom) (length m.wram) (length m.vram) (length m.pak) m.regs xs (sym e ∙ h)).0
 
-  pub list_left : v ≡ Accepted → (t : Made) → t ≡ accesses_of (count_of xs) 0 m xs → t ≡ access_list_of m xs
+  pub list_left : v ≡ (Ok tt) → (t : Made) → t ≡ accesses_of (count_of xs) 0 m xs → t ≡ access_list_of m xs
   unfolding access_list_of
   list_left h t f = rw (← e, h) f
 
   -- with the device registers borrowed
-  pub list-lent : v ≡ Accepted → length m.regs ≡ device_length → (lent : List ℕ) → lent ≡ m.regs
+  pub list-lent : v ≡ (Ok tt) → length m.regs ≡ device_length → (lent : List ℕ) → lent ≡ m.regs
       → (t : Made) → t ≡ accesses_of (count_of xs) 0 (with_regs m lent) xs
       → (drawn : List ℕ) (timer : TimerLines) → drawn ≡ drawing_in t.memory.regs → timer ≡ hardware_in t.memory.regs
       → made_of (with_regs t.memory (device_of drawn timer)) t.list ≡ access_list_of m xs
@@ -72,6 +71,6 @@ module _ (m : Memory) (xs : List ℕ) (v : Verdict) (e : v ≡ list_verdict_of m
       let parts : device_of drawn timer ≡ t.memory.regs = rw (p, q) (device-whole t.memory.regs whole) in
       ap (λ (d : List ℕ). made_of (with_regs t.memory d) t.list) parts ∙ list_left h t same
 
-  pub list-kept : (n : Refusal) → v ≡ Refused n → made_of m xs ≡ access_list_of m xs
+  pub list-kept : (n : Refusal) → v ≡ Err n → made_of m xs ≡ access_list_of m xs
   unfolding access_list_of
   list-kept n h = rw (← e, h)

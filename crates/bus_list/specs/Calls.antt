@@ -1,9 +1,7 @@
 -- What a list of accesses answers and leaves, for every input (paper 02, W7): "Refusal 11, after 1 to 5 and before any
 -- access". A refusal changes nothing, the list among it.
-use Rattle.std.specs.Prelude.{ℕ, List, length}
-use Rattle.refusal.specs.Number.{unless, then_of}
-use Rattle.refusal.specs.declared.Verdict.{Verdict}
-use Rattle.refusal.specs.declared.Verdict.TheVariants.{Accepted, Refused}
+use Rattle.std.specs.Prelude.{ℕ, List, length, Ok, Err}
+use Rattle.refusal.specs.Number.{unless, then_of, Verdict}
 use Rattle.refusal.specs.declared.Refusal.TheVariants.{AccessList}
 use Rattle.bus.specs.Memory.{Memory, verdict_at}
 use Rattle.bus_list.specs.List.{count_of, Made, made_of, accesses_of, list_ok}
@@ -11,7 +9,7 @@ use Rattle.bus_list.specs.List.{count_of, Made, made_of, accesses_of, list_ok}
 -- the verdict by the memories' lengths, the registers and the list
 unfoldable pub list_verdict_at : ℕ → ℕ → ℕ → ℕ → List ℕ → List ℕ → Verdict
 list_verdict_at rom wram vram pak regs xs =
-    then_of (verdict_at rom wram vram pak regs) (unless (list_ok xs) AccessList Accepted)
+    then_of (verdict_at rom wram vram pak regs) (unless (list_ok xs) AccessList (Ok tt))
 
 abbrev pub list_verdict_of : Memory → List ℕ → Verdict
 list_verdict_of m xs =
@@ -19,8 +17,8 @@ list_verdict_of m xs =
 
 -- what is left: the second unless refused
 abbrev pub made_when : Verdict → Made → Made → Made
-made_when Accepted before after = after
-made_when (Refused n) before after = before
+made_when (Ok tt) before after = after
+made_when (Err n) before after = before
 
 -- memory and the list afterwards
 unfoldable pub access_list_of : Memory → List ℕ → Made

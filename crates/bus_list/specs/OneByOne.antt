@@ -1,9 +1,8 @@
 -- A list against single calls (paper 02, W7: "One call over the list leaves the same memory, registers and answers as
 -- the accesses made one by one, in order"): the statements. Their proofs are `one_by_one` and `none-refused` in
 -- proofs/Singles.
-use Rattle.std.specs.Prelude.{ℕ, zero, suc, ◌+◌, List, ◌≡◌, eqb}
+use Rattle.std.specs.Prelude.{ℕ, zero, suc, ◌+◌, List, ◌≡◌, eqb, Ok}
 use Rattle.word.specs.Choose.{pick}
-use Rattle.refusal.specs.declared.Verdict.TheVariants.{Accepted}
 use Rattle.bus.specs.Memory.{Memory, verdict_of, store_of}
 use Rattle.bus_calls.specs.Access.{checked_load_of, checked_store_of}
 use Rattle.bus_calls.specs.declared.Load.{Load}
@@ -34,10 +33,10 @@ singles_of (suc n) k m xs =
 -- an accepted list leaves what its accesses leave one by one
 abbrev pub OneByOne : Type 0
 OneByOne =
-    (m : Memory) (xs : List ℕ) → list_verdict_of m xs ≡ Accepted → access_list_of m xs ≡ singles_of (count_of xs) 0 m xs
+    (m : Memory) (xs : List ℕ) → list_verdict_of m xs ≡ (Ok tt) → access_list_of m xs ≡ singles_of (count_of xs) 0 m xs
 
 -- and none of those is refused: the machine that each is given passes 1 to 5
 abbrev pub NoneRefused : Type 0
 NoneRefused =
-    (m : Memory) (xs : List ℕ) → list_verdict_of m xs ≡ Accepted
-    → (n : ℕ) → verdict_of (singles_of n 0 m xs).memory ≡ Accepted
+    (m : Memory) (xs : List ℕ) → list_verdict_of m xs ≡ (Ok tt)
+    → (n : ℕ) → verdict_of (singles_of n 0 m xs).memory ≡ (Ok tt)

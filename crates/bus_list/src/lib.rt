@@ -14,7 +14,7 @@ ghost use Rattle.bus_list.specs.Calls.{list_verdict_at, list_verdict_of, access_
 use bus::{Device, Drawing, DrawingRegisters, device, load, refusals, store};
 use bus_calls::{Reading, Stored};
 use bus_timer::TimerLines;
-use refusal::{Refusal, Verdict};
+use refusal::Refusal;
 
 // Whether an access may have this size.
 fn size_ok(size: u32) -> bool
@@ -64,16 +64,16 @@ fn verdict(
     drawing: &DrawingRegisters,
     hardware: TimerLines,
     list: &[u8],
-) -> Verdict
+) -> Result<(), Refusal>
     ensures { result ≡ list_verdict_at rom wram vram pak (device_of drawing.now hardware) list.now }
 {
     match refusals::call_verdict(rom, wram, vram, pak, drawing, hardware) {
-        Verdict::Refused(n) => Verdict::Refused(n),
-        Verdict::Accepted => {
+        Err(n) => Err(n),
+        Ok(()) => {
             if !list_ok(list) {
-                return Verdict::Refused(Refusal::AccessList);
+                return Err(Refusal::AccessList);
             }
-            Verdict::Accepted
+            Ok(())
         }
     }
 }
@@ -194,19 +194,19 @@ pub fn access_list(
         list,
     );
     match verdict {
-        Verdict::Refused(refusal) => Stored {
-            verdict: Verdict::Refused(refusal),
+        Err(refusal) => Stored {
+            verdict: Err(refusal),
             drawing,
             hardware,
         },
-        Verdict::Accepted => {
+        Ok(()) => {
             let before = drawing.regs;
             let mut lent = device::device_of(before, hardware);
             accesses(rom, wram, vram, pak, &mut lent, list);
             let regs = device::drawing_in(&lent);
             let timer = device::hardware_in(&lent);
             Stored {
-                verdict: Verdict::Accepted,
+                verdict: Ok(()),
                 drawing: Drawing { regs },
                 hardware: timer,
             }

@@ -1,4 +1,5 @@
 -- `probe-kept` and `probe-length`: no list of writes changes a byte outside the ranges, or VRAM's length. Assumes nothing.
+use Rattle.std.specs.Prelude.{Ok, Err}
 use Prim.Native.Nat.{ℕ, ◌+◌, ◌-◌, ◌/◌, ◌%◌, ◌<◌, ◌≤◌}
 use mathlib.Core.Bool.{true, false, true≢false}
 use mathlib.Core.List.{List, [], ◌∷◌}
@@ -7,10 +8,8 @@ use mathlib.Core.Path.{◌≡◌, refl, sym, ◌∙◌}
 use native.Mathlib.Omega.{arith}
 use lib.ListN.{length, get_or}
 use Rattle.word.specs.LittleEndian.{put_bytes}
-use Rattle.refusal.specs.declared.Verdict.{Verdict}
-use Rattle.refusal.specs.declared.Verdict.TheVariants.{Accepted, Refused}
 use Rattle.bus_probe.specs.Probe.{in_ranges_of, target_of, probe_verdict_of, probed_of}
-use Rattle.refusal.specs.Number.{when_accepted}
+use Rattle.refusal.specs.Number.{when_accepted, Verdict}
 use Rattle.bus_probe.specs.Kept.{Width, byte, half, word, probe_size_of, Write, probe_written_of, all_written_of, ProbeKept, ProbeLength}
 use Rattle.bus_probe.proofs.Ranges.{in-ranges, same_word}
 use Rattle.bus.proofs.VramIndex.{follows}
@@ -18,10 +17,10 @@ use Rattle.bus_probe.proofs.Verdicts.{allowed}
 use Rattle.word.proofs.Bytes.{put-length, put_other}
 
 -- what storing keeps of VRAM where the write is accepted, a call keeps, refused or not
-kept-when : {A : Type 0} (f : List ℕ → A) (v : Verdict) (before after : List ℕ) → (v ≡ Accepted → f after ≡ f before)
+kept-when : {A : Type 0} (f : List ℕ → A) (v : Verdict) (before after : List ℕ) → (v ≡ (Ok tt) → f after ≡ f before)
     → f (when_accepted v before after) ≡ f before
-kept-when f Accepted before after e = e refl
-kept-when f (Refused n) before after e = refl
+kept-when f (Ok tt) before after e = e refl
+kept-when f (Err n) before after e = refl
 
 -- a target in the ranges stands in its word where the aligned address does
 target-word : (rom pak size a : ℕ) → in_ranges_of (target_of rom pak size a) ≡ true
@@ -48,7 +47,7 @@ module _ (vram : List ℕ) (w : Write) where
   stored : List ℕ
   stored = put_bytes (probe_size_of w.width) vram target w.value
 
-  stored-kept : (a : ℕ) → in_ranges_of a ≡ false → verdict ≡ Accepted → get_or stored a 0 ≡ get_or vram a 0
+  stored-kept : (a : ℕ) → in_ranges_of a ≡ false → verdict ≡ (Ok tt) → get_or stored a 0 ≡ get_or vram a 0
   unfolding target verdict stored probe_verdict_of
   stored-kept a out e =
       let ok = (allowed _ _ _ _ _ e).target_ok in

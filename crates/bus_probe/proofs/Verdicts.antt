@@ -1,4 +1,6 @@
 -- From the verdict that a call found to its answer and to VRAM, for a write of any size. Assumes nothing.
+use Rattle.std.specs.Prelude.{Ok, Err}
+use Rattle.refusal.specs.Number.{Verdict}
 use Prim.Native.Nat.{ℕ, ◌+◌, ◌<◌}
 use mathlib.Core.Bool.{true}
 use mathlib.Core.List.{List}
@@ -12,8 +14,6 @@ use Rattle.bus.specs.Refusal.{rom_ok, wram_ok, vram_ok, pak_ok}
 use Rattle.bus.specs.Place.{place_of, vram_index_of}
 use Rattle.bus.specs.Memory.{aligned_of}
 use Rattle.refusal.specs.declared.Refusal.{Refusal}
-use Rattle.refusal.specs.declared.Verdict.{Verdict}
-use Rattle.refusal.specs.declared.Verdict.TheVariants.{Accepted, Refused}
 use Rattle.bus.proofs.Accepted.{unless-passed}
 use Rattle.bus_probe.specs.Probe.{in_ranges_of, target_of, probe_verdict_at, probe_verdict_of, probed_of}
 use Rattle.bus_probe.proofs.Ranges.{in-ranges}
@@ -23,7 +23,7 @@ pub record Allowed (vram target : ℕ) : Type 0 where
   pub vram-ok : vram ≡ 262144
   pub target_ok : in_ranges_of target ≡ true
 
-pub allowed : (rom wram vram pak target : ℕ) → probe_verdict_at rom wram vram pak target ≡ Accepted → Allowed vram target
+pub allowed : (rom wram vram pak target : ℕ) → probe_verdict_at rom wram vram pak target ≡ (Ok tt) → Allowed vram target
 unfolding probe_verdict_at vram_ok
 allowed rom wram vram pak target e =
     let one = unless-passed (rom_ok rom) _ _ e in
@@ -51,13 +51,13 @@ module _ (size : ℕ) (rom wram vram pak : List ℕ) (a at : ℕ) (found : Verdi
   unfolding probe_verdict_of
   verdict-found = e ∙ ap (probe_verdict_at (length rom) (length wram) (length vram) (length pak)) t
 
-  pub found-allowed : found ≡ Accepted → Allowed (length vram) at
+  pub found-allowed : found ≡ (Ok tt) → Allowed (length vram) at
   found-allowed h = allowed (length rom) (length wram) (length vram) (length pak) at (sym e ∙ h)
 
-  pub vram-accepted : found ≡ Accepted → (v : ℕ) → put_bytes size vram at v ≡ probed_of size rom wram vram pak a v
+  pub vram-accepted : found ≡ (Ok tt) → (v : ℕ) → put_bytes size vram at v ≡ probed_of size rom wram vram pak a v
   unfolding probed_of
   vram-accepted h v = rw (sym verdict-found ∙ h) (ap (λ i. put_bytes size vram i v) t)
 
-  pub vram-refused : (n : Refusal) → found ≡ Refused n → (v : ℕ) → vram ≡ probed_of size rom wram vram pak a v
+  pub vram-refused : (n : Refusal) → found ≡ Err n → (v : ℕ) → vram ≡ probed_of size rom wram vram pak a v
   unfolding probed_of
   vram-refused n h v = rw (sym verdict-found ∙ h)

@@ -1,8 +1,7 @@
 -- What a write of the probe means, and what writes leave alone (paper 02, W9): the statements. Their proofs are
 -- `probe-is-store`, `probe-kept` and `probe-length` in proofs/.
-use Rattle.std.specs.Prelude.{ℕ, false, List, [], ◌∷◌, ◌≡◌, length, get_or}
+use Rattle.std.specs.Prelude.{ℕ, false, List, [], ◌∷◌, ◌≡◌, length, get_or, Ok}
 use Rattle.bus.specs.Memory.{Memory, with_vram, store_of}
-use Rattle.refusal.specs.declared.Verdict.TheVariants.{Accepted}
 use Rattle.bus_probe.specs.Probe.{in_ranges_of, probe_verdict_of, probed_of}
 
 -- the three calls, by what they write
@@ -20,7 +19,7 @@ probe_size_of word = 4
 abbrev pub ProbeIsStore : Type 0
 ProbeIsStore =
     (m : Memory) (width : Width) (a v : ℕ)
-    → probe_verdict_of (probe_size_of width) m.rom m.wram m.vram m.pak a ≡ Accepted
+    → probe_verdict_of (probe_size_of width) m.rom m.wram m.vram m.pak a ≡ (Ok tt)
     → store_of m (probe_size_of width) a v
     ≡ with_vram m (probed_of (probe_size_of width) m.rom m.wram m.vram m.pak a v)
 

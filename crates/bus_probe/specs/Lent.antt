@@ -1,6 +1,6 @@
 -- The probe's definitions over the memories that a call borrows, for its contract.
+use Rattle.refusal.specs.Number.{Verdict}
 use Rattle.std.specs.Prelude.{ℕ, List}
-use Rattle.refusal.specs.declared.Verdict.{Verdict}
 use Rattle.bus.specs.Lent.{Lent}
 use Rattle.bus_probe.specs.Probe.{probe_verdict_of, probed_of}
 

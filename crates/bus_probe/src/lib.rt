@@ -10,7 +10,7 @@ ghost use Rattle.bus_probe.specs.Probe.{in_ranges_of, probe_verdict_at};
 ghost use Rattle.bus_probe.specs.Lent.{lent_verdict_of, vram_of};
 
 use bus::{Place, map, number, refusals};
-use refusal::{Refusal, Verdict};
+use refusal::Refusal;
 
 // Where an address leads in VRAM; 0x40000 where it leads elsewhere.
 fn vram_index(address: u32) -> usize
@@ -39,25 +39,25 @@ fn in_ranges(i: usize) -> bool
 }
 
 // The lowest of refusals 1 to 4 and 13 whose condition holds.
-fn verdict(rom: usize, wram: usize, vram: usize, pak: usize, target: usize) -> Verdict
+fn verdict(rom: usize, wram: usize, vram: usize, pak: usize, target: usize) -> Result<(), Refusal>
     ensures { result ≡ probe_verdict_at rom wram vram pak target }
 {
     if !refusals::rom_ok(rom) {
-        return Verdict::Refused(Refusal::RomLength);
+        return Err(Refusal::RomLength);
     }
     if wram != 65536 {
-        return Verdict::Refused(Refusal::WramLength);
+        return Err(Refusal::WramLength);
     }
     if vram != 262144 {
-        return Verdict::Refused(Refusal::VramLength);
+        return Err(Refusal::VramLength);
     }
     if !refusals::pak_ok(pak) {
-        return Verdict::Refused(Refusal::PakLength);
+        return Err(Refusal::PakLength);
     }
     if !in_ranges(target) {
-        return Verdict::Refused(Refusal::ProbeTarget);
+        return Err(Refusal::ProbeTarget);
     }
-    Verdict::Accepted
+    Ok(())
 }
 
 // Writes the `size` low bytes of a value at the aligned address.
@@ -69,7 +69,7 @@ fn probe(
     size: u32,
     address: u32,
     value: u32,
-) -> Verdict
+) -> Result<(), Refusal>
     requires { size_ok size ≡ true }
     ensures verdict { result ≡ lent_verdict_of size rom.now wram.now vram.old pak.now address }
     ensures memory { vram.new ≡ vram_of size rom.now wram.now vram.old pak.now address value }
@@ -77,11 +77,11 @@ fn probe(
     let at = vram_index(map::aligned(size, address));
     let verdict = verdict(rom.len(), wram.len(), vram.len(), pak.len(), at);
     match verdict {
-        Verdict::Accepted => {
+        Ok(()) => {
             number::put_number(vram, size, at, value);
-            Verdict::Accepted
+            Ok(())
         }
-        Verdict::Refused(refusal) => Verdict::Refused(refusal),
+        Err(refusal) => Err(refusal),
     }
 }
 
@@ -93,7 +93,7 @@ pub fn probe_byte(
     pak: &[u8],
     address: u32,
     value: u32,
-) -> Verdict
+) -> Result<(), Refusal>
     ensures verdict { result ≡ lent_verdict_of 1 rom.now wram.now vram.old pak.now address }
     ensures memory { vram.new ≡ vram_of 1 rom.now wram.now vram.old pak.now address value }
 {
@@ -108,7 +108,7 @@ pub fn probe_half(
     pak: &[u8],
     address: u32,
     value: u32,
-) -> Verdict
+) -> Result<(), Refusal>
     ensures verdict { result ≡ lent_verdict_of 2 rom.now wram.now vram.old pak.now address }
     ensures memory { vram.new ≡ vram_of 2 rom.now wram.now vram.old pak.now address value }
 {
@@ -123,7 +123,7 @@ pub fn probe_word(
     pak: &[u8],
     address: u32,
     value: u32,
-) -> Verdict
+) -> Result<(), Refusal>
     ensures verdict { result ≡ lent_verdict_of 4 rom.now wram.now vram.old pak.now address }
     ensures memory { vram.new ≡ vram_of 4 rom.now wram.now vram.old pak.now address value }
 {

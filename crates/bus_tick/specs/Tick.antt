@@ -1,8 +1,8 @@
 -- What a tick's call answers, for every record: refusal 5, which changes nothing, or the tick done.
+use Rattle.std.specs.Prelude.{Ok, Err}
+use Rattle.refusal.specs.Number.{Verdict}
 use Rattle.word.specs.Choose.{pick}
 use Rattle.refusal.specs.declared.Refusal as refusal
-use Rattle.refusal.specs.declared.Verdict.{Verdict}
-use Rattle.refusal.specs.declared.Verdict.TheVariants.{Accepted, Refused}
 use Rattle.bus_timer.specs.Timer.{tick_of}
 use Rattle.bus_timer.specs.Ports.{hardware_ok}
 use Rattle.bus_timer.specs.declared.TimerLines.{TimerLines}
@@ -13,4 +13,4 @@ ticked_of verdict h = record { verdict = verdict; hardware = h }
 
 unfoldable pub checked_tick_of : TimerLines → Ticked
 checked_tick_of h =
-    pick (hardware_ok h) (ticked_of Accepted (tick_of h)) (ticked_of (Refused refusal.TheVariants.State) h)
+    pick (hardware_ok h) (ticked_of (Ok tt) (tick_of h)) (ticked_of (Err refusal.TheVariants.State) h)

@@ -5,12 +5,12 @@ ghost use Rattle.std.specs.Prelude.{◌≡◌};
 ghost use Rattle.bus_tick.specs.Tick.{checked_tick_of};
 
 use bus_timer::TimerLines;
-use refusal::{Refusal, Verdict};
+use refusal::Refusal;
 
 // The answer of a tick: the verdict and the record afterwards.
 #[derive(Clone, Copy)]
 pub struct Ticked {
-    pub verdict: Verdict,
+    pub verdict: Result<(), Refusal>,
     pub hardware: TimerLines,
 }
 
@@ -20,13 +20,13 @@ pub fn tick(hardware: TimerLines) -> Ticked
 {
     if !bus_timer::ports::ok(hardware) {
         return Ticked {
-            verdict: Verdict::Refused(Refusal::State),
+            verdict: Err(Refusal::State),
             hardware,
         };
     }
     let after = bus_timer::timer::tick(hardware);
     Ticked {
-        verdict: Verdict::Accepted,
+        verdict: Ok(()),
         hardware: after,
     }
 }

@@ -4,8 +4,7 @@ use mathlib.Core.List.{List}
 use mathlib.Core.Path.{◌≡◌, ap}
 use borrow.Author.Tests.{eq-eqb, ne_eqb}
 use lib.ListN.{length}
-use Rattle.refusal.specs.Number.{verdict_number}
-use Rattle.refusal.specs.declared.Verdict.{Verdict}
+use Rattle.refusal.specs.Number.{verdict_number, Verdict}
 use Rattle.bus.specs.Memory.{Memory, verdict_of}
 use Rattle.bus_list.specs.List.{Made, made_of}
 use Rattle.bus_list.specs.Calls.{list_verdict_of, access_list_of}

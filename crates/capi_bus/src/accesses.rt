@@ -11,7 +11,7 @@ ghost use Rattle.capi_bus.specs.Answers.{load_out, store_out};
 use crate::hardware::{VbHardware, hardware_given, hardware_out};
 use bus::Drawing;
 use bus_calls::{Load, Stored};
-use refusal::{number, verdict_number};
+use refusal::verdict_number;
 
 // The drawing registers: SPT0 to SPT3, GPLT0 to GPLT3, JPLT0 to JPLT3, BKCOL.
 #[repr(C)]
@@ -48,7 +48,7 @@ fn loaded(answer: Load) -> VbLoaded
             undefined: l.undefined,
         },
         Load::Refused(refusal) => VbLoaded {
-            refusal: number(refusal),
+            refusal: u32::from(refusal),
             value: 0,
             undefined: 0,
         },

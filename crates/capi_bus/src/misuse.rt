@@ -2,14 +2,14 @@
 ghost use Rattle.std.specs.Prelude.{◌≡◌};
 ghost use Rattle.capi_bus.specs.Misuse.{misuse_number};
 
-use refusal::{Verdict, number};
+use refusal::Refusal;
 
 // VB_MISUSE, unless one of 1 to 5 comes first.
-pub fn misuse_number(v: Verdict) -> u32
+pub fn misuse_number(v: Result<(), Refusal>) -> u32
     ensures { result ≡ misuse_number v }
 {
     match v {
-        Verdict::Accepted => 255,
-        Verdict::Refused(n) => number(n),
+        Ok(()) => 255,
+        Err(n) => u32::from(n),
     }
 }

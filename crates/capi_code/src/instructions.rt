@@ -87,7 +87,7 @@ fn encoded(e: Encoded) -> VbEncoded
             second,
         },
         Encoded::Refused(refusal) => VbEncoded {
-            refusal: refusal::number(refusal),
+            refusal: u32::from(refusal),
             halfwords: 0,
             first: 0,
             second: 0,
@@ -122,7 +122,7 @@ fn decoded(d: Decoded, two: bool) -> VbDecoded
                 immediate: 0,
             };
             VbDecoded {
-                refusal: refusal::number(Refusal::NotModelled),
+                refusal: u32::from(Refusal::NotModelled),
                 halfwords: 0,
                 instruction,
             }

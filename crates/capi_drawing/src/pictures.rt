@@ -7,7 +7,7 @@ ghost use Rattle.capi_drawing.specs.Pictures.{part_offset};
 
 use bus::Drawing;
 use capi_bus::accesses::VbDrawing;
-use refusal::{Verdict, number, verdict_number};
+use refusal::{Refusal, verdict_number};
 
 // Where a character's bytes lie in VRAM.
 #[repr(C)]
@@ -43,13 +43,13 @@ pub fn character(vram: &[u8], character: u32) -> VbPart
     let length = part.len() as u64;
     let verdict = drawing::character_refusal(vram, character);
     match verdict {
-        Verdict::Accepted => VbPart {
+        Ok(()) => VbPart {
             refusal: 0,
             offset: drawing_pixel::character::character_address(character as usize) as u64,
             length,
         },
-        Verdict::Refused(refusal) => VbPart {
-            refusal: number(refusal),
+        Err(refusal) => VbPart {
+            refusal: u32::from(refusal),
             offset: 0,
             length,
         },

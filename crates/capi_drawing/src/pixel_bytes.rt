@@ -35,7 +35,7 @@ pub fn pixel_bytes(
             count: count as u64,
         },
         Listed::Refused(refusal) => VbListed {
-            refusal: number(refusal),
+            refusal: u32::from(refusal),
             count: 0,
         },
         Listed::Outside => VbListed {

@@ -1,12 +1,12 @@
 -- The level of an answer is below 5: an accepted interrupt has a line's level (paper 02, W6), and no instruction answers
 -- an interrupt.
+use Rattle.std.specs.Prelude.{Ok, Err}
+use Rattle.refusal.specs.Number.{Verdict}
 use Prim.Native.Nat.{ℕ, ◌<◌}
 use mathlib.Core.Path.{◌≡◌}
 use native.Mathlib.Omega.{arith}
 use Rattle.word.proofs.Choices.{pick-cases}
 use Rattle.processor_execute.proofs.Every as every
-use Rattle.refusal.specs.declared.Verdict.{Verdict}
-use Rattle.refusal.specs.declared.Verdict.TheVariants as verdict
 use Rattle.bus.specs.Memory.{Memory}
 use Rattle.processor_decode.specs.Format.{two_of}
 use Rattle.processor_decode.specs.Opcode.{decode_of}
@@ -61,8 +61,8 @@ module _ (s : State) (m : Memory) where
 
 module _ (p : Processor) (m : Memory) where
   by-verdict : (v : Verdict) → answer_level (step_when v p m).answer < 5
-  by-verdict verdict.Accepted = stepped (state_in p) (bus_of p m)
-  by-verdict (verdict.Refused n) = none
+  by-verdict (Ok tt) = stepped (state_in p) (bus_of p m)
+  by-verdict (Err n) = none
 
   step-level : answer_level (checked_step_of p m).answer < 5
   unfolding checked_step_of

@@ -1,5 +1,7 @@
 -- The test that every call with a processor's record begins with: a definition that goes by the mode goes by `misuse_at`
 -- as well, whatever it answers.
+use Rattle.std.specs.Prelude.{Ok, Err}
+use Rattle.refusal.specs.Number.{Verdict}
 use Prim.Native.Nat.{ℕ}
 use mathlib.Core.Bool.{Bool, true, false}
 use mathlib.Core.Path.{◌≡◌, refl}
@@ -7,8 +9,6 @@ use native.Mathlib.Omega.{arith}
 use borrow.Author.Tests.{eq-eqb, ne_eqb}
 use lib.Dec.{eqb, ltb}
 use Rattle.word.specs.Choose.{pick}
-use Rattle.refusal.specs.declared.Verdict.{Verdict}
-use Rattle.refusal.specs.declared.Verdict.TheVariants.{Accepted, Refused}
 use Rattle.refusal.proofs.Numbers.{verdicts-apart}
 use Rattle.bus.specs.Memory.{Memory}
 use Rattle.processor.specs.Acceptance.{acceptance_in}
@@ -18,9 +18,9 @@ use Rattle.capi_processor.specs.Record.{processor_in, unless_misused}
 use Rattle.capi_processor.specs.declared.record.VbProcessor.{VbProcessor}
 
 misuse-positive : (v : Verdict) → misuse_number v ≡ 0 → ⊥
-misuse-positive Accepted e = omega arith
-misuse-positive (Refused n) e =
-    let f = verdicts-apart (Refused n) Accepted e in
+misuse-positive (Ok tt) e = omega arith
+misuse-positive (Err n) e =
+    let f = verdicts-apart (Err n) (Ok tt) e in
     let z : ◌≡◌ {A = ℕ} 0 1 = cc in
     omega arith
 

@@ -13,7 +13,7 @@ use crate::undefined::{VbUndefined, undefined_out};
 use bus::Drawing;
 use capi_bus::accesses::VbDrawing;
 use processor_machine::Answer;
-use refusal::{number, verdict_number};
+use refusal::verdict_number;
 
 #[repr(C)]
 #[derive(Clone, Copy)]
@@ -73,7 +73,7 @@ fn answered(answer: Answer) -> StepNumbers
         Answer::WasHalted => numbers(0, 3, 0),
         Answer::WasFatal => numbers(0, 4, 0),
         Answer::Interrupted(level) => numbers(0, 5, 0xFE00 + 16 * level),
-        Answer::Refused(n) => numbers(number(n), 0, 0),
+        Answer::Refused(n) => numbers(u32::from(n), 0, 0),
     }
 }
 

@@ -25,7 +25,7 @@ fn end_refusal(end: End) -> u32
     ensures { result ≡ end_refusal end }
 {
     match end {
-        End::Refused(n) => number(n),
+        End::Refused(n) => u32::from(n),
         End::Agreed => 0,
         End::Differed(_) => 0,
         End::WasHalted => 0,

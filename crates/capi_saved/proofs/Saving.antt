@@ -2,8 +2,7 @@
 use Prim.Native.Nat.{ℕ}
 use mathlib.Core.List.{List}
 use mathlib.Core.Path.{◌≡◌, ap, ◌∙◌}
-use Rattle.refusal.specs.Number.{verdict_number}
-use Rattle.refusal.specs.declared.Verdict.{Verdict}
+use Rattle.refusal.specs.Number.{verdict_number, Verdict}
 use Rattle.bus.specs.Memory.{Memory}
 use Rattle.processor.specs.declared.Processor.{Processor}
 use Rattle.saved_layout.specs.declared.Form.{Form}

@@ -1,10 +1,8 @@
 -- What the call that lists a pixel's bytes answers and leaves, for every input (paper 01, "The bytes a pixel answers
 -- to" and "Refusal numbers"). The list is demand 3's own, `pixel_bytes_of`. The specification has no such
 -- call, so a pixel that no image has gets no refusal number; refusals 3 and 5 come before it. Refused, nothing changes.
-use Rattle.std.specs.Prelude.{ℕ, Bool, true, false, ◌&&◌, List, ◌++◌, length, take, drop, ltb}
-use Rattle.refusal.specs.Number.{unless}
-use Rattle.refusal.specs.declared.Verdict.{Verdict}
-use Rattle.refusal.specs.declared.Verdict.TheVariants as verdict
+use Rattle.std.specs.Prelude.{ℕ, Bool, true, false, ◌&&◌, List, ◌++◌, length, take, drop, ltb, Ok, Err}
+use Rattle.refusal.specs.Number.{unless, Verdict}
 use Rattle.refusal.specs.declared.Refusal.TheVariants.{VramLength, State}
 use Rattle.bus.specs.Refusal.{vram_ok}
 use Rattle.bus.specs.Registers.{drawing_ok}
@@ -18,13 +16,13 @@ in_image_of eye x y = ltb eye 2 && (ltb x 384 && ltb y 224)
 
 -- the call's refusals: 3, 5
 unfoldable pub bytes_verdict_of : List ℕ → List ℕ → Verdict
-bytes_verdict_of vram regs = unless (vram_ok (length vram)) VramLength (unless (drawing_ok regs) State verdict.Accepted)
+bytes_verdict_of vram regs = unless (vram_ok (length vram)) VramLength (unless (drawing_ok regs) State (Ok tt))
 
 -- an answer by the verdict and by whether an image has the pixel
 abbrev pub answer_of : Verdict → Bool → ℕ → Listed
-answer_of (verdict.Refused n) inside count = Refused n
-answer_of verdict.Accepted false count = Outside
-answer_of verdict.Accepted true count = Count count
+answer_of (Err n) inside count = Refused n
+answer_of (Ok tt) false count = Outside
+answer_of (Ok tt) true count = Count count
 
 -- the answer: how many addresses demand 3's list has
 unfoldable pub listed_of : (vram regs : List ℕ) (eye x y : ℕ) → Listed

@@ -1,9 +1,7 @@
 -- What the display unit's calls answer and leave, for every input (paper 02, W11): the refusals whose subject a call is
 -- given, in their order, and the caller's buffer afterwards. A refusal changes nothing.
-use Rattle.std.specs.Prelude.{ℕ, ◌/◌, ◌%◌, Bool, ◌&&◌, List, length, eqb, ltb, leb}
-use Rattle.refusal.specs.Number.{unless, when_accepted}
-use Rattle.refusal.specs.declared.Verdict.{Verdict}
-use Rattle.refusal.specs.declared.Verdict.TheVariants.{Accepted}
+use Rattle.std.specs.Prelude.{ℕ, ◌/◌, ◌%◌, Bool, ◌&&◌, List, length, eqb, ltb, leb, Ok}
+use Rattle.refusal.specs.Number.{unless, when_accepted, Verdict}
 use Rattle.refusal.specs.declared.Refusal.TheVariants.{VramLength, Frame, Display}
 use Rattle.bus.specs.Refusal.{vram_ok}
 use Rattle.drawing_pixel.specs.Lists.{list_of}
@@ -20,7 +18,7 @@ display_ok view output = ltb view.eye 2 && (leb 95 view.start && (ltb view.start
 unfoldable pub display_verdict_of : List ℕ → View → List ℕ → Verdict
 display_verdict_of vram view output =
     unless (vram_ok (length vram)) VramLength
-    (unless (ltb view.frame 2) Frame (unless (display_ok view (length output)) Display Accepted))
+    (unless (ltb view.frame 2) Frame (unless (display_ok view (length output)) Display (Ok tt)))
 
 -- what is shown: pixel (x, y) at byte 384y + x, 224 rows of 384
 unfoldable pub shown_of : List ℕ → View → Durations → List ℕ
@@ -32,7 +30,7 @@ display_of vram view d output = when_accepted (display_verdict_of vram view outp
 
 -- the verdict of the call that loads the recommended table: 3
 unfoldable pub load_table_verdict_of : List ℕ → Verdict
-load_table_verdict_of vram = unless (vram_ok (length vram)) VramLength Accepted
+load_table_verdict_of vram = unless (vram_ok (length vram)) VramLength (Ok tt)
 
 -- VRAM after that call
 unfoldable pub load_table_of : List ℕ → List ℕ

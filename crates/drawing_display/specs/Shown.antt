@@ -1,7 +1,6 @@
 -- What the two calls of the display unit leave (paper 02, W11), and the rules of the recommended table: the statements.
 -- Their proofs are `brightness-at`, `table-loaded`, `table-mirrored`, `table-falls` and `high-bytes-clear` in proofs/.
-use Rattle.std.specs.Prelude.{ℕ, ◌+◌, ◌-◌, ◌*◌, ◌/◌, ◌<◌, ◌≤◌, min, false, List, ◌≡◌, length, get_or}
-use Rattle.refusal.specs.declared.Verdict.TheVariants.{Accepted}
+use Rattle.std.specs.Prelude.{ℕ, ◌+◌, ◌-◌, ◌*◌, ◌/◌, ◌<◌, ◌≤◌, min, false, List, ◌≡◌, length, get_or, Ok}
 use Rattle.drawing_pixel.specs.Strip.{stored_pixel_of}
 use Rattle.drawing_display.specs.Brightness.{time_of, table_entry_of}
 use Rattle.drawing_display.specs.ColumnTable.{column_table, in_tables_of}
@@ -13,7 +12,7 @@ use Rattle.drawing_display.specs.declared.Durations.{Durations}
 -- repeats: the high byte, at 0x3DC01 (left) or 0x3DE01 (right) plus 2(start - x / 4), and 1
 abbrev pub BrightnessAt : Type 0
 BrightnessAt =
-    (vram output : List ℕ) (view : View) (d : Durations) (x y : ℕ) → display_verdict_of vram view output ≡ Accepted
+    (vram output : List ℕ) (view : View) (d : Durations) (x y : ℕ) → display_verdict_of vram view output ≡ (Ok tt)
     → ((a : ℕ) → get_or vram a 0 < 256)
     → x < 384
     → y < 224

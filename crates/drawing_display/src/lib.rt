@@ -7,7 +7,7 @@ mod column_table;
 ghost use Rattle.std.specs.Prelude.{◌≡◌};
 ghost use Rattle.drawing_display.specs.Calls.{display_verdict_of, display_of, load_table_verdict_of, load_table_of};
 
-use refusal::{Refusal, Verdict};
+use refusal::Refusal;
 
 // What is shown: a frame and an eye, and the entry of the eye's column table that columns 0 to 3 use.
 #[derive(Clone, Copy)]
@@ -26,40 +26,40 @@ pub struct Durations {
 }
 
 // The apparent brightness of pixel (x, y), 0 to 128, to byte 384y + x of the output buffer (paper 02: "room").
-pub fn display(vram: &[u8], view: View, durations: Durations, output: &mut [u8]) -> Verdict
+pub fn display(vram: &[u8], view: View, durations: Durations, output: &mut [u8]) -> Result<(), Refusal>
     ensures verdict { result ≡ display_verdict_of vram.now view output.old }
     ensures output { output.new ≡ display_of vram.now view durations output.old }
 {
     if vram.len() != 262144 {
-        return Verdict::Refused(Refusal::VramLength);
+        return Err(Refusal::VramLength);
     }
     if 1 < view.frame {
-        return Verdict::Refused(Refusal::Frame);
+        return Err(Refusal::Frame);
     }
     if 1 < view.eye {
-        return Verdict::Refused(Refusal::Display);
+        return Err(Refusal::Display);
     }
     if view.start < 95 {
-        return Verdict::Refused(Refusal::Display);
+        return Err(Refusal::Display);
     }
     if 255 < view.start {
-        return Verdict::Refused(Refusal::Display);
+        return Err(Refusal::Display);
     }
     if output.len() != 86016 {
-        return Verdict::Refused(Refusal::Display);
+        return Err(Refusal::Display);
     }
     brightness::show(vram, output, view, durations);
-    Verdict::Accepted
+    Ok(())
 }
 
 // The recommended column table into VRAM, for both eyes.
-pub fn load_column_table(vram: &mut [u8]) -> Verdict
+pub fn load_column_table(vram: &mut [u8]) -> Result<(), Refusal>
     ensures verdict { result ≡ load_table_verdict_of vram.old }
     ensures memory { vram.new ≡ load_table_of vram.old }
 {
     if vram.len() != 262144 {
-        return Verdict::Refused(Refusal::VramLength);
+        return Err(Refusal::VramLength);
     }
     column_table::load(vram);
-    Verdict::Accepted
+    Ok(())
 }

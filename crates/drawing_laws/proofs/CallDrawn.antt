@@ -1,6 +1,7 @@
 -- What a frame call and a strip call leave: `pixel-drawn`, every drawn pixel is the pixel of memory before the call, and
 -- `byte-kept` and `length-kept`, every other byte is as it was; `column-bytes` and `other-bytes`, the bytes of a strip by 01's
 -- formula. Assumes nothing.
+use Rattle.std.specs.Prelude.{Ok, Err}
 use Prim.Native.Nat.{ℕ, zero, suc, ◌+◌, ◌*◌, ◌/◌, ◌%◌, ◌<◌, ◌≤◌}
 use mathlib.Core.Bool.{Bool, true, false, ◌&&◌, and-false}
 use mathlib.Core.List.{List}
@@ -15,10 +16,8 @@ use Rattle.drawing_pixel.specs.Pixel.{pixel_of}
 use Rattle.drawing_pixel.specs.Strip.{image_of, pixel_offset_of, stored_pixel_of, in_strip_of, strip_of, strips_of, frame_of}
 use Rattle.bus.specs.Refusal.{vram_ok}
 use Rattle.word.proofs.Choices.{and_left, and_right}
-use Rattle.refusal.specs.declared.Verdict.{Verdict}
-use Rattle.refusal.specs.declared.Verdict.TheVariants.{Accepted, Refused}
 use Rattle.drawing.specs.Calls.{strip_verdict_of, draw_strip_of, frame_verdict_of, draw_frame_of}
-use Rattle.refusal.specs.Number.{when_accepted}
+use Rattle.refusal.specs.Number.{when_accepted, Verdict}
 use Rattle.drawing_laws.specs.Drawn.{frame_call, strip_call, draws_strip_of, drawn_by, PixelDrawn, ByteKept, LengthKept, ColumnBytes, OtherBytes}
 use Rattle.drawing_pixel.specs.Strip.{in_images_of}
 use Rattle.drawing_laws.proofs.Verdicts.{strip_test, accepted-given}
@@ -115,8 +114,8 @@ frame-others frame a h s r = in-strip-is frame s a ∙ go (eqb (a % 64 / 2) s) r
 -- what drawing keeps of a list, a call keeps, refused or not
 kept-when : {A : Type 0} (f : List ℕ → A) (v : Verdict) (before after : List ℕ) → f after ≡ f before
     → f (when_accepted v before after) ≡ f before
-kept-when f Accepted before after e = e
-kept-when f (Refused n) before after e = refl
+kept-when f (Ok tt) before after e = e
+kept-when f (Err n) before after e = refl
 
 pub byte-kept : ByteKept
 unfolding draws_strip_of drawn_by frame_of draw_frame_of draw_strip_of

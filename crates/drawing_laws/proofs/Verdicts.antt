@@ -1,5 +1,6 @@
 -- What an accepted call was given: VRAM of the right length, registers within their widths, a frame below 2 and, where it
 -- draws one strip, a strip below 28. And that a verdict looks at no byte of VRAM. Assumes nothing.
+use Rattle.std.specs.Prelude.{Ok}
 use Prim.Native.Nat.{ℕ, ◌<◌}
 use mathlib.Core.Bool.{Bool, true}
 use mathlib.Core.List.{List}
@@ -10,7 +11,6 @@ use borrow.Author.Tests.{ltb-true, eqb-true}
 use Rattle.bus.specs.Refusal.{vram_ok}
 use Rattle.bus.specs.Registers.{drawing_ok}
 use Rattle.bus.proofs.Accepted.{unless-passed}
-use Rattle.refusal.specs.declared.Verdict.TheVariants.{Accepted}
 use Rattle.drawing.specs.Calls.{strip_verdict_of, frame_verdict_of}
 use Rattle.drawing_laws.specs.Drawn.{Call, frame_call, strip_call, call_verdict_of}
 
@@ -25,7 +25,7 @@ pub record Given (vram regs : List ℕ) (frame : ℕ) (call : Call) : Type 0 whe
   pub frame_below : frame < 2
   pub strip : strip_test call ≡ true
 
-pub accepted-given : (vram regs : List ℕ) (frame : ℕ) (call : Call) → call_verdict_of vram regs frame call ≡ Accepted
+pub accepted-given : (vram regs : List ℕ) (frame : ℕ) (call : Call) → call_verdict_of vram regs frame call ≡ (Ok tt)
     → Given vram regs frame call
 unfolding call_verdict_of frame_verdict_of strip_verdict_of vram_ok strip_test
 accepted-given vram regs frame frame_call e =

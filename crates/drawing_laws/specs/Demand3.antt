@@ -1,12 +1,11 @@
 -- Demand 3 (paper 01, "The bytes a pixel answers to"): the statements. Their proofs are `answerable`, `few`,
 -- `listed-length`, `pixel-outside-images` and `listed-in-vram` in proofs/. Memories are lists of 262,144 numbers; that
 -- they are bytes is assumed only where it is said.
-use Rattle.std.specs.Prelude.{ℕ, ◌+◌, ◌*◌, ◌/◌, ◌≤◌, ◌<◌, true, false, ◌≡◌, length, get_or, eqb}
+use Rattle.std.specs.Prelude.{ℕ, ◌+◌, ◌*◌, ◌/◌, ◌≤◌, ◌<◌, true, false, ◌≡◌, length, get_or, eqb, Ok}
 use mathlib.Core.List.{List, [], ◌∷◌, foldr}
 use Rattle.word.specs.Choose.{pick}
 use Rattle.bus.specs.Refusal.{vram_bytes}
 use Rattle.bus.specs.Registers.{drawing_ok}
-use Rattle.refusal.specs.declared.Verdict.TheVariants.{Accepted}
 use Rattle.drawing_pixel.specs.World.{world_of, world_table, bgm_of}
 use Rattle.drawing_pixel.specs.Object.{object_table}
 use Rattle.drawing_pixel.specs.Pixel.{pixel_of}
@@ -35,8 +34,8 @@ pub record SameTables (first second : List ℕ) : Type 0 where
 abbrev pub Answerable : Type 0
 Answerable =
     (first second regs : List ℕ) (frame : ℕ) (one other : Call) (eye x y : ℕ)
-    → call_verdict_of first regs frame one ≡ Accepted
-    → call_verdict_of second regs frame other ≡ Accepted
+    → call_verdict_of first regs frame one ≡ (Ok tt)
+    → call_verdict_of second regs frame other ≡ (Ok tt)
     → eye < 2
     → x < 384
     → draws_strip_of one (y / 8) ≡ true

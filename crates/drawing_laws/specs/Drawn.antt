@@ -1,9 +1,8 @@
 -- What the strip call and the frame call leave in VRAM (paper 01, "Drawing"): the statements. Their proofs are
 -- `pixel-drawn`, `byte-kept`, `length-kept`, `column-bytes` and `other-bytes` in proofs/. VRAM after a call is the list
 -- that the call's contract names.
-use Rattle.std.specs.Prelude.{ℕ, ◌+◌, ◌*◌, ◌/◌, ◌%◌, ◌<◌, Bool, true, false, ◌&&◌, List, ◌≡◌, length, get_or, eqb, ltb}
-use Rattle.refusal.specs.declared.Verdict.{Verdict}
-use Rattle.refusal.specs.declared.Verdict.TheVariants.{Accepted}
+use Rattle.refusal.specs.Number.{Verdict}
+use Rattle.std.specs.Prelude.{ℕ, ◌+◌, ◌*◌, ◌/◌, ◌%◌, ◌<◌, Bool, true, false, ◌&&◌, List, ◌≡◌, length, get_or, eqb, ltb, Ok}
 use Rattle.drawing_pixel.specs.Pixel.{pixel_of}
 use Rattle.bus.specs.Refusal.{vram_bytes}
 use Rattle.drawing_pixel.specs.Strip.{image_of, pixel_offset_of, stored_pixel_of, in_images_of, four_pixels_of, strip_of}
@@ -32,7 +31,7 @@ drawn_by vram regs frame (strip_call own) = draw_strip_of vram regs frame own
 -- a drawn pixel, as it stands after the call, is the pixel of memory as it was before it
 abbrev pub PixelDrawn : Type 0
 PixelDrawn =
-    (vram regs : List ℕ) (frame : ℕ) (call : Call) (eye x y : ℕ) → call_verdict_of vram regs frame call ≡ Accepted
+    (vram regs : List ℕ) (frame : ℕ) (call : Call) (eye x y : ℕ) → call_verdict_of vram regs frame call ≡ (Ok tt)
     → eye < 2
     → x < 384
     → draws_strip_of call (y / 8) ≡ true

@@ -1,6 +1,7 @@
 -- The byte at an address after a call that draws: where the call draws it, the four pixels that it holds, worked out in
 -- memory as it was before the call (`byte-drawn`); else the byte as it was (`byte_left`). Those pixels are the same in
 -- memories that differ in a frame's images alone (`pixels-same`). Assumes nothing.
+use Rattle.std.specs.Prelude.{Ok}
 use Prim.Native.Nat.{ℕ, zero, suc, ◌+◌, ◌*◌, ◌/◌, ◌%◌, ◌<◌}
 use mathlib.Core.Bool.{Bool, true, false, ◌&&◌, true≢false}
 use mathlib.Core.List.{List}
@@ -14,7 +15,6 @@ use Rattle.bus.specs.Registers.{drawing_ok}
 use Rattle.refusal.specs.Number.{unless, when_accepted}
 use Rattle.bus.specs.Refusal.{vram_ok}
 use Rattle.refusal.specs.declared.Refusal.{Refusal}
-use Rattle.refusal.specs.declared.Verdict.TheVariants.{Accepted}
 use Rattle.drawing_pixel.specs.Pixel.{pixel_of}
 use Rattle.drawing_pixel.specs.Strip.{in_strip_of, four_pixels_of, strip_of, strips_of, frame_of}
 use Rattle.drawing.specs.Calls.{strip_verdict_of, draw_strip_of, frame_verdict_of, draw_frame_of}
@@ -129,14 +129,14 @@ byte-drawn vram regs frame (strip_call s) a h d =
 
 -- a call that is not accepted leaves VRAM as it is
 refused-frame : (r t u : Refusal) (a b c : Bool) (before after : List ℕ) → (a && (b && (c && true))) ≡ false
-    → when_accepted (unless a r (unless b t (unless c u Accepted))) before after ≡ before
+    → when_accepted (unless a r (unless b t (unless c u (Ok tt)))) before after ≡ before
 refused-frame r t u false b c before after e = refl
 refused-frame r t u true false c before after e = refl
 refused-frame r t u true true false before after e = refl
 refused-frame r t u true true true before after e = absurd (true≢false e)
 
 refused-strip : (r t u v : Refusal) (a b c d : Bool) (before after : List ℕ) → (a && (b && (c && d))) ≡ false
-    → when_accepted (unless a r (unless b t (unless c u (unless d v Accepted)))) before after ≡ before
+    → when_accepted (unless a r (unless b t (unless c u (unless d v (Ok tt))))) before after ≡ before
 refused-strip r t u v false b c d before after e = refl
 refused-strip r t u v true false c d before after e = refl
 refused-strip r t u v true true false d before after e = refl

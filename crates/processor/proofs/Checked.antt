@@ -1,12 +1,12 @@
 -- What the public calls' definitions come to where none of refusals 1 to 5 holds.
+use Rattle.std.specs.Prelude.{Ok}
+use Rattle.refusal.specs.Number.{Verdict}
 use Prim.Native.Nat.{ℕ}
 use mathlib.Core.List.{List}
 use mathlib.Core.Path.{◌≡◌, sym, ap, ◌∙◌}
 use lib.ListN.{length}
 use Rattle.bus.specs.TimerLines.{device_of}
 use Rattle.bus.specs.Memory.{Memory, with_regs}
-use Rattle.refusal.specs.declared.Verdict.{Verdict}
-use Rattle.refusal.specs.declared.Verdict.TheVariants.{Accepted}
 use Rattle.processor_machine.specs.State.{state_of, Stepped}
 use Rattle.processor_step.specs.Step.{step_of, fetched_of}
 use Rattle.processor_step.specs.declared.step.Fetched.{Fetched}
@@ -21,8 +21,8 @@ use Rattle.processor.specs.declared.Processor.{Processor}
 
 module _ (p : Processor) (m : Memory) (sys d : List ℕ) (v : Verdict) (held : sys ≡ system_in p) (assembled : d ≡ device_of
     m.regs p.hardware) (tested : v ≡ acceptance_at (length m.rom) (length m.wram) (length m.vram) (length
-    m.pak) d p.regs sys p.pc p.psw) (accepted : v ≡ Accepted) where
-  passed : acceptance_in p m ≡ Accepted
+    m.pak) d p.regs sys p.pc p.psw) (accepted : v ≡ (Ok tt)) where
+  passed : acceptance_in p m ≡ (Ok tt)
   passed = rw (← assembled, ← held) (sym tested ∙ accepted)
 
   pub step-accepted : (t : Stepped) → t ≡ step_of (state_of p.regs sys p.pc p.psw p.mode) (with_regs m d)

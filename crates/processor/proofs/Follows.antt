@@ -1,11 +1,11 @@
 -- The turns of a run: each law is what follows a stretch of common instructions, or one step.
+use Rattle.std.specs.Prelude.{Ok}
+use Rattle.refusal.specs.Number.{Verdict}
 use Prim.Native.Nat.{ℕ, suc, ◌+◌, ◌-◌, ◌≤◌, ◌<◌}
 use mathlib.Core.Path.{◌≡◌, sym, ap, ◌∙◌}
 use native.Mathlib.Nat.{zero-add}
 use native.Mathlib.Omega.{arith}
 use Rattle.bus.specs.Memory.{Memory}
-use Rattle.refusal.specs.declared.Verdict.{Verdict}
-use Rattle.refusal.specs.declared.Verdict.TheVariants.{Accepted}
 use Rattle.processor_machine.specs.State.{State, Stepped}
 use Rattle.processor_step.specs.Step.{step_of}
 use Rattle.processor.specs.Run.{Run, run_with, after_of, after_step, one_more, run_of}
@@ -64,7 +64,7 @@ module _ (budget : ℕ) (s₀ : State) (m₀ : Memory) (n : ℕ) (s : State) (m 
       let z : n + 0 ≡ n = omega arith in
       sym (rw z at (rw a at (turn h t e (budget - suc n) g)))
 
-  pub follows-finished : budget ≤ n → run_with Accepted n s m ≡ run_of budget s₀ m₀
+  pub follows-finished : budget ≤ n → run_with (Ok tt) n s m ≡ run_of budget s₀ m₀
   unfolding run_of
   follows-finished h =
       let i = before.within in

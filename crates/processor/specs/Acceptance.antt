@@ -1,11 +1,9 @@
 -- Refusals 1 to 5 of a step and a run (paper 01, "Refusal numbers"): those of the bus, which test the request lines and
 -- the timer too (paper 02, W6), then what 5 says of the processor.
-use Rattle.std.specs.Prelude.{ℕ, ◌%◌, ◌^◌, Bool, false, List, eqb, leb, get_or, length}
+use Rattle.std.specs.Prelude.{ℕ, ◌%◌, ◌^◌, Bool, false, List, eqb, leb, get_or, length, Ok}
 use Rattle.word.specs.Choose.{pick}
-use Rattle.refusal.specs.Number.{unless, then_of}
+use Rattle.refusal.specs.Number.{unless, then_of, Verdict}
 use Rattle.bus.specs.Memory.{Memory, verdict_at}
-use Rattle.refusal.specs.declared.Verdict.{Verdict}
-use Rattle.refusal.specs.declared.Verdict.TheVariants.{Accepted}
 use Rattle.refusal.specs.declared.Refusal as refusal
 use Rattle.processor_machine.specs.State.{State, eipc_place, eipsw_place, fepc_place, fepsw_place, sr25_place, sr31_place}
 use Rattle.processor_machine.specs.System.{psw_bits_of}
@@ -45,7 +43,7 @@ state_ok regs sys pc psw =
 -- the lowest number whose condition holds
 unfoldable pub acceptance_at : (rom wram vram pak : ℕ) (device regs sys : List ℕ) (pc psw : ℕ) → Verdict
 acceptance_at rom wram vram pak device regs sys pc psw =
-    then_of (verdict_at rom wram vram pak device) (unless (state_ok regs sys pc psw) refusal.TheVariants.State Accepted)
+    then_of (verdict_at rom wram vram pak device) (unless (state_ok regs sys pc psw) refusal.TheVariants.State (Ok tt))
 
 -- the same of a state and a memory
 abbrev pub acceptance_of : State → Memory → Verdict

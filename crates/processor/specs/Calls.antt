@@ -1,9 +1,8 @@
 -- What the public calls answer, for every input: refusals 1 to 5 first, which change nothing; then the step or the run.
-use Rattle.std.specs.Prelude.{ℕ, replicate, set}
+use Rattle.refusal.specs.Number.{Verdict}
+use Rattle.std.specs.Prelude.{ℕ, replicate, set, Ok, Err}
 use Rattle.bus.specs.TimerLines.{device_length}
 use Rattle.bus.specs.Memory.{Memory}
-use Rattle.refusal.specs.declared.Verdict.{Verdict}
-use Rattle.refusal.specs.declared.Verdict.TheVariants as verdict
 use Rattle.processor_machine.specs.State.{state_of, ecr_place}
 use Rattle.processor_step.specs.Step.{step_of}
 use Rattle.processor_undefined.specs.Reads.{none_of, undefined_step_of}
@@ -30,11 +29,11 @@ done_of answer u p m = record { answer = answer; undefined = u; processor = p; m
 
 -- a step, unless refused
 abbrev pub step_when : Verdict → Processor → Memory → Done
-step_when verdict.Accepted p m =
+step_when (Ok tt) p m =
     let t = step_of (state_in p) (bus_of p m) in
     done_of t.answer (undefined_step_of (state_in p) (bus_of p m)) (processor_of t.state t.memory.regs)
     (lent_of t.memory)
-step_when (verdict.Refused n) p m = done_of (Refused n) none_of p m
+step_when (Err n) p m = done_of (Refused n) none_of p m
 
 unfoldable pub checked_step_of : Processor → Memory → Done
 checked_step_of p m = step_when (acceptance_in p m) p m
@@ -51,10 +50,10 @@ ran_of v n p m = record { verdict = v; count = n; processor = p; memory = m }
 
 -- a run, unless refused; the count of a refused one is 0
 abbrev pub run_when : Verdict → ℕ → Processor → Memory → Ran
-run_when verdict.Accepted budget p m =
+run_when (Ok tt) budget p m =
     let r = run_of budget (state_in p) (bus_of p m) in
     ran_of r.verdict r.count (processor_of r.state r.memory.regs) (lent_of r.memory)
-run_when (verdict.Refused n) budget p m = ran_of (verdict.Refused n) 0 p m
+run_when (Err n) budget p m = ran_of (Err n) 0 p m
 
 unfoldable pub checked_run_of : ℕ → Processor → Memory → Ran
 checked_run_of budget p m = run_when (acceptance_in p m) budget p m

@@ -1,9 +1,8 @@
 -- A run (paper 01): at most the given number of instructions, and how many ended. It goes by what each step answers:
 -- counted, or stop and why.
-use Rattle.std.specs.Prelude.{ℕ, zero, suc, List}
+use Rattle.refusal.specs.Number.{Verdict}
+use Rattle.std.specs.Prelude.{ℕ, zero, suc, List, Ok, Err}
 use Rattle.bus.specs.Memory.{Memory}
-use Rattle.refusal.specs.declared.Verdict.{Verdict}
-use Rattle.refusal.specs.declared.Verdict.TheVariants as verdict
 use Rattle.processor_machine.specs.State.{State, state_of, Stepped}
 use Rattle.processor_step.specs.Step.{step_of}
 use Rattle.processor_machine.specs.declared.Answer.{Answer}
@@ -19,10 +18,10 @@ abbrev pub after_of : Answer → After
 after_of Ended = Counted
 after_of (Trapped cause) = Counted
 after_of (Interrupted level) = Counted
-after_of (TurnedFatal cause) = Stopped verdict.Accepted
-after_of WasHalted = Stopped verdict.Accepted
-after_of WasFatal = Stopped verdict.Accepted
-after_of (Refused n) = Stopped (verdict.Refused n)
+after_of (TurnedFatal cause) = Stopped (Ok tt)
+after_of WasHalted = Stopped (Ok tt)
+after_of WasFatal = Stopped (Ok tt)
+after_of (Refused n) = Stopped (Err n)
 
 -- what a run gives: whether it was refused, the count, and the machine afterwards
 pub record Run : Type 0 where
@@ -45,7 +44,7 @@ after_step (Stopped v) t rest = run_with v 0 t.state t.memory
 
 -- a run of a budget
 unfoldable pub run_of : ℕ → State → Memory → Run
-run_of zero s m = run_with verdict.Accepted 0 s m
+run_of zero s m = run_with (Ok tt) 0 s m
 run_of (suc budget) s m =
     let t = step_of s m in
     after_step (after_of t.answer) t (run_of budget t.state t.memory)

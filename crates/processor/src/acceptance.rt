@@ -3,7 +3,7 @@ ghost use Rattle.std.specs.Prelude.{◌≡◌};
 ghost use Rattle.processor.specs.Acceptance.{even_ok, formats_ok, state_ok, acceptance_at};
 
 use bus::Device;
-use refusal::{Refusal, Verdict};
+use refusal::Refusal;
 
 // Whether PC, EIPC, FEPC and register 25 are even.
 fn even_ok(sys: &[u32; 8], pc: u32) -> bool
@@ -63,16 +63,16 @@ pub fn acceptance(
     sys: &[u32; 8],
     pc: u32,
     psw: u32,
-) -> Verdict
+) -> Result<(), Refusal>
     ensures { result ≡ acceptance_at rom wram vram pak device.now regs.now sys.now pc psw }
 {
     match bus::refusals::verdict(rom, wram, vram, pak, device) {
-        Verdict::Refused(n) => Verdict::Refused(n),
-        Verdict::Accepted => {
+        Err(n) => Err(n),
+        Ok(()) => {
             if !state_ok(regs, sys, pc, psw) {
-                return Verdict::Refused(Refusal::State);
+                return Err(Refusal::State);
             }
-            Verdict::Accepted
+            Ok(())
         }
     }
 }

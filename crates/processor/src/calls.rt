@@ -12,7 +12,7 @@ use bus::device::{device_of, drawing_in};
 use bus_timer::record;
 use processor_machine::{Answer, Mode};
 use processor_step::step;
-use refusal::Verdict;
+use refusal::Refusal;
 
 // The lowest of refusals 1 to 5 that a step or a run with these arguments meets. Internal: `pub`
 // for the crates above.
@@ -23,7 +23,7 @@ pub fn verdict(
     pak: &[u8],
     processor: Processor,
     drawing: Drawing,
-) -> Verdict
+) -> Result<(), Refusal>
     ensures { result ≡ acceptance_in processor (entering_with rom.now wram.now vram.now pak.now drawing.regs) }
 {
     let regs = processor.regs;
@@ -77,13 +77,13 @@ pub fn step(
         pc,
         psw,
     ) {
-        Verdict::Refused(n) => Stepped {
+        Err(n) => Stepped {
             answer: Answer::Refused(n),
             undefined: processor_undefined::none(),
             processor,
             drawing,
         },
-        Verdict::Accepted => {
+        Ok(()) => {
             let t = step::step(
                 rom,
                 wram,
@@ -146,13 +146,13 @@ pub fn run(
         pc,
         psw,
     ) {
-        Verdict::Refused(n) => Ran {
-            verdict: Verdict::Refused(n),
+        Err(n) => Ran {
+            verdict: Err(n),
             count: 0,
             processor,
             drawing,
         },
-        Verdict::Accepted => {
+        Ok(()) => {
             let f = run::run(
                 rom,
                 wram,

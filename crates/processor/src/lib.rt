@@ -11,7 +11,7 @@ use bus::Drawing;
 use bus_timer::TimerLines;
 use processor_machine::{Answer, Mode};
 use processor_undefined::Undefined;
-use refusal::Verdict;
+use refusal::Refusal;
 
 // The processor's record; the request lines and the timer are its last field.
 #[derive(Clone, Copy)]
@@ -43,7 +43,7 @@ pub struct Stepped {
 // Whether a run was refused, how many instructions ended, and both records afterwards.
 #[derive(Clone, Copy)]
 pub struct Ran {
-    pub verdict: Verdict,
+    pub verdict: Result<(), Refusal>,
     pub count: u64,
     pub processor: Processor,
     pub drawing: Drawing,
@@ -60,7 +60,7 @@ pub struct Machine {
 #[derive(Clone, Copy)]
 pub enum After {
     Counted,
-    Stopped(Verdict),
+    Stopped(Result<(), Refusal>),
 }
 
 // What a run leaves next to the borrowed registers and memories.
@@ -69,6 +69,6 @@ pub struct Finished {
     pub pc: u32,
     pub psw: u32,
     pub mode: Mode,
-    pub verdict: Verdict,
+    pub verdict: Result<(), Refusal>,
     pub count: u64,
 }

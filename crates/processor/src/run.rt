@@ -13,7 +13,7 @@ use processor_fast::stretch::stretch;
 use processor_interrupt::acceptance::accepts;
 use processor_machine::{Answer, Mode};
 use processor_step::step;
-use refusal::Verdict;
+use refusal::Refusal;
 
 // An ended or trapped instruction counts, and so does an accepted interrupt; anything else stops the run.
 fn after(answer: Answer) -> After
@@ -23,10 +23,10 @@ fn after(answer: Answer) -> After
         Answer::Ended => After::Counted,
         Answer::Trapped(_) => After::Counted,
         Answer::Interrupted(_) => After::Counted,
-        Answer::TurnedFatal(_) => After::Stopped(Verdict::Accepted),
-        Answer::WasHalted => After::Stopped(Verdict::Accepted),
-        Answer::WasFatal => After::Stopped(Verdict::Accepted),
-        Answer::Refused(n) => After::Stopped(Verdict::Refused(n)),
+        Answer::TurnedFatal(_) => After::Stopped(Ok(())),
+        Answer::WasHalted => After::Stopped(Ok(())),
+        Answer::WasFatal => After::Stopped(Ok(())),
+        Answer::Refused(n) => After::Stopped(Err(n)),
     }
 }
 
@@ -105,7 +105,7 @@ pub fn run(
                 pc,
                 psw,
                 mode,
-                verdict: Verdict::Accepted,
+                verdict: Ok(()),
                 count: n,
             };
         }
@@ -134,7 +134,7 @@ pub fn run(
         pc,
         psw,
         mode,
-        verdict: Verdict::Accepted,
+        verdict: Ok(()),
         count: n,
     }
 }

@@ -2,9 +2,8 @@
 -- statements. Their proofs are `step-masked` and `run-instructions` in proofs/Basing. CLI, LDSR, RETI and a store to
 -- the timer's control register can change midway whether a line is accepted, so the premise is over every step of the
 -- run.
-use Rattle.std.specs.Prelude.{ℕ, zero, suc, ◌<◌, false, ◌≡◌}
+use Rattle.std.specs.Prelude.{ℕ, zero, suc, ◌<◌, false, ◌≡◌, Ok}
 use Rattle.bus.specs.Memory.{Memory}
-use Rattle.refusal.specs.declared.Verdict.TheVariants.{Accepted}
 use Rattle.processor_machine.specs.State.{State}
 use Rattle.processor_interrupt.specs.Accepted.{Acceptable}
 use Rattle.processor_step.specs.Interrupted.{lines_in, accepts_in}
@@ -20,7 +19,7 @@ StepMasked =
 
 -- the base's run: its steps accept no interrupt
 unfoldable pub instruction_run_of : ℕ → State → Memory → Run
-instruction_run_of zero s m = run_with Accepted 0 s m
+instruction_run_of zero s m = run_with (Ok tt) 0 s m
 instruction_run_of (suc budget) s m =
     let t = instruction_step_of s m in
     after_step (after_of t.answer) t (instruction_run_of budget t.state t.memory)

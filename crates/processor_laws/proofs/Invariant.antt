@@ -1,4 +1,5 @@
 -- An accepted machine of the right sizes, part by part: general registers, system registers, PC, PSW and memory.
+use Rattle.std.specs.Prelude.{Ok, Err}
 use Prim.Native.Nat.{ℕ, ◌%◌, ◌^◌, ◌≤◌, ◌<◌}
 use mathlib.Core.Bool.{true}
 use mathlib.Core.List.{List}
@@ -11,10 +12,8 @@ use Rattle.word.proofs.Choices.{pick-both}
 use Rattle.bus.specs.TimerLines.{device_length}
 use Rattle.bus.proofs.Bytes.{Bytes}
 use Rattle.bus.specs.Memory.{Memory, verdict_of}
-use Rattle.refusal.specs.Number.{unless, then_of}
+use Rattle.refusal.specs.Number.{unless, then_of, Verdict}
 use Rattle.refusal.specs.declared.Refusal as refusal
-use Rattle.refusal.specs.declared.Verdict.{Verdict}
-use Rattle.refusal.specs.declared.Verdict.TheVariants.{Accepted, Refused}
 use Rattle.bus.proofs.Accepted.{unless-passed}
 use Rattle.processor_machine.specs.State.{State}
 use Rattle.processor_machine.specs.System.{psw_bits_of}
@@ -56,7 +55,7 @@ pub record Address (pc : ℕ) : Type 0 where
 pub record Memories (m : Memory) : Type 0 where
   pub bytes : Bytes m
   pub device : length m.regs ≡ device_length
-  pub verdict : verdict_of m ≡ Accepted
+  pub verdict : verdict_of m ≡ (Ok tt)
 
 pub record Good (s : State) (m : Memory) : Type 0 where
   pub generals : Generals s.regs
@@ -65,9 +64,9 @@ pub record Good (s : State) (m : Memory) : Type 0 where
   pub format : Format s.psw
   pub memories : Memories m
 
-then-accepted : (v later : Verdict) → then_of v later ≡ Accepted → (v ≡ Accepted) × (later ≡ Accepted)
-then-accepted Accepted later e = (refl, e)
-then-accepted (Refused n) later e =
+then-accepted : (v later : Verdict) → then_of v later ≡ (Ok tt) → (v ≡ (Ok tt)) × (later ≡ (Ok tt))
+then-accepted (Ok tt) later e = (refl, e)
+then-accepted (Err n) later e =
     let z : ◌≡◌ {A = ℕ} 0 1 = cc in
     absurd (omega arith)
 
@@ -130,13 +129,13 @@ module _ (s : State) where
       )
 
 module _ (s : State) (m : Memory) where
-  pub told : acceptance_of s m ≡ Accepted → (verdict_of m ≡ Accepted) × Passed s
+  pub told : acceptance_of s m ≡ (Ok tt) → (verdict_of m ≡ (Ok tt)) × Passed s
   unfolding acceptance_at
   told h =
-      let t = then-accepted (verdict_of m) (unless (state_ok s.regs s.sys s.pc s.psw) refusal.TheVariants.State Accepted) h in
-      (t.0, passed s (unless-passed (state_ok s.regs s.sys s.pc s.psw) refusal.TheVariants.State Accepted t.1).0)
+      let t = then-accepted (verdict_of m) (unless (state_ok s.regs s.sys s.pc s.psw) refusal.TheVariants.State (Ok tt)) h in
+      (t.0, passed s (unless-passed (state_ok s.regs s.sys s.pc s.psw) refusal.TheVariants.State (Ok tt) t.1).0)
 
-  pub tells : verdict_of m ≡ Accepted → Passed s → acceptance_of s m ≡ Accepted
+  pub tells : verdict_of m ≡ (Ok tt) → Passed s → acceptance_of s m ≡ (Ok tt)
   unfolding acceptance_at
   tells v p = rw v (rw (passes s p))
 

@@ -1,13 +1,12 @@
 -- An accepted machine stays accepted (paper 01, "Refusal numbers" 1 to 5), so that a run tests 1 to 5 once: the
 -- statements. Their proofs are `step-accepted`, `run-accepted`, `run-count`, `machine-accepted-means` and
 -- `machine-means-accepted` in proofs/Accepting.
-use Rattle.std.specs.Prelude.{ℕ, ◌%◌, ◌^◌, ◌≤◌, ◌<◌, List, ◌≡◌, length, get_or}
+use Rattle.std.specs.Prelude.{ℕ, ◌%◌, ◌^◌, ◌≤◌, ◌<◌, List, ◌≡◌, length, get_or, Ok}
 use Rattle.std.specs.Int.Bits.{bit_and}
 use Rattle.bus_timer.specs.Accepted as hardware
 use Rattle.bus.specs.Registers.{width_of}
 use Rattle.bus.specs.TimerLines.{device_length, hardware_in}
 use Rattle.bus.specs.Memory.{Memory, Lengths}
-use Rattle.refusal.specs.declared.Verdict.TheVariants.{Accepted}
 use Rattle.processor_machine.specs.State.{State}
 use Rattle.processor_machine.specs.System.{psw_mask}
 use Rattle.processor_step.specs.Step.{step_of}
@@ -36,7 +35,7 @@ pub record Sized (s : State) (m : Memory) : Type 0 where
 -- a machine that a call is given and does not refuse by 1 to 5
 pub record Machine (s : State) (m : Memory) : Type 0 where
   pub sized : Sized s m
-  pub accepted : acceptance_of s m ≡ Accepted
+  pub accepted : acceptance_of s m ≡ (Ok tt)
 
 -- a step leaves an accepted machine
 abbrev pub StepAccepted : Type 0
@@ -74,4 +73,4 @@ abbrev pub MachineMeansAccepted : Type 0
 MachineMeansAccepted =
     (s : State) (m : Memory) → Lengths (length m.rom) (length m.wram) (length m.vram) (length m.pak)
     → MachineMeans s m
-    → acceptance_of s m ≡ Accepted
+    → acceptance_of s m ≡ (Ok tt)

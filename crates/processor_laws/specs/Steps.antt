@@ -1,10 +1,9 @@
 -- What a run comes to in steps (paper 01: "A run does at most the given number of instructions and reports how many
 -- ended: the number of the definition's steps up to the budget, a non-running mode, or a refusal"): the statements.
 -- Their proofs are `run-steps`, `run-counted` and `run_ends` in proofs/Runs.
-use Rattle.std.specs.Prelude.{ℕ, zero, suc, ◌<◌, ◌≡◌}
+use Rattle.std.specs.Prelude.{ℕ, zero, suc, ◌<◌, ◌≡◌, Ok, Err}
 use Rattle.bus.specs.Memory.{Memory}
 use Rattle.refusal.specs.declared.Refusal.{Refusal}
-use Rattle.refusal.specs.declared.Verdict.TheVariants.{Accepted, Refused}
 use Rattle.processor_machine.specs.State.{State}
 use Rattle.processor_step.specs.Step.{step_of}
 use Rattle.processor_machine.specs.declared.Mode.TheVariants.{Fatal}
@@ -31,7 +30,7 @@ pub record Counts (r : Run) (after : State × Memory) : Type 0 where
   pub same_pc : r.state.pc ≡ after.0.pc
   pub same_psw : r.state.psw ≡ after.0.psw
   pub not_fatal : (r.state.mode ≡ Fatal → ⊥) → r.state ≡ after.0
-  pub refused : (n : Refusal) → r.verdict ≡ Refused n → r.state ≡ after.0
+  pub refused : (n : Refusal) → r.verdict ≡ Err n → r.state ≡ after.0
 
 abbrev pub RunCounted : Type 0
 RunCounted =
@@ -45,7 +44,7 @@ step_end_of i s m = after_of (step_of (steps_of i s m).0 (steps_of i s m).1).ans
 pub record Ends (budget : ℕ) (s : State) (m : Memory) (r : Run) : Type 0 where
   pub counted : (i : ℕ) → i < r.count → step_end_of i s m ≡ Counted
   pub stopped : r.count < budget → step_end_of r.count s m ≡ Stopped r.verdict
-  pub spent : r.count ≡ budget → r.verdict ≡ Accepted
+  pub spent : r.count ≡ budget → r.verdict ≡ (Ok tt)
 
 abbrev pub RunEnds : Type 0
 RunEnds = (budget : ℕ) (s : State) (m : Memory) → Ends budget s m (run_of budget s m)

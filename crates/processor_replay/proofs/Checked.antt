@@ -1,10 +1,9 @@
 -- What the public call's definition comes to, by the tests that the call made. Assumes nothing.
+use Rattle.std.specs.Prelude.{Ok, Err}
 use Rattle.std.proofs.Common.{◌≡◌, ℕ, ◌%◌, List, length, sym, refl, ap, ◌∙◌, arith, eq-eqb, ne_eqb}
 use Rattle.refusal.specs.declared.Refusal.{Refusal}
-use Rattle.refusal.specs.Number.{unless, then_of}
+use Rattle.refusal.specs.Number.{unless, then_of, Verdict}
 use Rattle.refusal.specs.declared.Refusal.TheVariants.{State, TraceLength}
-use Rattle.refusal.specs.declared.Verdict.{Verdict}
-use Rattle.refusal.specs.declared.Verdict.TheVariants as verdict
 use Rattle.bus.specs.TimerLines.{device_of}
 use Rattle.bus.specs.Memory.{Memory, Lengths, with_regs, verdict_at}
 use Rattle.bus.proofs.Accepted.{accepted-lengths}
@@ -18,15 +17,15 @@ use Rattle.processor_replay.specs.Replay.{Replay, records_of, replay_of}
 use Rattle.processor_replay.specs.Calls.{replay_verdict_of, replayed_of, checked_replay_of}
 
 module _ (p : Processor) (m : Memory) (trace : List ℕ) (v : Verdict) (tested : v ≡ acceptance_in p m) where
-  pub replay-refused : (n : Refusal) → v ≡ verdict.Refused n → replayed_of (Refused n) 0 p m ≡ checked_replay_of p m trace
+  pub replay-refused : (n : Refusal) → v ≡ Err n → replayed_of (Refused n) 0 p m ≡ checked_replay_of p m trace
   unfolding checked_replay_of replay_verdict_of
   replay-refused n h = rw (← tested, h)
 
-  pub replay-odd : v ≡ verdict.Accepted → (length trace % 16 ≡ 0 → ⊥) → replayed_of (Refused TraceLength) 0 p m ≡ checked_replay_of p m trace
+  pub replay-odd : v ≡ (Ok tt) → (length trace % 16 ≡ 0 → ⊥) → replayed_of (Refused TraceLength) 0 p m ≡ checked_replay_of p m trace
   unfolding checked_replay_of replay_verdict_of
   replay-odd h odd = rw (← tested, h, ne_eqb (length trace % 16) 0 odd)
 
-  pub replay-done : v ≡ verdict.Accepted → length trace % 16 ≡ 0 → (sys d : List ℕ) → sys ≡ system_in p → d ≡ device_of m.regs p.hardware
+  pub replay-done : v ≡ (Ok tt) → length trace % 16 ≡ 0 → (sys d : List ℕ) → sys ≡ system_in p → d ≡ device_of m.regs p.hardware
       → (r : Replay) → r ≡ replay_of (records_of trace) 0 trace (state_of p.regs sys p.pc p.psw p.mode) (with_regs m d)
       → replayed_of r.end r.agreed (processor_of r.state r.memory.regs) (lent_of r.memory) ≡ checked_replay_of p m trace
   unfolding checked_replay_of replay_verdict_of
@@ -34,19 +33,19 @@ module _ (p : Processor) (m : Memory) (trace : List ℕ) (v : Verdict) (tested :
       rw (← tested, h, eq-eqb (length trace % 16) 0 whole)
       (ap (λ (u : Replay). replayed_of u.end u.agreed (processor_of u.state u.memory.regs) (lent_of u.memory)) (rw (held, assembled) at e))
 
-first-accepted : (v later : Verdict) → then_of v later ≡ verdict.Accepted → v ≡ verdict.Accepted
-first-accepted verdict.Accepted later e = refl
-first-accepted (verdict.Refused n) later e =
+first-accepted : (v later : Verdict) → then_of v later ≡ (Ok tt) → v ≡ (Ok tt)
+first-accepted (Ok tt) later e = refl
+first-accepted (Err n) later e =
     let z : ◌≡◌ {A = ℕ} 0 1 = cc in
     absurd (omega arith)
 
 -- the lengths of an accepted call's memories
-pub accepted-memories : (p : Processor) (m : Memory) (v : Verdict) → v ≡ acceptance_in p m → v ≡ verdict.Accepted
+pub accepted-memories : (p : Processor) (m : Memory) (v : Verdict) → v ≡ acceptance_in p m → v ≡ (Ok tt)
     → Lengths (length m.rom) (length m.wram) (length m.vram) (length m.pak)
 unfolding acceptance_at
 accepted-memories p m v e h =
     let d = device_of m.regs p.hardware in
     let bus = verdict_at (length m.rom) (length m.wram) (length m.vram) (length m.pak) d in
-    let later = unless (state_ok p.regs (system_in p) p.pc p.psw) State verdict.Accepted in
+    let later = unless (state_ok p.regs (system_in p) p.pc p.psw) State (Ok tt) in
     accepted-lengths (length m.rom) (length m.wram) (length m.vram) (length m.pak) d
     (first-accepted bus later (sym e ∙ h))

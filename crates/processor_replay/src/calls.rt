@@ -8,7 +8,7 @@ use bus::Drawing;
 use bus::device::{device_of, drawing_in};
 use processor::Processor;
 use processor::record::{joined, system};
-use refusal::{Refusal, Verdict};
+use refusal::Refusal;
 
 // Steps the machine and compares each step with a trace.
 pub fn replay(
@@ -24,13 +24,13 @@ pub fn replay(
         ≡ checked_replay_of processor (entering_with rom.now wram.old vram.old pak.old drawing.regs) trace.now }
 {
     match processor::calls::verdict(rom, wram, vram, pak, processor, drawing) {
-        Verdict::Refused(n) => Replayed {
+        Err(n) => Replayed {
             end: End::Refused(n),
             agreed: 0,
             processor,
             drawing,
         },
-        Verdict::Accepted => {
+        Ok(()) => {
             if trace.len() % 16 != 0 {
                 return Replayed {
                     end: End::Refused(Refusal::TraceLength),

@@ -1,4 +1,5 @@
 -- `agreed-run`: the statement of specs/Ending, by induction over the records left. Assumes nothing.
+use Rattle.std.specs.Prelude.{Ok}
 use Prim.Native.Nat.{ℕ, zero, suc, ◌+◌}
 use mathlib.Core.Bool.{Bool, true, false}
 use mathlib.Core.List.{List}
@@ -7,7 +8,6 @@ use native.Mathlib.Omega.{arith}
 use lib.Dec.{ltb}
 use Rattle.word.specs.Choose.{pick}
 use Rattle.bus.specs.Memory.{Memory}
-use Rattle.refusal.specs.declared.Verdict.TheVariants.{Accepted}
 use Rattle.processor_machine.specs.State.{State, Stepped}
 use Rattle.processor_machine.specs.declared.Answer.{Answer}
 use Rattle.processor_machine.specs.declared.Answer.TheVariants as answer
@@ -17,16 +17,16 @@ use Rattle.processor_replay.specs.Replay.{record_at, record_of, first_difference
 use Rattle.processor_replay.specs.declared.End.TheVariants.{Agreed, Differed}
 use Rattle.processor_replay_laws.specs.Ending.{AgreedRun}
 
-module _ (n : ℕ) (t : Stepped) (run : Run) (rest : Replay) (later : rest.end ≡ Agreed → run ≡ run_with Accepted n rest.state rest.memory) where
+module _ (n : ℕ) (t : Stepped) (run : Run) (rest : Replay) (later : rest.end ≡ Agreed → run ≡ run_with (Ok tt) n rest.state rest.memory) where
   by_word : (b : Bool) (word : ℕ) → let r = pick b (replay_with (Differed word) 0 t.state t.memory) (one_record_more rest) in
-      r.end ≡ Agreed → run_with run.verdict (suc run.count) run.state run.memory ≡ run_with Accepted (suc n) r.state r.memory
+      r.end ≡ Agreed → run_with run.verdict (suc run.count) run.state run.memory ≡ run_with (Ok tt) (suc n) r.state r.memory
   by_word true word e =
       let z : ◌≡◌ {A = ℕ} 0 1 = cc in
       absurd (omega arith)
   by_word false word e = rw (later e)
 
   by_answer : (a : Answer) (word : ℕ) → let r = after_record (progress_of a) word t rest in
-      r.end ≡ Agreed → after_step (after_of a) t run ≡ run_with Accepted (suc n) r.state r.memory
+      r.end ≡ Agreed → after_step (after_of a) t run ≡ run_with (Ok tt) (suc n) r.state r.memory
   by_answer answer.Ended word e = by_word (ltb word 4) word e
   by_answer (answer.Trapped cause) word e = by_word (ltb word 4) word e
   by_answer (answer.Interrupted level) word e = by_word (ltb word 4) word e
@@ -44,7 +44,7 @@ module _ (n : ℕ) (t : Stepped) (run : Run) (rest : Replay) (later : rest.end �
       absurd (omega arith)
 
 run-from : (n k : ℕ) (trace : List ℕ) (s : State) (m : Memory) → let r = replay_of n k trace s m in
-    r.end ≡ Agreed → run_of n s m ≡ run_with Accepted n r.state r.memory
+    r.end ≡ Agreed → run_of n s m ≡ run_with (Ok tt) n r.state r.memory
 unfolding replay_of run_of
 run-from zero k trace s m e = refl
 run-from (suc n) k trace s m e =

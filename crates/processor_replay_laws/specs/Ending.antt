@@ -2,10 +2,9 @@
 -- first wrong word, both counted from 0; or that the model refused, took no step because halted or fatal, or turned
 -- fatal there"): the statements. Their proofs are `replay-ends`, `replay-steps` and `agreed-run` in proofs/Ended, Left
 -- and Counted.
-use Rattle.std.specs.Prelude.{ℕ, suc, ◌≤◌, ◌<◌, List, ◌⊎◌, ◌≡◌, eqb}
+use Rattle.std.specs.Prelude.{ℕ, suc, ◌≤◌, ◌<◌, List, ◌⊎◌, ◌≡◌, eqb, Ok}
 use Rattle.word.specs.Choose.{pick}
 use Rattle.bus.specs.Memory.{Memory}
-use Rattle.refusal.specs.declared.Verdict.TheVariants.{Accepted}
 use Rattle.processor_machine.specs.State.{State, Stepped, state_of}
 use Rattle.processor_machine.specs.declared.Mode.TheVariants as mode
 use Rattle.processor_step.specs.Step.{step_of}
@@ -78,4 +77,4 @@ ReplaySteps =
 abbrev pub AgreedRun : Type 0
 AgreedRun =
     (n : ℕ) (trace : List ℕ) (s : State) (m : Memory) → let r = replay_of n 0 trace s m in
-    r.end ≡ Agreed → run_of n s m ≡ run_with Accepted n r.state r.memory
+    r.end ≡ Agreed → run_of n s m ≡ run_with (Ok tt) n r.state r.memory

@@ -8,39 +8,38 @@ use Rattle.refusal.specs.declared.Refusal.TheVariants.{RomLength, WramLength, Vr
 use Rattle.refusal.specs.declared.Refusal.TheVariants.{NotModelled, Frame, Index, FileLength, FileBytes}
 use Rattle.refusal.specs.declared.Refusal.TheVariants.{AccessList, Encoding, ProbeTarget, TraceLength, Display}
 use Rattle.refusal.specs.declared.Refusal.TheVariants.{NotAtReset, NoLayout}
-use Rattle.refusal.specs.declared.Verdict.{Verdict}
-use Rattle.refusal.specs.declared.Verdict.TheVariants.{Accepted, Refused}
-use Rattle.refusal.specs.Number.{number_of, verdict_number}
+use Rattle.std.specs.Prelude.{Ok, Err}
+use Rattle.refusal.specs.Number.{number_of, verdict_number, Verdict}
 use Rattle.refusal.specs.Apart.{NumbersApart, VerdictsApart}
 
 -- the verdicts in the order of their numbers
 verdicts : List Verdict
 verdicts =
-    Accepted
-    ∷ Refused RomLength
-    ∷ Refused WramLength
-    ∷ Refused VramLength
-    ∷ Refused PakLength
-    ∷ Refused State
-    ∷ Refused NotModelled
-    ∷ Refused Frame
-    ∷ Refused Index
-    ∷ Refused FileLength
-    ∷ Refused FileBytes
-    ∷ Refused AccessList
-    ∷ Refused Encoding
-    ∷ Refused ProbeTarget
-    ∷ Refused TraceLength
-    ∷ Refused Display
-    ∷ Refused NotAtReset
-    ∷ Refused NoLayout
+    Ok tt
+    ∷ Err RomLength
+    ∷ Err WramLength
+    ∷ Err VramLength
+    ∷ Err PakLength
+    ∷ Err State
+    ∷ Err NotModelled
+    ∷ Err Frame
+    ∷ Err Index
+    ∷ Err FileLength
+    ∷ Err FileBytes
+    ∷ Err AccessList
+    ∷ Err Encoding
+    ∷ Err ProbeTarget
+    ∷ Err TraceLength
+    ∷ Err Display
+    ∷ Err NotAtReset
+    ∷ Err NoLayout
     ∷ []
 
 -- the verdict of a number
 abbrev numbered : ℕ → Verdict
-numbered n = get_or verdicts n Accepted
+numbered n = get_or verdicts n (Ok tt)
 
-back : (r : Refusal) → numbered (number_of r) ≡ Refused r
+back : (r : Refusal) → numbered (number_of r) ≡ Err r
 unfolding verdicts
 back RomLength = refl
 back WramLength = refl
@@ -62,16 +61,16 @@ back NoLayout = refl
 
 back-verdict : (v : Verdict) → numbered (verdict_number v) ≡ v
 unfolding verdicts
-back-verdict Accepted = refl
-back-verdict (Refused r) = back r
+back-verdict (Ok tt) = refl
+back-verdict (Err r) = back r
 
 refusal_in : Verdict → Refusal → Refusal
-refusal_in Accepted other = other
-refusal_in (Refused r) other = r
+refusal_in (Ok tt) other = other
+refusal_in (Err r) other = r
 
 pub verdicts-apart : VerdictsApart
 verdicts-apart a b e = sym (back-verdict a) ∙ ap numbered e ∙ back-verdict b
 
 pub numbers_apart : NumbersApart
 unfolding refusal_in
-numbers_apart a b e = ap (λ (v : Verdict). refusal_in v a) (verdicts-apart (Refused a) (Refused b) e)
+numbers_apart a b e = ap (λ (v : Verdict). refusal_in v a) (verdicts-apart (Err a) (Err b) e)

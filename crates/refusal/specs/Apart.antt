@@ -2,8 +2,7 @@
 -- which case of the enum it was. The proofs are `Numbers-apart` and `verdicts-apart` in proofs/Numbers.
 use Rattle.std.specs.Prelude.{◌≡◌}
 use Rattle.refusal.specs.declared.Refusal.{Refusal}
-use Rattle.refusal.specs.declared.Verdict.{Verdict}
-use Rattle.refusal.specs.Number.{number_of, verdict_number}
+use Rattle.refusal.specs.Number.{number_of, verdict_number, Verdict}
 
 abbrev pub NumbersApart : Type 0
 NumbersApart = (a b : Refusal) → number_of a ≡ number_of b → a ≡ b

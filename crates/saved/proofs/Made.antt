@@ -1,5 +1,6 @@
 -- `read-written` and `written-exactly`: what was written for an accepted machine is read and gives that machine; and a file of the
 -- due length is refused by 10 exactly when no accepted machine is written as it. Assumes nothing.
+use Rattle.std.specs.Prelude.{Ok}
 use Prim.Native.Nat.{ℕ, ◌+◌, ◌*◌, ◌^◌, ◌<◌, ◌≤◌}
 use native.Mathlib.Omega.{arith}
 use native.Mathlib.Decide.{dec_lt}
@@ -11,7 +12,6 @@ use lib.Dec.{leb}
 use lib.ListN.{length, get_or, get_or-eq_default}
 use Rattle.word.specs.LittleEndian.{half_at, word_at}
 use Rattle.word.proofs.Choices.{pick-both}
-use Rattle.refusal.specs.declared.Verdict.TheVariants.{Accepted}
 use Rattle.bus.specs.Memory.{Memory, memory_of, Lengths}
 use Rattle.processor.specs.Record.{system_in}
 use Rattle.processor.specs.Acceptance.{both, state_ok, acceptance_in}
@@ -209,7 +209,7 @@ module _ (form : Form) (p : ℕ) (file : List ℕ) (whole : length file ≡ file
             pak-ok = rw (length-pak-in p file form whole) l.pak-ok;
           }
 
-      accepted-held : acceptance_in (processor_in_bodies (bodies_in form p file)) (memory_in rom (bodies_in form p file)) ≡ Accepted
+      accepted-held : acceptance_in (processor_in_bodies (bodies_in form p file)) (memory_in rom (bodies_in form p file)) ≡ (Ok tt)
       unfolding processor_in_bodies restored_processor_of memory_in drawing_body_ok hardware_body_ok
       accepted-held =
           accepts (processor_in_bodies (bodies_in form p file)) (memory_in rom (bodies_in form p file))

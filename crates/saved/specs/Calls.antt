@@ -1,10 +1,8 @@
 -- What writing and reading a state answer and leave, for every input (paper 02, W1 and W12): refusals 1 to 5, then 9
 -- and, reading, 10; writing form 1, 16. Reading takes the form from the file. A refusal changes nothing. ROM is tested
 -- and neither stored nor changed.
-use Rattle.std.specs.Prelude.{ℕ, Bool, true, List, eqb, length, replicate}
-use Rattle.refusal.specs.Number.{unless, when_accepted, then_of}
-use Rattle.refusal.specs.declared.Verdict.{Verdict}
-use Rattle.refusal.specs.declared.Verdict.TheVariants.{Accepted, Refused}
+use Rattle.std.specs.Prelude.{ℕ, Bool, true, List, eqb, length, replicate, Ok, Err}
+use Rattle.refusal.specs.Number.{unless, when_accepted, then_of, Verdict}
 use Rattle.refusal.specs.declared.Refusal.TheVariants.{FileLength, FileBytes, NotAtReset}
 use Rattle.bus_timer.specs.declared.TimerLines.{TimerLines}
 use Rattle.bus.specs.Memory.{Memory}
@@ -49,7 +47,7 @@ holds_ok form h = form_holds form (lines_of h)
 unfoldable pub write_verdict_of : Form → Processor → Memory → List ℕ → Verdict
 write_verdict_of form p m output =
     then_of (acceptance_in p m)
-    (unless (length_ok form m output) FileLength (unless (holds_ok form p.hardware) NotAtReset Accepted))
+    (unless (length_ok form m output) FileLength (unless (holds_ok form p.hardware) NotAtReset (Ok tt)))
 
 unfoldable pub written_output_of : Form → Processor → Memory → List ℕ → List ℕ
 written_output_of form p m output = when_accepted (write_verdict_of form p m output) output (state_file_of form p m)
@@ -59,7 +57,7 @@ unfoldable pub read_verdict_of : Processor → Memory → List ℕ → Verdict
 read_verdict_of p m file =
     then_of (acceptance_in p m)
     (unless (length_ok (form_of file) m file) FileLength
-    (unless (file_ok (form_of file) (length m.pak) file) FileBytes Accepted))
+    (unless (file_ok (form_of file) (length m.pak) file) FileBytes (Ok tt)))
 
 -- what it gives: the verdict, the record and the memory afterwards
 pub record Restored : Type 0 where
@@ -71,8 +69,8 @@ abbrev pub restored_of : Verdict → Processor → Memory → Restored
 restored_of verdict p m = record { verdict = verdict; processor = p; memory = m }
 
 abbrev pub restored_when : Verdict → Processor → Memory → List ℕ → Restored
-restored_when Accepted p m file = restored_of Accepted (held_processor_of m file) (held_memory_of m file)
-restored_when (Refused n) p m file = restored_of (Refused n) p m
+restored_when (Ok tt) p m file = restored_of (Ok tt) (held_processor_of m file) (held_memory_of m file)
+restored_when (Err n) p m file = restored_of (Err n) p m
 
 unfoldable pub read_back_of : Processor → Memory → List ℕ → Restored
 read_back_of p m file = restored_when (read_verdict_of p m file) p m file

@@ -1,8 +1,7 @@
 -- "Reading gives the state written", refusal 10 exactly, what a move writes, and that a move and a writer mean one
 -- refusal 16 (paper 02, W1 and W12): the statements. Their proofs are `read-written`, `written-exactly`, `move-writes`
 -- and `sixteen-agrees` in proofs/.
-use Rattle.std.specs.Prelude.{ℕ, ◌^◌, ◌<◌, true, false, List, ◌≡◌, length, get_or}
-use Rattle.refusal.specs.declared.Verdict.TheVariants.{Accepted}
+use Rattle.std.specs.Prelude.{ℕ, ◌^◌, ◌<◌, true, false, List, ◌≡◌, length, get_or, Ok}
 use Rattle.bus_timer.specs.declared.TimerLines.{TimerLines}
 use Rattle.bus.specs.Memory.{Memory, memory_of}
 use Rattle.processor.specs.Acceptance.{acceptance_in}
@@ -20,7 +19,7 @@ use Rattle.saved.specs.Calls.{state_file_of, held_processor_of, held_memory_of, 
 -- a machine that 1 to 5 accept and a form holds, with the sizes that the Rattle types give any call: 32 general
 -- registers, words of 32 bits, 13 drawing registers and the fields of lines and timer of 16
 pub record Savable (form : Form) (p : Processor) (m : Memory) : Type 0 where
-  pub accepted : acceptance_in p m ≡ Accepted
+  pub accepted : acceptance_in p m ≡ (Ok tt)
   pub held : holds_ok form p.hardware ≡ true
   pub general : length p.regs ≡ 32
   pub words : (k : ℕ) → get_or (record_words_of p) k 0 < 2 ^ 32
@@ -33,10 +32,10 @@ pub record Savable (form : Form) (p : Processor) (m : Memory) : Type 0 where
 -- timer are at reset
 abbrev pub ReadWritten : Form → Type 0
 ReadWritten form =
-    (p q : Processor) (m n : Memory) → Savable form p m → acceptance_in q n ≡ Accepted
+    (p q : Processor) (m n : Memory) → Savable form p m → acceptance_in q n ≡ (Ok tt)
     → length n.pak ≡ length m.pak
     → read_back_of q n (state_file_of form p m)
-    ≡ restored_of Accepted p (memory_of n.rom m.wram m.vram m.pak m.regs)
+    ≡ restored_of (Ok tt) p (memory_of n.rom m.wram m.vram m.pak m.regs)
 
 -- a file of the due length of its form is refused by 10 exactly when no accepted machine is written as it; and what
 -- was read, written again in that form, is the file
@@ -51,7 +50,7 @@ pub record Exactly (n : Memory) (file : List ℕ) : Type 0 where
 
 abbrev pub WrittenExactly : Type 0
 WrittenExactly =
-    (q : Processor) (n : Memory) (file : List ℕ) → acceptance_in q n ≡ Accepted
+    (q : Processor) (n : Memory) (file : List ℕ) → acceptance_in q n ≡ (Ok tt)
     → length file ≡ file_length_of (form_of file) (length n.pak)
     → ((k : ℕ) → get_or file k 0 < 256)
     → Exactly n file
@@ -60,7 +59,7 @@ WrittenExactly =
 -- of the machine that reading gives with a memory whose pak RAM has the length that follows from the file's
 abbrev pub MoveWrites : Type 0
 MoveWrites =
-    (file output : List ℕ) (n : Memory) → ((k : ℕ) → get_or file k 0 < 256) → move_verdict_of file output ≡ Accepted
+    (file output : List ℕ) (n : Memory) → ((k : ℕ) → get_or file k 0 < 256) → move_verdict_of file output ≡ (Ok tt)
     → length n.pak ≡ pak_length_of (form_of file) (length file)
     → moved_of file output ≡ state_file_of (other_of (form_of file)) (held_processor_of n file) (held_memory_of n file)
 

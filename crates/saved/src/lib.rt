@@ -14,14 +14,14 @@ ghost use Rattle.saved.specs.Calls.{state_file_of, write_verdict_of, written_out
 
 use bus::Drawing;
 use processor::Processor;
-use refusal::{Refusal, Verdict};
+use refusal::Refusal;
 use saved_kinds::{bodies, lengths};
 use saved_layout::{Form, places};
 
 // Whether a read was refused, and both records afterwards.
 #[derive(Clone, Copy)]
 pub struct Restored {
-    pub verdict: Verdict,
+    pub verdict: Result<(), Refusal>,
     pub processor: Processor,
     pub drawing: Drawing,
 }
@@ -58,22 +58,22 @@ fn write_form(
     processor: Processor,
     drawing: Drawing,
     output: &mut [u8],
-) -> Verdict
+) -> Result<(), Refusal>
     ensures verdict { result ≡ write_verdict_of form processor (entering_with rom.now wram.now vram.now pak.now drawing.regs) output.old }
     ensures output { output.new
         ≡ written_output_of form processor (entering_with rom.now wram.now vram.now pak.now drawing.regs) output.old }
 {
     match processor::calls::verdict(rom, wram, vram, pak, processor, drawing) {
-        Verdict::Refused(n) => Verdict::Refused(n),
-        Verdict::Accepted => {
+        Err(n) => Err(n),
+        Ok(()) => {
             if output.len() != places::file_length(form, pak.len()) {
-                return Verdict::Refused(Refusal::FileLength);
+                return Err(Refusal::FileLength);
             }
             if !records::holds(form, records::lines(processor.hardware)) {
-                return Verdict::Refused(Refusal::NotAtReset);
+                return Err(Refusal::NotAtReset);
             }
             put(form, wram, vram, pak, processor, drawing, output);
-            Verdict::Accepted
+            Ok(())
         }
     }
 }
@@ -87,7 +87,7 @@ pub fn write(
     processor: Processor,
     drawing: Drawing,
     output: &mut [u8],
-) -> Verdict
+) -> Result<(), Refusal>
     ensures verdict { result ≡ write_verdict_of One processor (entering_with rom.now wram.now vram.now pak.now drawing.regs) output.old }
     ensures output { output.new
         ≡ written_output_of One processor (entering_with rom.now wram.now vram.now pak.now drawing.regs) output.old }
@@ -104,7 +104,7 @@ pub fn write_2(
     processor: Processor,
     drawing: Drawing,
     output: &mut [u8],
-) -> Verdict
+) -> Result<(), Refusal>
     ensures verdict { result ≡ write_verdict_of Two processor (entering_with rom.now wram.now vram.now pak.now drawing.regs) output.old }
     ensures output { output.new
         ≡ written_output_of Two processor (entering_with rom.now wram.now vram.now pak.now drawing.regs) output.old }
@@ -127,24 +127,24 @@ pub fn read(
         ≡ read_back_of processor (entering_with rom.now wram.old vram.old pak.old drawing.regs) file.now }
 {
     match processor::calls::verdict(rom, wram, vram, pak, processor, drawing) {
-        Verdict::Refused(n) => Restored {
-            verdict: Verdict::Refused(n),
+        Err(n) => Restored {
+            verdict: Err(n),
             processor,
             drawing,
         },
-        Verdict::Accepted => {
+        Ok(()) => {
             let length = pak.len();
             let form = lengths::form_of(file);
             if file.len() != places::file_length(form, length) {
                 return Restored {
-                    verdict: Verdict::Refused(Refusal::FileLength),
+                    verdict: Err(Refusal::FileLength),
                     processor,
                     drawing,
                 };
             }
             if !bodies::file_ok(form, file, length) {
                 return Restored {
-                    verdict: Verdict::Refused(Refusal::FileBytes),
+                    verdict: Err(Refusal::FileBytes),
                     processor,
                     drawing,
                 };
@@ -153,7 +153,7 @@ pub fn read(
             let halves = records::drawing(form, file, length);
             saved_layout::bodies::take_memories(form, file, wram, vram, pak);
             Restored {
-                verdict: Verdict::Accepted,
+                verdict: Ok(()),
                 processor: state,
                 drawing: Drawing { regs: halves },
             }

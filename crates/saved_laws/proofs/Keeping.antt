@@ -1,5 +1,6 @@
 -- `each-kept-exactly`: the statement of specs/Keeps. The machine that has a kept body is the one that the salvage's output holds.
 -- Assumes nothing.
+use Rattle.std.specs.Prelude.{Ok}
 use Prim.Native.Nat.{ℕ, ◌<◌}
 use mathlib.Core.Bool.{Bool, true}
 use mathlib.Core.List.{List, []}
@@ -10,7 +11,6 @@ use lib.Dec.{eqb}
 use lib.ListN.{length, get_or, replicate, length-replicate}
 use Rattle.word.specs.LittleEndian.{word_at}
 use Rattle.word.proofs.Choices.{pick-both}
-use Rattle.refusal.specs.declared.Verdict.TheVariants.{Accepted}
 use Rattle.bus_timer.specs.Ports.{hardware_ok, control_bits_of}
 use Rattle.bus.specs.Refusal.{rom_ok}
 use Rattle.bus.specs.Registers.{drawing_ok}
@@ -51,7 +51,7 @@ reset-state : state_ok reset_of.processor.regs (system_in reset_of.processor) re
 unfolding state_ok reset_of even_ok formats_ok psw_bits_of
 reset-state = refl
 
-zero-accepted : (rom wram vram pak : ℕ) → Lengths rom wram vram pak → acceptance_in reset_of.processor (zero_memory rom wram vram pak) ≡ Accepted
+zero-accepted : (rom wram vram pak : ℕ) → Lengths rom wram vram pak → acceptance_in reset_of.processor (zero_memory rom wram vram pak) ≡ (Ok tt)
 unfolding reset_of drawing_ok hardware_in hardware_ok control_bits_of
 zero-accepted rom wram vram pak l =
     accepts reset_of.processor (zero_memory rom wram vram pak)
@@ -97,7 +97,7 @@ kept-where kept stored part body ok e some test =
       only = λ same x. e ∙ rw (eq-eqb stored (body_sum_of body) same) (test x);
     }
 
-module _ (file output : List ℕ) (bytes : (k : ℕ) → get_or file k 0 < 256) (e : salvage_verdict_of file output ≡ Accepted) where
+module _ (file output : List ℕ) (bytes : (k : ℕ) → get_or file k 0 < 256) (e : salvage_verdict_of file output ≡ (Ok tt)) where
   lengths : Lengths 1024 65536 262144 (pak_in_form_two file)
   lengths = record { rom-ok = rom-legal; wram-ok = refl; vram-ok = refl; pak-ok = (fit file output e).0 }
 

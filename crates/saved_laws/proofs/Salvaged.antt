@@ -1,11 +1,11 @@
 -- `salvaged-accepted`: a salvage's output is valid, so it is of form 2 and refused by neither 9 nor 10, and such a file is an accepted
 -- machine's. Assumes nothing.
+use Rattle.std.specs.Prelude.{Ok}
 use Prim.Native.Nat.{ℕ, ◌<◌}
 use mathlib.Core.Bool.{true}
 use mathlib.Core.List.{List}
 use mathlib.Core.Path.{◌≡◌, ap, ◌∙◌}
 use lib.ListN.{length, get_or}
-use Rattle.refusal.specs.declared.Verdict.TheVariants.{Accepted}
 use Rattle.bus.specs.Memory.{Memory}
 use Rattle.saved_bytes.proofs.Reading.{under}
 use Rattle.saved_layout.specs.Layout.{file_length_of}
@@ -23,7 +23,7 @@ use Rattle.saved_salvage.proofs.Unharmed.{salvaged-valid, output-is, whole}
 use Rattle.saved_laws.specs.Salvaged.{SalvagedAccepted}
 use Rattle.saved_laws.proofs.Bytes.{output-bytes}
 
-module _ (file output : List ℕ) (e : salvage_verdict_of file output ≡ Accepted) where
+module _ (file output : List ℕ) (e : salvage_verdict_of file output ≡ (Ok tt)) where
   form : form_of (salvaged_output_of file output) ≡ Two
   form = ap form_of (output-is file output e) ∙ form-back Two _
 
@@ -34,7 +34,7 @@ module _ (file output : List ℕ) (e : salvage_verdict_of file output ≡ Accept
   bytes b k = rw (output-is file output e) (output-bytes (kept_in (pak_in_form_two file) file) (pak_in_form_two file) file (under 256 file b) k)
 
 -- the output is refused neither by 9 nor by 10, with pak RAM of the length that follows from the file's
-module _ (file output : List ℕ) (n : Memory) (e : salvage_verdict_of file output ≡ Accepted) (l : length n.pak ≡ pak_in_form_two file) where
+module _ (file output : List ℕ) (n : Memory) (e : salvage_verdict_of file output ≡ (Ok tt)) (l : length n.pak ≡ pak_in_form_two file) where
   long : length (salvaged_output_of file output) ≡ file_length_of (form_of (salvaged_output_of file output)) (length n.pak)
   long = rw (form file output e, l) (due file output e)
 
@@ -48,7 +48,7 @@ salvaged-accepted file output q n b e accepted l =
     record { savable = rw f at made.0; written = rw f at made.1.1 }
 
 -- the bodies of the machine that the output holds are the output's
-pub held-bodies : (file output : List ℕ) (n : Memory) → ((k : ℕ) → get_or file k 0 < 256) → salvage_verdict_of file output ≡ Accepted
+pub held-bodies : (file output : List ℕ) (n : Memory) → ((k : ℕ) → get_or file k 0 < 256) → salvage_verdict_of file output ≡ (Ok tt)
     → length n.pak ≡ pak_in_form_two file
     → machine_bodies_of (held_processor_of n (salvaged_output_of file output)) (held_memory_of n (salvaged_output_of file output))
     ≡ bodies_in Two (pak_in_form_two file) (salvaged_output_of file output)

@@ -1,10 +1,10 @@
 -- `moved-accepted` and `written-unchanged`: the statements of specs/Salvaged about moves and writers. Assumes nothing.
+use Rattle.std.specs.Prelude.{Ok}
 use Prim.Native.Nat.{ℕ, ◌<◌}
 use mathlib.Core.Bool.{true}
 use mathlib.Core.List.{List}
 use mathlib.Core.Path.{◌≡◌, sym, ap, ◌∙◌}
 use lib.ListN.{length, get_or}
-use Rattle.refusal.specs.declared.Verdict.TheVariants.{Accepted}
 use Rattle.bus.specs.Refusal.{pak_ok}
 use Rattle.bus.specs.Memory.{Memory}
 use Rattle.processor.specs.Acceptance.{acceptance_in}
@@ -27,8 +27,8 @@ use Rattle.saved.proofs.Sixteen.{sixteen-agrees}
 use Rattle.saved_salvage.proofs.Unharmed.{unchanged}
 use Rattle.saved_laws.specs.Salvaged.{MovedAccepted, WrittenUnchanged}
 
-module _ (file output : List ℕ) (q : Processor) (n : Memory) (bytes : (k : ℕ) → get_or file k 0 < 256) (e : move_verdict_of file output ≡ Accepted)
-    (accepted : acceptance_in q n ≡ Accepted) (l : length n.pak ≡ pak_length_of (form_of file) (length file)) where
+module _ (file output : List ℕ) (q : Processor) (n : Memory) (bytes : (k : ℕ) → get_or file k 0 < 256) (e : move_verdict_of file output ≡ (Ok tt))
+    (accepted : acceptance_in q n ≡ (Ok tt)) (l : length n.pak ≡ pak_length_of (form_of file) (length file)) where
   due : length file ≡ file_length_of (form_of file) (length n.pak)
   unfolding pak_in
   due = sym (rw l (fit-in file (lengths-passed file output e).0).1)
@@ -70,7 +70,7 @@ moved-accepted file output q n bytes e accepted l =
       written = sym (move-writes file output n bytes e l);
     }
 
-legal : (p : Processor) (m : Memory) → acceptance_in p m ≡ Accepted → pak_ok (length (machine_bodies_of p m).pak) ≡ true
+legal : (p : Processor) (m : Memory) → acceptance_in p m ≡ (Ok tt) → pak_ok (length (machine_bodies_of p m).pak) ≡ true
 unfolding machine_bodies_of
 legal p m a = (passed p m a).lengths.pak-ok
 

@@ -1,8 +1,7 @@
 -- Which bodies a salvage keeps (paper 02, W13): it "keeps each body whose stored sum matches and which the writer could
 -- have made for some accepted state", and no other. The statement; its proof is `each-kept-exactly`.
-use Rattle.std.specs.Prelude.{ℕ, ◌<◌, Bool, true, List, ◌≡◌, get_or}
+use Rattle.std.specs.Prelude.{ℕ, ◌<◌, Bool, true, List, ◌≡◌, get_or, Ok}
 use Rattle.word.specs.LittleEndian.{word_at}
-use Rattle.refusal.specs.declared.Verdict.TheVariants.{Accepted}
 use Rattle.bus.specs.Memory.{Memory}
 use Rattle.processor.specs.declared.Processor.{Processor}
 use Rattle.saved_bytes.specs.Parts.{body_sum_of}
@@ -40,5 +39,5 @@ pub record EachKept (file : List ℕ) (pak : ℕ) (k : Kept) (b : Bodies) : Type
 
 abbrev pub EachKeptExactly : Type 0
 EachKeptExactly =
-    (file output : List ℕ) → ((k : ℕ) → get_or file k 0 < 256) → salvage_verdict_of file output ≡ Accepted
+    (file output : List ℕ) → ((k : ℕ) → get_or file k 0 < 256) → salvage_verdict_of file output ≡ (Ok tt)
     → EachKept file (pak_in_form_two file) (kept_in (pak_in_form_two file) file) (bodies_in Two (pak_in_form_two file) file)

@@ -2,8 +2,7 @@
 -- W12: a move "writes what the other form's writer makes for the state held"), and what a writer made a salvage leaves
 -- as it is (W13: "An undamaged file comes out equal, with an empty list"). The statements; their proofs are
 -- `salvaged-accepted`, `moved-accepted` and `written-unchanged`.
-use Rattle.std.specs.Prelude.{ℕ, ◌<◌, List, ◌≡◌, length, get_or}
-use Rattle.refusal.specs.declared.Verdict.TheVariants.{Accepted}
+use Rattle.std.specs.Prelude.{ℕ, ◌<◌, List, ◌≡◌, length, get_or, Ok}
 use Rattle.bus.specs.Memory.{Memory}
 use Rattle.processor.specs.Acceptance.{acceptance_in}
 use Rattle.processor.specs.declared.Processor.{Processor}
@@ -28,14 +27,14 @@ pub record FileOfAccepted (form : Form) (n : Memory) (held file : List ℕ) : Ty
 abbrev pub SalvagedAccepted : Type 0
 SalvagedAccepted =
     (file output : List ℕ) (q : Processor) (n : Memory) → ((k : ℕ) → get_or file k 0 < 256)
-    → salvage_verdict_of file output ≡ Accepted → acceptance_in q n ≡ Accepted → length n.pak ≡ pak_in_form_two file
+    → salvage_verdict_of file output ≡ (Ok tt) → acceptance_in q n ≡ (Ok tt) → length n.pak ≡ pak_in_form_two file
     → FileOfAccepted Two n (salvaged_output_of file output) (salvaged_output_of file output)
 
 -- the output of an accepted move is such a file, in the other form, of what the file given holds
 abbrev pub MovedAccepted : Type 0
 MovedAccepted =
     (file output : List ℕ) (q : Processor) (n : Memory) → ((k : ℕ) → get_or file k 0 < 256)
-    → move_verdict_of file output ≡ Accepted → acceptance_in q n ≡ Accepted
+    → move_verdict_of file output ≡ (Ok tt) → acceptance_in q n ≡ (Ok tt)
     → length n.pak ≡ pak_length_of (form_of file) (length file)
     → FileOfAccepted (other_of (form_of file)) n file (moved_of file output)
 

@@ -1,4 +1,5 @@
 -- `there_and_back` and `sixteen-exactly`. Assumes nothing.
+use Rattle.std.specs.Prelude.{Ok, Err}
 use Prim.Native.Nat.{ℕ, zero, suc, ◌<◌}
 use native.Mathlib.Omega.{arith}
 use mathlib.Core.Bool.{Bool, true, false}
@@ -9,7 +10,6 @@ use lib.ListN.{length, get_or}
 use Rattle.word.specs.LittleEndian.{half_at}
 use Rattle.word.proofs.Choices.{pick-both, bool-refuted}
 use Rattle.refusal.specs.Number.{unless}
-use Rattle.refusal.specs.declared.Verdict.TheVariants.{Accepted, Refused}
 use Rattle.refusal.specs.declared.Refusal.TheVariants.{FileLength, FileBytes, NotAtReset}
 use Rattle.bus.specs.Refusal.{pak_ok}
 use Rattle.bus.proofs.Accepted.{unless-passed}
@@ -66,26 +66,26 @@ module _ (form : Form) (b : Bodies) (s : SizedBodies b) (h : HeldBy form b) (leg
       rw (form-back form b, pak-back, contents-back b s form (pak-small (length b.pak) legal), file-held b s form h) ok
 
   pub moves : (output : List ℕ) → length output ≡ file_length_of (other_of form) (length b.pak) → holds_body_ok (other_of form) b.hardware ≡ true
-      → (Accepted ≡ move_verdict_of (file_of form b) output) × (file_of (other_of form) b ≡ moved_of (file_of form b) output)
+      → ((Ok tt) ≡ move_verdict_of (file_of form b) output) × (file_of (other_of form) b ≡ moved_of (file_of form b) output)
   moves output due holds =
       accepted (file_of form b) output (rw (form-back form b) fits.0) (rw (form-back form b, pak-back) due) ok-back
       (rw (form-back form b, held_back) holds) (file_of (other_of form) b) (rw (form-back form b, held_back) refl)
 
 opened : (file output : List ℕ)
     → unless (lengths_ok file output) FileLength (unless (file_ok (form_of file) (pak_in file) file) FileBytes (unless
-    (holds_body_ok (other_of (form_of file)) (held_in file).hardware) NotAtReset Accepted))
+    (holds_body_ok (other_of (form_of file)) (held_in file).hardware) NotAtReset (Ok tt)))
     ≡ move_verdict_of file output
 unfolding move_verdict_of
 opened file output = refl
 
-module _ (file output : List ℕ) (e : move_verdict_of file output ≡ Accepted) where
+module _ (file output : List ℕ) (e : move_verdict_of file output ≡ (Ok tt)) where
   pub all-passed : (lengths_ok file output ≡ true)
       × ((file_ok (form_of file) (pak_in file) file ≡ true) × (holds_body_ok (other_of (form_of file)) (held_in file).hardware ≡ true))
   unfolding move_verdict_of
   all-passed =
       let a = unless-passed (lengths_ok file output) FileLength _ e in
       let b = unless-passed (file_ok (form_of file) (pak_in file) file) FileBytes _ a.1 in
-      let c = unless-passed (holds_body_ok (other_of (form_of file)) (held_in file).hardware) NotAtReset Accepted b.1 in
+      let c = unless-passed (holds_body_ok (other_of (form_of file)) (held_in file).hardware) NotAtReset (Ok tt) b.1 in
       (a.0, (b.0, c.0))
 
   pub lengths-passed : (fits_ok (form_of file) (length file) ≡ true) × (length output ≡ file_length_of (other_of (form_of file)) (pak_in file))
@@ -122,7 +122,7 @@ module _ (form : Form) (p : ℕ) (file back : List ℕ) (bytes : (k : ℕ) → g
     tests = pick-both (contents_ok form p file) (bodies_ok (bodies_in form p file)) ok
 
     returned : length back ≡ length file
-        → (Accepted ≡ move_verdict_of (file_of (other_of form) (bodies_in form p file)) back)
+        → ((Ok tt) ≡ move_verdict_of (file_of (other_of form) (bodies_in form p file)) back)
         × (file ≡ moved_of (file_of (other_of form) (bodies_in form p file)) back)
     returned l =
         let b = bodies_in form p file in
@@ -149,7 +149,7 @@ there_and_back file output back bytes e l =
     (rw (left file output e) (sym r.0), rw (left file output e) (sym r.1))
 
 -- 16
-refused-last : (t s u : Bool) → unless t FileLength (unless s FileBytes (unless u NotAtReset Accepted)) ≡ Refused NotAtReset
+refused-last : (t s u : Bool) → unless t FileLength (unless s FileBytes (unless u NotAtReset (Ok tt))) ≡ Err NotAtReset
     → (t ≡ true) × ((s ≡ true) × (u ≡ false))
 refused-last true true false e = (refl, (refl, refl))
 refused-last true true true e =
@@ -171,7 +171,7 @@ not-held Two xs e = (refl, λ h. let f : true ≡ false = sym (rw h (same_self h
 pub sixteen-exactly : (file output : List ℕ) → SixteenExactly file output
 sixteen-exactly file output = record { refused = refused; only = only }
   where
-    refused : move_verdict_of file output ≡ Refused NotAtReset
+    refused : move_verdict_of file output ≡ Err NotAtReset
         → (lengths_ok file output ≡ true)
         × ((file_ok (form_of file) (pak_in file) file ≡ true) × ((form_of file ≡ Two) × ((held_in file).hardware ≡ hardware_reset → ⊥)))
     refused e =
@@ -181,7 +181,7 @@ sixteen-exactly file output = record { refused = refused; only = only }
 
     only : lengths_ok file output ≡ true → file_ok (form_of file) (pak_in file) file ≡ true → form_of file ≡ Two
         → ((held_in file).hardware ≡ hardware_reset → ⊥)
-        → move_verdict_of file output ≡ Refused NotAtReset
+        → move_verdict_of file output ≡ Err NotAtReset
     only t s f n =
         let u : holds_body_ok (other_of (form_of file)) (held_in file).hardware ≡ false
         = rw f (bool-refuted (same_of (held_in file).hardware hardware_reset) (λ e. n (holds-reset (held_in file).hardware e))) in

@@ -1,13 +1,12 @@
 -- The cases of a move, in the order of its refusals. Assumes nothing.
+use Rattle.std.specs.Prelude.{Ok, Err}
 use Prim.Native.Nat.{ℕ, ◌≤◌}
 use mathlib.Core.Bool.{Bool, true, false}
 use mathlib.Core.List.{List}
 use mathlib.Core.Path.{◌≡◌, sym, ap, ◌∙◌}
 use borrow.Author.Tests.{eq-eqb, ne_eqb}
 use lib.ListN.{length}
-use Rattle.refusal.specs.Number.{when_accepted}
-use Rattle.refusal.specs.declared.Verdict.{Verdict}
-use Rattle.refusal.specs.declared.Verdict.TheVariants.{Accepted, Refused}
+use Rattle.refusal.specs.Number.{when_accepted, Verdict}
 use Rattle.refusal.specs.declared.Refusal.TheVariants.{FileLength, FileBytes, NotAtReset}
 use Rattle.bus.specs.Refusal.{pak_ok}
 use Rattle.saved_layout.specs.Layout.{other_of, file_length_of}
@@ -28,7 +27,7 @@ module _ (file output : List ℕ) where
   unfolding moved_of
   by-verdict v e = (e, ap (λ (w : Verdict). when_accepted w output (file_of (other_of (form_of file)) (held_in file))) e)
 
-  lengths-refused : lengths_ok file output ≡ false → Refused FileLength ≡ move_verdict_of file output
+  lengths-refused : lengths_ok file output ≡ false → Err FileLength ≡ move_verdict_of file output
   unfolding move_verdict_of
   lengths-refused e = rw e
 
@@ -36,8 +35,8 @@ module _ (file output : List ℕ) where
   unfolding lengths_ok
   length-no e = rw e
 
-  pub no_length : fits_ok (form_of file) (length file) ≡ false → Leaves file output (Refused FileLength) output
-  no_length e = by-verdict (Refused FileLength) (lengths-refused (length-no e))
+  pub no_length : fits_ok (form_of file) (length file) ≡ false → Leaves file output (Err FileLength) output
+  no_length e = by-verdict (Err FileLength) (lengths-refused (length-no e))
 
   output-no : (length output ≡ file_length_of (other_of (form_of file)) (pak_in file) → ⊥)
       → fits_ok (form_of file) (length file) ≡ true → lengths_ok file output ≡ false
@@ -45,36 +44,36 @@ module _ (file output : List ℕ) where
   output-no n e = rw (e, ne_eqb _ _ n)
 
   pub other_length : fits_ok (form_of file) (length file) ≡ true → (length output ≡ file_length_of (other_of (form_of file)) (pak_in file) → ⊥)
-      → Leaves file output (Refused FileLength) output
-  other_length e n = by-verdict (Refused FileLength) (lengths-refused (output-no n e))
+      → Leaves file output (Err FileLength) output
+  other_length e n = by-verdict (Err FileLength) (lengths-refused (output-no n e))
 
   module _ (fits : fits_ok (form_of file) (length file) ≡ true) (due : length output ≡ file_length_of (other_of (form_of file)) (pak_in file)) where
     pub lengths-yes : lengths_ok file output ≡ true
     unfolding lengths_ok
     lengths-yes = rw (fits, eq-eqb _ _ due)
 
-    bytes-refused : file_ok (form_of file) (pak_in file) file ≡ false → Refused FileBytes ≡ move_verdict_of file output
+    bytes-refused : file_ok (form_of file) (pak_in file) file ≡ false → Err FileBytes ≡ move_verdict_of file output
     unfolding move_verdict_of
     bytes-refused e = rw (lengths-yes, e)
 
-    pub no_bytes : file_ok (form_of file) (pak_in file) file ≡ false → Leaves file output (Refused FileBytes) output
-    no_bytes e = by-verdict (Refused FileBytes) (bytes-refused e)
+    pub no_bytes : file_ok (form_of file) (pak_in file) file ≡ false → Leaves file output (Err FileBytes) output
+    no_bytes e = by-verdict (Err FileBytes) (bytes-refused e)
 
     module _ (ok : file_ok (form_of file) (pak_in file) file ≡ true) where
-      reset-refused : holds_body_ok (other_of (form_of file)) (held_in file).hardware ≡ false → Refused NotAtReset ≡ move_verdict_of file output
+      reset-refused : holds_body_ok (other_of (form_of file)) (held_in file).hardware ≡ false → Err NotAtReset ≡ move_verdict_of file output
       unfolding move_verdict_of
       reset-refused e = rw (lengths-yes, ok, e)
 
-      pub no-reset : holds_body_ok (other_of (form_of file)) (held_in file).hardware ≡ false → Leaves file output (Refused NotAtReset) output
-      no-reset e = by-verdict (Refused NotAtReset) (reset-refused e)
+      pub no-reset : holds_body_ok (other_of (form_of file)) (held_in file).hardware ≡ false → Leaves file output (Err NotAtReset) output
+      no-reset e = by-verdict (Err NotAtReset) (reset-refused e)
 
-      held-accepted : holds_body_ok (other_of (form_of file)) (held_in file).hardware ≡ true → Accepted ≡ move_verdict_of file output
+      held-accepted : holds_body_ok (other_of (form_of file)) (held_in file).hardware ≡ true → (Ok tt) ≡ move_verdict_of file output
       unfolding move_verdict_of
       held-accepted e = rw (lengths-yes, ok, e)
 
       pub accepted : holds_body_ok (other_of (form_of file)) (held_in file).hardware ≡ true → (after : List ℕ)
-          → after ≡ file_of (other_of (form_of file)) (held_in file) → Leaves file output Accepted after
-      accepted e after f = let l = by-verdict Accepted (held-accepted e) in (l.0, f ∙ l.1)
+          → after ≡ file_of (other_of (form_of file)) (held_in file) → Leaves file output (Ok tt) after
+      accepted e after f = let l = by-verdict (Ok tt) (held-accepted e) in (l.0, f ∙ l.1)
 
 -- a file whose length fits has it by its pak RAM's
 pub fit : (form : Form) (n pak : ℕ) → pak ≡ pak_length_of form n → fits_ok form n ≡ true → (n ≡ file_length_of form pak) × (pak ≤ 16777216)

@@ -2,10 +2,8 @@
 -- other form's writer makes for the state held". It "refuses by 9 when its file's length fits no pak RAM size in that
 -- form or its room isn't the length due, then by 10", and by 16 where lines and timer are not at reset and the other
 -- form is 1. A refusal changes nothing.
-use Rattle.std.specs.Prelude.{ℕ, Bool, true, List, eqb, length}
-use Rattle.refusal.specs.Number.{unless, when_accepted}
-use Rattle.refusal.specs.declared.Verdict.{Verdict}
-use Rattle.refusal.specs.declared.Verdict.TheVariants.{Accepted}
+use Rattle.std.specs.Prelude.{ℕ, Bool, true, List, eqb, length, Ok}
+use Rattle.refusal.specs.Number.{unless, when_accepted, Verdict}
 use Rattle.refusal.specs.declared.Refusal.TheVariants.{FileLength, FileBytes, NotAtReset}
 use Rattle.processor.specs.Acceptance.{both}
 use Rattle.saved_bytes.specs.Numbers.{same_of}
@@ -38,7 +36,7 @@ unfoldable pub move_verdict_of : List ℕ → List ℕ → Verdict
 move_verdict_of file output =
     unless (lengths_ok file output) FileLength
     (unless (file_ok (form_of file) (pak_in file) file) FileBytes
-    (unless (holds_body_ok (other_of (form_of file)) (held_in file).hardware) NotAtReset Accepted))
+    (unless (holds_body_ok (other_of (form_of file)) (held_in file).hardware) NotAtReset (Ok tt)))
 
 -- the output buffer afterwards
 unfoldable pub moved_of : List ℕ → List ℕ → List ℕ

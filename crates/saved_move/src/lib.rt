@@ -8,7 +8,7 @@ ghost use Rattle.saved_layout.specs.File.{file_of, bodies_in, hardware_reset};
 ghost use Rattle.saved_layout.specs.declared.Form.TheVariants.{One, Two};
 ghost use Rattle.saved_move.specs.Move.{move_verdict_of, moved_of};
 
-use refusal::{Refusal, Verdict};
+use refusal::Refusal;
 use saved_bytes::parts;
 use saved_kinds::{bodies, lengths};
 use saved_layout::places::{HARDWARE_BYTES, PAK_AT};
@@ -54,32 +54,32 @@ fn to_one(file: &[u8], output: &mut [u8], pak: usize)
 
 // The state that a file holds, into the output buffer (paper 02: "room") in the other form. The whole file is tested
 // before a byte is stored.
-pub fn move_state(file: &[u8], output: &mut [u8]) -> Verdict
+pub fn move_state(file: &[u8], output: &mut [u8]) -> Result<(), Refusal>
     ensures verdict { result ≡ move_verdict_of file.now output.old }
     ensures output { output.new ≡ moved_of file.now output.old }
 {
     let form = lengths::form_of(file);
     if !lengths::fits(form, file.len()) {
-        return Verdict::Refused(Refusal::FileLength);
+        return Err(Refusal::FileLength);
     }
     let pak = lengths::pak_length(form, file.len());
     if output.len() != places::file_length(places::other(form), pak) {
-        return Verdict::Refused(Refusal::FileLength);
+        return Err(Refusal::FileLength);
     }
     if !bodies::file_ok(form, file, pak) {
-        return Verdict::Refused(Refusal::FileBytes);
+        return Err(Refusal::FileBytes);
     }
     match form {
         Form::One => {
             to_two(file, output, pak);
-            Verdict::Accepted
+            Ok(())
         }
         Form::Two => {
             if !at_reset(file, pak) {
-                return Verdict::Refused(Refusal::NotAtReset);
+                return Err(Refusal::NotAtReset);
             }
             to_one(file, output, pak);
-            Verdict::Accepted
+            Ok(())
         }
     }
 }

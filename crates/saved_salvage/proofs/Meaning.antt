@@ -1,4 +1,5 @@
 -- `contents-differ-means`. Assumes nothing.
+use Rattle.std.specs.Prelude.{Ok}
 use Prim.Native.Nat.{ℕ, zero, suc, ◌+◌, ◌*◌, ◌/◌, ◌%◌, ◌^◌, ◌<◌, ◌≤◌}
 use native.Mathlib.Omega.{arith}
 use native.Mathlib.Decide.{ℕ_discrete}
@@ -12,7 +13,6 @@ use lib.Seq.{take_at, drop_at, drop-drop, drop-cons}
 use Rattle.word.specs.Choose.{pick}
 use Rattle.word.specs.LittleEndian.{half_at, word_at}
 use Rattle.word.proofs.Choices.{pick-both}
-use Rattle.refusal.specs.declared.Verdict.TheVariants.{Accepted}
 use Rattle.processor.specs.Acceptance.{both}
 use Rattle.saved_bytes.specs.Numbers.{bytes_of, halves_of, halves_from, same_of}
 use Rattle.saved_bytes.specs.Parts.{body_sum_of}
@@ -313,7 +313,7 @@ module _ (p : ℕ) (file sums rest : List ℕ) (few : p ≤ 16777216) (small : (
       (not-either (same_of (halves_from file 0 3) (0 ∷ 2 ∷ length (parts_of Two p) ∷ [])) (entries_valid 6
       (contents_end_of Two (length (parts_of Two p))) (parts_of Two p) file))
 
-output-front : (file output : List ℕ) → salvage_verdict_of file output ≡ Accepted
+output-front : (file output : List ℕ) → salvage_verdict_of file output ≡ (Ok tt)
     → output_of (pak_in_form_two file) file
     ≡ bytes_of (contents_of Two (pak_in_form_two file) (sums_of (kept_bodies_of (kept_in (pak_in_form_two file) file) (bodies_in Two
     (pak_in_form_two file) file)))) ++ joined_of Two (kept_bodies_of (kept_in (pak_in_form_two file) file) (bodies_in Two
@@ -329,7 +329,7 @@ kept-matches file = matches (pak_in_form_two file) file (bodies_in Two (pak_in_f
 
 pub contents-differ-means : ContentsDifferMeans
 contents-differ-means file output bytes e =
-    sym (ap (λ (s : Salvaged). s.differ) (by-verdict file output Accepted e).0)
+    sym (ap (λ (s : Salvaged). s.differ) (by-verdict file output (Ok tt) e).0)
     ∙ (ap (contents_differ (pak_in_form_two file) (kept_in (pak_in_form_two file) file) file) (output-front file output e)
     ∙ contents-mean (pak_in_form_two file) file (sums_of (kept_bodies_of (kept_in (pak_in_form_two file) file) (bodies_in Two
     (pak_in_form_two file) file))) _ (pak-small (pak_in_form_two file) (fit file output e).0)

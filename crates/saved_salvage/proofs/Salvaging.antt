@@ -1,12 +1,11 @@
 -- The cases of a salvage, in the order of its refusals. Assumes nothing.
+use Rattle.std.specs.Prelude.{Ok, Err}
 use Prim.Native.Nat.{ℕ, ◌≤◌}
 use mathlib.Core.Bool.{Bool, true, false}
 use mathlib.Core.List.{List, []}
 use mathlib.Core.Path.{◌≡◌, sym, ap, ◌∙◌}
 use borrow.Author.Tests.{eq-eqb, ne_eqb}
 use lib.ListN.{length}
-use Rattle.refusal.specs.declared.Verdict.{Verdict}
-use Rattle.refusal.specs.declared.Verdict.TheVariants.{Accepted, Refused}
 use Rattle.refusal.specs.declared.Refusal as refusal
 use Rattle.refusal.specs.declared.Refusal.TheVariants.{FileLength, NoLayout}
 use Rattle.bus.specs.Refusal.{pak_ok}
@@ -17,7 +16,7 @@ use Rattle.saved_layout.specs.File.{joined_of, file_of, bodies_in, contents_in}
 use Rattle.saved_layout.specs.declared.Form.TheVariants.{Two}
 use Rattle.saved_layout.proofs.Files.{length-pak-in, sized-in}
 use Rattle.saved_kinds.specs.Fits.{pak_length_of, fits_ok}
-use Rattle.refusal.specs.Number.{when_accepted}
+use Rattle.refusal.specs.Number.{when_accepted, Verdict}
 use Rattle.saved_kinds.proofs.Sizes.{pak-small, fits-exactly}
 use Rattle.saved_salvage.specs.declared.Kept.{Kept}
 use Rattle.saved_salvage.specs.declared.ListedKinds.{ListedKinds}
@@ -43,28 +42,28 @@ module _ (file output : List ℕ) where
   unfolding salvage_of salvaged_output_of
   by-verdict v e = (rw e, rw e)
 
-  length-refused : (length output ≡ length file → ⊥) → salvage_verdict_of file output ≡ Refused FileLength
+  length-refused : (length output ≡ length file → ⊥) → salvage_verdict_of file output ≡ Err FileLength
   unfolding salvage_verdict_of
   length-refused n = simp (ne_eqb _ _ n)
 
-  layout-refused : length output ≡ length file → fits_ok Two (length file) ≡ false → salvage_verdict_of file output ≡ Refused NoLayout
+  layout-refused : length output ≡ length file → fits_ok Two (length file) ≡ false → salvage_verdict_of file output ≡ Err NoLayout
   unfolding salvage_verdict_of
   layout-refused e f = simp (eq-eqb _ _ e, f)
 
-  pub verdict-accepted : length output ≡ length file → fits_ok Two (length file) ≡ true → salvage_verdict_of file output ≡ Accepted
+  pub verdict-accepted : length output ≡ length file → fits_ok Two (length file) ≡ true → salvage_verdict_of file output ≡ (Ok tt)
   unfolding salvage_verdict_of
   verdict-accepted e f = simp (eq-eqb _ _ e, f)
 
-  refused : (n : refusal.Refusal) (l : ListedKinds) → salvage_verdict_of file output ≡ Refused n → l ≡ listed_kinds_of [] →
-      Leaves file output (report_of (Refused n) l false) output
-  refused n l e f = let v = by-verdict (Refused n) e in (ap (λ (x : ListedKinds). report_of (Refused n) x false) f ∙ v.0, v.1)
+  refused : (n : refusal.Refusal) (l : ListedKinds) → salvage_verdict_of file output ≡ Err n → l ≡ listed_kinds_of [] →
+      Leaves file output (report_of (Err n) l false) output
+  refused n l e f = let v = by-verdict (Err n) e in (ap (λ (x : ListedKinds). report_of (Err n) x false) f ∙ v.0, v.1)
 
   pub no_length : (l : ListedKinds) → (length output ≡ length file → ⊥) → l ≡ listed_kinds_of []
-      → Leaves file output (report_of (Refused FileLength) l false) output
+      → Leaves file output (report_of (Err FileLength) l false) output
   no_length l n f = refused FileLength l (length-refused n) f
 
   pub no-layout : (l : ListedKinds) → length output ≡ length file → fits_ok Two (length file) ≡ false → l ≡ listed_kinds_of []
-      → Leaves file output (report_of (Refused NoLayout) l false) output
+      → Leaves file output (report_of (Err NoLayout) l false) output
   no-layout l e g f = refused NoLayout l (layout-refused e g) f
 
   module _ (alike : length output ≡ length file) (fits : fits_ok Two (length file) ≡ true) (pak : ℕ)
@@ -82,9 +81,9 @@ module _ (file output : List ℕ) where
     pub accepted : (f g : List ℕ) (l : ListedKinds) (t : Bool) → f ≡ put_at output (body_place_of Two pak 0) (joined_of Two
         (kept_bodies_of kept (bodies_in Two pak file)))
         → g ≡ put_at f 0 (bytes_of (contents_in Two pak f)) → l ≡ listed_kinds_of (replaced_of kept) → t ≡ contents_differ pak kept file g
-        → Leaves file output (report_of Accepted l t) g
+        → Leaves file output (report_of (Ok tt) l t) g
     accepted f g l t p q r u =
-        let v = by-verdict Accepted (verdict-accepted alike fits) in
+        let v = by-verdict (Ok tt) (verdict-accepted alike fits) in
         let o = sealed-output f g p q in (
           report-same l t (r ∙ ap (λ (x : Kept). listed_kinds_of (replaced_of x)) k ∙ ap (λ (n : ℕ). listed_kinds_of (replaced_of (kept_in n file))) size)
               (u ∙ (ap (contents_differ pak kept file) o ∙ (ap (λ (x : Kept). contents_differ pak x file (output_of pak file)) k
@@ -93,5 +92,5 @@ module _ (file output : List ℕ) where
           o ∙ (ap (λ (n : ℕ). output_of n file) size ∙ v.1),
         )
       where
-        report-same : (x : ListedKinds) (y : Bool) → {m : ListedKinds} {n : Bool} → x ≡ m → y ≡ n → report_of Accepted x y ≡ report_of Accepted m n
+        report-same : (x : ListedKinds) (y : Bool) → {m : ListedKinds} {n : Bool} → x ≡ m → y ≡ n → report_of (Ok tt) x y ≡ report_of (Ok tt) m n
         report-same x y e f = rw (e, f)

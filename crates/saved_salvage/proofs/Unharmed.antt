@@ -1,4 +1,5 @@
 -- `salvaged-valid`, `undamaged-equal`, `salvage-again` and `kept-exactly`. Assumes nothing.
+use Rattle.std.specs.Prelude.{Ok}
 use Prim.Native.Nat.{ℕ, zero, suc, ◌+◌, ◌^◌, ◌<◌}
 use native.Mathlib.Omega.{arith}
 use mathlib.Core.Bool.{Bool, true, false}
@@ -11,7 +12,6 @@ use Rattle.word.specs.Choose.{pick, member}
 use Rattle.word.specs.LittleEndian.{word_at}
 use Rattle.word.proofs.Choices.{pick-both, pick-self, pick-either}
 use Rattle.word.proofs.Listed.{member-append}
-use Rattle.refusal.specs.declared.Verdict.TheVariants.{Accepted}
 use Rattle.refusal.specs.declared.Refusal.TheVariants.{FileLength, NoLayout}
 use Rattle.bus.specs.Refusal.{pak_ok}
 use Rattle.bus.proofs.Accepted.{unless-passed}
@@ -83,12 +83,12 @@ module _ (pak : ℕ) (file : List ℕ) (b : Bodies) (s : SizedBodies b) where
       let h = hardware-made (kept_from pak file b).hardware b.hardware s.hardware kept-hardware in
       rw (p, d, h)
 
-module _ (file output : List ℕ) (e : salvage_verdict_of file output ≡ Accepted) where
+module _ (file output : List ℕ) (e : salvage_verdict_of file output ≡ (Ok tt)) where
   pub all-passed : (length output ≡ length file) × (fits_ok Two (length file) ≡ true)
   unfolding salvage_verdict_of
   all-passed =
       let a = unless-passed (eqb (length output) (length file)) FileLength _ e in
-      let b = unless-passed (fits_ok Two (length file)) NoLayout Accepted a.1 in
+      let b = unless-passed (fits_ok Two (length file)) NoLayout (Ok tt) a.1 in
       (eqb-true (length output) (length file) a.0, b.0)
 
   pub fit : (pak_ok (pak_in_form_two file) ≡ true) × (file_length_of Two (pak_in_form_two file) ≡ length file)
@@ -98,7 +98,7 @@ module _ (file output : List ℕ) (e : salvage_verdict_of file output ≡ Accept
   whole = sym fit.1
 
   pub left : output_of (pak_in_form_two file) file ≡ salvaged_output_of file output
-  left = (by-verdict file output Accepted e).1
+  left = (by-verdict file output (Ok tt) e).1
 
   pub sized : SizedBodies (kept_bodies_of (kept_in (pak_in_form_two file) file) (bodies_in Two (pak_in_form_two file) file))
   sized = kept-sized (kept_in (pak_in_form_two file) file) (bodies_in Two (pak_in_form_two file) file) (sized-in (pak_in_form_two file) file Two whole)
@@ -257,14 +257,14 @@ module _ (b : Bodies) (s : SizedBodies b) (legal : pak_ok (length b.pak) ≡ tru
 
   pub unchanged : (output : List ℕ) → length output ≡ length (file_of Two b) → Unchanged (file_of Two b) output
   unchanged output l =
-      let v = by-verdict (file_of Two b) output Accepted (verdict-accepted (file_of Two b) output l pak-again.0) in
+      let v = by-verdict (file_of Two b) output (Ok tt) (verdict-accepted (file_of Two b) output l pak-again.0) in
       record {
         same = sym v.1 ∙ rw pak-again.1 output-same;
         reported = sym v.0 ∙ rw (pak-again.1, kept-all, output-same, contents-self (length b.pak) all_kept (file_of Two b)) none;
       }
     where
-      none : report_of Accepted (listed_kinds_of (replaced_of all_kept)) false ≡ report_of Accepted (listed_kinds_of []) false
-      none = ap (λ (xs : List ℕ). report_of Accepted (listed_kinds_of xs) false) replaced-none
+      none : report_of (Ok tt) (listed_kinds_of (replaced_of all_kept)) false ≡ report_of (Ok tt) (listed_kinds_of []) false
+      none = ap (λ (xs : List ℕ). report_of (Ok tt) (listed_kinds_of xs) false) replaced-none
 
 pub undamaged-equal : UndamagedEqual
 undamaged-equal file output bytes e ok =

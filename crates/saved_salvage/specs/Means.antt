@@ -1,9 +1,8 @@
 -- What "any byte before the first body differs" comes to (paper 02, W13): since a kept body's sum is the stored one,
 -- that the halfwords 0 and 2, the count, or some entry's kind, offset or length was not what the writer puts there. The
 -- statement; its proof is `contents-differ-means` in proofs/.
-use Rattle.std.specs.Prelude.{ℕ, ◌+◌, ◌<◌, Bool, true, false, List, [], ◌∷◌, ◌≡◌, length, get_or}
+use Rattle.std.specs.Prelude.{ℕ, ◌+◌, ◌<◌, Bool, true, false, List, [], ◌∷◌, ◌≡◌, length, get_or, Ok}
 use Rattle.word.specs.Choose.{pick}
-use Rattle.refusal.specs.declared.Verdict.TheVariants.{Accepted}
 use Rattle.processor.specs.Acceptance.{both}
 use Rattle.saved_bytes.specs.Numbers.{halves_from, same_of}
 use Rattle.saved_layout.specs.Layout.{Part, parts_of, contents_entry_of, entry_halves_of, entry_bytes_of, contents_end_of}
@@ -28,5 +27,5 @@ contents_valid pak file =
 
 abbrev pub ContentsDifferMeans : Type 0
 ContentsDifferMeans =
-    (file output : List ℕ) → ((k : ℕ) → get_or file k 0 < 256) → salvage_verdict_of file output ≡ Accepted
+    (file output : List ℕ) → ((k : ℕ) → get_or file k 0 < 256) → salvage_verdict_of file output ≡ (Ok tt)
     → (salvage_of file output).differ ≡ pick (contents_valid (pak_in_form_two file) file) false true

@@ -1,9 +1,8 @@
 -- "It writes a right form 2 file", "An undamaged file comes out equal, with an empty list; salvaging the output again
 -- changes nothing" (paper 02, W13), and which bodies are kept: the statements. Their proofs are `salvaged-valid`,
 -- `undamaged-equal`, `salvage-again` and `kept-exactly` in proofs/.
-use Rattle.std.specs.Prelude.{ℕ, ◌<◌, Bool, true, false, List, [], ◌≡◌, length, get_or}
+use Rattle.std.specs.Prelude.{ℕ, ◌<◌, Bool, true, false, List, [], ◌≡◌, length, get_or, Ok}
 use Rattle.word.specs.Choose.{pick, member}
-use Rattle.refusal.specs.declared.Verdict.TheVariants.{Accepted}
 use Rattle.saved_layout.specs.File.{bodies_in}
 use Rattle.saved_layout.specs.declared.Form.TheVariants.{Two}
 use Rattle.saved_kinds.specs.Kinds.{file_ok}
@@ -19,23 +18,23 @@ pub record Valid (file output : List ℕ) : Type 0 where
   pub valid : file_ok Two (pak_in_form_two file) (salvaged_output_of file output) ≡ true
 
 abbrev pub SalvagedValid : Type 0
-SalvagedValid = (file output : List ℕ) → salvage_verdict_of file output ≡ Accepted → Valid file output
+SalvagedValid = (file output : List ℕ) → salvage_verdict_of file output ≡ (Ok tt) → Valid file output
 
 -- the output is the file, no kind is listed, and nothing before the first body differs
 pub record Unchanged (file output : List ℕ) : Type 0 where
   pub same : salvaged_output_of file output ≡ file
-  pub reported : salvage_of file output ≡ report_of Accepted (listed_kinds_of []) false
+  pub reported : salvage_of file output ≡ report_of (Ok tt) (listed_kinds_of []) false
 
 abbrev pub UndamagedEqual : Type 0
 UndamagedEqual =
-    (file output : List ℕ) → ((k : ℕ) → get_or file k 0 < 256) → salvage_verdict_of file output ≡ Accepted
+    (file output : List ℕ) → ((k : ℕ) → get_or file k 0 < 256) → salvage_verdict_of file output ≡ (Ok tt)
     → file_ok Two (pak_in_form_two file) file ≡ true
     → Unchanged file output
 
 -- of its own output, in any buffer of the same length
 abbrev pub SalvageAgain : Type 0
 SalvageAgain =
-    (file output again : List ℕ) → salvage_verdict_of file output ≡ Accepted → length again ≡ length file
+    (file output again : List ℕ) → salvage_verdict_of file output ≡ (Ok tt) → length again ≡ length file
     → Unchanged (salvaged_output_of file output) again
 
 -- a kind is listed exactly where its body is not kept
@@ -57,5 +56,5 @@ pub record KeptExactly (file output : List ℕ) (k : Kept) : Type 0 where
 
 abbrev pub KeptExactlyAll : Type 0
 KeptExactlyAll =
-    (file output : List ℕ) → salvage_verdict_of file output ≡ Accepted
+    (file output : List ℕ) → salvage_verdict_of file output ≡ (Ok tt)
     → KeptExactly file output (kept_in (pak_in_form_two file) file)

@@ -10,7 +10,7 @@ mod replace;
 ghost use Rattle.std.specs.Prelude.{◌≡◌};
 ghost use Rattle.saved_salvage.specs.Salvage.{salvage_of, salvaged_output_of};
 
-use refusal::{Refusal, Verdict};
+use refusal::Refusal;
 use saved_kinds::lengths;
 use saved_layout::{Form, contents};
 
@@ -36,7 +36,7 @@ pub struct ListedKinds {
 // file.
 #[derive(Clone, Copy)]
 pub struct Salvaged {
-    pub verdict: Verdict,
+    pub verdict: Result<(), Refusal>,
     pub list: ListedKinds,
     pub differ: bool,
 }
@@ -49,14 +49,14 @@ pub fn salvage_state(file: &[u8], output: &mut [u8]) -> Salvaged
 {
     if output.len() != file.len() {
         return Salvaged {
-            verdict: Verdict::Refused(Refusal::FileLength),
+            verdict: Err(Refusal::FileLength),
             list: listed::none(),
             differ: false,
         };
     }
     if !lengths::fits(Form::Two, file.len()) {
         return Salvaged {
-            verdict: Verdict::Refused(Refusal::NoLayout),
+            verdict: Err(Refusal::NoLayout),
             list: listed::none(),
             differ: false,
         };
@@ -67,7 +67,7 @@ pub fn salvage_state(file: &[u8], output: &mut [u8]) -> Salvaged
     contents::put(Form::Two, output, pak);
     let differ = compare::contents_differ(file, output, pak, kept);
     Salvaged {
-        verdict: Verdict::Accepted,
+        verdict: Ok(()),
         list: listed::replaced(kept),
         differ,
     }

@@ -4,3 +4,4 @@ pub mod Extend
 pub mod LittleEndian
 pub mod Integers
 pub mod Floors
+pub mod Width

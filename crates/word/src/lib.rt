@@ -2,6 +2,10 @@
 // These functions are `pub` for the crates above: internal, not calls of the library.
 #![tactic(auto)]
 
+mod width;
+
+pub use width::{NoWidth, Width};
+
 ghost use Rattle.std.specs.Prelude.{◌≡◌, ◌+◌, ◌*◌, ◌<◌, ◌≤◌, ◌^◌, length, get_or};
 ghost use Rattle.word.specs.Extend.{extend_of};
 ghost use Rattle.word.specs.LittleEndian.{half_at, word_at, put_half, put_word};

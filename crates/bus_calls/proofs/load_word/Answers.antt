@@ -5,12 +5,12 @@ use Rattle.bus_calls.proofs.load_word.Goals as goal
 
 pub read-value-requires : goal.read-value-requires
 read-value-requires c =
-    (found-lengths _ _ _ _ _ _ c.call_verdict-verdict.ensures c.in-Accepted.is, refl)
+    (found-lengths _ _ _ _ _ _ c.call_verdict-verdict.ensures c.in-Ok.is, refl)
 
-pub returns-in-Accepted : goal.returns-in-Accepted
-returns-in-Accepted c =
-    load-done _ _ _ _ c.call_verdict-verdict.ensures c.in-Accepted.is _
+pub returns-in-Ok : goal.returns-in-Ok
+returns-in-Ok c =
+    load-done _ _ _ _ c.call_verdict-verdict.ensures c.in-Ok.is _
     (c.word-undefined.ensures _) c.read-value.ensures
 
-pub returns-in-Refused : goal.returns-in-Refused
-returns-in-Refused c = load-refused _ _ _ _ c.call_verdict-verdict.ensures _ c.in-Refused.is
+pub returns-in-Err : goal.returns-in-Err
+returns-in-Err c = load-refused _ _ _ _ c.call_verdict-verdict.ensures _ c.in-Err.is

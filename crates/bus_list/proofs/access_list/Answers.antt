@@ -10,25 +10,25 @@ use Rattle.bus_list.proofs.access_list.Goals as goal
 pub accesses-requires : goal.accesses-requires
 accesses-requires c =
     let e = sym c.verdict-verdict.ensures
-    ∙ c.in-Accepted.is in
+    ∙ c.in-Ok.is in
     (passed-lengths _ _ _ _ _ _ e, passed-list _ _ _ _ _ _ e)
 
-pub returns-in-Refused : goal.returns-in-Refused
-returns-in-Refused c =
+pub returns-in-Err : goal.returns-in-Err
+returns-in-Err c =
     let a = c.args in
     let m = memory_of a.rom.now a.wram.now a.vram.now a.pak.now (device_of a.drawing.regs a.hardware) in
-    let told = c.in-Refused.is in
+    let told = c.in-Err.is in
     let found = c.verdict-verdict in
     record {
       verdict = sym told ∙ found.ensures;
       made = list-kept m a.list.now found.result found.ensures _ told;
     }
 
-pub returns-in-Accepted : goal.returns-in-Accepted
-returns-in-Accepted c =
+pub returns-in-Ok : goal.returns-in-Ok
+returns-in-Ok c =
     let a = c.args in
     let m = memory_of a.rom.now a.wram.now a.vram.now a.pak.now (device_of a.drawing.regs a.hardware) in
-    let told = c.in-Accepted.is in
+    let told = c.in-Ok.is in
     let found = c.verdict-verdict in
     let lent = c.device_of-lent in record {
       verdict = sym told ∙ found.ensures;

@@ -15,17 +15,17 @@ put_number-requires c =
     let t = target_found a.size a.address _ _ _ index.result c.aligned.ensures
     (index.ensures (length a.rom.now) (length a.pak.now)) in
     let r = room _ _ (found-allowed a.size a.rom.now a.wram.now a.vram.now a.pak.now a.address
-    index.result found.result t found.ensures c.in-Accepted.is) in
+    index.result found.result t found.ensures c.in-Ok.is) in
     let small = (size-range a.size b.requires).1 in
     (b.requires, omega arith)
 
-pub returns-in-Accepted : goal.returns-in-Accepted
-returns-in-Accepted c =
+pub returns-in-Ok : goal.returns-in-Ok
+returns-in-Ok c =
     let b = c in
     let a = b.args in
     let index = b.vram_index-at in
     let found = b.verdict-verdict in
-    let told = c.in-Accepted.is in
+    let told = c.in-Ok.is in
     let t = target_found a.size a.address _ _ _ index.result b.aligned.ensures
     (index.ensures (length a.rom.now) (length a.pak.now)) in record {
       verdict = sym told
@@ -36,13 +36,13 @@ returns-in-Accepted c =
           index.result found.result t found.ensures told a.value;
     }
 
-pub returns-in-Refused : goal.returns-in-Refused
-returns-in-Refused c =
+pub returns-in-Err : goal.returns-in-Err
+returns-in-Err c =
     let b = c in
     let a = b.args in
     let index = b.vram_index-at in
     let found = b.verdict-verdict in
-    let told = c.in-Refused.is in
+    let told = c.in-Err.is in
     let t = target_found a.size a.address _ _ _ index.result b.aligned.ensures
     (index.ensures (length a.rom.now) (length a.pak.now)) in record {
       verdict = sym told

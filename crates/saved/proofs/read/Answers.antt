@@ -12,7 +12,7 @@ file_length-requires c =
     let c12 = c in
     small c12.args.processor (memory_of c12.args.rom.now c12.args.wram.now c12.args.vram.now
     c12.args.pak.now c12.args.drawing.regs) (sym c.verdict.ensures ∙
-    c.in-Accepted.is)
+    c.in-Ok.is)
 
 pub returns-then-file-file_length : goal.returns-then-file-file_length
 returns-then-file-file_length c =
@@ -21,7 +21,7 @@ returns-then-file-file_length c =
     let file = c14.args.file.now in
     read_length c14.args.processor (memory_of c14.args.rom.now c14.args.wram.now c14.args.vram.now
     c14.args.pak.now c14.args.drawing.regs) file
-    (sym c2.verdict.ensures ∙ c2.in-Accepted.is)
+    (sym c2.verdict.ensures ∙ c2.in-Ok.is)
     (λ e. c.if-file-file_length.true (due-form (memory_of c14.args.rom.now c14.args.wram.now c14.args.vram.now
     c14.args.pak.now c14.args.drawing.regs) file c2.form_of-form.result c2.form_of-form.ensures (length file) e
     ∙ sym c.file_length.ensures))
@@ -33,7 +33,7 @@ file_ok-requires c =
       small c14.args.processor
           (memory_of c14.args.rom.now c14.args.wram.now c14.args.vram.now c14.args.pak.now
           c14.args.drawing.regs) (sym c.verdict.ensures ∙
-          c.in-Accepted.is),
+          c.in-Ok.is),
     )
 
 pub returns-then-not-file_ok : goal.returns-then-not-file_ok
@@ -47,7 +47,7 @@ returns-then-not-file_ok c =
     let pak = c16.args.pak.now in
     let drawing = c16.args.drawing in
     read-bytes c16.args.processor (memory_of rom wram vram pak c16.args.drawing.regs) file
-    (sym c4.verdict.ensures ∙ c4.in-Accepted.is)
+    (sym c4.verdict.ensures ∙ c4.in-Ok.is)
     (due-held (memory_of rom wram vram pak c16.args.drawing.regs) file c4.form_of-form.result c4.form_of-form.ensures
     (length file) (c.if-file-file_length.false ∙ c.file_length.ensures))
     (ok-held (memory_of rom wram vram pak c16.args.drawing.regs) file c4.form_of-form.result c4.form_of-form.ensures _
@@ -60,7 +60,7 @@ held-state-requires c =
       small c16.args.processor
           (memory_of c16.args.rom.now c16.args.wram.now c16.args.vram.now c16.args.pak.now
           c16.args.drawing.regs) (sym c.verdict.ensures ∙
-          c.in-Accepted.is),
+          c.in-Ok.is),
     )
 
 pub drawing-halves-requires : goal.drawing-halves-requires
@@ -71,7 +71,7 @@ drawing-halves-requires c =
       small
           c17.args.processor (memory_of c17.args.rom.now c17.args.wram.now c17.args.vram.now
           c17.args.pak.now c17.args.drawing.regs) (sym c8.verdict.ensures ∙
-          c.in-Accepted.is),
+          c.in-Ok.is),
     )
 
 pub take_memories-requires : goal.take_memories-requires
@@ -82,23 +82,23 @@ take_memories-requires c =
     let c21 = c12 in
     let l = (passed c21.args.processor (memory_of c21.args.rom.now c21.args.wram.now c21.args.vram.now
     c21.args.pak.now c21.args.drawing.regs) (sym c12.verdict.ensures ∙
-    c10.in-Accepted.is)).lengths in record {
+    c10.in-Ok.is)).lengths in record {
       wram_len = (l.wram-ok, l.vram-ok);
       file_len = (
         (c.if-file-file_length.false ∙
             c8.file_length.ensures),
         small c21.args.processor
             (memory_of c21.args.rom.now c21.args.wram.now c21.args.vram.now c21.args.pak.now
-            c21.args.drawing.regs) (sym c12.verdict.ensures ∙ c10.in-Accepted.is),
+            c21.args.drawing.regs) (sym c12.verdict.ensures ∙ c10.in-Ok.is),
       );
     }
 
-pub returns-in-Refused : goal.returns-in-Refused
-returns-in-Refused c =
+pub returns-in-Err : goal.returns-in-Err
+returns-in-Err c =
     let c12 = c in
     read-refused c12.args.processor (memory_of c12.args.rom.now c12.args.wram.now c12.args.vram.now
     c12.args.pak.now c12.args.drawing.regs) c12.args.file.now _
-    (sym c.verdict.ensures ∙ c.in-Refused.is)
+    (sym c.verdict.ensures ∙ c.in-Err.is)
 
 pub returns-else-not-file_ok : goal.returns-else-not-file_ok
 returns-else-not-file_ok c =
@@ -122,7 +122,7 @@ returns-else-not-file_ok c =
     restored-held (memory_of rom wram vram pak c28.args.drawing.regs) file c16.form_of-form.result
     c16.form_of-form.ensures _ _ _ _ _ c11.held-state.ensures t.wram_after t.vram_after t.pak_after c10.drawing-halves.ensures ∙
     read-accepted c28.args.processor (memory_of rom wram vram pak c28.args.drawing.regs) file
-    (sym c19.verdict.ensures ∙ c17.in-Accepted.is)
+    (sym c19.verdict.ensures ∙ c17.in-Ok.is)
     (due-held (memory_of rom wram vram pak c28.args.drawing.regs) file c16.form_of-form.result
     c16.form_of-form.ensures (length file) (c14.if-file-file_length.false ∙ c15.file_length.ensures))
     (ok-held (memory_of rom wram vram pak c28.args.drawing.regs) file c16.form_of-form.result c16.form_of-form.ensures

@@ -9,18 +9,18 @@ pub character_address-requires : goal.character_address-requires
 character_address-requires c =
     let asked = c in
     let a = asked.args in
-    character-small a.vram.now a.character (sym asked.character_refusal-verdict.ensures ∙ c.in-Accepted.is)
+    character-small a.vram.now a.character (sym asked.character_refusal-verdict.ensures ∙ c.in-Ok.is)
 
-pub returns-in-Accepted : goal.returns-in-Accepted
-returns-in-Accepted c = let e = sym c.character_refusal-verdict.ensures ∙ c.in-Accepted.is in
+pub returns-in-Ok : goal.returns-in-Ok
+returns-in-Ok c = let e = sym c.character_refusal-verdict.ensures ∙ c.in-Ok.is in
     record {
       refusal = rw e;
       offset = rw e c.character_address.ensures.0;
       length = ap length c.character-part.ensures.bytes;
     }
 
-pub returns-in-Refused : goal.returns-in-Refused
-returns-in-Refused c = let e = sym c.character_refusal-verdict.ensures ∙ c.in-Refused.is in
+pub returns-in-Err : goal.returns-in-Err
+returns-in-Err c = let e = sym c.character_refusal-verdict.ensures ∙ c.in-Err.is in
     record {
       refusal = rw e c.number.ensures;
       offset = rw e;

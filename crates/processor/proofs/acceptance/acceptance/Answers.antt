@@ -6,20 +6,20 @@ pub returns-then-not-state_ok : goal.returns-then-not-state_ok
 unfolding acceptance_at
 returns-then-not-state_ok c = rw (
   ← c.verdict.ensures,
-  c.in-Accepted.is,
+  c.in-Ok.is,
   ← c.state_ok.ensures,
   c.if-not-state_ok.true,
 )
 
-pub returns-in-Refused : goal.returns-in-Refused
+pub returns-in-Err : goal.returns-in-Err
 unfolding acceptance_at
-returns-in-Refused c = rw (← c.verdict.ensures, c.in-Refused.is)
+returns-in-Err c = rw (← c.verdict.ensures, c.in-Err.is)
 
 pub returns-else-not-state_ok : goal.returns-else-not-state_ok
 unfolding acceptance_at
 returns-else-not-state_ok c = rw (
   ← c.verdict.ensures,
-  c.in-Accepted.is,
+  c.in-Ok.is,
   ← c.state_ok.ensures,
   c.if-not-state_ok.false,
 )

@@ -8,23 +8,23 @@ use Rattle.processor.proofs.calls.run.Goals as goal
 pub run-f-requires : goal.run-f-requires
 run-f-requires c = lengths-of-accepted _ _ _ _ _ _ _ _ _ (sym
     c.acceptance.ensures
-    ∙ c.in-Accepted.is)
+    ∙ c.in-Ok.is)
 
-pub returns-in-Refused : goal.returns-in-Refused
+pub returns-in-Err : goal.returns-in-Err
 unfolding checked_run_of
-returns-in-Refused c = rw (
+returns-in-Err c = rw (
   ← c.device_of-device.ensures,
   ← c.system-sys.ensures,
   ← c.acceptance.ensures,
-  c.in-Refused.is,
+  c.in-Err.is,
 )
 
-pub returns-in-Accepted : goal.returns-in-Accepted
-returns-in-Accepted c =
+pub returns-in-Ok : goal.returns-in-Ok
+returns-in-Ok c =
     let a = c.args in
     rw (c.drawing_in-registers.ensures, c.joined-processor.ensures)
     (run-accepted a.processor _ _ _ _ c.system-sys.ensures
     c.device_of-device.ensures
     c.acceptance.ensures
-    c.in-Accepted.is _ _
+    c.in-Ok.is _ _
     c.run-f.ensures)

@@ -9,25 +9,25 @@ use Rattle.processor.proofs.calls.step.Goals as goal
 pub step-t-requires : goal.step-t-requires
 step-t-requires c = lengths-of-accepted _ _ _ _ _ _ _ _ _ (sym
     c.acceptance.ensures
-    ∙ c.in-Accepted.is)
+    ∙ c.in-Ok.is)
 
-pub returns-in-Refused : goal.returns-in-Refused
+pub returns-in-Err : goal.returns-in-Err
 unfolding checked_step_of
-returns-in-Refused c = rw (
+returns-in-Err c = rw (
   c.none.ensures,
   ← c.device_of-device.ensures,
   ← c.system-sys.ensures,
   ← c.acceptance.ensures,
-  c.in-Refused.is,
+  c.in-Err.is,
 )
 
-pub returns-in-Accepted : goal.returns-in-Accepted
-returns-in-Accepted c =
+pub returns-in-Ok : goal.returns-in-Ok
+returns-in-Ok c =
     let a = c.args in
     let system = c.system-sys in
     let step = c.step-t.ensures in
     rw (c.drawing_in-registers.ensures, c.joined-processor.ensures)
     (step-accepted a.processor _ _ _ _ system.ensures
-    c.device_of-device.ensures c.acceptance.ensures c.in-Accepted.is _
+    c.device_of-device.ensures c.acceptance.ensures c.in-Ok.is _
     step.done _ step.fetched _ (c.masks-undefined.ensures system.result a.processor.psw
     a.processor.mode _))

@@ -7,20 +7,20 @@ pub returns-then-trace-ne0 : goal.returns-then-trace-ne0
 returns-then-trace-ne0 c =
     let a = c.args in
     let m = memory_of a.rom.now a.wram.now a.vram.now a.pak.now a.drawing.regs in
-    replay-odd a.processor m a.trace.now _ c.verdict.ensures c.in-Accepted.is c.if-trace-ne0.true
+    replay-odd a.processor m a.trace.now _ c.verdict.ensures c.in-Ok.is c.if-trace-ne0.true
 
 pub replay-f-requires : goal.replay-f-requires
 replay-f-requires c =
     let a = c.args in
     let m = memory_of a.rom.now a.wram.now a.vram.now a.pak.now a.drawing.regs in
     accepted-memories a.processor m _ c.verdict.ensures
-    c.in-Accepted.is
+    c.in-Ok.is
 
-pub returns-in-Refused : goal.returns-in-Refused
-returns-in-Refused c =
+pub returns-in-Err : goal.returns-in-Err
+returns-in-Err c =
     let a = c.args in
     let m = memory_of a.rom.now a.wram.now a.vram.now a.pak.now a.drawing.regs in
-    replay-refused a.processor m a.trace.now _ c.verdict.ensures _ c.in-Refused.is
+    replay-refused a.processor m a.trace.now _ c.verdict.ensures _ c.in-Err.is
 
 pub returns-else-trace-ne0 : goal.returns-else-trace-ne0
 returns-else-trace-ne0 c =
@@ -28,7 +28,7 @@ returns-else-trace-ne0 c =
     let m = memory_of a.rom.now a.wram.now a.vram.now a.pak.now a.drawing.regs in
     rw (c.drawing_in-registers.ensures, c.joined-processor.ensures)
     (replay-done a.processor m a.trace.now _
-    c.verdict.ensures c.in-Accepted.is
+    c.verdict.ensures c.in-Ok.is
     c.if-trace-ne0.false _ _
     c.system-sys.ensures
     c.device_of-device.ensures _
