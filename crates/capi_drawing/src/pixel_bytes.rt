@@ -6,7 +6,6 @@ ghost use Rattle.capi_drawing.specs.PixelBytes.{listed_at};
 use bus::Drawing;
 use capi_bus::accesses::VbDrawing;
 use drawing_bytes::Listed;
-use refusal::number;
 
 // How many addresses the list has.
 #[repr(C)]

@@ -8,7 +8,6 @@ use crate::record::{VbProcessor, processor_in, processor_out};
 use bus::Drawing;
 use capi_bus::accesses::VbDrawing;
 use processor_replay::End;
-use refusal::number;
 
 #[repr(C)]
 #[derive(Clone, Copy)]
