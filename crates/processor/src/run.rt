@@ -13,7 +13,6 @@ use processor_fast::stretch::stretch;
 use processor_interrupt::acceptance::accepts;
 use processor_machine::{Answer, Mode};
 use processor_step::step;
-use refusal::Refusal;
 
 // An ended or trapped instruction counts, and so does an accepted interrupt; anything else stops the run.
 fn after(answer: Answer) -> After
