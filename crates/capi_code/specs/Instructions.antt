@@ -1,10 +1,8 @@
 -- What the C boundary gives for an instruction and for halfwords (include/vb.h): the refusal's number, how many
 -- halfwords there are, and the halfwords or the fields, 0 where there are none.
-use Rattle.std.specs.Prelude.{ℕ, Bool, true, false}
+use Rattle.std.specs.Prelude.{ℕ, Bool, true, false, Option, Some, None}
 use Rattle.refusal.specs.Number.{number_of}
 use Rattle.refusal.specs.declared.Refusal.TheVariants as refusal
-use Rattle.processor_decode.specs.declared.Decoded.{Decoded}
-use Rattle.processor_decode.specs.declared.Decoded.TheVariants.{Modelled, NotModelled}
 use Rattle.processor_encode.specs.Fields.{fields_of, numbers}
 use Rattle.processor_encode.specs.declared.Fields.{Fields}
 use Rattle.processor_encode.specs.declared.Encoded.{Encoded}
@@ -12,6 +10,7 @@ use Rattle.processor_encode.specs.declared.Encoded.TheVariants.{One, Two, Refuse
 use Rattle.capi_code.specs.declared.instructions.VbInstruction.{VbInstruction}
 use Rattle.capi_code.specs.declared.instructions.VbEncoded.{VbEncoded}
 use Rattle.capi_code.specs.declared.instructions.VbDecoded.{VbDecoded}
+use Rattle.processor_decode.specs.declared.Instruction.{Instruction}
 
 -- the record member by member
 abbrev pub fields_in : VbInstruction → Fields
@@ -36,7 +35,7 @@ encoded_at (One f) = record { refusal = 0; halfwords = 1; first = f; second = 0 
 encoded_at (Two f s) = record { refusal = 0; halfwords = 2; first = f; second = s }
 encoded_at (Refused n) = record { refusal = number_of n; halfwords = 0; first = 0; second = 0 }
 
-abbrev pub decoded_at : Decoded → Bool → VbDecoded
-decoded_at (Modelled i) two = record { refusal = 0; halfwords = length_of two; instruction = fields_out (fields_of i) }
-decoded_at NotModelled two =
+abbrev pub decoded_at : Option Instruction → Bool → VbDecoded
+decoded_at (Some i) two = record { refusal = 0; halfwords = length_of two; instruction = fields_out (fields_of i) }
+decoded_at None two =
     record { refusal = number_of refusal.NotModelled; halfwords = 0; instruction = fields_out (numbers 0 0 0 0 0) }

@@ -5,7 +5,7 @@ ghost use Rattle.processor_decode.specs.Format.{two_of};
 ghost use Rattle.processor_encode.specs.Encode.{encoded_of};
 ghost use Rattle.capi_code.specs.Instructions.{fields_in, fields_out, length_of, encoded_at, decoded_at};
 
-use processor_decode::Decoded;
+use processor_decode::Instruction;
 use processor_encode::{Encoded, Fields};
 use refusal::Refusal;
 
@@ -101,11 +101,11 @@ pub fn encode(instruction: VbInstruction) -> VbEncoded
     encoded(processor_encode::encode_fields(fields_in(instruction)))
 }
 
-fn decoded(d: Decoded, two: bool) -> VbDecoded
+fn decoded(d: Option<Instruction>, two: bool) -> VbDecoded
     ensures { result ≡ decoded_at d two }
 {
     match d {
-        Decoded::Modelled(i) => {
+        Some(i) => {
             let instruction = fields_out(processor_encode::operation::fields(i));
             VbDecoded {
                 refusal: 0,
@@ -113,7 +113,7 @@ fn decoded(d: Decoded, two: bool) -> VbDecoded
                 instruction,
             }
         }
-        Decoded::NotModelled => {
+        None => {
             let instruction = VbInstruction {
                 operation: 0,
                 reg1: 0,

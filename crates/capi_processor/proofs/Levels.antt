@@ -1,6 +1,6 @@
 -- The level of an answer is below 5: an accepted interrupt has a line's level (paper 02, W6), and no instruction answers
 -- an interrupt.
-use Rattle.std.specs.Prelude.{Ok, Err}
+use Rattle.std.specs.Prelude.{Ok, Err, Option, Some, None}
 use Rattle.refusal.specs.Number.{Verdict}
 use Prim.Native.Nat.{ℕ, ◌<◌}
 use mathlib.Core.Path.{◌≡◌}
@@ -10,8 +10,6 @@ use Rattle.processor_execute.proofs.Every as every
 use Rattle.bus.specs.Memory.{Memory}
 use Rattle.processor_decode.specs.Format.{two_of}
 use Rattle.processor_decode.specs.Opcode.{decode_of}
-use Rattle.processor_decode.specs.declared.Decoded.{Decoded}
-use Rattle.processor_decode.specs.declared.Decoded.TheVariants.{Modelled, NotModelled}
 use Rattle.processor_machine.specs.State.{State, Stepped}
 use Rattle.processor_machine.specs.declared.Answer.{Answer}
 use Rattle.processor_machine.specs.declared.Answer.TheVariants.{Interrupted}
@@ -28,6 +26,7 @@ use Rattle.processor.specs.Lines.{bus_of}
 use Rattle.processor.specs.Calls.{Done, step_when, checked_step_of}
 use Rattle.processor.specs.declared.Processor.{Processor}
 use Rattle.capi_processor.specs.inner.Level.{answer_level}
+use Rattle.processor_decode.specs.declared.Instruction.{Instruction}
 
 abbrev Below : Stepped → Type 0
 Below t = answer_level t.answer < 5
@@ -39,9 +38,9 @@ module _ (next : ℕ) (s : State) (m : Memory) where
   below : every.Leaves Below next s m
   below = record { ended = λ regs sys pc psw. none; halted = none; trapped = λ c sys pc psw. none; fatal = λ c. none }
 
-  performed : (d : Decoded) → Below (perform_of d next s m)
-  performed (Modelled i) = every.execute-every Below next s m below i (λ width disp reg1 reg2. (λ e. none, λ e. none))
-  performed NotModelled = none
+  performed : (d : Option Instruction) → Below (perform_of d next s m)
+  performed (Some i) = every.execute-every Below next s m below i (λ width disp reg1 reg2. (λ e. none, λ e. none))
+  performed None = none
 
 module _ (s : State) (m : Memory) where
   running : Below (running_step_of s m)

@@ -7,14 +7,15 @@
 mod format;
 pub mod sub_opcode;
 
-ghost use Rattle.std.specs.Prelude.{◌≡◌, ◌<◌, ◌≤◌, ◌/◌, ◌-◌, true, get_or};
+ghost use Rattle.std.specs.Prelude.{◌≡◌, ◌<◌, ◌≤◌, ◌/◌, ◌-◌, true, get_or, None};
 ghost use Rattle.processor_decode.specs.Format.{branch, two_of};
 ghost use Rattle.processor_decode.specs.Opcode.{decode_of, short_rows, long_rows};
 
 use crate::sub_opcode::{FloatingOperation, NintendoOperation};
+pub use word::Width;
 
 // What Format I does with reg1 and reg2, in the order of the opcodes.
-#[derive(Clone, Copy)]
+#[derive(Clone, Copy, Debug, PartialEq, Eq)]
 pub enum RegisterOperation {
     Mov,
     Add,
@@ -30,7 +31,7 @@ pub enum RegisterOperation {
 }
 
 // What Format II does with a five-bit immediate and reg2.
-#[derive(Clone, Copy)]
+#[derive(Clone, Copy, Debug, PartialEq, Eq)]
 pub enum ImmediateOperation {
     Mov,
     Add,
@@ -41,7 +42,7 @@ pub enum ImmediateOperation {
 }
 
 // What Format V does with a sixteen-bit immediate and reg1.
-#[derive(Clone, Copy)]
+#[derive(Clone, Copy, Debug, PartialEq, Eq)]
 pub enum LongOperation {
     Movea,
     Addi,
@@ -49,14 +50,6 @@ pub enum LongOperation {
     Andi,
     Xori,
     Movhi,
-}
-
-// How much a load or store moves.
-#[derive(Clone, Copy)]
-pub enum Width {
-    Byte,
-    Half,
-    Word,
 }
 
 // The operands of an instruction, as 000 names them: registers by their numbers, the others as words.
@@ -106,15 +99,9 @@ pub enum Instruction {
     Nintendo(NintendoOperation, Reg1, Reg2),
 }
 
-// What the halfwords mean: an instruction, or one that the model leaves out (refusal 6).
-#[derive(Clone, Copy)]
-pub enum Decoded {
-    Modelled(Instruction),
-    NotModelled,
-}
-
-// The instruction of a first and a second halfword; the second counts only where the first asks for it.
-pub fn decode(first: u16, second: u16) -> Decoded
+// The instruction of a first and a second halfword, or none where the model leaves it out (refusal 6); the second
+// counts only where the first asks for it.
+pub fn decode(first: u16, second: u16) -> Option<Instruction>
     ensures { result ≡ decode_of first second }
 {
     let f = first as u32;
@@ -133,22 +120,13 @@ pub fn two(first: u16) -> bool
     ensures { result ≡ two_of first }
 {
     let op = first / 1024;
-    if op < 40 {
-        return false;
-    }
-    if op == 50 {
-        return false;
-    }
-    if op == 54 {
-        return false;
-    }
-    true
+    op >= 40 && !matches!(op, 50 | 54)
 }
 
 // Opcodes 000000 to 011111: Formats I and II.
-fn short(f: u32) -> Decoded
+fn short(f: u32) -> Option<Instruction>
     requires { f / 1024 < 32 }
-    ensures { result ≡ get_or (short_rows f) (f / 1024) Decoded.NotModelled }
+    ensures { result ≡ get_or (short_rows f) (f / 1024) None }
 {
     match f / 1024 {
         0 => format::register(RegisterOperation::Mov, f),
@@ -157,12 +135,12 @@ fn short(f: u32) -> Decoded
         3 => format::register(RegisterOperation::Cmp, f),
         4 => format::register(RegisterOperation::Shl, f),
         5 => format::register(RegisterOperation::Shr, f),
-        6 => Decoded::Modelled(Instruction::Jmp(f % 32)),
+        6 => Some(Instruction::Jmp(f % 32)),
         7 => format::register(RegisterOperation::Sar, f),
-        8 => Decoded::Modelled(Instruction::Mul(f % 32, f / 32 % 32)),
-        9 => Decoded::Modelled(Instruction::Div(f % 32, f / 32 % 32)),
-        10 => Decoded::Modelled(Instruction::Mulu(f % 32, f / 32 % 32)),
-        11 => Decoded::Modelled(Instruction::Divu(f % 32, f / 32 % 32)),
+        8 => Some(Instruction::Mul(f % 32, f / 32 % 32)),
+        9 => Some(Instruction::Div(f % 32, f / 32 % 32)),
+        10 => Some(Instruction::Mulu(f % 32, f / 32 % 32)),
+        11 => Some(Instruction::Divu(f % 32, f / 32 % 32)),
         12 => format::register(RegisterOperation::Or, f),
         13 => format::register(RegisterOperation::And, f),
         14 => format::register(RegisterOperation::Xor, f),
@@ -173,24 +151,24 @@ fn short(f: u32) -> Decoded
         19 => format::signed(ImmediateOperation::Cmp, f),
         20 => format::unsigned(ImmediateOperation::Shl, f),
         21 => format::unsigned(ImmediateOperation::Shr, f),
-        22 => Decoded::Modelled(Instruction::Cli),
+        22 => Some(Instruction::Cli),
         23 => format::unsigned(ImmediateOperation::Sar, f),
-        24 => Decoded::Modelled(Instruction::Trap(f % 32)),
-        25 => Decoded::Modelled(Instruction::Reti),
-        26 => Decoded::Modelled(Instruction::Halt),
-        27 => Decoded::Modelled(Instruction::Illegal),
+        24 => Some(Instruction::Trap(f % 32)),
+        25 => Some(Instruction::Reti),
+        26 => Some(Instruction::Halt),
+        27 => Some(Instruction::Illegal),
         28 => format::ldsr(f),
         29 => format::stsr(f),
-        30 => Decoded::Modelled(Instruction::Sei),
-        31 => Decoded::NotModelled,
-        _ => Decoded::NotModelled,
+        30 => Some(Instruction::Sei),
+        31 => None,
+        _ => None,
     }
 }
 
 // Opcodes 101000 to 111111: Formats IV to VII.
-fn long_form(f: u32, s: u32) -> Decoded
+fn long_form(f: u32, s: u32) -> Option<Instruction>
     requires { (40 ≤ f / 1024) × (f / 1024 < 64) × (s < 65536) }
-    ensures { result ≡ get_or (long_rows f s) (f / 1024 - 40) Decoded.NotModelled }
+    ensures { result ≡ get_or (long_rows f s) (f / 1024 - 40) None }
 {
     match f / 1024 {
         40 => format::long_signed(LongOperation::Movea, f, s),
@@ -203,20 +181,20 @@ fn long_form(f: u32, s: u32) -> Decoded
         47 => format::long_unsigned(LongOperation::Movhi, f, s),
         48 => format::load(Width::Byte, f, s),
         49 => format::load(Width::Half, f, s),
-        50 => Decoded::Modelled(Instruction::Illegal),
+        50 => Some(Instruction::Illegal),
         51 => format::load(Width::Word, f, s),
         52 => format::store(Width::Byte, f, s),
         53 => format::store(Width::Half, f, s),
-        54 => Decoded::Modelled(Instruction::Illegal),
+        54 => Some(Instruction::Illegal),
         55 => format::store(Width::Word, f, s),
         56 => format::input(Width::Byte, f, s),
         57 => format::input(Width::Half, f, s),
-        58 => Decoded::NotModelled,
+        58 => None,
         59 => format::input(Width::Word, f, s),
         60 => format::output(Width::Byte, f, s),
         61 => format::output(Width::Half, f, s),
         62 => sub_opcode::extended(f, s),
         63 => format::output(Width::Word, f, s),
-        _ => Decoded::NotModelled,
+        _ => None,
     }
 }

@@ -2,10 +2,10 @@
 ghost use Rattle.std.specs.Prelude.{◌≡◌};
 ghost use Rattle.processor_decode.specs.SubOpcode.{cmpf, floating, nintendo, exchange, extended_of};
 
-use crate::{Decoded, Instruction};
+use crate::Instruction;
 
 // What Format VII's floating instructions do but for CMPF.S, in the order of the sub-opcodes.
-#[derive(Clone, Copy)]
+#[derive(Clone, Copy, Debug, PartialEq, Eq)]
 pub enum FloatingOperation {
     CvtWs,
     CvtSw,
@@ -17,7 +17,7 @@ pub enum FloatingOperation {
 }
 
 // What Format VII's Nintendo instructions do, in the order of the sub-opcodes.
-#[derive(Clone, Copy)]
+#[derive(Clone, Copy, Debug, PartialEq, Eq)]
 pub enum NintendoOperation {
     Xb,
     Xh,
@@ -25,38 +25,38 @@ pub enum NintendoOperation {
     Mpyhw,
 }
 
-fn cmpf(f: u32) -> Decoded
+fn cmpf(f: u32) -> Option<Instruction>
     ensures { result ≡ cmpf f }
 {
-    Decoded::Modelled(Instruction::Cmpf(f % 32, f / 32 % 32))
+    Some(Instruction::Cmpf(f % 32, f / 32 % 32))
 }
 
-fn floating(op: FloatingOperation, f: u32) -> Decoded
+fn floating(op: FloatingOperation, f: u32) -> Option<Instruction>
     ensures { result ≡ floating op f }
 {
-    Decoded::Modelled(Instruction::Floating(op, f % 32, f / 32 % 32))
+    Some(Instruction::Floating(op, f % 32, f / 32 % 32))
 }
 
-fn nintendo(op: NintendoOperation, f: u32) -> Decoded
+fn nintendo(op: NintendoOperation, f: u32) -> Option<Instruction>
     ensures { result ≡ nintendo op f }
 {
-    Decoded::Modelled(Instruction::Nintendo(op, f % 32, f / 32 % 32))
+    Some(Instruction::Nintendo(op, f % 32, f / 32 % 32))
 }
 
 // XB and XH, of which the bits of reg1 are unused.
-fn exchange(op: NintendoOperation, f: u32) -> Decoded
+fn exchange(op: NintendoOperation, f: u32) -> Option<Instruction>
     ensures { result ≡ exchange op f }
 {
-    Decoded::Modelled(Instruction::Nintendo(op, 0, f / 32 % 32))
+    Some(Instruction::Nintendo(op, 0, f / 32 % 32))
 }
 
 // The row of the sub-opcode; one that 000 does not list is illegal.
-pub fn extended(f: u32, s: u32) -> Decoded
+pub fn extended(f: u32, s: u32) -> Option<Instruction>
     ensures { result ≡ extended_of f s }
 {
     match s / 1024 {
         0 => cmpf(f),
-        1 => Decoded::Modelled(Instruction::Illegal),
+        1 => Some(Instruction::Illegal),
         2 => floating(FloatingOperation::CvtWs, f),
         3 => floating(FloatingOperation::CvtSw, f),
         4 => floating(FloatingOperation::Addf, f),
@@ -68,6 +68,6 @@ pub fn extended(f: u32, s: u32) -> Decoded
         10 => nintendo(NintendoOperation::Rev, f),
         11 => floating(FloatingOperation::TrncSw, f),
         12 => nintendo(NintendoOperation::Mpyhw, f),
-        _ => Decoded::Modelled(Instruction::Illegal),
+        _ => Some(Instruction::Illegal),
     }
 }

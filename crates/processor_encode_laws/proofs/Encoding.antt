@@ -1,5 +1,6 @@
 -- What is to be shown of each row of the decoder's list: `Facts`, and the two ways to show it, for a legal instruction and
 -- for a row that is invalid or not modelled. Assumes nothing.
+use Rattle.std.specs.Prelude.{Option, Some, None}
 use Prim.Native.Nat.{ℕ}
 use mathlib.Core.Bool.{Bool, true, false}
 use mathlib.Core.Path.{◌≡◌, sym}
@@ -9,8 +10,6 @@ use Rattle.processor_decode.specs.Format.{two_of}
 use Rattle.processor_decode.specs.Opcode.{decode_of}
 use Rattle.processor_decode.specs.declared.Instruction.{Instruction}
 use Rattle.processor_decode.specs.declared.Instruction.TheVariants.{Illegal}
-use Rattle.processor_decode.specs.declared.Decoded.{Decoded}
-use Rattle.processor_decode.specs.declared.Decoded.TheVariants.{Modelled, NotModelled}
 use Rattle.processor_encode.specs.Format.{format_of}
 use Rattle.processor_encode.specs.Range.{in_range}
 use Rattle.processor_encode.specs.Place.{halfwords_of}
@@ -21,18 +20,18 @@ use Rattle.processor_encode.specs.declared.Encoded.TheVariants.{One, Two}
 use Rattle.processor_encode_laws.specs.RoundTrip.{DecodesTo, Legal}
 
 -- of a row d that the halfwords decode to: a legal instruction is encoded as the cleared halfwords, and they decode to d
-pub record Facts (f s : ℕ) (d : Decoded) : Type 0 where
-  pub legal : (i : Instruction) → d ≡ Modelled i → Legal i → encode_of i ≡ cleared_of f s
+pub record Facts (f s : ℕ) (d : Option Instruction) : Type 0 where
+  pub legal : (i : Instruction) → d ≡ Some i → Legal i → encode_of i ≡ cleared_of f s
   pub decodes : decode_of (cleared_first f s) (cleared_second f s) ≡ d
 
-decodes-either : (i : Instruction) (t : Bool) (a b : ℕ) → DecodesTo i (pick t (Two a b) (One a)) → decode_of a b ≡ Modelled i
+decodes-either : (i : Instruction) (t : Bool) (a b : ℕ) → DecodesTo i (pick t (Two a b) (One a)) → decode_of a b ≡ Some i
 decodes-either i true a b h = h.3
 decodes-either i false a b h = h.2 b
 
-same-instruction : (i j : Instruction) → Modelled j ≡ Modelled i → j ≡ i
+same-instruction : (i j : Instruction) → Some j ≡ Some i → j ≡ i
 same-instruction i j e = cc
 
-pub legal-row : (f s : ℕ) (j : Instruction) → DecodesTo j (encode_of j) → encode_of j ≡ cleared_of f s → Facts f s (Modelled j)
+pub legal-row : (f s : ℕ) (j : Instruction) → DecodesTo j (encode_of j) → encode_of j ≡ cleared_of f s → Facts f s (Some j)
 unfolding cleared_of
 legal-row f s j h e =
     record {
@@ -41,13 +40,13 @@ legal-row f s j h e =
     }
 
 module _ (f s : ℕ) (first : cleared_first f s ≡ f) (second : cleared_second f s ≡ s) where
-  not-modelled : (i : Instruction) → NotModelled ≡ Modelled i → ⊥
+  not-modelled : (i : Instruction) → None ≡ Some i → ⊥
   not-modelled i e = let z : ◌≡◌ {A = ℕ} 0 1 = cc in omega arith
 
-  pub absent-row : decode_of f s ≡ NotModelled → Facts f s NotModelled
+  pub absent-row : decode_of f s ≡ None → Facts f s None
   absent-row h = record { legal = λ i e l. absurd (not-modelled i e); decodes = rw (first, second) h }
 
-  pub illegal-row : decode_of f s ≡ Modelled Illegal → Facts f s (Modelled Illegal)
+  pub illegal-row : decode_of f s ≡ Some Illegal → Facts f s (Some Illegal)
   illegal-row h = record { legal = λ i e l. absurd (l (sym (same-instruction i Illegal e))); decodes = rw (first, second) h }
 
 -- fields in range are put in their places

@@ -1,5 +1,6 @@
 -- What each format reads from its halfwords, and the tables of formats, instructions and decoded rows compared: the decoder's row is the instruction
 -- of the fields that its format reads, `decode-row`, and an instruction's fields are those that its format has, `instruction-fields`. Assumes nothing.
+use Rattle.std.specs.Prelude.{Option, Some, None}
 use Prim.Native.Nat.{ℕ, ◌+◌, ◌-◌, ◌*◌, ◌/◌, ◌%◌, ◌≤◌, ◌<◌}
 use mathlib.Core.Bool.{Bool, true, false}
 use mathlib.Core.List.{List, map}
@@ -18,8 +19,6 @@ use Rattle.processor_decode.specs.SubOpcode as sub
 use Rattle.processor_decode.proofs.Rows.{short_row, branch_row, long-row, unlisted}
 use Rattle.processor_decode.specs.declared.Instruction.{Instruction}
 use Rattle.processor_decode.specs.declared.Instruction.TheVariants.{Illegal}
-use Rattle.processor_decode.specs.declared.Decoded.{Decoded}
-use Rattle.processor_decode.specs.declared.Decoded.TheVariants.{Modelled, NotModelled}
 use Rattle.processor_encode.specs.Format.{format_of, short_formats, long_formats, extended_formats}
 use Rattle.processor_encode.specs.Fields.{fields_of, numbers}
 use Rattle.processor_encode.specs.Unused.{operation_at}
@@ -87,14 +86,14 @@ absent Exchange f = false
 absent Unlisted f = true
 
 -- what the decoder gives there: LDSR and STSR of register 24, bit strings and CAXI are not modelled
-unfoldable pub other_of : ℕ → Decoded
+unfoldable pub other_of : ℕ → Option Instruction
 other_of n =
     pick (ltb n 64)
-    (pick (eqb n 28) NotModelled (pick (eqb n 29) NotModelled (pick (eqb n 31) NotModelled (pick (eqb n 58) NotModelled (Modelled Illegal)))))
-    (Modelled Illegal)
+    (pick (eqb n 28) None (pick (eqb n 29) None (pick (eqb n 31) None (pick (eqb n 58) None (Some Illegal)))))
+    (Some Illegal)
 
-abbrev pub row_of : ℕ → ℕ → ℕ → format.Format → Decoded
-row_of f s n t = pick (absent t f) (other_of n) (Modelled (instruction_at (fields_at t n f s) n))
+abbrev pub row_of : ℕ → ℕ → ℕ → format.Format → Option Instruction
+row_of f s n t = pick (absent t f) (other_of n) (Some (instruction_at (fields_at t n f s) n))
 
 -- x without the fields that the format does not have
 abbrev pub having : format.Format → ℕ → Fields → Fields
@@ -269,7 +268,7 @@ module _ (x : Fields) where
 -- the decoder's rows against the table of formats
 module _ (f s : ℕ) where
   -- opcode 62 is decoded by its sub-opcode
-  abbrev long_row : ℕ → format.Format → Decoded
+  abbrev long_row : ℕ → format.Format → Option Instruction
   long_row n t = pick (eqb n 62) (sub.extended_of f s) (row_of f s n t)
 
   short-rows : short_rows f ≡ numbered (row_of f s) 0 short_formats
@@ -288,8 +287,8 @@ module _ (f s : ℕ) where
   unfolding short_formats
   short-decoded h =
       rw (short-format (f / 1024) h)
-      (short_row f s h ∙ ap (λ (l : List Decoded). get_or l (f / 1024) NotModelled) short-rows
-      ∙ numbered-at (row_of f s) 0 short_formats (f / 1024) Unlisted NotModelled h (f / 1024) (omega arith))
+      (short_row f s h ∙ ap (λ (l : List (Option Instruction)). get_or l (f / 1024) None) short-rows
+      ∙ numbered-at (row_of f s) 0 short_formats (f / 1024) Unlisted None h (f / 1024) (omega arith))
 
   branch-decoded : 32 ≤ f / 1024 → f / 1024 < 40 → decode_of f s ≡ row_of f s 32 (format_of 32)
   unfolding format_of long_formats instruction_at long_of
@@ -304,15 +303,15 @@ module _ (f s : ℕ) where
       let known : format_of (f / 1024) ≡ get_or (drop 8 long_formats) (f / 1024 - 40) Unlisted =
       ap format_of (sym at) ∙ long-format (8 + (f / 1024 - 40)) (omega arith) ∙ sym (get_or-drop 8 long_formats (f / 1024 - 40) Unlisted) in
       rw known
-      (long-row f s h ∙ ap (λ (l : List Decoded). get_or l (f / 1024 - 40) NotModelled) long-rows
-      ∙ numbered-at long_row 40 (drop 8 long_formats) (f / 1024 - 40) Unlisted NotModelled to (f / 1024) (omega arith)
+      (long-row f s h ∙ ap (λ (l : List (Option Instruction)). get_or l (f / 1024 - 40) None) long-rows
+      ∙ numbered-at long_row 40 (drop 8 long_formats) (f / 1024 - 40) Unlisted None to (f / 1024) (omega arith)
       ∙ simp (ne_eqb (f / 1024) 62 ne))
 
   by-sub-opcode : f / 1024 ≡ 62 → decode_of f s ≡ sub.extended_of f s
   unfolding long_rows
-  by-sub-opcode e = long-row f s (omega arith) ∙ ap (λ (k : ℕ). get_or (long_rows f s) (k - 40) NotModelled) e
+  by-sub-opcode e = long-row f s (omega arith) ∙ ap (λ (k : ℕ). get_or (long_rows f s) (k - 40) None) e
 
-  unlisted-other : (k : ℕ) → other_of (64 + k) ≡ Modelled Illegal
+  unlisted-other : (k : ℕ) → other_of (64 + k) ≡ Some Illegal
   unfolding other_of
   unlisted-other k =
       let high : 64 ≤ 64 + k = omega arith in
@@ -324,8 +323,8 @@ module _ (f s : ℕ) where
       elim (dec_lt (s / 1024) 13) [
         | yes h ↦
             rw (extended-format (s / 1024))
-            (by-sub-opcode e ∙ ap (λ (l : List Decoded). get_or l (s / 1024) (Modelled Illegal)) extended-rows
-            ∙ numbered-at (row_of f s) 64 extended_formats (s / 1024) Unlisted (Modelled Illegal) h (64 + s / 1024) refl)
+            (by-sub-opcode e ∙ ap (λ (l : List (Option Instruction)). get_or l (s / 1024) (Some Illegal)) extended-rows
+            ∙ numbered-at (row_of f s) 64 extended_formats (s / 1024) Unlisted (Some Illegal) h (64 + s / 1024) refl)
         | no h ↦
             let past : 13 ≤ s / 1024 = omega arith in
             rw (past-format (s / 1024) past) (by-sub-opcode e ∙ unlisted f s past ∙ sym (unlisted-other (s / 1024)))

@@ -10,7 +10,7 @@ use Rattle.processor_decode.specs.declared.ImmediateOperation.{ImmediateOperatio
 use Rattle.processor_decode.specs.declared.LongOperation.{LongOperation}
 use Rattle.processor_decode.specs.declared.sub_opcode.FloatingOperation.{FloatingOperation}
 use Rattle.processor_decode.specs.declared.sub_opcode.NintendoOperation.{NintendoOperation}
-use Rattle.processor_decode.specs.declared.Width.{Width}
+use Rattle.word.specs.declared.width.Width.{Width}
 use Rattle.processor_decode.specs.declared.Instruction.{Instruction}
 use Rattle.processor_decode.specs.declared.Instruction.TheVariants.{Register, Mul, Div, Mulu, Divu, Jmp, Immediate}
 use Rattle.processor_decode.specs.declared.Instruction.TheVariants.{Setf, Cli, Sei, Trap, Reti, Halt, Ldsr, Stsr}

@@ -1,5 +1,6 @@
 -- The law of the formats. Fields in the ranges of their format, put in their places, are read from there: `decodes-placed`. Fields that are read from
 -- halfwords are in range, `read_fits`, and in their places give the halfwords without unused bits, `placed-read`. Assumes nothing.
+use Rattle.std.specs.Prelude.{Some}
 use Prim.Native.Nat.{ℕ, ◌+◌, ◌*◌, ◌/◌, ◌%◌, ◌≤◌, ◌<◌}
 use mathlib.Core.Bool.{Bool, true, false, true≢false}
 use mathlib.Core.Path.{◌≡◌, refl, sym, ◌∙◌, ap}
@@ -10,7 +11,6 @@ use Rattle.word.specs.Choose.{pick}
 use Rattle.word.specs.Extend.{extend_of}
 use Rattle.word.proofs.Choices.{pick_second}
 use Rattle.processor_decode.specs.Opcode.{decode_of}
-use Rattle.processor_decode.specs.declared.Decoded.TheVariants.{Modelled}
 use Rattle.processor_encode.specs.Format.{format_of}
 use Rattle.processor_encode.specs.Fields.{numbers}
 use Rattle.processor_encode.specs.Range.{within, even_in, fits_of}
@@ -243,7 +243,7 @@ module _ (x : Fields) where
 -- fields in range, in their places, are read from there
 module _ (x : Fields) (t : format.Format) (known : format_of x.operation ≡ t) (fits : fits_of t x ≡ true) where
   read : (f s : ℕ) → f < 65536 → operation_at f s ≡ x.operation → absent t f ≡ false → fields_at t x.operation f s ≡ having t x.operation x →
-      decode_of f s ≡ Modelled (instruction_of x)
+      decode_of f s ≡ Some (instruction_of x)
   read f s wide at present e = decode-row f s wide ∙ rw (at, known, present, e, having-all x t fits)
 
   short-placed : (b a : ℕ) → ltb x.operation 32 ≡ true → b < 32 → absent t (placed x.operation b a) ≡ false →

@@ -1,4 +1,5 @@
 -- Encoding and decoding undo each other: `decode-encode`, `encode-decode` and `cleared-decodes`, by the law of the formats. Assumes nothing.
+use Rattle.std.specs.Prelude.{Option, Some, None}
 use Prim.Native.Nat.{ℕ, ◌<◌}
 use mathlib.Core.Bool.{true, false}
 use mathlib.Core.Path.{◌≡◌, refl, ◌∙◌, ap}
@@ -6,8 +7,6 @@ use lib.Dec.{ltb, eqb}
 use Rattle.refusal.specs.declared.Refusal.TheVariants.{Encoding}
 use Rattle.processor_decode.specs.Opcode.{decode_of}
 use Rattle.processor_decode.specs.declared.Instruction.TheVariants.{Illegal}
-use Rattle.processor_decode.specs.declared.Decoded.{Decoded}
-use Rattle.processor_decode.specs.declared.Decoded.TheVariants.{Modelled, NotModelled}
 use Rattle.processor_encode.specs.Format.{format_of}
 use Rattle.processor_encode.specs.Fields.{fields_of}
 use Rattle.processor_encode.specs.Range.{fits_of, in_range}
@@ -24,6 +23,7 @@ use Rattle.processor_encode_laws.proofs.Encoding.{Facts, legal-row, absent-row, 
 use Rattle.processor_encode_laws.proofs.Instructions.{instruction_at, instruction_of, fields-again}
 use Rattle.processor_encode_laws.proofs.Formats.{fields_at, read-operation, absent, other_of, number-fits, instruction-fields, decode-row}
 use Rattle.processor_encode_laws.proofs.Placing.{absent-kept, having-all, decodes-placed, read_fits, placed-read}
+use Rattle.processor_decode.specs.declared.Instruction.{Instruction}
 
 -- what is encoded decodes to the instruction of its fields
 fields-decode : (x : Fields) → DecodesTo (instruction_of x) (encoded_of x)
@@ -44,7 +44,7 @@ pub fields-exactly : FieldsExactly
 fields-exactly x h = record { instruction = instruction_of x; fields = instruction-all x h; decodes = fields-decode x }
 
 -- what the decoder gives where there is no instruction
-other-case : (P : Decoded → Type 0) → P NotModelled → P (Modelled Illegal) → (n : ℕ) → P (other_of n)
+other-case : (P : Option Instruction → Type 0) → P None → P (Some Illegal) → (n : ℕ) → P (other_of n)
 unfolding other_of
 other-case P a b n =
     pick-cases P (ltb n 64) _ _
@@ -64,10 +64,10 @@ module _ (f s : ℕ) (hf : f < 65536) (hs : s < 65536) where
   unfolding cleared_first cleared_second
   absent-facts p =
       let kept = absent-kept t f s p in
-      other-case (λ (d : Decoded). decode_of f s ≡ d → Facts f s d) (absent-row f s kept.0 kept.1) (illegal-row f s kept.0 kept.1) n
+      other-case (λ (d : Option Instruction). decode_of f s ≡ d → Facts f s d) (absent-row f s kept.0 kept.1) (illegal-row f s kept.0 kept.1) n
       (decode-row f s hf ∙ rw p)
 
-  listed-facts : absent t f ≡ false → Facts f s (Modelled (instruction_at (fields_at t n f s) n))
+  listed-facts : absent t f ≡ false → Facts f s (Some (instruction_at (fields_at t n f s) n))
   listed-facts p =
       let x = fields_at t n f s in
       let i = instruction_at x n in

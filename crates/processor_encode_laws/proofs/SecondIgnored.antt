@@ -1,5 +1,6 @@
 -- `second-ignored`: the statement of specs/Clearing. The rows of Formats I to III have no second halfword, and the two other
 -- opcodes of one halfword are illegal. Assumes nothing.
+use Rattle.std.specs.Prelude.{Some, None}
 use Prim.Native.Nat.{ℕ, ◌/◌, ◌≤◌}
 use mathlib.Core.Bool.{true, false}
 use mathlib.Core.List.{◌++◌}
@@ -10,19 +11,18 @@ use borrow.Author.Tests.{le-ltb, ne_eqb}
 use lib.ListN.{get_or}
 use Rattle.processor_decode.specs.Format.{two_of}
 use Rattle.processor_decode.specs.Opcode.{short_rows, branch_rows, long_rows, decode_of}
-use Rattle.processor_decode.specs.declared.Decoded.TheVariants.{Modelled, NotModelled}
 use Rattle.processor_decode.specs.declared.Instruction.TheVariants.{Illegal}
 use Rattle.processor_decode.proofs.Rows.{short_row, branch_row}
 use Rattle.processor_encode_laws.specs.Clearing.{SecondIgnored}
 
 module _ (f s : ℕ) where
-  illegal-50 : f / 1024 ≡ 50 → decode_of f s ≡ Modelled Illegal
+  illegal-50 : f / 1024 ≡ 50 → decode_of f s ≡ Some Illegal
   unfolding decode_of short_rows branch_rows long_rows
-  illegal-50 e = ap (λ (i : ℕ). get_or (short_rows f ++ (branch_rows f ++ long_rows f s)) i NotModelled) e
+  illegal-50 e = ap (λ (i : ℕ). get_or (short_rows f ++ (branch_rows f ++ long_rows f s)) i None) e
 
-  illegal-54 : f / 1024 ≡ 54 → decode_of f s ≡ Modelled Illegal
+  illegal-54 : f / 1024 ≡ 54 → decode_of f s ≡ Some Illegal
   unfolding decode_of short_rows branch_rows long_rows
-  illegal-54 e = ap (λ (i : ℕ). get_or (short_rows f ++ (branch_rows f ++ long_rows f s)) i NotModelled) e
+  illegal-54 e = ap (λ (i : ℕ). get_or (short_rows f ++ (branch_rows f ++ long_rows f s)) i None) e
 
 -- any other opcode from 40 on asks for a second halfword
 asks : (f : ℕ) → 40 ≤ f / 1024 → (f / 1024 ≡ 50 → ⊥) → (f / 1024 ≡ 54 → ⊥) → two_of f ≡ true

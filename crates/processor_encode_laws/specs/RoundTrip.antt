@@ -1,14 +1,13 @@
 -- Paper 02, W8: "Decoding that gives the same instruction. Encoding what was decoded, unless illegal, gives its
 -- halfwords with unused bits cleared". The statements, over every instruction and every pair of halfwords; the proofs
 -- of the same names are in proofs/.
-use Rattle.std.specs.Prelude.{ℕ, ◌<◌, true, false, ◌≡◌}
+use Rattle.std.specs.Prelude.{ℕ, ◌<◌, true, false, ◌≡◌, Some}
 use Rattle.refusal.specs.declared.Refusal.{Refusal}
 use Rattle.refusal.specs.declared.Refusal.TheVariants.{Encoding}
 use Rattle.processor_decode.specs.Format.{two_of}
 use Rattle.processor_decode.specs.Opcode.{decode_of}
 use Rattle.processor_decode.specs.declared.Instruction.{Instruction}
 use Rattle.processor_decode.specs.declared.Instruction.TheVariants.{Illegal}
-use Rattle.processor_decode.specs.declared.Decoded.TheVariants.{Modelled}
 use Rattle.processor_encode.specs.Fields.{fields_of}
 use Rattle.processor_encode.specs.Range.{in_range, in_range_of}
 use Rattle.processor_encode.specs.Encode.{encode_of, encoded_of}
@@ -19,8 +18,8 @@ use Rattle.processor_encode.specs.declared.Encoded.TheVariants.{One, Two, Refuse
 
 -- these are halfwords, as many as decoding takes, that decode to the instruction: one with any second halfword
 abbrev pub DecodesTo : Instruction → Encoded → Type 0
-DecodesTo i (One f) = (f < 65536) × (two_of f ≡ false) × ((s : ℕ) → decode_of f s ≡ Modelled i)
-DecodesTo i (Two f s) = (f < 65536) × (s < 65536) × (two_of f ≡ true) × (decode_of f s ≡ Modelled i)
+DecodesTo i (One f) = (f < 65536) × (two_of f ≡ false) × ((s : ℕ) → decode_of f s ≡ Some i)
+DecodesTo i (Two f s) = (f < 65536) × (s < 65536) × (two_of f ≡ true) × (decode_of f s ≡ Some i)
 DecodesTo i (Refused n) = Unit {0}
 
 -- what is encoded decodes to the instruction
@@ -33,7 +32,7 @@ Legal i = i ≡ Illegal → ⊥
 -- what is decoded, unless illegal, is encoded as its halfwords with unused bits cleared
 abbrev pub EncodeDecode : Type 0
 EncodeDecode =
-    (f s : ℕ) → f < 65536 → s < 65536 → (i : Instruction) → decode_of f s ≡ Modelled i → Legal i
+    (f s : ℕ) → f < 65536 → s < 65536 → (i : Instruction) → decode_of f s ≡ Some i → Legal i
     → encode_of i ≡ cleared_of f s
 
 -- refusal 12, and no other, exactly where a field is out of its range
@@ -49,7 +48,7 @@ pub record Decodable (i : Instruction) : Type 0 where
   pub second : ℕ
   pub first_half : first < 65536
   pub second_half : second < 65536
-  pub decodes : decode_of first second ≡ Modelled i
+  pub decodes : decode_of first second ≡ Some i
   pub legal : Legal i
 
 -- the fields' ranges hold exactly the instructions that decoding gives

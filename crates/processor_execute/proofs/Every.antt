@@ -11,7 +11,7 @@ use Rattle.processor_decode.specs.declared.Instruction.TheVariants.{Register, Mu
 use Rattle.processor_decode.specs.declared.Instruction.TheVariants.{Setf, Cli, Sei, Trap, Reti, Halt, Ldsr, Stsr}
 use Rattle.processor_decode.specs.declared.Instruction.TheVariants.{Bcond, Jr, Jal, Long, Load, In, Store, Out}
 use Rattle.processor_decode.specs.declared.Instruction.TheVariants.{Illegal, Cmpf, Floating, Nintendo}
-use Rattle.processor_decode.specs.declared.Width.{Width}
+use Rattle.word.specs.declared.width.Width.{Width}
 use Rattle.processor_float.specs.Comparison.{comparison_of}
 use Rattle.processor_float.specs.declared.Compared.{Compared}
 use Rattle.processor_float.specs.declared.FloatOutcome.{FloatOutcome}

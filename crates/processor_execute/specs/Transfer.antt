@@ -2,8 +2,8 @@
 use Rattle.std.specs.Prelude.{ℕ}
 use Rattle.word.specs.Extend.{extend_of}
 use Rattle.bus.specs.Memory.{Memory, load_of, store_of}
-use Rattle.processor_decode.specs.declared.Width.{Width}
-use Rattle.processor_decode.specs.declared.Width.TheVariants.{Byte, Half, Word}
+use Rattle.word.specs.declared.width.Width.{Width}
+use Rattle.word.specs.declared.width.Width.TheVariants.{Byte, Half, Word}
 
 -- how many bytes a width has
 abbrev pub size_of : Width → ℕ

@@ -1,22 +1,22 @@
 -- A row of the dispatch: where an arm did what the decoder's row of its opcode says, the turn is that instruction's.
+use Rattle.std.specs.Prelude.{Option, None}
 use Rattle.std.proofs.Common.{◌≡◌, ℕ, ◌/◌, Bool, true, false, eqb, ltb, List, ◌++◌, get_or}
 use Rattle.word.specs.Choose.{pick}
 use Rattle.bus.specs.Memory.{Memory}
 use Rattle.processor_decode.specs.Opcode.{decode_of, short_rows, branch_rows, long_rows}
-use Rattle.processor_decode.specs.declared.Decoded.{Decoded}
-use Rattle.processor_decode.specs.declared.Decoded.TheVariants.{NotModelled}
 use Rattle.processor_lazy_flags.specs.declared.Flags.{Flags}
 use Rattle.processor_fast_compute.specs.inner.Fast.{PerformsAt}
 use Rattle.processor_fast_compute.specs.declared.Fast.{Fast}
 use Rattle.processor_fast.specs.inner.Turns.{Controls, Turns}
 use Rattle.processor_fast.proofs.Turning.{turned}
+use Rattle.processor_decode.specs.declared.Instruction.{Instruction}
 
 -- whether opcode k has two halfwords, and its row
 abbrev pub two_at : ℕ → Bool
 two_at k = pick (ltb k 0b101000) false (pick (eqb k 0b110010) false (pick (eqb k 0b110110) false true))
 
-abbrev pub row_at : ℕ → ℕ → ℕ → Decoded
-row_at k f s = get_or (short_rows f ++ (branch_rows f ++ long_rows f (pick (two_at k) s 0))) k NotModelled
+abbrev pub row_at : ℕ → ℕ → ℕ → Option Instruction
+row_at k f s = get_or (short_rows f ++ (branch_rows f ++ long_rows f (pick (two_at k) s 0))) k None
 
 module _ (k : ℕ) (r : Fast) (f s lines base x psw : ℕ) (g : Flags) (regs₀ sys : List ℕ) (m₀ : Memory) (regs : List ℕ) where
   -- a common instruction

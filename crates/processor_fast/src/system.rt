@@ -1,9 +1,8 @@
 // STSR, LDSR (not of PSW), SEI and CLI, which read or change the system registers or PSW above its flags. CLI is left
 // to the step where an interrupt is accepted after it.
-ghost use Rattle.std.specs.Prelude.{ℕ, List, slice_index};
+ghost use Rattle.std.specs.Prelude.{ℕ, List, slice_index, Some};
 ghost use Rattle.bus.specs.TimerLines.{lines_place};
 ghost use Rattle.processor_decode.specs.Format as format;
-ghost use Rattle.processor_decode.specs.declared.Decoded as decoded;
 ghost use Rattle.processor_decode.specs.declared.Instruction as instruction;
 ghost use Rattle.processor_fast.specs.inner.Turns.{Controls};
 
@@ -57,7 +56,7 @@ pub fn ldsr(regs: &[u32; 32], sys: &mut [u32; 8], f: u32, x: u32, psw: u32, flag
 
 pub fn sei(x: u32, psw: u32, flags: Flags) -> Fast
     ensures { (lines : ℕ) (regs sys : List ℕ)
-        → Controls lines (decoded.Decoded.Modelled instruction.Instruction.Sei) result x psw flags regs sys regs sys }
+        → Controls lines (Some instruction.Instruction.Sei) result x psw flags regs sys regs sys }
 {
     Fast::Masked {
         psw: flag::set_id(psw),
@@ -67,7 +66,7 @@ pub fn sei(x: u32, psw: u32, flags: Flags) -> Fast
 pub fn cli(device: &Device, x: u32, psw: u32, flags: Flags) -> Fast
     ensures { (regs sys : List ℕ)
         → Controls (slice_index device.now lines_place)
-        (decoded.Decoded.Modelled instruction.Instruction.Cli) result x psw flags regs sys regs sys }
+        (Some instruction.Instruction.Cli) result x psw flags regs sys regs sys }
 {
     let p = flag::clear_id(psw);
     if accepts(device[LINES_PLACE], p, Mode::Running) {

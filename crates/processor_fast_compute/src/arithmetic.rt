@@ -1,9 +1,8 @@
 // The instructions that compute: Register Transfer, Arithmetic, Bitwise, SETF. Each contract names the instruction's
 // row of the decoder's table, and holds for every value that the function does not take.
-ghost use Rattle.std.specs.Prelude.{◌≡◌, ◌/◌, ◌%◌, ◌<◌, true, false};
+ghost use Rattle.std.specs.Prelude.{◌≡◌, ◌/◌, ◌%◌, ◌<◌, true, false, Some};
 ghost use Rattle.word.specs.Extend.{extend_of};
 ghost use Rattle.processor_decode.specs.Format as format;
-ghost use Rattle.processor_decode.specs.declared.Decoded as decoded;
 ghost use Rattle.processor_decode.specs.declared.Instruction as instruction;
 ghost use Rattle.processor_lazy_flags.specs.inner.Packed.{packed_value_of};
 ghost use Rattle.processor_machine.specs.State.{put_of};
@@ -156,7 +155,7 @@ pub fn cmp(regs: &[u32; 32], f: u32, x: u32, flags: Flags) -> Fast
 }
 
 pub fn mul(regs: &mut [u32; 32], f: u32, x: u32, flags: Flags) -> Fast
-    ensures { Computes false (decoded.Decoded.Modelled (instruction.Instruction.Mul (f % 32) (f / 32 % 32))) result x flags
+    ensures { Computes false (Some (instruction.Instruction.Mul (f % 32) (f / 32 % 32))) result x flags
         regs.old regs.new }
 {
     let a = reg2(regs, f);
@@ -166,7 +165,7 @@ pub fn mul(regs: &mut [u32; 32], f: u32, x: u32, flags: Flags) -> Fast
 }
 
 pub fn mulu(regs: &mut [u32; 32], f: u32, x: u32, flags: Flags) -> Fast
-    ensures { Computes false (decoded.Decoded.Modelled (instruction.Instruction.Mulu (f % 32) (f / 32 % 32))) result x flags
+    ensures { Computes false (Some (instruction.Instruction.Mulu (f % 32) (f / 32 % 32))) result x flags
         regs.old regs.new }
 {
     let a = reg2(regs, f);
@@ -176,7 +175,7 @@ pub fn mulu(regs: &mut [u32; 32], f: u32, x: u32, flags: Flags) -> Fast
 }
 
 pub fn div(regs: &mut [u32; 32], f: u32, x: u32, flags: Flags) -> Fast
-    ensures { Computes false (decoded.Decoded.Modelled (instruction.Instruction.Div (f % 32) (f / 32 % 32))) result x flags
+    ensures { Computes false (Some (instruction.Instruction.Div (f % 32) (f / 32 % 32))) result x flags
         regs.old regs.new }
 {
     let a = reg2(regs, f);
@@ -189,7 +188,7 @@ pub fn div(regs: &mut [u32; 32], f: u32, x: u32, flags: Flags) -> Fast
 }
 
 pub fn divu(regs: &mut [u32; 32], f: u32, x: u32, flags: Flags) -> Fast
-    ensures { Computes false (decoded.Decoded.Modelled (instruction.Instruction.Divu (f % 32) (f / 32 % 32))) result x flags
+    ensures { Computes false (Some (instruction.Instruction.Divu (f % 32) (f / 32 % 32))) result x flags
         regs.old regs.new }
 {
     let a = reg2(regs, f);

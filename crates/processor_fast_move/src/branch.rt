@@ -1,10 +1,9 @@
 // Bcond and the jumps.
-ghost use Rattle.std.specs.Prelude.{◌≡◌, ℕ, ◌+◌, ◌*◌, ◌/◌, ◌%◌, ◌^◌, ◌<◌, true, false, List};
+ghost use Rattle.std.specs.Prelude.{◌≡◌, ℕ, ◌+◌, ◌*◌, ◌/◌, ◌%◌, ◌^◌, ◌<◌, true, false, List, Some};
 ghost use Rattle.word.specs.Choose.{pick};
 ghost use Rattle.word.specs.Extend.{extend_of};
 ghost use Rattle.bus.specs.Memory.{Memory};
 ghost use Rattle.processor_decode.specs.Format as format;
-ghost use Rattle.processor_decode.specs.declared.Decoded as decoded;
 ghost use Rattle.processor_decode.specs.declared.Instruction as instruction;
 ghost use Rattle.processor_fast_compute.specs.inner.Fast.{Computes, PerformsAt};
 
@@ -46,7 +45,7 @@ pub fn conditional(k: u32, f: u32, x: u32, flags: Flags) -> Fast
 
 pub fn jmp(regs: &[u32; 32], base: u32, f: u32, x: u32, flags: Flags) -> Fast
     ensures { (m : Memory)
-        → PerformsAt base false (decoded.Decoded.Modelled (instruction.Instruction.Jmp (f % 32))) result x flags
+        → PerformsAt base false (Some (instruction.Instruction.Jmp (f % 32))) result x flags
         regs.now m regs.now m }
 {
     let t = reg1(regs, f);
@@ -70,7 +69,7 @@ fn target(f: u32, s: u32, x: u32) -> u32
 pub fn jr(f: u32, s: u32, x: u32, flags: Flags) -> Fast
     requires { s < 65536 }
     ensures { (regs : List ℕ)
-        → Computes true (decoded.Decoded.Modelled (instruction.Instruction.Jr (format.disp_of f s))) result x flags regs regs }
+        → Computes true (Some (instruction.Instruction.Jr (format.disp_of f s))) result x flags regs regs }
 {
     let to = target(f, s, x);
     Fast::Done {
@@ -83,7 +82,7 @@ pub fn jr(f: u32, s: u32, x: u32, flags: Flags) -> Fast
 pub fn jal(regs: &mut [u32; 32], base: u32, f: u32, s: u32, x: u32, flags: Flags) -> Fast
     requires { s < 65536 }
     ensures { (m : Memory)
-        → PerformsAt base true (decoded.Decoded.Modelled (instruction.Instruction.Jal (format.disp_of f s))) result x flags
+        → PerformsAt base true (Some (instruction.Instruction.Jal (format.disp_of f s))) result x flags
         regs.old m regs.new m }
 {
     let link = std::num::wrapping_add_u32(base, after_two(x));

@@ -1,5 +1,6 @@
 -- `run-halted`: a run that ends halted ends where nothing is accepted. Only HALT leaves a halted machine; it is executed only
 -- where nothing is accepted, and changes neither PSW nor the lines. Assumes nothing.
+use Rattle.std.specs.Prelude.{Option, Some, None}
 use Prim.Native.Nat.{ℕ, zero, suc}
 use mathlib.Core.Bool.{true, false}
 use mathlib.Core.Path.{◌≡◌, refl, sym, ap, ◌∙◌}
@@ -7,8 +8,6 @@ use native.Mathlib.Omega.{arith}
 use Rattle.bus.specs.Memory.{Memory}
 use Rattle.processor_decode.specs.Format.{two_of}
 use Rattle.processor_decode.specs.Opcode.{decode_of}
-use Rattle.processor_decode.specs.declared.Decoded.{Decoded}
-use Rattle.processor_decode.specs.declared.Decoded.TheVariants.{Modelled, NotModelled}
 use Rattle.processor_machine.specs.State.{State, Stepped}
 use Rattle.processor_machine.specs.declared.Mode.{Mode}
 use Rattle.processor_machine.specs.declared.Mode.TheVariants.{Running, Halted, Fatal}
@@ -22,6 +21,7 @@ use Rattle.processor.specs.declared.After.TheVariants.{Counted, Stopped}
 use Rattle.processor_execute.proofs.Every as every
 use Rattle.word.proofs.Choices.{pick-cases}
 use Rattle.processor_interrupt_laws.specs.Interrupts.{RunHalted}
+use Rattle.processor_decode.specs.declared.Instruction.{Instruction}
 
 -- modes that differ
 mode_tag : Mode → ℕ
@@ -55,9 +55,9 @@ module _ (s : State) (m : Memory) (running : s.mode ≡ Running) where
         fatal = λ c h. absurd (fatal-halted h);
       }
 
-  perform-sleeps : (d : Decoded) (next : ℕ) → Sleeps (perform_of d next s m)
-  perform-sleeps (Modelled i) next = every.execute-every Sleeps next s m (sleeps next) i (λ width disp reg1 reg2. (λ e. awake, λ e. awake))
-  perform-sleeps NotModelled next = awake
+  perform-sleeps : (d : Option Instruction) (next : ℕ) → Sleeps (perform_of d next s m)
+  perform-sleeps (Some i) next = every.execute-every Sleeps next s m (sleeps next) i (λ width disp reg1 reg2. (λ e. awake, λ e. awake))
+  perform-sleeps None next = awake
 
   running-sleeps : Sleeps (running_step_of s m)
   unfolding running_step_of

@@ -7,7 +7,7 @@ use Rattle.bus_timer_laws.proofs.LinesKept.{lines-kept, line-never-rises}
 use Rattle.bus.specs.TimerLines.{device_length, hardware_in}
 use Rattle.bus.specs.Memory.{Memory, store_of}
 use Rattle.bus.proofs.Kept.{store-shape}
-use Rattle.processor_decode.specs.declared.Width.{Width}
+use Rattle.word.specs.declared.width.Width.{Width}
 use Rattle.processor_machine.specs.State.{State, Stepped}
 use Rattle.processor_execute.specs.Transfer.{size_of, stored_of}
 use Rattle.processor_step.specs.Step.{step_of}

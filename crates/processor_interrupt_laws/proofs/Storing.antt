@@ -1,5 +1,6 @@
 -- The memory after a step is that before it, or what its ST or OUT stored to it: what holds of both holds of it. Assumes
 -- nothing.
+use Rattle.std.specs.Prelude.{Option, Some, None}
 use Prim.Native.Nat.{ℕ}
 use mathlib.Core.Bool.{Bool, true, false}
 use mathlib.Core.Path.{◌≡◌, ap}
@@ -8,9 +9,7 @@ use Rattle.processor_execute.proofs.Every as every
 use Rattle.bus.specs.Memory.{Memory}
 use Rattle.processor_decode.specs.Format.{two_of}
 use Rattle.processor_decode.specs.Opcode.{decode_of}
-use Rattle.processor_decode.specs.declared.Width.{Width}
-use Rattle.processor_decode.specs.declared.Decoded.{Decoded}
-use Rattle.processor_decode.specs.declared.Decoded.TheVariants.{Modelled, NotModelled}
+use Rattle.word.specs.declared.width.Width.{Width}
 use Rattle.processor_decode.specs.declared.Instruction.TheVariants.{Store, Out}
 use Rattle.processor_machine.specs.State.{State, Stepped, reg_of}
 use Rattle.processor_machine.specs.declared.Mode.{Mode}
@@ -22,6 +21,7 @@ use Rattle.processor_step.specs.Interrupted.{accepts_in, interrupt_step_of}
 use Rattle.processor_step.specs.Step.{instruction_step_of, step_of, not_fetched, fetched_in_of}
 use Rattle.processor_step.specs.Step.{fetched_of}
 use Rattle.processor_step.specs.declared.step.Fetched.{Fetched}
+use Rattle.processor_decode.specs.declared.Instruction.{Instruction}
 
 module _ (s : State) (m : Memory) (P : Memory → Type 0) (here : P m) where
   abbrev Leaves : Stepped → Type 0
@@ -31,17 +31,17 @@ module _ (s : State) (m : Memory) (P : Memory → Type 0) (here : P m) where
   leaves next = record { ended = λ regs sys pc psw. here; halted = here; trapped = λ c sys pc psw. here; fatal = λ c. here }
 
   -- what ST or OUT stores, where it is the instruction d
-  abbrev pub Stored : Decoded → Type 0
+  abbrev pub Stored : Option Instruction → Type 0
   Stored d =
       (width : Width) (disp reg1 reg2 : ℕ)
-      → (d ≡ Modelled (Store width disp reg1 reg2) → P (stored_of m width (plus_of (reg_of s reg1) disp) (reg_of s reg2)))
-      × (d ≡ Modelled (Out width disp reg1 reg2) → P (stored_of m width (plus_of (reg_of s reg1) disp) (reg_of s reg2)))
+      → (d ≡ Some (Store width disp reg1 reg2) → P (stored_of m width (plus_of (reg_of s reg1) disp) (reg_of s reg2)))
+      × (d ≡ Some (Out width disp reg1 reg2) → P (stored_of m width (plus_of (reg_of s reg1) disp) (reg_of s reg2)))
 
-  perform-leaves : (d : Decoded) (next : ℕ) → Stored d → Leaves (perform_of d next s m)
-  perform-leaves (Modelled i) next h =
+  perform-leaves : (d : Option Instruction) (next : ℕ) → Stored d → Leaves (perform_of d next s m)
+  perform-leaves (Some i) next h =
       every.execute-every Leaves next s m (leaves next) i
-      (λ width disp reg1 reg2. (λ e. (h width disp reg1 reg2).0 (ap Modelled e), λ e. (h width disp reg1 reg2).1 (ap Modelled e)))
-  perform-leaves NotModelled next h = here
+      (λ width disp reg1 reg2. (λ e. (h width disp reg1 reg2).0 (ap Some e), λ e. (h width disp reg1 reg2).1 (ap Some e)))
+  perform-leaves None next h = here
 
   -- the instruction that was fetched
   abbrev pub StoredAt : Fetched → Type 0

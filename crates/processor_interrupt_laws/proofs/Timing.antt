@@ -6,8 +6,8 @@ use Rattle.bus.specs.Place.{region_of}
 use Rattle.bus.specs.Memory.{Memory}
 use Rattle.bus_timer_laws.specs.Writing.{timer_in}
 use Rattle.bus_timer_laws.proofs.Elsewhere.{stored-elsewhere}
-use Rattle.processor_decode.specs.declared.Width.{Width}
-use Rattle.processor_decode.specs.declared.Width.TheVariants.{Byte, Half, Word}
+use Rattle.word.specs.declared.width.Width.{Width}
+use Rattle.word.specs.declared.width.Width.TheVariants.{Byte, Half, Word}
 use Rattle.processor_machine.specs.State.{State, reg_of}
 use Rattle.processor_execute.specs.Transfer.{stored_of}
 use Rattle.processor_execute.specs.Execute.{plus_of}

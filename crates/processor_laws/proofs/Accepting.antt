@@ -1,4 +1,5 @@
 -- `step-accepted`, `run-accepted`, `run-count`, `machine-accepted-means` and `machine-means-accepted`: the statements of specs/Accepted.
+use Rattle.std.specs.Prelude.{Option, Some, None}
 use Prim.Native.Nat.{ℕ, zero, suc, ◌+◌, ◌%◌, ◌^◌, ◌≤◌, ◌<◌}
 use mathlib.Core.Bool.{Bool}
 use native.Mathlib.Omega.{arith}
@@ -12,8 +13,6 @@ use Rattle.bus.proofs.Kept.{register-within, within-drawing, registers-both, bot
 use Rattle.bus.proofs.Bytes.{load_fits}
 use Rattle.processor_decode.specs.Format.{two_of}
 use Rattle.processor_decode.specs.Opcode.{decode_of}
-use Rattle.processor_decode.specs.declared.Decoded.{Decoded}
-use Rattle.processor_decode.specs.declared.Decoded.TheVariants.{Modelled, NotModelled}
 use Rattle.processor_machine.specs.State.{State, Stepped}
 use Rattle.processor_step.specs.Step.{first_of, second_of, next_of, perform_of, running_step_of, step_in_of, instruction_step_of}
 use Rattle.processor_step.specs.Interrupted.{lines_in, accepts_in, interrupt_step_of}
@@ -31,6 +30,7 @@ use Rattle.processor_laws.proofs.Invariant.{Address, Good, told, tells, machine-
 use Rattle.processor_laws.proofs.Immediates.{Found, decoded-found}
 use Rattle.processor_laws.proofs.Exceptions.{Left, interrupt-left}
 use Rattle.processor_laws.proofs.Executes.{execute-left}
+use Rattle.processor_decode.specs.declared.Instruction.{Instruction}
 
 next_address : (two : Bool) (pc : ℕ) → Address pc → Address (next_of two pc)
 unfolding next_of
@@ -45,9 +45,9 @@ module _ (s : State) (m : Memory) (g : Good s m) where
       let none : 0 < 65536 = omega arith in
       pick-each (λ (x : ℕ). x < 65536) two (load_of m 2 ((pc + 2) % 2 ^ 32)) 0 (load_fits m g.memories.bytes 2 ((pc + 2) % 2 ^ 32)) none
 
-  perform-left : (d : Decoded) (next : ℕ) → Found d → Address next → Left (perform_of d next s m)
-  perform-left (Modelled i) next f hn = execute-left s m g next hn i f
-  perform-left NotModelled next f hn = g
+  perform-left : (d : Option Instruction) (next : ℕ) → Found d → Address next → Left (perform_of d next s m)
+  perform-left (Some i) next f hn = execute-left s m g next hn i f
+  perform-left None next f hn = g
 
   running-left : Left (running_step_of s m)
   unfolding running_step_of

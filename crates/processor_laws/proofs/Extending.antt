@@ -1,4 +1,5 @@
 -- Opcode 111110: its traps' flags, its decoding, and what its instructions change.
+use Rattle.std.specs.Prelude.{Option, Some, None}
 use Prim.Native.Nat.{ℕ, ◌*◌, ◌/◌, ◌%◌, ◌^◌, ◌<◌}
 use mathlib.Core.Path.{◌≡◌, refl, ap, subst}
 use mathlib.Core.Logic.{◌⊎◌, inl, inr}
@@ -17,8 +18,6 @@ use Rattle.processor_arithmetic.proofs.Places.{set-flag, set-flag-others}
 use Rattle.bus.specs.Memory.{Memory}
 use Rattle.processor_decode.specs.SubOpcode.{sub_rows, extended_of}
 use Rattle.processor_decode.specs.Opcode.{short_rows, branch_rows, long_rows, decode_of}
-use Rattle.processor_decode.specs.declared.Decoded.{Decoded}
-use Rattle.processor_decode.specs.declared.Decoded.TheVariants.{Modelled, NotModelled}
 use Rattle.processor_decode.specs.declared.Instruction.TheVariants.{Illegal}
 use Rattle.processor_decode.specs.declared.sub_opcode.FloatingOperation.{FloatingOperation}
 use Rattle.processor_float.specs.Operand.{is_zero}
@@ -42,6 +41,7 @@ use Rattle.processor_laws.specs.Trapping.{Outside}
 use Rattle.processor_laws.specs.Extended.{FlagsSaved, Decodes, Changes, Traps, floating_flags, CmpfChanges, FloatingChanges, NintendoChanges}
 use Rattle.processor_laws.proofs.Lists.{each_at}
 use Rattle.processor_laws.proofs.Floats.{Kept, outcome-kept, converted-each}
+use Rattle.processor_decode.specs.declared.Instruction.{Instruction}
 
 pub flags-saved : FlagsSaved
 flags-saved =
@@ -54,25 +54,25 @@ flags-saved =
 
 -- ---- decoding
 
-abbrev Modelled? : Decoded → Type 0
-Modelled? (Modelled i) = Unit {0}
-Modelled? NotModelled = ⊥
+abbrev Modelled? : Option Instruction → Type 0
+Modelled? (Some i) = Unit {0}
+Modelled? None = ⊥
 
 each-modelled : (f s : ℕ) → Modelled? (extended_of f s)
 unfolding sub_rows extended_of
 each-modelled f s =
-    each_at Modelled? (sub_rows f) (s / 1024) (Modelled Illegal)
+    each_at Modelled? (sub_rows f) (s / 1024) (Some Illegal)
     (tt, (tt, (tt, (tt, (tt, (tt, (tt, (tt, (tt, (tt, (tt, (tt, (tt, tt))))))))))))) tt
 
 row_of : (f s : ℕ) → f / 1024 ≡ 62 → decode_of f s ≡ extended_of f s
 unfolding decode_of short_rows branch_rows long_rows
-row_of f s e = ap (λ (i : ℕ). get_or (short_rows f ++ (branch_rows f ++ long_rows f s)) i NotModelled) e
+row_of f s e = ap (λ (i : ℕ). get_or (short_rows f ++ (branch_rows f ++ long_rows f s)) i None) e
 
 ignored-bits : (f s : ℕ) → extended_of f s ≡ extended_of f (s / 1024 * 1024)
 unfolding extended_of
 ignored-bits f s =
     let e : s / 1024 ≡ s / 1024 * 1024 / 1024 = omega arith in
-    ap (λ (i : ℕ). get_or (sub_rows f) i (Modelled Illegal)) e
+    ap (λ (i : ℕ). get_or (sub_rows f) i (Some Illegal)) e
 
 pub decodes : (f s : ℕ) → Decodes f s
 decodes f s =

@@ -1,4 +1,5 @@
 -- The immediate that the decoder gives is a word, for every two halfwords.
+use Rattle.std.specs.Prelude.{Option, Some, None}
 use Prim.Native.Nat.{ℕ, ◌/◌, ◌%◌, ◌^◌, ◌<◌}
 use mathlib.Core.List.{◌++◌}
 use native.Mathlib.Omega.{arith}
@@ -14,8 +15,6 @@ use Rattle.processor_decode.specs.declared.Instruction.TheVariants.{Register, Mu
 use Rattle.processor_decode.specs.declared.Instruction.TheVariants.{Setf, Cli, Sei, Trap, Reti, Halt, Ldsr, Stsr}
 use Rattle.processor_decode.specs.declared.Instruction.TheVariants.{Bcond, Jr, Jal, Long, Load, In, Store, Out}
 use Rattle.processor_decode.specs.declared.Instruction.TheVariants.{Illegal, Cmpf, Floating, Nintendo}
-use Rattle.processor_decode.specs.declared.Decoded.{Decoded}
-use Rattle.processor_decode.specs.declared.Decoded.TheVariants.{Modelled, NotModelled}
 use Rattle.processor_laws.proofs.Lists.{Each, each_append, each_at}
 
 -- an instruction whose immediate, where it gives a result, is a word
@@ -48,9 +47,9 @@ Fine (Cmpf reg1 reg2) = Unit {0}
 Fine (Floating op reg1 reg2) = Unit {0}
 Fine (Nintendo op reg1 reg2) = Unit {0}
 
-abbrev pub Found : Decoded → Type 0
-Found (Modelled i) = Fine i
-Found NotModelled = Unit {0}
+abbrev pub Found : Option Instruction → Type 0
+Found (Some i) = Fine i
+Found None = Unit {0}
 
 module _ (f : ℕ) where
   five : extend_of 16 (low_of f) < 2 ^ 32
@@ -60,10 +59,10 @@ module _ (f : ℕ) where
   plain = omega arith
 
   ldsr-found : Found (ldsr f)
-  ldsr-found = pick-each Found (eqb (low_of f) 24) NotModelled (Modelled (Ldsr (reg2_of f) (low_of f))) tt tt
+  ldsr-found = pick-each Found (eqb (low_of f) 24) None (Some (Ldsr (reg2_of f) (low_of f))) tt tt
 
   stsr-found : Found (stsr f)
-  stsr-found = pick-each Found (eqb (low_of f) 24) NotModelled (Modelled (Stsr (low_of f) (reg2_of f))) tt tt
+  stsr-found = pick-each Found (eqb (low_of f) 24) None (Some (Stsr (low_of f) (reg2_of f))) tt tt
 
   short-found : Each Found (short_rows f)
   unfolding short_rows
@@ -170,7 +169,7 @@ module _ (f : ℕ) where
 extended-found : (f s : ℕ) → Found (extended_of f s)
 unfolding sub_rows extended_of
 extended-found f s =
-    each_at Found (sub_rows f) (s / 1024) (Modelled Illegal)
+    each_at Found (sub_rows f) (s / 1024) (Some Illegal)
     (tt, (tt, (tt, (tt, (tt, (tt, (tt, (tt, (tt, (tt, (tt, (tt, (tt, tt))))))))))))) tt
 
 module _ (f s : ℕ) (h : s < 65536) where
@@ -249,6 +248,6 @@ module _ (f s : ℕ) (h : s < 65536) where
   pub decoded-found : Found (decode_of f s)
   unfolding decode_of
   decoded-found =
-      each_at Found (short_rows f ++ (branch_rows f ++ long_rows f s)) (f / 1024) NotModelled
+      each_at Found (short_rows f ++ (branch_rows f ++ long_rows f s)) (f / 1024) None
       (each_append Found (short_rows f) (branch_rows f ++ long_rows f s) (short-found f)
       (each_append Found (branch_rows f) (long_rows f s) (branch-found f) long-found)) tt

@@ -1,4 +1,5 @@
 -- `run-steps`, `run-counted` and `run_ends`: the statements of specs/Steps. Assumes nothing.
+use Rattle.std.specs.Prelude.{Option, Some, None}
 use Prim.Native.Nat.{ℕ, zero, suc, ◌%◌, ◌<◌}
 use mathlib.Core.Bool.{Bool, false}
 use mathlib.Core.Path.{◌≡◌, refl, sym, ap}
@@ -7,8 +8,6 @@ use lib.Dec.{eqb}
 use Rattle.bus.specs.Memory.{Memory}
 use Rattle.processor_decode.specs.Format.{two_of}
 use Rattle.processor_decode.specs.Opcode.{decode_of}
-use Rattle.processor_decode.specs.declared.Decoded.{Decoded}
-use Rattle.processor_decode.specs.declared.Decoded.TheVariants.{Modelled, NotModelled}
 use Rattle.processor_machine.specs.State.{State, Stepped, state_of, stepped_of}
 use Rattle.processor_step.specs.Step.{first_of, second_of, next_of, perform_of, running_step_of, step_in_of, instruction_step_of}
 use Rattle.processor_step.specs.Interrupted.{lines_in, accepts_in, interrupt_step_of}
@@ -25,6 +24,7 @@ use Rattle.processor.specs.declared.After.TheVariants.{Counted, Stopped}
 use Rattle.processor_laws.specs.Steps.{steps_of, RunSteps, Counts, RunCounted, step_end_of, Ends, RunEnds}
 use Rattle.processor_execute.proofs.Every as every
 use Rattle.word.proofs.Choices.{pick-each}
+use Rattle.processor_decode.specs.declared.Instruction.{Instruction}
 
 -- what a step leaves as it was, by its answer
 abbrev pub Leaves : Answer → Stepped → State → Memory → Type 0
@@ -44,9 +44,9 @@ module _ (s : State) (m : Memory) where
   idle next =
       record { ended = λ regs sys pc psw. tt; halted = tt; trapped = λ c sys pc psw. tt; fatal = λ c. (refl, refl) }
 
-  perform-idle : (d : Decoded) (next : ℕ) → Idle (perform_of d next s m)
-  perform-idle (Modelled i) next = every.execute-every Idle next s m (idle next) i (λ width disp reg1 reg2. (λ e. tt, λ e. tt))
-  perform-idle NotModelled next = (refl, refl)
+  perform-idle : (d : Option Instruction) (next : ℕ) → Idle (perform_of d next s m)
+  perform-idle (Some i) next = every.execute-every Idle next s m (idle next) i (λ width disp reg1 reg2. (λ e. tt, λ e. tt))
+  perform-idle None next = (refl, refl)
 
   step-in-idle : (mode : Mode) → Idle (step_in_of mode s m)
   unfolding running_step_of

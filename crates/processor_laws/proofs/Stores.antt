@@ -7,8 +7,8 @@ use Rattle.word.proofs.Extended.{extend-word}
 use Rattle.bus.specs.Memory.{Memory, load_of}
 use Rattle.bus.proofs.Kept.{store-shape, shape-accepted}
 use Rattle.bus.proofs.Bytes.{Bytes, store_bytes, load_fits}
-use Rattle.processor_decode.specs.declared.Width.{Width}
-use Rattle.processor_decode.specs.declared.Width.TheVariants.{Byte, Half, Word}
+use Rattle.word.specs.declared.width.Width.{Width}
+use Rattle.word.specs.declared.width.Width.TheVariants.{Byte, Half, Word}
 use Rattle.processor_execute.specs.Transfer.{size_of, loaded_of, input_of, stored_of}
 use Rattle.processor_laws.proofs.Invariant.{Memories}
 

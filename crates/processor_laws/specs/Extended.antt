@@ -1,7 +1,7 @@
 -- Opcode 111110 (request W4): the four floating traps set their own flag in the PSW that is saved and change no other
 -- bit of it; every sub-opcode is decoded, by its six bits alone; an instruction of this opcode changes reg2 and its
 -- flags and nothing else, or traps. The proofs are in proofs/Extending. What a trap leaves is Trapping.
-use Rattle.std.specs.Prelude.{ℕ, ◌*◌, ◌/◌, ◌%◌, true, List, [], ◌∷◌, ◌≡◌, ◌≢◌, ◌⊎◌, get_or}
+use Rattle.std.specs.Prelude.{ℕ, ◌*◌, ◌/◌, ◌%◌, true, List, [], ◌∷◌, ◌≡◌, ◌≢◌, ◌⊎◌, get_or, None}
 use Rattle.word.specs.Bit.{bit_at}
 use Rattle.processor_arithmetic.specs.Flag.{z_flag, s_flag, ov_flag, cy_flag}
 use Rattle.processor_arithmetic.specs.FloatFlag.{fud_flag, fov_flag, fzd_flag, fiv_flag, fro_flag}
@@ -9,7 +9,6 @@ use Rattle.word.specs.Choose.{member}
 use Rattle.bus.specs.Memory.{Memory}
 use Rattle.processor_decode.specs.SubOpcode.{extended_of}
 use Rattle.processor_decode.specs.Opcode.{decode_of}
-use Rattle.processor_decode.specs.declared.Decoded.TheVariants.{NotModelled}
 use Rattle.processor_decode.specs.declared.Instruction.TheVariants.{Cmpf, Floating, Nintendo}
 use Rattle.processor_decode.specs.declared.sub_opcode.FloatingOperation.{FloatingOperation}
 use Rattle.processor_decode.specs.declared.sub_opcode.NintendoOperation.{NintendoOperation}
@@ -37,7 +36,7 @@ pub record FlagsSaved : Type 0 where
 -- 111110 is 62
 pub record Decodes (f s : ℕ) : Type 0 where
   pub row : f / 1024 ≡ 62 → decode_of f s ≡ extended_of f s
-  pub modelled : extended_of f s ≡ NotModelled → ⊥
+  pub modelled : extended_of f s ≡ None → ⊥
   pub ignored : extended_of f s ≡ extended_of f (s / 1024 * 1024)
 
 -- an instruction that ended and goes on at `next`: memory, the system registers and the mode stay; of the general

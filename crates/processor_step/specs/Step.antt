@@ -1,14 +1,12 @@
 -- A step (paper 01, "Instructions"; paper 02, W6): an interrupt is accepted, or the instruction at PC is fetched once,
 -- decoded and executed. In halted or fatal mode a step "does nothing and says which"; an instruction that is not
 -- modelled is refusal 6.
-use Rattle.std.specs.Prelude.{ℕ, ◌+◌, ◌%◌, ◌^◌, Bool}
+use Rattle.std.specs.Prelude.{ℕ, ◌+◌, ◌%◌, ◌^◌, Bool, Option, Some, None}
 use Rattle.word.specs.Choose.{pick}
 use Rattle.bus.specs.Memory.{Memory, load_of}
 use Rattle.refusal.specs.declared.Refusal as refusal
 use Rattle.processor_decode.specs.Format.{two_of}
 use Rattle.processor_decode.specs.Opcode.{decode_of}
-use Rattle.processor_decode.specs.declared.Decoded.{Decoded}
-use Rattle.processor_decode.specs.declared.Decoded.TheVariants.{Modelled, NotModelled}
 use Rattle.processor_machine.specs.State.{State, Stepped, stepped_of}
 use Rattle.processor_execute.specs.Execute.{execute_of}
 use Rattle.processor_machine.specs.declared.Mode.{Mode}
@@ -16,6 +14,7 @@ use Rattle.processor_machine.specs.declared.Mode.TheVariants.{Running, Halted, F
 use Rattle.processor_machine.specs.declared.Answer.TheVariants.{WasHalted, WasFatal, Refused}
 use Rattle.processor_step.specs.Interrupted.{accepts_in, interrupt_step_of}
 use Rattle.processor_step.specs.declared.step.Fetched.{Fetched}
+use Rattle.processor_decode.specs.declared.Instruction.{Instruction}
 
 -- the first halfword, at PC
 abbrev pub first_of : ℕ → Memory → ℕ
@@ -36,9 +35,9 @@ unfoldable pub next_of : Bool → ℕ → ℕ
 next_of two pc = pick two ((pc + 4) % 2 ^ 32) ((pc + 2) % 2 ^ 32)
 
 -- what the decoded instruction does
-abbrev pub perform_of : Decoded → ℕ → State → Memory → Stepped
-perform_of (Modelled i) next s m = execute_of i next s m
-perform_of NotModelled next s m = stepped_of (Refused refusal.TheVariants.NotModelled) s m
+abbrev pub perform_of : Option Instruction → ℕ → State → Memory → Stepped
+perform_of (Some i) next s m = execute_of i next s m
+perform_of None next s m = stepped_of (Refused refusal.TheVariants.NotModelled) s m
 
 -- a step in running mode
 unfoldable pub running_step_of : State → Memory → Stepped

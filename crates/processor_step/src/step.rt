@@ -9,7 +9,6 @@ ghost use Rattle.processor_step.specs.Step.{first_of, second_of, next_of, runnin
 ghost use Rattle.processor_step.specs.Step.{fetched_at, not_fetched, fetched_in_of, fetched_of};
 
 use bus::{Device, LINES_PLACE};
-use processor_decode::Decoded;
 use processor_execute::execute::execute;
 use processor_interrupt::acceptance::{accepts, level};
 use processor_interrupt::entry::enter;
@@ -108,14 +107,14 @@ fn running(
     let second = second(rom, wram, vram, pak, device, pc, two);
     let next = following(pc, two);
     match processor_decode::decode(first, second) {
-        Decoded::Modelled(i) => {
+        Some(i) => {
             let control = execute(rom, wram, vram, pak, device, regs, sys, i, pc, next, psw);
             Performed {
                 control,
                 fetched: Fetched { first, second },
             }
         }
-        Decoded::NotModelled => Performed {
+        None => Performed {
             control: Control {
                 pc,
                 psw,

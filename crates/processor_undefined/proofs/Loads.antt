@@ -1,4 +1,5 @@
 -- Which opcodes load: the decoder's row of each. Assumes nothing.
+use Rattle.std.specs.Prelude.{Option, Some, None}
 use Rattle.std.proofs.Common.{◌≡◌, ℕ, zero, suc, ◌/◌, ◌<◌, Bool, true, false, T, eqb, List, [], ◌∷◌, ◌++◌, get_or, refl, ne_eqb, eqb-true}
 use native.Mathlib.Decide.{ℕ_discrete}
 use Rattle.word.specs.Choose.{pick, member}
@@ -8,12 +9,11 @@ use Rattle.bus.specs.Memory.{Memory}
 use Rattle.processor_decode.specs.Format.{low_of, reg2_of, transfer, ldsr, stsr}
 use Rattle.processor_decode.specs.Opcode.{decode_of, short_rows, branch_rows, long_rows}
 use Rattle.processor_decode.specs.SubOpcode.{sub_rows, extended_of}
-use Rattle.processor_decode.specs.declared.Width.TheVariants.{Byte, Half, Word}
+use Rattle.word.specs.declared.width.Width.TheVariants.{Byte, Half, Word}
 use Rattle.processor_decode.specs.declared.Instruction.TheVariants.{Load, In, Ldsr, Stsr, Illegal}
-use Rattle.processor_decode.specs.declared.Decoded.{Decoded}
-use Rattle.processor_decode.specs.declared.Decoded.TheVariants.{Modelled, NotModelled}
 use Rattle.processor_machine.specs.State.{State}
 use Rattle.processor_undefined.specs.Reads.{decoded_load_of}
+use Rattle.processor_decode.specs.declared.Instruction.{Instruction}
 
 -- the six rows that load
 module _ (f s : ℕ) where
@@ -60,11 +60,11 @@ abbrev apart : List ℕ
 apart = 28 ∷ 29 ∷ 48 ∷ 49 ∷ 51 ∷ 56 ∷ 57 ∷ 59 ∷ 62 ∷ []
 
 -- whether no row of a list loads
-abbrev none_loads : List Decoded → State → Memory → Bool
+abbrev none_loads : List (Option Instruction) → State → Memory → Bool
 none_loads [] t m = true
 none_loads (x ∷ xs) t m = pick (eqb (decoded_load_of x t m) 0) (none_loads xs t m) false
 
-row-quiet : (xs : List Decoded) (k : ℕ) (d : Decoded) (t : State) (m : Memory) → T
+row-quiet : (xs : List (Option Instruction)) (k : ℕ) (d : Option Instruction) (t : State) (m : Memory) → T
     (none_loads xs t m) → decoded_load_of d t m ≡ 0 → decoded_load_of (get_or xs k d) t m ≡ 0
 row-quiet [] k d t m h e = e
 row-quiet (x ∷ xs) zero d t m h e = eqb-true _ 0 (pick-head (eqb (decoded_load_of x t m) 0) (none_loads xs t m) h)
@@ -72,18 +72,18 @@ row-quiet (x ∷ xs) (suc k) d t m h e = row-quiet xs k d t m (pick-tail (eqb (d
 
 extended-quiet : (f s : ℕ) (t : State) (m : Memory) → decoded_load_of (extended_of f s) t m ≡ 0
 unfolding extended_of sub_rows
-extended-quiet f s t m = row-quiet (sub_rows f) (s / 1024) (Modelled Illegal) t m tt refl
+extended-quiet f s t m = row-quiet (sub_rows f) (s / 1024) (Some Illegal) t m tt refl
 
 module _ (f s : ℕ) (t : State) (m : Memory) where
   abbrev quiet : ℕ → Bool
   quiet q =
-      pick (member q apart) true (eqb (decoded_load_of (get_or (short_rows f ++ (branch_rows f ++ long_rows f s)) q NotModelled) t m) 0)
+      pick (member q apart) true (eqb (decoded_load_of (get_or (short_rows f ++ (branch_rows f ++ long_rows f s)) q None) t m) 0)
 
   all_quiet : T (every_below quiet 64)
   unfolding short_rows branch_rows long_rows
   all_quiet = tt
 
-  either : (d e : Decoded) (b : Bool) → decoded_load_of d t m ≡ 0 → decoded_load_of e t m ≡ 0 → decoded_load_of (pick b d e) t m ≡ 0
+  either : (d e : Option Instruction) (b : Bool) → decoded_load_of d t m ≡ 0 → decoded_load_of e t m ≡ 0 → decoded_load_of (pick b d e) t m ≡ 0
   either d e true p q = p
   either d e false p q = q
 
@@ -95,9 +95,9 @@ module _ (f s : ℕ) (t : State) (m : Memory) where
       (f / 1024 ≡ 56 → ⊥) → (f / 1024 ≡ 57 → ⊥) → (f / 1024 ≡ 59 → ⊥) → decoded_load_of (decode_of f s) t m ≡ 0
   loads-nothing h n₁ n₂ n₃ n₄ n₅ n₆ =
       elim (ℕ_discrete (f / 1024) 28) [
-        | yes e ↦ rw (row-28 f s e) (either NotModelled (Modelled (Ldsr (reg2_of f) (low_of f))) (eqb (low_of f) 24) refl refl)
+        | yes e ↦ rw (row-28 f s e) (either None (Some (Ldsr (reg2_of f) (low_of f))) (eqb (low_of f) 24) refl refl)
         | no a ↦ elim (ℕ_discrete (f / 1024) 29) [
-          | yes e ↦ rw (row-29 f s e) (either NotModelled (Modelled (Stsr (low_of f) (reg2_of f))) (eqb (low_of f) 24) refl refl)
+          | yes e ↦ rw (row-29 f s e) (either None (Some (Stsr (low_of f) (reg2_of f))) (eqb (low_of f) 24) refl refl)
           | no b ↦ elim (ℕ_discrete (f / 1024) 62) [
             | yes e ↦ rw (row-62 f s e) (extended-quiet f s t m)
             | no c ↦

@@ -1,7 +1,7 @@
 -- Which bytes that a step read are undefined (paper 02, W2): "Loads and fetches pass the fact on; the step's answer
 -- holds it for each fetched halfword and for the load apart, a byte not read counting as defined." As masks: bit k is
 -- set where byte k was read and is undefined.
-use Rattle.std.specs.Prelude.{ℕ, ◌+◌, ◌%◌, ◌^◌}
+use Rattle.std.specs.Prelude.{ℕ, ◌+◌, ◌%◌, ◌^◌, Option, Some, None}
 use Rattle.word.specs.Choose.{pick}
 use Rattle.bus.specs.Memory.{Memory}
 use Rattle.bus_defined.specs.Defined.{undefined_of}
@@ -12,8 +12,6 @@ use Rattle.processor_decode.specs.declared.Instruction.TheVariants.{Register, Mu
 use Rattle.processor_decode.specs.declared.Instruction.TheVariants.{Setf, Cli, Sei, Trap, Reti, Halt, Ldsr, Stsr}
 use Rattle.processor_decode.specs.declared.Instruction.TheVariants.{Bcond, Jr, Jal, Long, Load, In, Store, Out}
 use Rattle.processor_decode.specs.declared.Instruction.TheVariants.{Illegal, Cmpf, Floating, Nintendo}
-use Rattle.processor_decode.specs.declared.Decoded.{Decoded}
-use Rattle.processor_decode.specs.declared.Decoded.TheVariants.{Modelled, NotModelled}
 use Rattle.processor_machine.specs.State.{State, reg_of}
 use Rattle.processor_machine.specs.declared.Answer.{Answer}
 use Rattle.processor_machine.specs.declared.Answer.TheVariants.{Ended, Trapped, Interrupted, TurnedFatal, WasHalted}
@@ -54,9 +52,9 @@ load_undefined_of (Cmpf reg1 reg2) s m = 0
 load_undefined_of (Floating op reg1 reg2) s m = 0
 load_undefined_of (Nintendo op reg1 reg2) s m = 0
 
-abbrev pub decoded_load_of : Decoded → State → Memory → ℕ
-decoded_load_of (Modelled i) s m = load_undefined_of i s m
-decoded_load_of NotModelled s m = 0
+abbrev pub decoded_load_of : Option Instruction → State → Memory → ℕ
+decoded_load_of (Some i) s m = load_undefined_of i s m
+decoded_load_of None s m = 0
 
 -- the mask of the second halfword, which is read where the first asks for it
 unfoldable pub second_undefined_of : ℕ → ℕ → Memory → ℕ

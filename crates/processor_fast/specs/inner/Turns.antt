@@ -1,12 +1,11 @@
 -- What one turn of the loop answers (paper 01, "Instructions"; document 000, "CPU Control"): where a common instruction
 -- goes on, as processor_fast_compute has it; PSW above its flags, for one that goes on at the following instruction;
 -- or that it is left to the step, with nothing changed.
-use Rattle.std.specs.Prelude.{◌≡◌, ℕ, ◌+◌, ◌%◌, ◌^◌, false, List}
+use Rattle.std.specs.Prelude.{◌≡◌, ℕ, ◌+◌, ◌%◌, ◌^◌, false, List, Option}
 use Rattle.word.specs.Choose.{pick}
 use Rattle.bus.specs.Memory.{Memory}
 use Rattle.processor_decode.specs.Format.{two_of}
 use Rattle.processor_decode.specs.Opcode.{decode_of}
-use Rattle.processor_decode.specs.declared.Decoded.{Decoded}
 use Rattle.processor_lazy_flags.specs.declared.Flags.{Flags}
 use Rattle.processor_interrupt.specs.Interrupt.{accepts_of}
 use Rattle.processor_machine.specs.State.{Stepped, stepped_of}
@@ -16,6 +15,7 @@ use Rattle.processor_fast_compute.specs.inner.Fast.{address_of, machine_of}
 use Rattle.processor_fast_compute.specs.declared.Fast.{Fast}
 use Rattle.processor_fast_compute.specs.declared.Fast.TheVariants.{Done, Masked, NotHere}
 use Rattle.processor_step.specs.Step.{next_of, perform_of}
+use Rattle.processor_decode.specs.declared.Instruction.{Instruction}
 
 -- where these lines have no interrupt accepted with the first PSW, they have none with the second
 abbrev pub Quiet : ℕ → ℕ → ℕ → Type 0
@@ -32,7 +32,7 @@ Turned (Masked p) lines base x psw g regs₀ sys₀ m₀ regs sys m t =
 Turned NotHere lines base x psw g regs₀ sys₀ m₀ regs sys m t = (regs ≡ regs₀) × (sys ≡ sys₀) × (m ≡ m₀)
 
 -- the answer for what was decoded of one halfword, wherever it stands and for every memory, which stays
-abbrev pub Controls : ℕ → Decoded → Fast → ℕ → ℕ → Flags → List ℕ → List ℕ → List ℕ → List ℕ → Type 0
+abbrev pub Controls : ℕ → Option Instruction → Fast → ℕ → ℕ → Flags → List ℕ → List ℕ → List ℕ → List ℕ → Type 0
 Controls lines d r x psw g regs₀ sys₀ regs sys =
     (m : Memory) (base : ℕ) → x % 2 ≡ 0
     → Turned r lines base x psw g regs₀ sys₀ m regs sys m

@@ -1,9 +1,8 @@
 -- What the dispatch of a common instruction answers (paper 01, "Instructions"). Either the index x of the next
 -- instruction, in code that stands from the address `base` on, and the lazy flags; or that the instruction is left to
 -- the step, with nothing changed.
-use Rattle.std.specs.Prelude.{◌≡◌, ℕ, ◌+◌, ◌%◌, ◌^◌, Bool, true, List}
+use Rattle.std.specs.Prelude.{◌≡◌, ℕ, ◌+◌, ◌%◌, ◌^◌, Bool, true, List, Option}
 use Rattle.bus.specs.Memory.{Memory}
-use Rattle.processor_decode.specs.declared.Decoded.{Decoded}
 use Rattle.processor_execute.specs.Floating.{settles_of}
 use Rattle.processor_float.specs.declared.FloatOutcome.{FloatOutcome}
 use Rattle.processor_lazy_flags.specs.inner.Packed.{packed_of}
@@ -14,6 +13,7 @@ use Rattle.processor_machine.specs.declared.Mode.TheVariants.{Running}
 use Rattle.processor_step.specs.Step.{next_of, perform_of}
 use Rattle.processor_fast_compute.specs.declared.Fast.{Fast}
 use Rattle.processor_fast_compute.specs.declared.Fast.TheVariants.{Done, Masked, NotHere}
+use Rattle.processor_decode.specs.declared.Instruction.{Instruction}
 
 -- the address of index x
 abbrev pub address_of : ℕ → ℕ → ℕ
@@ -33,18 +33,18 @@ Does (Masked p) base psw regs₀ m₀ regs m sys t = ⊥
 Does NotHere base psw regs₀ m₀ regs m sys t = (regs ≡ regs₀) × (m ≡ m₀)
 
 -- the answer for what was decoded at index x, of two halfwords or one: for every PSW and all system registers
-abbrev pub PerformsAt : ℕ → Bool → Decoded → Fast → ℕ → Flags → List ℕ → Memory → List ℕ → Memory → Type 0
+abbrev pub PerformsAt : ℕ → Bool → Option Instruction → Fast → ℕ → Flags → List ℕ → Memory → List ℕ → Memory → Type 0
 PerformsAt base two d r x g regs₀ m₀ regs m =
     (psw : ℕ) (sys : List ℕ) → base % 2 ≡ 0 → x % 2 ≡ 0
     → Does r base psw regs₀ m₀ regs m sys
     (perform_of d (next_of two (address_of base x)) (machine_of regs₀ sys base x psw g) m₀)
 
 -- the same wherever the code stands
-abbrev pub Performs : Bool → Decoded → Fast → ℕ → Flags → List ℕ → Memory → List ℕ → Memory → Type 0
+abbrev pub Performs : Bool → Option Instruction → Fast → ℕ → Flags → List ℕ → Memory → List ℕ → Memory → Type 0
 Performs two d r x g regs₀ m₀ regs m = (base : ℕ) → PerformsAt base two d r x g regs₀ m₀ regs m
 
 -- the same for every memory, which stays
-abbrev pub Computes : Bool → Decoded → Fast → ℕ → Flags → List ℕ → List ℕ → Type 0
+abbrev pub Computes : Bool → Option Instruction → Fast → ℕ → Flags → List ℕ → List ℕ → Type 0
 Computes two d r x g regs₀ regs = (m : Memory) → Performs two d r x g regs₀ m regs m
 
 -- the answer for a floating instruction of two halfwords that came to an outcome, for register n

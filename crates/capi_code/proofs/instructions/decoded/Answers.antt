@@ -1,8 +1,8 @@
 -- `capi_code::instructions::decoded`: the instruction's fields, or refusal 6.
 use Rattle.capi_code.proofs.instructions.decoded.Goals as goal
 
-pub returns-in-Modelled : goal.returns-in-Modelled
-returns-in-Modelled c = rw (c.in-Modelled.is, c.length.ensures, c.fields_out-instruction.ensures, c.fields.ensures)
+pub returns-in-Some : goal.returns-in-Some
+returns-in-Some c = rw (c.in-Some.is, c.length.ensures, c.fields_out-instruction.ensures, c.fields.ensures)
 
-pub returns-in-NotModelled : goal.returns-in-NotModelled
-returns-in-NotModelled c = rw (c.in-NotModelled.is, c.number.ensures)
+pub returns-in-None : goal.returns-in-None
+returns-in-None c = rw (c.in-None.is, c.number.ensures)

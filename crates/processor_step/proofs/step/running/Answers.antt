@@ -21,18 +21,18 @@ execute-control-requires c =
       pak-ok = rw (l.pak, k.pak) pre.pak-ok;
     }
 
-pub shape_of-wram-in-Modelled : goal.shape_of-wram-in-Modelled
-shape_of-wram-in-Modelled c = c.execute-control.auto.wram ∙ c.second-second.auto.wram ∙ c.half-first.auto.wram
+pub shape_of-wram-in-Some : goal.shape_of-wram-in-Some
+shape_of-wram-in-Some c = c.execute-control.auto.wram ∙ c.second-second.auto.wram ∙ c.half-first.auto.wram
 
-pub shape_of-vram-in-Modelled : goal.shape_of-vram-in-Modelled
-shape_of-vram-in-Modelled c = c.execute-control.auto.vram ∙ c.second-second.auto.vram ∙ c.half-first.auto.vram
+pub shape_of-vram-in-Some : goal.shape_of-vram-in-Some
+shape_of-vram-in-Some c = c.execute-control.auto.vram ∙ c.second-second.auto.vram ∙ c.half-first.auto.vram
 
-pub shape_of-pak-in-Modelled : goal.shape_of-pak-in-Modelled
-shape_of-pak-in-Modelled c = c.execute-control.auto.pak ∙ c.second-second.auto.pak ∙ c.half-first.auto.pak
+pub shape_of-pak-in-Some : goal.shape_of-pak-in-Some
+shape_of-pak-in-Some c = c.execute-control.auto.pak ∙ c.second-second.auto.pak ∙ c.half-first.auto.pak
 
-pub returns-in-Modelled : goal.returns-in-Modelled
+pub returns-in-Some : goal.returns-in-Some
 unfolding running_step_of
-returns-in-Modelled c =
+returns-in-Some c =
     let first = c.half-first.ensures in
     let second = c.second-second.ensures in
     record {
@@ -44,14 +44,14 @@ returns-in-Modelled c =
         ← second.kept,
         ← c.following-next.ensures,
         ← c.decode.ensures,
-        c.in-Modelled.is,
+        c.in-Some.is,
       ) c.execute-control.ensures;
       fetched = rw (← first.value, ← c.two-two.ensures, ← first.kept, ← second.value);
     }
 
-pub returns-in-NotModelled : goal.returns-in-NotModelled
+pub returns-in-None : goal.returns-in-None
 unfolding running_step_of
-returns-in-NotModelled c =
+returns-in-None c =
     let first = c.half-first.ensures in
     let second = c.second-second.ensures in
     record {
@@ -63,7 +63,7 @@ returns-in-NotModelled c =
         ← second.kept,
         ← c.following-next.ensures,
         ← c.decode.ensures,
-        c.in-NotModelled.is,
+        c.in-None.is,
       );
       fetched = rw (← first.value, ← c.two-two.ensures, ← first.kept, ← second.value);
     }
