@@ -1,138 +1,136 @@
-// What each instruction format makes of its fields: f is the first halfword, s the second.
-ghost use Rattle.std.specs.Prelude.{◌≡◌, ◌<◌, Some};
+// The fields of the instruction formats, and what each format makes of them.
+ghost use Rattle.std.specs.Prelude.{◌≡◌, Some};
 ghost use Rattle.word.specs.Extend.{extend_of};
-ghost use Rattle.processor_decode.specs.Format.{low_of, register, immediate, long, transfer};
+ghost use Rattle.processor_decode.specs.Format.{opcode_of, low_of, reg2_of, register, immediate, long};
 ghost use Rattle.processor_decode.specs.Format.{ldsr, stsr, setf, branch, disp_of};
 
-use crate::{ImmediateOperation, Instruction, LongOperation, RegisterOperation, Width};
+use crate::{
+    Disp, ImmediateOperation, Instruction, LongOperation, Reg1, Reg2, RegisterOperation, Width,
+};
 
-// Format I: reg1 and reg2.
-pub fn register(op: RegisterOperation, f: u32) -> Option<Instruction>
-    ensures { result ≡ register op f }
-{
-    Some(Instruction::Register(op, f % 32, f / 32 % 32))
+// A first and a second halfword.
+#[derive(Clone, Copy)]
+pub struct Halfwords {
+    pub first: u16,
+    pub second: u16,
 }
 
-// Format II: a five-bit immediate, sign-extended, and reg2.
-pub fn signed(op: ImmediateOperation, f: u32) -> Option<Instruction>
-    ensures { result ≡ immediate op (extend_of 16 (low_of f)) f }
-{
-    Some(Instruction::Immediate(op, word::extend(16, f % 32), f / 32 % 32))
-}
-
-// Format II: a five-bit immediate, zero-extended, and reg2.
-pub fn unsigned(op: ImmediateOperation, f: u32) -> Option<Instruction>
-    ensures { result ≡ immediate op (low_of f) f }
-{
-    Some(Instruction::Immediate(op, f % 32, f / 32 % 32))
-}
-
-// Format II with a condition, of which the top bit is ignored.
-pub fn setf(f: u32) -> Option<Instruction>
-    ensures { result ≡ setf f }
-{
-    Some(Instruction::Setf(f % 16, f / 32 % 32))
-}
-
-// LDSR, but for register 24, the cache control word.
-pub fn ldsr(f: u32) -> Option<Instruction>
-    ensures { result ≡ ldsr f }
-{
-    if f % 32 == 24 {
-        return None;
+impl Halfwords {
+    // The top six bits.
+    pub fn opcode(self) -> u16
+        ensures { result ≡ opcode_of self.first }
+    {
+        self.first / 1024
     }
-    Some(Instruction::Ldsr(f / 32 % 32, f % 32))
-}
 
-// STSR, but for register 24, the cache control word.
-pub fn stsr(f: u32) -> Option<Instruction>
-    ensures { result ≡ stsr f }
-{
-    if f % 32 == 24 {
-        return None;
+    // Bits 4-0: reg1, an immediate, a vector or a system register.
+    pub fn low(self) -> u32
+        ensures { result ≡ low_of self.first }
+    {
+        u32::from(self.first % 32)
     }
-    Some(Instruction::Stsr(f % 32, f / 32 % 32))
-}
 
-// Format III: a condition and a nine-bit displacement, bit 0 cleared.
-pub fn branch(f: u32) -> Option<Instruction>
-    ensures { result ≡ branch f }
-{
-    let disp = word::extend(256, f % 512 / 2 * 2);
-    Some(Instruction::Bcond(f / 512 % 16, disp))
-}
+    // The same as an immediate that is sign-extended.
+    pub fn signed_low(self) -> u32
+        ensures { result ≡ extend_of 16 (low_of self.first) }
+    {
+        word::extend(16, self.low())
+    }
 
-// Format IV: a 26-bit displacement, its high ten bits in the first halfword, bit 0 cleared.
-fn displacement(f: u32, s: u32) -> u32
-    requires { s < 65536 }
-    ensures { result ≡ disp_of f s }
-{
-    word::extend(33554432, f % 1024 * 65536 + s / 2 * 2)
-}
+    // Bits 9-5.
+    pub fn reg2(self) -> u32
+        ensures { result ≡ reg2_of self.first }
+    {
+        u32::from(self.first / 32 % 32)
+    }
 
-pub fn jr(f: u32, s: u32) -> Option<Instruction>
-    requires { s < 65536 }
-    ensures { result ≡ Some (Instruction.Jr (disp_of f s)) }
-{
-    Some(Instruction::Jr(displacement(f, s)))
-}
+    // The second halfword, zero-extended.
+    pub fn unsigned(self) -> u32
+        ensures { result ≡ self.second }
+    {
+        u32::from(self.second)
+    }
 
-pub fn jal(f: u32, s: u32) -> Option<Instruction>
-    requires { s < 65536 }
-    ensures { result ≡ Some (Instruction.Jal (disp_of f s)) }
-{
-    Some(Instruction::Jal(displacement(f, s)))
-}
+    // The second halfword, sign-extended.
+    pub fn signed(self) -> u32
+        ensures { result ≡ extend_of 32768 self.second }
+    {
+        word::extend(32768, self.unsigned())
+    }
 
-// Format V: a sixteen-bit immediate, reg1 and reg2.
-fn long(op: LongOperation, imm: u32, f: u32) -> Option<Instruction>
-    ensures { result ≡ long op imm f }
-{
-    Some(Instruction::Long(op, imm, f % 32, f / 32 % 32))
-}
+    // Format I: reg1 and reg2.
+    pub fn register(self, op: RegisterOperation) -> Instruction
+        ensures { Some result ≡ register op self.first }
+    {
+        Instruction::Register(op, self.low(), self.reg2())
+    }
 
-pub fn long_signed(op: LongOperation, f: u32, s: u32) -> Option<Instruction>
-    requires { s < 65536 }
-    ensures { result ≡ long op (extend_of 32768 s) f }
-{
-    long(op, word::extend(32768, s), f)
-}
+    // Format II: a five-bit immediate and reg2.
+    pub fn immediate(self, op: ImmediateOperation, imm: u32) -> Instruction
+        ensures { Some result ≡ immediate op imm self.first }
+    {
+        Instruction::Immediate(op, imm, self.reg2())
+    }
 
-pub fn long_unsigned(op: LongOperation, f: u32, s: u32) -> Option<Instruction>
-    ensures { result ≡ long op s f }
-{
-    long(op, s, f)
-}
+    // Format II with a condition, of which the top bit is ignored.
+    pub fn setf(self) -> Instruction
+        ensures { Some result ≡ setf self.first }
+    {
+        Instruction::Setf(u32::from(self.first % 16), self.reg2())
+    }
 
-// Format VI: a sixteen-bit displacement, the base register reg1 and the data register reg2.
-pub fn load(width: Width, f: u32, s: u32) -> Option<Instruction>
-    requires { s < 65536 }
-    ensures { result ≡ transfer Instruction.Load width f s }
-{
-    let disp = word::extend(32768, s);
-    Some(Instruction::Load(width, disp, f % 32, f / 32 % 32))
-}
+    // LDSR, but for register 24, the cache control word.
+    pub fn ldsr(self) -> Option<Instruction>
+        ensures { result ≡ ldsr self.first }
+    {
+        match self.low() {
+            24 => None,
+            register => Some(Instruction::Ldsr(self.reg2(), register)),
+        }
+    }
 
-pub fn input(width: Width, f: u32, s: u32) -> Option<Instruction>
-    requires { s < 65536 }
-    ensures { result ≡ transfer Instruction.In width f s }
-{
-    let disp = word::extend(32768, s);
-    Some(Instruction::In(width, disp, f % 32, f / 32 % 32))
-}
+    // STSR, but for register 24, the cache control word.
+    pub fn stsr(self) -> Option<Instruction>
+        ensures { result ≡ stsr self.first }
+    {
+        match self.low() {
+            24 => None,
+            register => Some(Instruction::Stsr(register, self.reg2())),
+        }
+    }
 
-pub fn store(width: Width, f: u32, s: u32) -> Option<Instruction>
-    requires { s < 65536 }
-    ensures { result ≡ transfer Instruction.Store width f s }
-{
-    let disp = word::extend(32768, s);
-    Some(Instruction::Store(width, disp, f % 32, f / 32 % 32))
-}
+    // Format III: a condition and a nine-bit displacement, bit 0 cleared.
+    pub fn branch(self) -> Instruction
+        ensures { Some result ≡ branch self.first }
+    {
+        let disp = word::extend(256, u32::from(self.first % 512 / 2 * 2));
+        Instruction::Bcond(u32::from(self.first / 512 % 16), disp)
+    }
 
-pub fn output(width: Width, f: u32, s: u32) -> Option<Instruction>
-    requires { s < 65536 }
-    ensures { result ≡ transfer Instruction.Out width f s }
-{
-    let disp = word::extend(32768, s);
-    Some(Instruction::Out(width, disp, f % 32, f / 32 % 32))
+    // Format IV: a 26-bit displacement, its high ten bits in the first halfword, bit 0 cleared.
+    pub fn displacement(self) -> u32
+        ensures { result ≡ disp_of self.first self.second }
+    {
+        let high = u32::from(self.first % 1024);
+        word::extend(33554432, high * 65536 + u32::from(self.second / 2 * 2))
+    }
+
+    // Format V: a sixteen-bit immediate, reg1 and reg2.
+    pub fn long(self, op: LongOperation, imm: u32) -> Instruction
+        ensures { Some result ≡ long op imm self.first }
+    {
+        Instruction::Long(op, imm, self.low(), self.reg2())
+    }
+
+    // Format VI: a sixteen-bit displacement, the base register reg1 and the data register reg2.
+    pub fn transfer<F: Fn(Width, Disp, Reg1, Reg2) -> Instruction>(
+        self,
+        instruction: F,
+        width: Width,
+    ) -> Instruction
+        requires { F.IsAlwaysCallable instruction }
+        ensures { F.post instruction width (extend_of 32768 self.second) (low_of self.first) (reg2_of self.first) result }
+    {
+        instruction(width, self.signed(), self.low(), self.reg2())
+    }
 }

@@ -7,10 +7,11 @@
 mod format;
 pub mod sub_opcode;
 
-ghost use Rattle.std.specs.Prelude.{◌≡◌, ◌<◌, ◌≤◌, ◌/◌, ◌-◌, true, get_or, None};
-ghost use Rattle.processor_decode.specs.Format.{branch, two_of};
-ghost use Rattle.processor_decode.specs.Opcode.{decode_of, short_rows, long_rows};
+ghost use Rattle.std.specs.Prelude.{◌≡◌};
+ghost use Rattle.processor_decode.specs.Format.{two_of};
+ghost use Rattle.processor_decode.specs.Opcode.{decode_of};
 
+use crate::format::Halfwords;
 use crate::sub_opcode::{FloatingOperation, NintendoOperation};
 pub use word::Width;
 
@@ -101,18 +102,71 @@ pub enum Instruction {
 
 // The instruction of a first and a second halfword, or none where the model leaves it out (refusal 6); the second
 // counts only where the first asks for it.
+#[tactic(auto, unfolding(crate::specs::Opcode::decode_of, crate::specs::Opcode::short_rows, crate::specs::Opcode::branch_rows, crate::specs::Opcode::long_rows))]
 pub fn decode(first: u16, second: u16) -> Option<Instruction>
     ensures { result ≡ decode_of first second }
 {
-    let f = first as u32;
-    let s = second as u32;
-    if f < 32768 {
-        return short(f);
+    let h = Halfwords { first, second };
+    match h.opcode() {
+        // Formats I and II.
+        0 => Some(h.register(RegisterOperation::Mov)),
+        1 => Some(h.register(RegisterOperation::Add)),
+        2 => Some(h.register(RegisterOperation::Sub)),
+        3 => Some(h.register(RegisterOperation::Cmp)),
+        4 => Some(h.register(RegisterOperation::Shl)),
+        5 => Some(h.register(RegisterOperation::Shr)),
+        6 => Some(Instruction::Jmp(h.low())),
+        7 => Some(h.register(RegisterOperation::Sar)),
+        8 => Some(Instruction::Mul(h.low(), h.reg2())),
+        9 => Some(Instruction::Div(h.low(), h.reg2())),
+        10 => Some(Instruction::Mulu(h.low(), h.reg2())),
+        11 => Some(Instruction::Divu(h.low(), h.reg2())),
+        12 => Some(h.register(RegisterOperation::Or)),
+        13 => Some(h.register(RegisterOperation::And)),
+        14 => Some(h.register(RegisterOperation::Xor)),
+        15 => Some(h.register(RegisterOperation::Not)),
+        16 => Some(h.immediate(ImmediateOperation::Mov, h.signed_low())),
+        17 => Some(h.immediate(ImmediateOperation::Add, h.signed_low())),
+        18 => Some(h.setf()),
+        19 => Some(h.immediate(ImmediateOperation::Cmp, h.signed_low())),
+        20 => Some(h.immediate(ImmediateOperation::Shl, h.low())),
+        21 => Some(h.immediate(ImmediateOperation::Shr, h.low())),
+        22 => Some(Instruction::Cli),
+        23 => Some(h.immediate(ImmediateOperation::Sar, h.low())),
+        24 => Some(Instruction::Trap(h.low())),
+        25 => Some(Instruction::Reti),
+        26 => Some(Instruction::Halt),
+        28 => h.ldsr(),
+        29 => h.stsr(),
+        30 => Some(Instruction::Sei),
+        // Format III.
+        32..=39 => Some(h.branch()),
+        // Formats IV to VII.
+        40 => Some(h.long(LongOperation::Movea, h.signed())),
+        41 => Some(h.long(LongOperation::Addi, h.signed())),
+        42 => Some(Instruction::Jr(h.displacement())),
+        43 => Some(Instruction::Jal(h.displacement())),
+        44 => Some(h.long(LongOperation::Ori, h.unsigned())),
+        45 => Some(h.long(LongOperation::Andi, h.unsigned())),
+        46 => Some(h.long(LongOperation::Xori, h.unsigned())),
+        47 => Some(h.long(LongOperation::Movhi, h.unsigned())),
+        48 => Some(h.transfer(Instruction::Load, Width::Byte)),
+        49 => Some(h.transfer(Instruction::Load, Width::Half)),
+        51 => Some(h.transfer(Instruction::Load, Width::Word)),
+        52 => Some(h.transfer(Instruction::Store, Width::Byte)),
+        53 => Some(h.transfer(Instruction::Store, Width::Half)),
+        55 => Some(h.transfer(Instruction::Store, Width::Word)),
+        56 => Some(h.transfer(Instruction::In, Width::Byte)),
+        57 => Some(h.transfer(Instruction::In, Width::Half)),
+        59 => Some(h.transfer(Instruction::In, Width::Word)),
+        60 => Some(h.transfer(Instruction::Out, Width::Byte)),
+        61 => Some(h.transfer(Instruction::Out, Width::Half)),
+        62 => Some(sub_opcode::extended(h)),
+        63 => Some(h.transfer(Instruction::Out, Width::Word)),
+        27 | 50 | 54 => Some(Instruction::Illegal),
+        // Bit strings and CAXI.
+        _ => None,
     }
-    if f < 40960 {
-        return format::branch(f);
-    }
-    long_form(f, s)
 }
 
 // Whether a second halfword is part of the instruction.
@@ -121,80 +175,4 @@ pub fn two(first: u16) -> bool
 {
     let op = first / 1024;
     op >= 40 && !matches!(op, 50 | 54)
-}
-
-// Opcodes 000000 to 011111: Formats I and II.
-fn short(f: u32) -> Option<Instruction>
-    requires { f / 1024 < 32 }
-    ensures { result ≡ get_or (short_rows f) (f / 1024) None }
-{
-    match f / 1024 {
-        0 => format::register(RegisterOperation::Mov, f),
-        1 => format::register(RegisterOperation::Add, f),
-        2 => format::register(RegisterOperation::Sub, f),
-        3 => format::register(RegisterOperation::Cmp, f),
-        4 => format::register(RegisterOperation::Shl, f),
-        5 => format::register(RegisterOperation::Shr, f),
-        6 => Some(Instruction::Jmp(f % 32)),
-        7 => format::register(RegisterOperation::Sar, f),
-        8 => Some(Instruction::Mul(f % 32, f / 32 % 32)),
-        9 => Some(Instruction::Div(f % 32, f / 32 % 32)),
-        10 => Some(Instruction::Mulu(f % 32, f / 32 % 32)),
-        11 => Some(Instruction::Divu(f % 32, f / 32 % 32)),
-        12 => format::register(RegisterOperation::Or, f),
-        13 => format::register(RegisterOperation::And, f),
-        14 => format::register(RegisterOperation::Xor, f),
-        15 => format::register(RegisterOperation::Not, f),
-        16 => format::signed(ImmediateOperation::Mov, f),
-        17 => format::signed(ImmediateOperation::Add, f),
-        18 => format::setf(f),
-        19 => format::signed(ImmediateOperation::Cmp, f),
-        20 => format::unsigned(ImmediateOperation::Shl, f),
-        21 => format::unsigned(ImmediateOperation::Shr, f),
-        22 => Some(Instruction::Cli),
-        23 => format::unsigned(ImmediateOperation::Sar, f),
-        24 => Some(Instruction::Trap(f % 32)),
-        25 => Some(Instruction::Reti),
-        26 => Some(Instruction::Halt),
-        27 => Some(Instruction::Illegal),
-        28 => format::ldsr(f),
-        29 => format::stsr(f),
-        30 => Some(Instruction::Sei),
-        31 => None,
-        _ => None,
-    }
-}
-
-// Opcodes 101000 to 111111: Formats IV to VII.
-fn long_form(f: u32, s: u32) -> Option<Instruction>
-    requires { (40 ≤ f / 1024) × (f / 1024 < 64) × (s < 65536) }
-    ensures { result ≡ get_or (long_rows f s) (f / 1024 - 40) None }
-{
-    match f / 1024 {
-        40 => format::long_signed(LongOperation::Movea, f, s),
-        41 => format::long_signed(LongOperation::Addi, f, s),
-        42 => format::jr(f, s),
-        43 => format::jal(f, s),
-        44 => format::long_unsigned(LongOperation::Ori, f, s),
-        45 => format::long_unsigned(LongOperation::Andi, f, s),
-        46 => format::long_unsigned(LongOperation::Xori, f, s),
-        47 => format::long_unsigned(LongOperation::Movhi, f, s),
-        48 => format::load(Width::Byte, f, s),
-        49 => format::load(Width::Half, f, s),
-        50 => Some(Instruction::Illegal),
-        51 => format::load(Width::Word, f, s),
-        52 => format::store(Width::Byte, f, s),
-        53 => format::store(Width::Half, f, s),
-        54 => Some(Instruction::Illegal),
-        55 => format::store(Width::Word, f, s),
-        56 => format::input(Width::Byte, f, s),
-        57 => format::input(Width::Half, f, s),
-        58 => None,
-        59 => format::input(Width::Word, f, s),
-        60 => format::output(Width::Byte, f, s),
-        61 => format::output(Width::Half, f, s),
-        62 => sub_opcode::extended(f, s),
-        63 => format::output(Width::Word, f, s),
-        _ => None,
-    }
 }

@@ -1,8 +1,9 @@
 // Opcode 111110, Format VII: the top six bits of the second halfword are the sub-opcode, its other bits are ignored.
-ghost use Rattle.std.specs.Prelude.{◌≡◌};
-ghost use Rattle.processor_decode.specs.SubOpcode.{cmpf, floating, nintendo, exchange, extended_of};
+ghost use Rattle.std.specs.Prelude.{◌≡◌, Some};
+ghost use Rattle.processor_decode.specs.SubOpcode.{extended_of};
 
 use crate::Instruction;
+use crate::format::Halfwords;
 
 // What Format VII's floating instructions do but for CMPF.S, in the order of the sub-opcodes.
 #[derive(Clone, Copy, Debug, PartialEq, Eq)]
@@ -25,49 +26,28 @@ pub enum NintendoOperation {
     Mpyhw,
 }
 
-fn cmpf(f: u32) -> Option<Instruction>
-    ensures { result ≡ cmpf f }
-{
-    Some(Instruction::Cmpf(f % 32, f / 32 % 32))
-}
-
-fn floating(op: FloatingOperation, f: u32) -> Option<Instruction>
-    ensures { result ≡ floating op f }
-{
-    Some(Instruction::Floating(op, f % 32, f / 32 % 32))
-}
-
-fn nintendo(op: NintendoOperation, f: u32) -> Option<Instruction>
-    ensures { result ≡ nintendo op f }
-{
-    Some(Instruction::Nintendo(op, f % 32, f / 32 % 32))
-}
-
-// XB and XH, of which the bits of reg1 are unused.
-fn exchange(op: NintendoOperation, f: u32) -> Option<Instruction>
-    ensures { result ≡ exchange op f }
-{
-    Some(Instruction::Nintendo(op, 0, f / 32 % 32))
-}
-
 // The row of the sub-opcode; one that 000 does not list is illegal.
-pub fn extended(f: u32, s: u32) -> Option<Instruction>
-    ensures { result ≡ extended_of f s }
+#[tactic(auto, unfolding(crate::specs::SubOpcode::extended_of, crate::specs::SubOpcode::sub_rows))]
+pub(crate) fn extended(h: Halfwords) -> Instruction
+    ensures { Some result ≡ extended_of h.first h.second }
 {
-    match s / 1024 {
-        0 => cmpf(f),
-        1 => Some(Instruction::Illegal),
-        2 => floating(FloatingOperation::CvtWs, f),
-        3 => floating(FloatingOperation::CvtSw, f),
-        4 => floating(FloatingOperation::Addf, f),
-        5 => floating(FloatingOperation::Subf, f),
-        6 => floating(FloatingOperation::Mulf, f),
-        7 => floating(FloatingOperation::Divf, f),
-        8 => exchange(NintendoOperation::Xb, f),
-        9 => exchange(NintendoOperation::Xh, f),
-        10 => nintendo(NintendoOperation::Rev, f),
-        11 => floating(FloatingOperation::TrncSw, f),
-        12 => nintendo(NintendoOperation::Mpyhw, f),
-        _ => Some(Instruction::Illegal),
+    let floating = |op| Instruction::Floating(op, h.low(), h.reg2());
+    let nintendo = |op| Instruction::Nintendo(op, h.low(), h.reg2());
+    // XB and XH, of which the bits of reg1 are unused.
+    let exchange = |op| Instruction::Nintendo(op, 0, h.reg2());
+    match h.second / 1024 {
+        0 => Instruction::Cmpf(h.low(), h.reg2()),
+        2 => floating(FloatingOperation::CvtWs),
+        3 => floating(FloatingOperation::CvtSw),
+        4 => floating(FloatingOperation::Addf),
+        5 => floating(FloatingOperation::Subf),
+        6 => floating(FloatingOperation::Mulf),
+        7 => floating(FloatingOperation::Divf),
+        8 => exchange(NintendoOperation::Xb),
+        9 => exchange(NintendoOperation::Xh),
+        10 => nintendo(NintendoOperation::Rev),
+        11 => floating(FloatingOperation::TrncSw),
+        12 => nintendo(NintendoOperation::Mpyhw),
+        _ => Instruction::Illegal,
     }
 }
