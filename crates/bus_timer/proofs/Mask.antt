@@ -16,3 +16,6 @@ control-sum c =
     ∙ ap (λ (n : ℕ). n * 2 ^ 3 + bit_and (c % 2 ^ 3) 3) (and_mask (c / 2 ^ 3) 2)
     ∙ ap (λ (n : ℕ). c / 2 ^ 3 % 2 ^ 2 * 2 ^ 3 + n) (and_mask (c % 2 ^ 3) 2)
     ∙ sum
+
+-- for tactics, which take a lemma by a name without a dash
+pub ruleset stored = (control-sum)

@@ -4,9 +4,11 @@
 #![tactic(auto)]
 
 mod bits;
-pub mod ports;
-pub mod record;
-pub mod timer;
+mod ports;
+mod timer;
+
+ghost use Rattle.std.specs.Prelude.{◌≡◌};
+ghost use Rattle.bus_timer.specs.Record.{reset_hardware};
 
 // The request lines (bit n is the line of level n), the timer's count, what it is reloaded with, and its control bits
 // at their places in TCR.
@@ -16,4 +18,18 @@ pub struct TimerLines {
     pub count: u16,
     pub reload: u16,
     pub control: u16,
+}
+
+impl TimerLines {
+    // Lines and timer at reset.
+    pub fn reset() -> TimerLines
+        ensures { result ≡ reset_hardware }
+    {
+        TimerLines {
+            lines: 0,
+            count: 0,
+            reload: 0,
+            control: 0,
+        }
+    }
 }

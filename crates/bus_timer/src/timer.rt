@@ -2,39 +2,54 @@
 ghost use Rattle.std.specs.Prelude.{◌≡◌};
 ghost use Rattle.bus_timer.specs.Timer.{start_of, reached_zero_of, tick_of};
 
-use crate::{TimerLines, bits, record};
+use crate::{TimerLines, bits};
 
-// What a tick counts down from.
-fn start(h: TimerLines) -> u16
-    ensures { result ≡ start_of h }
-{
-    if h.count == 0 {
-        return h.reload;
+impl TimerLines {
+    // What a tick counts down from.
+    #[tactic(auto, unfolding(crate::specs::Timer::start_of))]
+    fn start(self) -> u16
+        ensures { result ≡ start_of self }
+    {
+        if self.count == 0 {
+            self.reload
+        } else {
+            self.count
+        }
     }
-    h.count
-}
 
-// The count reached zero: Z-Stat is set, and the timer's line is raised where Tim-Z-Int asks for it.
-fn reached_zero(h: TimerLines) -> TimerLines
-    ensures { result ≡ reached_zero_of h }
-{
-    let zero = record::with_count(record::with_control(h, bits::set_second(h.control)), 0);
-    if h.control / 8 % 2 == 1 {
-        return record::with_lines(zero, bits::set_second(h.lines));
+    // The count reached zero: Z-Stat is set, and the timer's line is raised where Tim-Z-Int asks for it.
+    #[tactic(auto, unfolding(crate::specs::Timer::reached_zero_of))]
+    fn reached_zero(self) -> TimerLines
+        ensures { result ≡ reached_zero_of self }
+    {
+        let interrupts = self.control / 8 % 2 == 1;
+        TimerLines {
+            lines: if interrupts {
+                bits::set_second(self.lines)
+            } else {
+                self.lines
+            },
+            count: 0,
+            control: bits::set_second(self.control),
+            ..self
+        }
     }
-    zero
-}
 
-// One tick.
-pub fn tick(h: TimerLines) -> TimerLines
-    ensures { result ≡ tick_of h }
-{
-    if h.control % 2 == 0 {
-        return h;
+    // One tick.
+    #[tactic(auto, unfolding(crate::specs::Timer::tick_of, crate::specs::Timer::counted_of, crate::specs::Timer::ticked_count_of))]
+    pub fn tick(self) -> TimerLines
+        ensures { result ≡ tick_of self }
+    {
+        if self.control % 2 == 0 {
+            return self;
+        }
+        let from = self.start();
+        if from < 2 {
+            return self.reached_zero();
+        }
+        TimerLines {
+            count: from - 1,
+            ..self
+        }
     }
-    let from = start(h);
-    if from < 2 {
-        return reached_zero(h);
-    }
-    record::with_count(h, from - 1)
 }
