@@ -184,3 +184,6 @@ module _ (d : List ℕ) (h : TimerLines) where
 pub with-same : (d : List ℕ) → with_hardware d (hardware_in d) ≡ d
 unfolding with_hardware hardware_in
 with-same d = set-from-same d lines_place (device_length - lines_place)
+
+-- for the code's tests
+pub ruleset parts = (device-ok, parts-ok)

@@ -2,6 +2,7 @@
 use Prim.Native.Nat.{ℕ, ◌%◌}
 use mathlib.Core.Path.{◌≡◌, refl}
 use Rattle.bus.specs.Place.{region_of}
+use Rattle.bus.proofs.Accesses.{found, missed}
 use Rattle.bus.specs.declared.Place.{Place}
 use Rattle.bus.specs.declared.Place.TheVariants.{Wram, Vram, Rom, Pak, Register, Port, Nothing}
 use Rattle.bus.specs.inner.LeadsTo.{LeadsTo, VipLeadsTo}
@@ -53,3 +54,6 @@ no_vram (Pak x) h = tt
 no_vram (Register v) h = tt
 no_vram (Port o) h = tt
 no_vram Nothing h = tt
+
+-- for the code's match
+pub ruleset places = (found, missed, vip-led)

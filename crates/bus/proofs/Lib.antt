@@ -1,6 +1,8 @@
 pub mod Devices
 mod Indices
 mod Power
+pub mod Lengths
+mod Limits
 pub mod Sizes
 mod Numbers
 pub mod Led

@@ -8,7 +8,7 @@ use lib.Arith.{mod-mul}
 use lib.ListN.{length, get_or, set, length-set}
 use lib.Seq.{get_or-set_same}
 use Rattle.word.specs.LittleEndian.{half_at, word_at, put_bytes}
-use Rattle.word.proofs.Bytes.{put_other}
+use Rattle.word.proofs.Bytes.{put-byte, put-half, put-word, put_other}
 use Rattle.bus.specs.inner.Numbers.{number_at}
 
 pub byte_power : (n : ℕ) → 0 < 256 ^ n
@@ -45,3 +45,6 @@ number_put (suc n) xs i v h =
     let room : i + 1 + n ≤ length (set xs i (v % 256)) = simp length-set (omega arith) in
     let digits : v % (256 ^ n * 256) ≡ v / 256 % 256 ^ n * 256 + v % 256 = mod-mul v {m = 256 ^ n} {c = 256} (byte_power n) (omega arith) in
     rw (first, number_put n ys (i + 1) (v / 256) room, pow-suc 256 n) (omega (arith, digits))
+
+-- for the code's match on a width
+pub ruleset numbers = (number-byte, number-half, number_word, put-byte, put-half, put-word)

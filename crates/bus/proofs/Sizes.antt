@@ -9,6 +9,9 @@ use borrow.Author.Tests.{eqb-true, ne_eqb}
 use lib.Bits.{bit_and}
 use lib.Dec.{eqb}
 use Rattle.word.specs.Choose.{pick}
+use Rattle.word.specs.Width.{bytes_of}
+use Rattle.word.specs.declared.width.Width.{Width}
+use Rattle.word.specs.declared.width.Width.TheVariants.{Byte, Half, Word}
 use Rattle.word.proofs.Choices.{pick-both}
 use Rattle.bus.specs.Refusal.{pak_ok}
 use Rattle.bus.specs.Memory.{size_ok, aligned_of}
@@ -92,3 +95,15 @@ even-case size a (inr (inr e)) z h = let f : a % 4 ≡ 0 = rw e at z in omega ar
 
 pub size-even : (size a : ℕ) → size_ok size ≡ true → a % size ≡ 0 → 1 < size → a % 2 ≡ 0
 size-even size a ok z h = even-case size a (size-cases size ok) z h
+
+-- a width's bytes are a size
+pub width_ok : (width : Width) → size_ok (bytes_of width) ≡ true
+width_ok Byte = refl
+width_ok Half = refl
+width_ok Word = refl
+
+-- a width that is not a word's
+pub short_width : (width : Width) → (width ≡ Word → ⊥) → bytes_of width < 4
+short_width Byte h = omega arith
+short_width Half h = omega arith
+short_width Word h = absurd (h refl)

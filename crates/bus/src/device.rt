@@ -7,6 +7,7 @@ use crate::{CONTROL_PLACE, COUNT_PLACE, Device, DrawingRegisters, LINES_PLACE, R
 use bus_timer::TimerLines;
 
 // The device registers of the drawing registers, the request lines and the timer.
+#[tactic(auto, unfolding(crate::specs::TimerLines::device_of))]
 pub fn device_of(drawing: DrawingRegisters, hardware: TimerLines) -> Device
     ensures { result ≡ device_of drawing hardware }
 {
@@ -32,6 +33,7 @@ pub fn device_of(drawing: DrawingRegisters, hardware: TimerLines) -> Device
 }
 
 // The drawing registers among them.
+#[tactic(auto, unfolding(crate::specs::Registers::drawing_in))]
 pub fn drawing_in(device: &Device) -> DrawingRegisters
     ensures { result ≡ drawing_in device.now }
 {
@@ -42,6 +44,7 @@ pub fn drawing_in(device: &Device) -> DrawingRegisters
 }
 
 // The request lines and the timer among them.
+#[tactic(auto, unfolding(crate::specs::TimerLines::hardware_in))]
 pub fn hardware_in(device: &Device) -> TimerLines
     ensures { result ≡ hardware_in device.now }
 {
@@ -54,6 +57,7 @@ pub fn hardware_in(device: &Device) -> TimerLines
 }
 
 // Other request lines and another timer put among them.
+#[tactic(auto, unfolding(crate::specs::TimerLines::with_hardware))]
 pub fn put_hardware(device: &mut Device, hardware: TimerLines)
     ensures { device.new ≡ with_hardware device.old hardware }
 {

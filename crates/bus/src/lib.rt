@@ -35,12 +35,6 @@ pub struct Drawing {
     pub regs: DrawingRegisters,
 }
 
-// What an access read.
-#[derive(Clone, Copy)]
-pub struct Loaded {
-    pub value: u32,
-}
-
 // Where an address leads: a byte of WRAM or of VRAM, an address of ROM or of pak RAM, which repeat, an address of the
 // VIP's registers, an offset in region 2, or nothing.
 #[derive(Clone, Copy)]
@@ -52,11 +46,4 @@ pub enum Place {
     Register(u32),
     Port(u32),
     Nothing,
-}
-
-// The answer of a load's fast path: the value, or that it stands neither in ROM, WRAM nor VRAM.
-#[derive(Clone, Copy)]
-pub enum Found {
-    Value(u32),
-    Elsewhere,
 }

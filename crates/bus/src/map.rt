@@ -1,11 +1,13 @@
 // The address map: the one file that decodes an address. Every other file, here and in the crates above, goes by the
 // place that is found here.
 ghost use Rattle.std.specs.Prelude.{◌≡◌, true, ◌%◌, ◌<◌};
+ghost use Rattle.word.specs.Width.{bytes_of};
 ghost use Rattle.bus.specs.Refusal.{pak_ok};
-ghost use Rattle.bus.specs.Memory.{aligned_of, size_ok};
+ghost use Rattle.bus.specs.Memory.{aligned_of};
 ghost use Rattle.bus.specs.inner.LeadsTo.{LeadsTo, VipLeadsTo};
 
 use crate::Place;
+use word::Width;
 
 // The bytes of a region: an address has its offset there in its low 24 bits.
 const REGION_BYTES: u32 = 0x1000000;
@@ -26,34 +28,25 @@ fn vip_place(v: u32) -> Place
 }
 
 // The place of an address, by its region: bits 24 to 26.
+#[tactic(auto, using(crate::proofs::Led::places), unfolding(bus_timer::specs::Ports::hardware_offset_of))]
 pub fn place_of(address: u32) -> Place
     ensures { LeadsTo address result }
 {
-    let region = address / REGION_BYTES % 8;
-    if region == 5 {
-        return Place::Wram((address % 65536) as usize);
+    match address / REGION_BYTES % 8 {
+        5 => Place::Wram((address % 65536) as usize),
+        7 => Place::Rom(address),
+        0 => vip_place(address % 524288),
+        6 => Place::Pak(address),
+        2 => Place::Port(address % REGION_BYTES),
+        _ => Place::Nothing,
     }
-    if region == 7 {
-        return Place::Rom(address);
-    }
-    if region == 0 {
-        return vip_place(address % 524288);
-    }
-    if region == 6 {
-        return Place::Pak(address);
-    }
-    if region == 2 {
-        return Place::Port(address % REGION_BYTES);
-    }
-    Place::Nothing
 }
 
-// An access of `size` bytes, 1, 2 or 4, drops the address bits below its size.
-pub fn aligned(size: u32, address: u32) -> u32
-    requires { size_ok size ≡ true }
-    ensures { result ≡ aligned_of size address }
+// An access drops the address bits below its size.
+pub fn aligned(width: Width, address: u32) -> u32
+    ensures { result ≡ aligned_of (bytes_of width) address }
 {
-    address - (address & (size - 1))
+    address - (address & (width.bytes() - 1))
 }
 
 // An address mod the length of a memory that repeats: of ROM or of pak RAM, whose lengths are powers of two.

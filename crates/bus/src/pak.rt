@@ -1,17 +1,19 @@
 // Pak RAM, where each byte's address counts mod its length: an access can be longer than it.
 ghost use Rattle.std.specs.Prelude.{◌≡◌, true, List, ℕ, ◌%◌, length};
+ghost use Rattle.word.specs.Width.{bytes_of};
 ghost use Rattle.bus.specs.Place.{region_of};
 ghost use Rattle.bus.specs.Refusal.{pak_ok};
-ghost use Rattle.bus.specs.Memory.{memory_of, Reads, store_of, size_ok};
+ghost use Rattle.bus.specs.Memory.{memory_of, Reads, store_of};
 
 use crate::map;
+use word::Width;
 
 // A byte and a halfword; empty pak RAM reads 0.
 fn byte(pak: &[u8], address: u32) -> u32
     requires { (region_of address ≡ 6) × (pak_ok (length pak.now) ≡ true) }
     ensures { (rom wram vram regs : List ℕ) → Reads (memory_of rom wram vram pak.now regs) 1 address result }
 {
-    if pak.len() == 0 {
+    if pak.is_empty() {
         return 0;
     }
     word::byte_at(pak, map::wrapped(address, pak.len()))
@@ -26,17 +28,15 @@ fn half(pak: &[u8], address: u32) -> u32
 }
 
 // 1, 2 or 4 bytes at an aligned address.
-pub fn read(pak: &[u8], size: u32, address: u32) -> u32
-    requires { (region_of address ≡ 6) × (pak_ok (length pak.now) ≡ true) × (size_ok size ≡ true) × (address % size ≡ 0) }
-    ensures { (rom wram vram regs : List ℕ) → Reads (memory_of rom wram vram pak.now regs) size address result }
+pub fn read(pak: &[u8], width: Width, address: u32) -> u32
+    requires { (region_of address ≡ 6) × (pak_ok (length pak.now) ≡ true) × (address % bytes_of width ≡ 0) }
+    ensures { (rom wram vram regs : List ℕ) → Reads (memory_of rom wram vram pak.now regs) (bytes_of width) address result }
 {
-    if size == 1 {
-        return byte(pak, address);
+    match width {
+        Width::Byte => byte(pak, address),
+        Width::Half => half(pak, address),
+        Width::Word => half(pak, address) + 65536 * half(pak, address + 2),
     }
-    if size == 2 {
-        return half(pak, address);
-    }
-    half(pak, address) + 65536 * half(pak, address + 2)
 }
 
 // A byte and a halfword stored, lowest byte first; empty pak RAM takes nothing.
@@ -46,7 +46,7 @@ fn put_byte(pak: &mut [u8], address: u32, value: u32)
         → memory_of rom wram vram pak.new regs
         ≡ store_of (memory_of rom wram vram pak.old regs) 1 address value }
 {
-    if pak.len() == 0 {
+    if pak.is_empty() {
         return;
     }
     let i = map::wrapped(address, pak.len());
@@ -65,20 +65,18 @@ fn put_half(pak: &mut [u8], address: u32, value: u32)
 }
 
 // 1, 2 or 4 bytes stored at an aligned address.
-pub fn write(pak: &mut [u8], size: u32, address: u32, value: u32)
-    requires { (region_of address ≡ 6) × (pak_ok (length pak.old) ≡ true) × (size_ok size ≡ true) × (address % size ≡ 0) }
+pub fn write(pak: &mut [u8], width: Width, address: u32, value: u32)
+    requires { (region_of address ≡ 6) × (pak_ok (length pak.old) ≡ true) × (address % bytes_of width ≡ 0) }
     ensures { (rom wram vram regs : List ℕ)
         → memory_of rom wram vram pak.new regs
-        ≡ store_of (memory_of rom wram vram pak.old regs) size address value }
+        ≡ store_of (memory_of rom wram vram pak.old regs) (bytes_of width) address value }
 {
-    if size == 1 {
-        put_byte(pak, address, value);
-        return;
+    match width {
+        Width::Byte => put_byte(pak, address, value),
+        Width::Half => put_half(pak, address, value),
+        Width::Word => {
+            put_half(pak, address, value);
+            put_half(pak, address + 2, value / 65536);
+        }
     }
-    if size == 2 {
-        put_half(pak, address, value);
-        return;
-    }
-    put_half(pak, address, value);
-    put_half(pak, address + 2, value / 65536);
 }

@@ -1,53 +1,31 @@
 // The VIP's registers by their address there, and the timer's by their offset in region 2.
-ghost use Rattle.std.specs.Prelude.{◌≡◌, true, List, ℕ, ◌<◌, ◌+◌, ◌-◌, ◌%◌};
+ghost use Rattle.std.specs.Prelude.{◌≡◌, List, ℕ, ◌<◌, ◌≤◌, ◌%◌, ◌^◌, EachIndex, MatchOption, slice_index};
 ghost use Rattle.word.specs.Choose.{index_of};
+ghost use Rattle.word.specs.Width.{bytes_of};
 ghost use Rattle.bus_timer.specs.Ports.{port_byte_of, port_written_of};
-ghost use Rattle.bus.specs.Registers.{drawing_addresses, kept_of};
+ghost use Rattle.bus.specs.Registers.{drawing_addresses};
 ghost use Rattle.bus.specs.TimerLines.{hardware_in, with_hardware};
-ghost use Rattle.bus.specs.Memory.{memory_of, Reads, put_register, store_of, size_ok};
+ghost use Rattle.bus.specs.Memory.{memory_of, Reads, put_register, store_of};
 ghost use Rattle.bus.specs.inner.LeadsTo.{Between};
 
-use crate::{Device, device};
+use crate::{Device, DrawingRegisters, device};
+use word::Width;
 
-// Which drawing register stands at an even address h of the VIP; 13 where none does: SPT0 to SPT3 from
-// 0x5F848 on, the others from 0x5F860 on.
-fn index(h: u32) -> usize
+// The first value that is too wide for each drawing register.
+pub const LIMITS: DrawingRegisters = [
+    1024, 1024, 1024, 1024, 256, 256, 256, 256, 256, 256, 256, 256, 4,
+];
+
+// Which drawing register stands at an even address h of the VIP, if one does.
+fn index(h: u32) -> Option<usize>
     requires { h % 2 ≡ 0 }
-    ensures { result ≡ index_of h drawing_addresses }
+    ensures { MatchOption result (13 ≤ index_of h drawing_addresses) (λ k. (k ≡ index_of h drawing_addresses) × (k < 13)) }
 {
-    if h < 0x5F848 {
-        return 13;
+    match h {
+        0x5F848..=0x5F84E => Some(((h - 0x5F848) / 2) as usize),
+        0x5F860..=0x5F870 => Some(((h - 0x5F860) / 2 + 4) as usize),
+        _ => None,
     }
-    if h < 0x5F850 {
-        return ((h - 0x5F848) / 2) as usize;
-    }
-    if h < 0x5F860 {
-        return 13;
-    }
-    if h < 0x5F872 {
-        return ((h - 0x5F860) / 2 + 4) as usize;
-    }
-    13
-}
-
-// What register k keeps of a value written to it.
-fn kept(k: usize, value: u32) -> u16
-    ensures { result ≡ kept_of k value }
-{
-    if k < 4 {
-        return (value % 1024) as u16;
-    }
-    if k < 12 {
-        return (value % 256) as u16;
-    }
-    (value % 4) as u16
-}
-
-// A register's value as a word.
-fn wide(x: u16) -> u32
-    ensures { (result ≡ x) × (result < 65536) }
-{
-    x as u32
 }
 
 // The halfword at an even address: a drawing register, VER, or 0.
@@ -55,33 +33,26 @@ fn half(regs: &Device, v: u32) -> u32
     requires { Between v × (v % 2 ≡ 0) }
     ensures { (rom wram vram pak : List ℕ) → Reads (memory_of rom wram vram pak regs.now) 2 v result }
 {
-    let k = index(v);
-    if k < 13 {
-        return wide(regs[k]);
+    match index(v) {
+        Some(k) => u32::from(regs[k]),
+        None if v == 0x5F844 => 2,
+        None => 0,
     }
-    if v == 0x5F844 {
-        return 2;
-    }
-    0
 }
 
 // 1, 2 or 4 bytes at an aligned address.
-pub fn read(regs: &Device, size: u32, v: u32) -> u32
-    requires { Between v × (size_ok size ≡ true) × (v % size ≡ 0) }
-    ensures { (rom wram vram pak : List ℕ) → Reads (memory_of rom wram vram pak regs.now) size v result }
+pub fn read(regs: &Device, width: Width, v: u32) -> u32
+    requires { Between v × (v % bytes_of width ≡ 0) }
+    ensures { (rom wram vram pak : List ℕ) → Reads (memory_of rom wram vram pak regs.now) (bytes_of width) v result }
 {
     let low = half(regs, v - v % 2);
     let high = half(regs, v - v % 4 + 2);
-    if size == 1 {
-        if v % 2 == 0 {
-            return low % 256;
-        }
-        return low / 256;
+    match width {
+        Width::Byte if v % 2 == 0 => low % 256,
+        Width::Byte => low / 256,
+        Width::Half => low,
+        Width::Word => low + 65536 * high,
     }
-    if size == 2 {
-        return low;
-    }
-    low + 65536 * high
 }
 
 // The low 16 bits of a value written to the register that holds an address, where there is one.
@@ -91,24 +62,22 @@ fn put_half(regs: &mut Device, v: u32, value: u32)
         → memory_of rom wram vram pak regs.new
         ≡ put_register (memory_of rom wram vram pak regs.old) v value }
 {
-    let k = index(v - v % 2);
-    if k < 13 {
-        regs[k] = kept(k, value);
+    if let Some(k) = index(v - v % 2) {
+        regs[k] = (value % u32::from(LIMITS[k])) as u16;
     }
 }
 
 // 1, 2 or 4 bytes written at an aligned address.
-pub fn write(regs: &mut Device, size: u32, v: u32, value: u32)
-    requires { Between v × (size_ok size ≡ true) × (v % size ≡ 0) }
+pub fn write(regs: &mut Device, width: Width, v: u32, value: u32)
+    requires { Between v × (v % bytes_of width ≡ 0) }
     ensures { (rom wram vram pak : List ℕ)
         → memory_of rom wram vram pak regs.new
-        ≡ store_of (memory_of rom wram vram pak regs.old) size v value }
+        ≡ store_of (memory_of rom wram vram pak regs.old) (bytes_of width) v value }
 {
     put_half(regs, v, value);
-    if size < 4 {
-        return;
+    if width == Width::Word {
+        put_half(regs, v + 2, value / 65536);
     }
-    put_half(regs, v + 2, value / 65536);
 }
 
 // The byte at an offset of region 2. The timer's registers are bytes at multiples of four, so that an access of any
@@ -116,7 +85,7 @@ pub fn write(regs: &mut Device, size: u32, v: u32, value: u32)
 pub fn port(regs: &Device, offset: u32) -> u32
     ensures { (result ≡ port_byte_of (hardware_in regs.now) offset) × (result < 256) }
 {
-    bus_timer::ports::read(device::hardware_in(regs), offset)
+    device::hardware_in(regs).port(offset)
 }
 
 pub fn put_port(regs: &mut Device, offset: u32, value: u32)
@@ -124,6 +93,5 @@ pub fn put_port(regs: &mut Device, offset: u32, value: u32)
         ≡ with_hardware regs.old (port_written_of (hardware_in regs.old) offset (value % 256)) }
 {
     let before = device::hardware_in(regs);
-    let after = bus_timer::ports::write(before, offset, value);
-    device::put_hardware(regs, after);
+    device::put_hardware(regs, before.put_port(offset, value));
 }

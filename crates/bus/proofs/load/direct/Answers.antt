@@ -1,6 +1,8 @@
 -- `bus::load::direct` meets its contract: by place, a number of WRAM, of VRAM or of ROM, or none of these.
 -- Assumes nothing.
 use lib.ListN.{length}
+use Rattle.word.specs.Width.{bytes_of}
+use Rattle.bus.proofs.Sizes.{width_ok}
 use Rattle.bus.proofs.Power.{rom-power, rom-as-pak, power_pos}
 use Rattle.bus.proofs.ByPlace.{led, wram-room, vram-room, rom-room, wram-reads, vram-reads, rom-reads}
 use Rattle.bus.proofs.load.direct.Goals as goal
@@ -10,14 +12,14 @@ number_at-requires c =
     let b = c in
     let l = led _ _ c.place_of.result _ c.aligned.ensures c.in-Wram.is
     c.place_of.ensures in
-    (b.requires.3, rw b.requires.1 (wram-room b.args.size b.args.address b.requires.3 _ l))
+    rw b.requires.1 (wram-room (bytes_of b.args.width) b.args.address (width_ok b.args.width) _ l)
 
 pub number_at-requires-in-Vram : goal.number_at-requires-in-Vram
 number_at-requires-in-Vram c =
     let b = c in
     let l = led _ _ c.place_of.result _ c.aligned.ensures c.in-Vram.is
     c.place_of.ensures in
-    (b.requires.3, rw b.requires.2 (vram-room b.args.size b.args.address b.requires.3 _ l))
+    rw b.requires.2 (vram-room (bytes_of b.args.width) b.args.address (width_ok b.args.width) _ l)
 
 pub wrapped-requires : goal.wrapped-requires
 wrapped-requires c =
@@ -31,7 +33,7 @@ number_at-requires-in-Rom c =
     let l = led _ _ c.place_of.result _ c.aligned.ensures
     c.in-Rom.is
     c.place_of.ensures in
-    (b.requires.3, rom-room b.args.size b.args.address b.requires.3 (length b.args.rom.now) _ b.requires.0 (rw l.1 at c.wrapped.ensures.0))
+    rom-room (bytes_of b.args.width) b.args.address (width_ok b.args.width) (length b.args.rom.now) _ b.requires.0 (rw l.1 at c.wrapped.ensures.0)
 
 pub returns-in-Wram : goal.returns-in-Wram
 returns-in-Wram c =
@@ -39,7 +41,7 @@ returns-in-Wram c =
     let l = led _ _ c.place_of.result _ c.aligned.ensures
     c.in-Wram.is
     c.place_of.ensures in
-    λ pak regs. wram-reads b.args.size b.args.address b.requires.3 _ _ _ l c.number_at.ensures.0 c.number_at.ensures.1
+    λ pak regs. wram-reads (bytes_of b.args.width) b.args.address (width_ok b.args.width) _ _ _ l c.number_at.ensures.0 c.number_at.ensures.1
 
 pub returns-in-Vram : goal.returns-in-Vram
 returns-in-Vram c =
@@ -47,7 +49,7 @@ returns-in-Vram c =
     let l = led _ _ c.place_of.result _ c.aligned.ensures
     c.in-Vram.is
     c.place_of.ensures in
-    λ pak regs. vram-reads b.args.size b.args.address b.requires.3 _ _ _ l c.number_at-in-Vram.ensures.0 c.number_at-in-Vram.ensures.1
+    λ pak regs. vram-reads (bytes_of b.args.width) b.args.address (width_ok b.args.width) _ _ _ l c.number_at-in-Vram.ensures.0 c.number_at-in-Vram.ensures.1
 
 pub returns-in-Rom : goal.returns-in-Rom
 returns-in-Rom c =
@@ -55,5 +57,5 @@ returns-in-Rom c =
     let l = led _ _ c.place_of.result _ c.aligned.ensures
     c.in-Rom.is c.place_of.ensures in
     λ pak regs.
-    rom-reads b.args.size b.args.address b.requires.3 _ _ _ _ b.requires.0 l c.wrapped.ensures.0 c.number_at-in-Rom.ensures.0
+    rom-reads (bytes_of b.args.width) b.args.address (width_ok b.args.width) _ _ _ _ b.requires.0 l c.wrapped.ensures.0 c.number_at-in-Rom.ensures.0
     c.number_at-in-Rom.ensures.1

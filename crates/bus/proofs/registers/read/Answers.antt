@@ -1,8 +1,9 @@
 -- `bus::registers::read` meets its contract: a byte of the halfword that holds it, the halfword, or two of these.
 -- Assumes nothing.
 use mathlib.Core.List.{[]}
+use mathlib.Core.Path.{ap}
 use native.Mathlib.Omega.{arith}
-use Rattle.bus.proofs.Sizes.{four-left}
+use Rattle.word.specs.Width.{bytes_of}
 use Rattle.bus.proofs.VipAccess.{between_start, between-high, read_low, read-high, read-half, read_word}
 use Rattle.bus.proofs.registers.read.Goals as goal
 
@@ -12,25 +13,23 @@ half-low-requires c = (between_start c.args.v c.requires.0, omega arith)
 pub half-high-requires : goal.half-high-requires
 half-high-requires c = between-high c.args.v c.requires.0
 
-pub returns-then-v-eq0 : goal.returns-then-v-eq0
-returns-then-v-eq0 c =
+pub returns-in-Byte : goal.returns-in-Byte
+returns-in-Byte c =
     let b = c in
     λ rom wram vram pak.
-    read_low b.args.v b.requires.0 _ b.args.size _ (c.half-low.ensures rom wram vram pak)
-    c.if-size-eq1.true c.if-v-eq0.true
+    read_low b.args.v b.requires.0 _ _ _ (c.half-low.ensures rom wram vram pak) (ap bytes_of c.in-Byte.is) c.if-v-eq0.true
 
-pub returns-then-size-eq1 : goal.returns-then-size-eq1
-returns-then-size-eq1 c =
+pub returns-in-Byte-2 : goal.returns-in-Byte-2
+returns-in-Byte-2 c =
     let b = c in
     λ rom wram vram pak.
-    read-high b.args.v b.requires.0 _ b.args.size _ (c.half-low.ensures rom wram vram pak)
-    c.if-size-eq1.true c.if-v-eq0.false
+    read-high b.args.v b.requires.0 _ _ _ (c.half-low.ensures rom wram vram pak) (ap bytes_of c.in-Byte-2.is) c.if-v-eq0.false
 
-pub returns-then-size-eq2 : goal.returns-then-size-eq2
-returns-then-size-eq2 c =
+pub returns-in-Half : goal.returns-in-Half
+returns-in-Half c =
     let b = c in
     λ rom wram vram pak.
-    read-half b.args.v b.requires.0 _ b.args.size _ (c.half-low.ensures rom wram vram pak) c.if-size-eq2.true
+    read-half b.args.v b.requires.0 _ _ _ (c.half-low.ensures rom wram vram pak) (ap bytes_of c.in-Half.is)
 
 pub overflow_mul-result : goal.overflow_mul-result
 overflow_mul-result c = omega (arith, (c.half-high.ensures [] [] [] []).fits)
@@ -39,10 +38,9 @@ pub overflow_add-result : goal.overflow_add-result
 overflow_add-result c =
     omega (arith, (c.half-high.ensures [] [] [] []).fits, (c.half-low.ensures [] [] [] []).fits)
 
-pub returns : goal.returns
-returns c =
+pub returns-in-Word : goal.returns-in-Word
+returns-in-Word c =
     let b = c in
-    let e = four-left b.args.size b.requires.1 c.if-size-eq1.false c.if-size-eq2.false in
     λ rom wram vram pak.
-    read_word b.args.v b.requires.0 _ b.args.size _ (c.half-low.ensures rom wram vram pak) e b.requires.2 _
+    read_word b.args.v b.requires.0 _ _ _ (c.half-low.ensures rom wram vram pak) (ap bytes_of c.in-Word.is) b.requires.1 _
     (c.half-high.ensures rom wram vram pak)

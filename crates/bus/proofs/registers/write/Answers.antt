@@ -1,26 +1,24 @@
 -- `bus::registers::write` meets its contract: one register, or the two of a word. Assumes nothing.
-use mathlib.Core.Path.{◌∙◌}
-use Rattle.bus.proofs.VipAccess.{between-second, one_written, two-written}
+use mathlib.Core.Path.{◌≡◌, ◌∙◌}
+use borrow.Author.Rules.{rules}
+use native.Mathlib.Omega.{arith}
+use Rattle.word.specs.declared.width.Width.TheVariants.{Word}
+use Rattle.bus.proofs.Sizes.{width_ok, short_width}
+use Rattle.bus.proofs.VipAccess.{one_written, two-written}
 use Rattle.bus.proofs.registers.write.Goals as goal
 
-pub put_half-requires : goal.put_half-requires
-put_half-requires c = c.requires.0
-
-pub returns-then-size-lt4 : goal.returns-then-size-lt4
-returns-then-size-lt4 c =
+pub returns-then-eq : goal.returns-then-eq
+returns-then-eq c =
     let b = c in
+    let e : b.args.width ≡ Word = search rules in
+    λ rom wram vram pak.
+    rw (c.put_half-then-eq.ensures rom wram vram pak, c.put_half.ensures rom wram vram pak)
+    (two-written b.args.v b.requires.0 _ _ b.args.value (width_ok b.args.width) b.requires.1 (rw e (omega arith)))
+
+pub returns-else-eq : goal.returns-else-eq
+returns-else-eq c =
+    let b = c in
+    let e : b.args.width ≡ Word → ⊥ = search rules in
     λ rom wram vram pak.
     c.put_half.ensures rom wram vram pak
-    ∙ one_written b.args.v b.requires.0 _ b.args.size b.args.value b.requires.1 b.requires.2 c.if-size-lt4.true
-
-pub put_half-requires-2 : goal.put_half-requires-2
-put_half-requires-2 c =
-    let b = c in
-    between-second b.args.v b.requires.0 b.args.size b.requires.1 b.requires.2 c.if-size-lt4.false
-
-pub returns : goal.returns
-returns c =
-    let b = c in
-    λ rom wram vram pak.
-    rw (c.put_half-2.ensures rom wram vram pak, c.put_half.ensures rom wram vram pak)
-    (two-written b.args.v b.requires.0 _ b.args.size b.args.value b.requires.1 b.requires.2 c.if-size-lt4.false)
+    ∙ one_written b.args.v b.requires.0 _ _ b.args.value (width_ok b.args.width) b.requires.1 (short_width b.args.width e)
