@@ -9,7 +9,7 @@ use crate::record::{joined, system};
 use crate::{Machine, Processor, Ran, Stepped, run};
 use bus::Drawing;
 use bus::device::{device_of, drawing_in};
-use bus_timer::record;
+use bus_timer::TimerLines;
 use processor_machine::{Answer, Mode};
 use processor_step::step;
 use refusal::Refusal;
@@ -198,7 +198,7 @@ pub fn reset() -> Machine
             sr29: 0,
             sr31: 0,
             mode: Mode::Running,
-            hardware: record::reset(),
+            hardware: TimerLines::reset(),
         },
         drawing: Drawing { regs: [0u16; 13] },
     }

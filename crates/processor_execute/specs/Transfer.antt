@@ -2,14 +2,13 @@
 use Rattle.std.specs.Prelude.{ℕ}
 use Rattle.word.specs.Extend.{extend_of}
 use Rattle.bus.specs.Memory.{Memory, load_of, store_of}
+use Rattle.word.specs.Width.{bytes_of}
 use Rattle.word.specs.declared.width.Width.{Width}
 use Rattle.word.specs.declared.width.Width.TheVariants.{Byte, Half, Word}
 
 -- how many bytes a width has
 abbrev pub size_of : Width → ℕ
-size_of Byte = 1
-size_of Half = 2
-size_of Word = 4
+size_of = bytes_of
 
 -- LD: sign-extended
 abbrev pub loaded_of : Memory → Width → ℕ → ℕ

@@ -5,7 +5,7 @@ ghost use Rattle.bus.specs.Lent.{entering, leaving};
 ghost use Rattle.processor_execute.specs.Transfer.{loaded_of, input_of, stored_of};
 
 use bus::Device;
-use processor_decode::Width;
+use word::Width;
 
 // LD: sign-extended.
 pub fn load(
@@ -20,19 +20,11 @@ pub fn load(
     requires { Lengths (length rom.now) (length wram.now) (length vram.now) (length pak.now) }
     ensures { result ≡ loaded_of (entering rom.now wram.now vram.now pak.now device.now) width address }
 {
+    let value = bus::load::load(rom, wram, vram, pak, device, width, address);
     match width {
-        Width::Byte => {
-            let v = bus::load::byte(rom, wram, vram, pak, device, address);
-            word::extend(128, v.value)
-        }
-        Width::Half => {
-            let v = bus::load::half(rom, wram, vram, pak, device, address);
-            word::extend(32768, v.value)
-        }
-        Width::Word => {
-            let v = bus::load::word(rom, wram, vram, pak, device, address);
-            v.value
-        }
+        Width::Byte => word::extend(128, value),
+        Width::Half => word::extend(32768, value),
+        Width::Word => value,
     }
 }
 
@@ -49,20 +41,7 @@ pub fn input(
     requires { Lengths (length rom.now) (length wram.now) (length vram.now) (length pak.now) }
     ensures { result ≡ input_of (entering rom.now wram.now vram.now pak.now device.now) width address }
 {
-    match width {
-        Width::Byte => {
-            let v = bus::load::byte(rom, wram, vram, pak, device, address);
-            v.value
-        }
-        Width::Half => {
-            let v = bus::load::half(rom, wram, vram, pak, device, address);
-            v.value
-        }
-        Width::Word => {
-            let v = bus::load::word(rom, wram, vram, pak, device, address);
-            v.value
-        }
-    }
+    bus::load::load(rom, wram, vram, pak, device, width, address)
 }
 
 // ST and OUT.
@@ -79,9 +58,5 @@ pub fn store(
     requires { Lengths (length rom.now) (length wram.old) (length vram.old) (length pak.old) }
     ensures { leaving rom.now wram.new vram.new pak.new device.new ≡ stored_of (entering rom.now wram.old vram.old pak.old device.old) width address value }
 {
-    match width {
-        Width::Byte => bus::store::byte(rom, wram, vram, pak, device, address, value),
-        Width::Half => bus::store::half(rom, wram, vram, pak, device, address, value),
-        Width::Word => bus::store::word(rom, wram, vram, pak, device, address, value),
-    }
+    bus::store::store(rom, wram, vram, pak, device, width, address, value)
 }

@@ -56,8 +56,8 @@ pub fn load_byte(
         regs.new (entering rom.now wram.now vram.now pak.now device.now) }
 {
     let a = address(regs, f, s);
-    let v = bus::load::byte(rom, wram, vram, pak, device, a);
-    let value = extend8(v.value);
+    let v = bus::load::load(rom, wram, vram, pak, device, Width::Byte, a);
+    let value = extend8(v);
     loaded(regs, f / 32 % 32, value, after_two(x), flags)
 }
 
@@ -79,8 +79,8 @@ pub fn load_half(
         regs.new (entering rom.now wram.now vram.now pak.now device.now) }
 {
     let a = address(regs, f, s);
-    let v = bus::load::half(rom, wram, vram, pak, device, a);
-    let value = extend16(v.value);
+    let v = bus::load::load(rom, wram, vram, pak, device, Width::Half, a);
+    let value = extend16(v);
     loaded(regs, f / 32 % 32, value, after_two(x), flags)
 }
 
@@ -105,9 +105,8 @@ pub fn load_word(
         regs.new (entering rom.now wram.now vram.now pak.now device.now) }
 {
     let a = address(regs, f, s);
-    let v = bus::load::word(rom, wram, vram, pak, device, a);
-    let value = v.value;
-    loaded(regs, f / 32 % 32, value, after_two(x), flags)
+    let v = bus::load::load(rom, wram, vram, pak, device, Width::Word, a);
+    loaded(regs, f / 32 % 32, v, after_two(x), flags)
 }
 
 pub fn input_byte(
@@ -128,9 +127,8 @@ pub fn input_byte(
         regs.new (entering rom.now wram.now vram.now pak.now device.now) }
 {
     let a = address(regs, f, s);
-    let v = bus::load::byte(rom, wram, vram, pak, device, a);
-    let value = v.value;
-    loaded(regs, f / 32 % 32, value, after_two(x), flags)
+    let v = bus::load::load(rom, wram, vram, pak, device, Width::Byte, a);
+    loaded(regs, f / 32 % 32, v, after_two(x), flags)
 }
 
 pub fn input_half(
@@ -151,9 +149,8 @@ pub fn input_half(
         regs.new (entering rom.now wram.now vram.now pak.now device.now) }
 {
     let a = address(regs, f, s);
-    let v = bus::load::half(rom, wram, vram, pak, device, a);
-    let value = v.value;
-    loaded(regs, f / 32 % 32, value, after_two(x), flags)
+    let v = bus::load::load(rom, wram, vram, pak, device, Width::Half, a);
+    loaded(regs, f / 32 % 32, v, after_two(x), flags)
 }
 
 pub fn store_byte(
@@ -177,7 +174,7 @@ pub fn store_byte(
 {
     let a = address(regs, f, s);
     let v = reg2(regs, f);
-    if !bus::store::direct(wram, vram, 1, a, v) {
+    if !bus::store::direct(wram, vram, Width::Byte, a, v) {
         return Fast::NotHere;
     }
     Fast::Done {
@@ -208,7 +205,7 @@ pub fn store_half(
 {
     let a = address(regs, f, s);
     let v = reg2(regs, f);
-    if !bus::store::direct(wram, vram, 2, a, v) {
+    if !bus::store::direct(wram, vram, Width::Half, a, v) {
         return Fast::NotHere;
     }
     Fast::Done {
@@ -239,7 +236,7 @@ pub fn store_word(
 {
     let a = address(regs, f, s);
     let v = reg2(regs, f);
-    if !bus::store::direct(wram, vram, 4, a, v) {
+    if !bus::store::direct(wram, vram, Width::Word, a, v) {
         return Fast::NotHere;
     }
     Fast::Done {

@@ -14,6 +14,7 @@ use processor_interrupt::acceptance::{accepts, level};
 use processor_interrupt::entry::enter;
 use processor_machine::{Answer, Control, Mode};
 use refusal::Refusal;
+use word::Width;
 
 // The halfwords that a step fetched; 0 for one that it did not.
 #[derive(Clone, Copy)]
@@ -43,8 +44,7 @@ fn half(
     ensures value { result ≡ first_of pc (entering rom.now wram.old vram.old pak.old device.old) }
     ensures kept { leaving rom.now wram.new vram.new pak.new device.new ≡ entering rom.now wram.old vram.old pak.old device.old }
 {
-    let v = bus::load::half(rom, wram, vram, pak, device, pc);
-    v.value as u16
+    bus::load::load(rom, wram, vram, pak, device, Width::Half, pc) as u16
 }
 
 // The second halfword, where the first asks for it.

@@ -7,7 +7,7 @@ ghost use Rattle.saved.specs.Body.{lines_of, restored_processor_of, processor_in
 ghost use Rattle.saved.specs.Calls.{form_holds};
 
 use bus::DrawingRegisters;
-use bus_timer::{TimerLines, record};
+use bus_timer::TimerLines;
 use processor::Processor;
 use saved_bytes::numbers;
 use saved_kinds::words;
@@ -84,7 +84,7 @@ fn hardware(form: Form, file: &[u8], pak: usize) -> TimerLines
     ensures { result ≡ hardware_from (bodies_in form pak file.now).hardware }
 {
     match form {
-        Form::One => record::reset(),
+        Form::One => TimerLines::reset(),
         Form::Two => {
             let last = places::first(Form::Two, pak) + PAK_AT + pak;
             let end = last + HARDWARE_BYTES;

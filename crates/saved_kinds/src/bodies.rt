@@ -7,7 +7,7 @@ ghost use Rattle.saved_kinds.specs.Kinds.{processor_body_ok, drawing_body_ok, ha
 ghost use Rattle.saved_kinds.specs.Kinds.{file_ok};
 ghost use Rattle.saved_kinds.specs.inner.Records.{records_ok};
 
-use bus_timer::{TimerLines, record};
+use bus_timer::TimerLines;
 use saved_bytes::numbers;
 use saved_layout::places::{DRAWING_AT, HARDWARE_BYTES, PAK_AT, REST_AT, WRAM_AT};
 use saved_layout::{Form, contents, places};
@@ -45,12 +45,12 @@ pub fn hardware(body: &[u8]) -> TimerLines
     requires { length body.now ≡ 8 }
     ensures { result ≡ hardware_from body.now }
 {
-    record::hardware_of(
-        word::half_at(body, 0) as u16,
-        word::half_at(body, 2) as u16,
-        word::half_at(body, 4) as u16,
-        word::half_at(body, 6) as u16,
-    )
+    TimerLines {
+        lines: word::half_at(body, 0) as u16,
+        count: word::half_at(body, 2) as u16,
+        reload: word::half_at(body, 4) as u16,
+        control: word::half_at(body, 6) as u16,
+    }
 }
 
 // Kind 6.
@@ -58,7 +58,7 @@ pub fn hardware_ok(body: &[u8]) -> bool
     requires { length body.now ≡ 8 }
     ensures { result ≡ hardware_body_ok body.now }
 {
-    bus_timer::ports::ok(hardware(body))
+    hardware(body).is_ok()
 }
 
 // Kinds 1 and 2, which start at byte `at`.

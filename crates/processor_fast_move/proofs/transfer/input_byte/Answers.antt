@@ -9,4 +9,4 @@ unfolding execute_of
 returns c = λ base psw sys even aligned.
     let a = c.args in
     value-does true base a.x psw _ _ _ sys a.flags _ _ _ aligned c.after_two.ensures _
-    (rw (c.byte-v.ensures.means, c.address-a.ensures) at c.loaded.ensures)
+    (rw (c.load-v.ensures.means, c.address-a.ensures) at c.loaded.ensures)

@@ -11,6 +11,6 @@ returns c = λ base psw sys even aligned.
     value-does true base a.x psw _ _ _ sys a.flags _ _ _ aligned c.after_two.ensures _
     (rw (
       c.extend8-value.ensures,
-      c.byte-v.ensures.means,
+      c.load-v.ensures.means,
       c.address-a.ensures,
     ) at c.loaded.ensures)

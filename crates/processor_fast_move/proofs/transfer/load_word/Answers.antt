@@ -9,11 +9,11 @@ unfolding execute_of
 returns-clause-loads c = λ base psw sys even aligned.
     let a = c.args in
     value-does true base a.x psw _ _ _ sys a.flags _ _ _ aligned c.after_two.ensures _
-    (rw (c.word-v.ensures.means, c.address-a.ensures) at c.loaded.ensures)
+    (rw (c.load-v.ensures.means, c.address-a.ensures) at c.loaded.ensures)
 
 pub returns-clause-inputs : goal.returns-clause-inputs
 unfolding execute_of
 returns-clause-inputs c = λ base psw sys even aligned.
     let a = c.args in
     value-does true base a.x psw _ _ _ sys a.flags _ _ _ aligned c.after_two.ensures _
-    (rw (c.word-v.ensures.means, c.address-a.ensures) at c.loaded.ensures)
+    (rw (c.load-v.ensures.means, c.address-a.ensures) at c.loaded.ensures)

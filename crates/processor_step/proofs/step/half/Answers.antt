@@ -3,4 +3,4 @@ use Rattle.std.proofs.Common.{refl}
 use Rattle.processor_step.proofs.step.half.Goals as goal
 
 pub returns : goal.returns
-returns c = record { value = c.half-v.ensures.means; kept = refl }
+returns c = record { value = c.load.ensures.means; kept = refl }

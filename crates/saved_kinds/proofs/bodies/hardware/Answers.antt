@@ -7,7 +7,6 @@ unfolding hardware_from
 returns c =
     let b = c in
     rw (
-      c.hardware_of.ensures,
       b.half_at.ensures.0,
       b.half_at-2.ensures.0,
       b.half_at-3.ensures.0,

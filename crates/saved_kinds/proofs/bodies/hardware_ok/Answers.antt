@@ -6,4 +6,4 @@ use Rattle.saved_kinds.proofs.bodies.hardware_ok.Goals as goal
 
 pub returns : goal.returns
 unfolding hardware_body_ok
-returns c = c.ok.ensures ∙ ap hardware_ok (c.hardware.ensures)
+returns c = c.is_ok.ensures ∙ ap hardware_ok (c.hardware.ensures)
