@@ -3,14 +3,13 @@ ghost use Rattle.std.specs.Prelude.{◌≡◌};
 ghost use Rattle.processor_decode.specs.Opcode.{decode_of};
 ghost use Rattle.processor_decode.specs.Format.{two_of};
 ghost use Rattle.processor_encode.specs.Encode.{encoded_of};
-ghost use Rattle.capi_code.specs.Instructions.{fields_in, fields_out, length_of, encoded_at, decoded_at};
+ghost use Rattle.capi_code.specs.Instructions.{fields_in, fields_out, encoded_at, decoded_at};
 
-use processor_decode::Instruction;
-use processor_encode::{Encoded, Fields};
+use processor_encode::{Fields, Halfwords};
 use refusal::Refusal;
 
 #[repr(C)]
-#[derive(Clone, Copy)]
+#[derive(Clone, Copy, Default)]
 pub struct VbInstruction {
     pub operation: u32,
     pub reg1: u32,
@@ -20,7 +19,7 @@ pub struct VbInstruction {
 }
 
 #[repr(C)]
-#[derive(Clone, Copy)]
+#[derive(Clone, Copy, Default)]
 pub struct VbEncoded {
     pub refusal: u32,
     pub halfwords: u32,
@@ -29,112 +28,83 @@ pub struct VbEncoded {
 }
 
 #[repr(C)]
-#[derive(Clone, Copy)]
+#[derive(Clone, Copy, Default)]
 pub struct VbDecoded {
     pub refusal: u32,
     pub halfwords: u32,
     pub instruction: VbInstruction,
 }
 
-fn fields_in(i: VbInstruction) -> Fields
-    ensures { result ≡ fields_in i }
-{
-    Fields {
-        operation: i.operation,
-        reg1: i.reg1,
-        reg2: i.reg2,
-        condition: i.condition,
-        immediate: i.immediate,
+impl From<VbInstruction> for Fields {
+    ghost from_gives = { λ i x. x ≡ fields_in i };
+
+    fn from(i: VbInstruction) -> Fields {
+        Fields {
+            operation: i.operation,
+            reg1: i.reg1,
+            reg2: i.reg2,
+            condition: i.condition,
+            immediate: i.immediate,
+        }
     }
 }
 
-fn fields_out(x: Fields) -> VbInstruction
-    ensures { result ≡ fields_out x }
-{
-    VbInstruction {
-        operation: x.operation,
-        reg1: x.reg1,
-        reg2: x.reg2,
-        condition: x.condition,
-        immediate: x.immediate,
+impl From<Fields> for VbInstruction {
+    ghost from_gives = { λ x i. i ≡ fields_out x };
+
+    fn from(x: Fields) -> VbInstruction {
+        VbInstruction {
+            operation: x.operation,
+            reg1: x.reg1,
+            reg2: x.reg2,
+            condition: x.condition,
+            immediate: x.immediate,
+        }
     }
 }
 
-// How many halfwords an instruction has.
-fn length(two: bool) -> u32
-    ensures { result ≡ length_of two }
-{
-    if two {
-        return 2;
-    }
-    1
-}
+impl From<Result<Halfwords, Refusal>> for VbEncoded {
+    ghost from_gives = { λ e encoded. encoded ≡ encoded_at e };
 
-fn encoded(e: Encoded) -> VbEncoded
-    ensures { result ≡ encoded_at e }
-{
-    match e {
-        Encoded::One(first) => VbEncoded {
-            refusal: 0,
-            halfwords: 1,
-            first,
-            second: 0,
-        },
-        Encoded::Two(first, second) => VbEncoded {
-            refusal: 0,
-            halfwords: 2,
-            first,
-            second,
-        },
-        Encoded::Refused(refusal) => VbEncoded {
-            refusal: u32::from(refusal),
-            halfwords: 0,
-            first: 0,
-            second: 0,
-        },
+    fn from(e: Result<Halfwords, Refusal>) -> VbEncoded {
+        match e {
+            Ok(Halfwords::One(first)) => VbEncoded {
+                halfwords: 1,
+                first,
+                ..VbEncoded::default()
+            },
+            Ok(Halfwords::Two(first, second)) => VbEncoded {
+                refusal: 0,
+                halfwords: 2,
+                first,
+                second,
+            },
+            Err(refusal) => VbEncoded {
+                refusal: u32::from(refusal),
+                ..VbEncoded::default()
+            },
+        }
     }
 }
 
 pub fn encode(instruction: VbInstruction) -> VbEncoded
     ensures { result ≡ encoded_at (encoded_of (fields_in instruction)) }
 {
-    encoded(processor_encode::encode_fields(fields_in(instruction)))
-}
-
-fn decoded(d: Option<Instruction>, two: bool) -> VbDecoded
-    ensures { result ≡ decoded_at d two }
-{
-    match d {
-        Some(i) => {
-            let instruction = fields_out(processor_encode::operation::fields(i));
-            VbDecoded {
-                refusal: 0,
-                halfwords: length(two),
-                instruction,
-            }
-        }
-        None => {
-            let instruction = VbInstruction {
-                operation: 0,
-                reg1: 0,
-                reg2: 0,
-                condition: 0,
-                immediate: 0,
-            };
-            VbDecoded {
-                refusal: u32::from(Refusal::NotModelled),
-                halfwords: 0,
-                instruction,
-            }
-        }
-    }
+    VbEncoded::from(processor_encode::encode_fields(Fields::from(instruction)))
 }
 
 pub fn decode(first: u16, second: u16) -> VbDecoded
     ensures { result ≡ decoded_at (decode_of first second) (two_of first) }
 {
-    decoded(
-        processor_decode::decode(first, second),
-        processor_decode::two(first),
-    )
+    match processor_decode::decode(first, second) {
+        Some(i) => VbDecoded {
+            refusal: 0,
+            halfwords: if processor_decode::two(first) { 2 } else { 1 },
+            instruction: VbInstruction::from(Fields::from(i)),
+        },
+        None => VbDecoded {
+            refusal: u32::from(Refusal::NotModelled),
+            ..VbDecoded::default()
+        },
+    }
 }

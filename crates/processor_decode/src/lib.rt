@@ -15,42 +15,42 @@ use crate::format::Halfwords;
 use crate::sub_opcode::{FloatingOperation, NintendoOperation};
 pub use word::Width;
 
-// What Format I does with reg1 and reg2, in the order of the opcodes.
+// What Format I does with reg1 and reg2, by opcode.
 #[derive(Clone, Copy, Debug, PartialEq, Eq)]
 pub enum RegisterOperation {
-    Mov,
-    Add,
-    Sub,
-    Cmp,
-    Shl,
-    Shr,
-    Sar,
-    Or,
-    And,
-    Xor,
-    Not,
+    Mov = 0,
+    Add = 1,
+    Sub = 2,
+    Cmp = 3,
+    Shl = 4,
+    Shr = 5,
+    Sar = 7,
+    Or = 12,
+    And = 13,
+    Xor = 14,
+    Not = 15,
 }
 
-// What Format II does with a five-bit immediate and reg2.
+// What Format II does with a five-bit immediate and reg2, by opcode.
 #[derive(Clone, Copy, Debug, PartialEq, Eq)]
 pub enum ImmediateOperation {
-    Mov,
-    Add,
-    Cmp,
-    Shl,
-    Shr,
-    Sar,
+    Mov = 16,
+    Add = 17,
+    Cmp = 19,
+    Shl = 20,
+    Shr = 21,
+    Sar = 23,
 }
 
-// What Format V does with a sixteen-bit immediate and reg1.
+// What Format V does with a sixteen-bit immediate and reg1, by opcode.
 #[derive(Clone, Copy, Debug, PartialEq, Eq)]
 pub enum LongOperation {
-    Movea,
-    Addi,
-    Ori,
-    Andi,
-    Xori,
-    Movhi,
+    Movea = 40,
+    Addi = 41,
+    Ori = 44,
+    Andi = 45,
+    Xori = 46,
+    Movhi = 47,
 }
 
 // The operands of an instruction, as 000 names them: registers by their numbers, the others as words.

@@ -5,25 +5,25 @@ ghost use Rattle.processor_decode.specs.SubOpcode.{extended_of};
 use crate::Instruction;
 use crate::format::Halfwords;
 
-// What Format VII's floating instructions do but for CMPF.S, in the order of the sub-opcodes.
+// What Format VII's floating instructions do but for CMPF.S, by sub-opcode.
 #[derive(Clone, Copy, Debug, PartialEq, Eq)]
 pub enum FloatingOperation {
-    CvtWs,
-    CvtSw,
-    Addf,
-    Subf,
-    Mulf,
-    Divf,
-    TrncSw,
+    CvtWs = 2,
+    CvtSw = 3,
+    Addf = 4,
+    Subf = 5,
+    Mulf = 6,
+    Divf = 7,
+    TrncSw = 11,
 }
 
-// What Format VII's Nintendo instructions do, in the order of the sub-opcodes.
+// What Format VII's Nintendo instructions do, by sub-opcode.
 #[derive(Clone, Copy, Debug, PartialEq, Eq)]
 pub enum NintendoOperation {
-    Xb,
-    Xh,
-    Rev,
-    Mpyhw,
+    Xb = 8,
+    Xh = 9,
+    Rev = 10,
+    Mpyhw = 12,
 }
 
 // The row of the sub-opcode; one that 000 does not list is illegal.

@@ -1,15 +1,20 @@
 -- Where the fields of an instruction stand in its halfwords (document 000, "Instruction Formats"): each takes as many
 -- low bits of its field as the format has for it.
-use Rattle.std.specs.Prelude.{ℕ, ◌+◌, ◌*◌, ◌/◌, ◌%◌, ◌^◌}
+use Rattle.std.specs.Prelude.{ℕ, ◌+◌, ◌*◌, ◌/◌, ◌%◌, ◌^◌, Result, Ok, Err}
+use Rattle.refusal.specs.declared.Refusal.{Refusal}
 use Rattle.refusal.specs.declared.Refusal.TheVariants.{Encoding}
 use Rattle.processor_encode.specs.declared.Fields as fields
-use Rattle.processor_encode.specs.declared.Encoded as encoded
-use Rattle.processor_encode.specs.declared.Encoded.TheVariants.{One, Two, Refused}
+use Rattle.processor_encode.specs.declared.Halfwords.{Halfwords}
+use Rattle.processor_encode.specs.declared.Halfwords.TheVariants.{One, Two}
 use Rattle.processor_encode.specs.declared.format.Format as format
 use Rattle.processor_encode.specs.declared.format.Format.TheVariants.{Registers, Target, SignedImmediate}
 use Rattle.processor_encode.specs.declared.format.Format.TheVariants.{UnsignedImmediate, Condition, Vector, Bare}
 use Rattle.processor_encode.specs.declared.format.Format.TheVariants.{SystemRegister, Branch, Jump, SignedLong}
 use Rattle.processor_encode.specs.declared.format.Format.TheVariants.{UnsignedLong, Extended, Exchange, Unlisted}
+
+-- one halfword or two; or the refusal, which is `Encoding`
+abbrev pub Encoded : Type 0
+Encoded = Result Halfwords Refusal
 
 -- 111110, the opcode of Format VII
 abbrev pub extended_opcode : ℕ
@@ -34,19 +39,19 @@ low_half x = x % 65536
 abbrev pub sub_opcode : ℕ → ℕ
 sub_opcode operation = operation % 64 * 1024
 
-abbrev pub halfwords_of : format.Format → fields.Fields → encoded.Encoded
-halfwords_of Registers x = One (placed x.operation x.reg2 x.reg1)
-halfwords_of Target x = One (placed x.operation 0 x.reg1)
-halfwords_of SignedImmediate x = One (placed x.operation x.reg2 x.immediate)
-halfwords_of UnsignedImmediate x = One (placed x.operation x.reg2 x.immediate)
-halfwords_of Condition x = One (placed x.operation x.reg2 x.condition)
-halfwords_of Vector x = One (placed x.operation 0 x.immediate)
-halfwords_of Bare x = One (placed x.operation 0 0)
-halfwords_of SystemRegister x = One (placed x.operation x.reg2 x.immediate)
-halfwords_of Branch x = One (branch_placed x.condition x.immediate)
-halfwords_of Jump x = Two (jump_placed x.operation x.immediate) (low_half x.immediate)
-halfwords_of SignedLong x = Two (placed x.operation x.reg2 x.reg1) (low_half x.immediate)
-halfwords_of UnsignedLong x = Two (placed x.operation x.reg2 x.reg1) (low_half x.immediate)
-halfwords_of Extended x = Two (placed extended_opcode x.reg2 x.reg1) (sub_opcode x.operation)
-halfwords_of Exchange x = Two (placed extended_opcode x.reg2 0) (sub_opcode x.operation)
-halfwords_of Unlisted x = Refused Encoding
+abbrev pub halfwords_of : format.Format → fields.Fields → Encoded
+halfwords_of Registers x = Ok (One (placed x.operation x.reg2 x.reg1))
+halfwords_of Target x = Ok (One (placed x.operation 0 x.reg1))
+halfwords_of SignedImmediate x = Ok (One (placed x.operation x.reg2 x.immediate))
+halfwords_of UnsignedImmediate x = Ok (One (placed x.operation x.reg2 x.immediate))
+halfwords_of Condition x = Ok (One (placed x.operation x.reg2 x.condition))
+halfwords_of Vector x = Ok (One (placed x.operation 0 x.immediate))
+halfwords_of Bare x = Ok (One (placed x.operation 0 0))
+halfwords_of SystemRegister x = Ok (One (placed x.operation x.reg2 x.immediate))
+halfwords_of Branch x = Ok (One (branch_placed x.condition x.immediate))
+halfwords_of Jump x = Ok (Two (jump_placed x.operation x.immediate) (low_half x.immediate))
+halfwords_of SignedLong x = Ok (Two (placed x.operation x.reg2 x.reg1) (low_half x.immediate))
+halfwords_of UnsignedLong x = Ok (Two (placed x.operation x.reg2 x.reg1) (low_half x.immediate))
+halfwords_of Extended x = Ok (Two (placed extended_opcode x.reg2 x.reg1) (sub_opcode x.operation))
+halfwords_of Exchange x = Ok (Two (placed extended_opcode x.reg2 0) (sub_opcode x.operation))
+halfwords_of Unlisted x = Err Encoding

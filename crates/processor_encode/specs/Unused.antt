@@ -1,13 +1,12 @@
 -- Paper 02, W8: "its halfwords with unused bits cleared, among them bit 0 of a jump or branch offset and the top bit of
 -- SETF's immediate". The unused bits of each format, from document 000, by the table of specs/Format; those of
 -- halfwords that are invalid or not modelled are left as they are.
-use Rattle.std.specs.Prelude.{ℕ, ◌+◌, ◌-◌, ◌*◌, ◌/◌, ◌%◌, ◌^◌, ltb, eqb}
+use Rattle.std.specs.Prelude.{ℕ, ◌+◌, ◌-◌, ◌*◌, ◌/◌, ◌%◌, ◌^◌, ltb, eqb, Ok}
 use Rattle.word.specs.Choose.{pick}
 use Rattle.processor_decode.specs.Format.{opcode_of, two_of}
 use Rattle.processor_encode.specs.Format.{format_of}
-use Rattle.processor_encode.specs.Place.{extended_opcode}
-use Rattle.processor_encode.specs.declared.Encoded as encoded
-use Rattle.processor_encode.specs.declared.Encoded.TheVariants.{One, Two}
+use Rattle.processor_encode.specs.Place.{Encoded, extended_opcode}
+use Rattle.processor_encode.specs.declared.Halfwords.TheVariants.{One, Two}
 use Rattle.processor_encode.specs.declared.format.Format as format
 use Rattle.processor_encode.specs.declared.format.Format.TheVariants.{Registers, Target, SignedImmediate}
 use Rattle.processor_encode.specs.declared.format.Format.TheVariants.{UnsignedImmediate, Condition, Vector, Bare}
@@ -80,5 +79,5 @@ unfoldable pub cleared_second : ℕ → ℕ → ℕ
 cleared_second f s = second_without (format_of (operation_at f s)) s
 
 -- the halfwords of the instruction, one or two as decoding takes them, without their unused bits
-unfoldable pub cleared_of : ℕ → ℕ → encoded.Encoded
-cleared_of f s = pick (two_of f) (Two (cleared_first f s) (cleared_second f s)) (One (cleared_first f s))
+unfoldable pub cleared_of : ℕ → ℕ → Encoded
+cleared_of f s = pick (two_of f) (Ok (Two (cleared_first f s) (cleared_second f s))) (Ok (One (cleared_first f s)))

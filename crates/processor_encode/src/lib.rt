@@ -3,19 +3,19 @@
 #![tactic(auto)]
 
 mod format;
-pub mod operation;
+mod operation;
 mod place;
 mod range;
 
 ghost use Rattle.std.specs.Prelude.{◌≡◌};
 ghost use Rattle.processor_encode.specs.Encode.{encode_of, encoded_of};
 
-use operation::fields;
+use format::Format;
 use processor_decode::Instruction;
 use refusal::Refusal;
 
 // An instruction as numbers: its operation and the fields of all formats. A field that its format does not have is 0.
-#[derive(Clone, Copy)]
+#[derive(Clone, Copy, Debug, Default, PartialEq, Eq)]
 pub struct Fields {
     pub operation: u32,
     pub reg1: u32,
@@ -24,28 +24,29 @@ pub struct Fields {
     pub immediate: u32,
 }
 
-// One halfword or two; or the refusal, which is `Encoding`.
-#[derive(Clone, Copy)]
-pub enum Encoded {
+// The halfwords of an instruction.
+#[derive(Clone, Copy, Debug, PartialEq, Eq)]
+pub enum Halfwords {
     One(u16),
     Two(u16, u16),
-    Refused(Refusal),
 }
 
-// The halfwords of an instruction, with unused bits clear.
-pub fn encode(i: Instruction) -> Encoded
+// The halfwords of an instruction, with unused bits clear; or the refusal, which is `Encoding`.
+pub fn encode(i: Instruction) -> Result<Halfwords, Refusal>
     ensures { result ≡ encode_of i }
 {
-    encode_fields(fields(i))
+    encode_fields(Fields::from(i))
 }
 
 // The halfwords of the instruction with these fields.
-pub fn encode_fields(x: Fields) -> Encoded
+#[tactic(auto, unfolding(crate::specs::Encode::encoded_of))]
+pub fn encode_fields(x: Fields) -> Result<Halfwords, Refusal>
     ensures { result ≡ encoded_of x }
 {
-    let format = format::format_of(x.operation);
-    if !range::fits(format, x) {
-        return Encoded::Refused(Refusal::Encoding);
+    let format = Format::of(x.operation);
+    if format.fits(x) {
+        format.halfwords(x)
+    } else {
+        Err(Refusal::Encoding)
     }
-    place::halfwords(format, x)
 }

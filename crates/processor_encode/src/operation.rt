@@ -1,160 +1,99 @@
 // An instruction's operation number and fields.
-ghost use Rattle.std.specs.Prelude.{◌≡◌, ◌+◌, ◌<◌};
-ghost use Rattle.processor_encode.specs.Fields.{fields_of, numbers, register_number, immediate_number, long_number};
-ghost use Rattle.processor_encode.specs.Fields.{width_number, floating_number, nintendo_number};
+ghost use Rattle.std.specs.Prelude.{◌≡◌, ◌<◌};
+ghost use Rattle.processor_encode.specs.Fields.{fields_of, numbers, width_number};
 
 use crate::Fields;
-use processor_decode::sub_opcode::{FloatingOperation, NintendoOperation};
-use processor_decode::{ImmediateOperation, Instruction, LongOperation, RegisterOperation, Width};
+use processor_decode::{Disp, Instruction, Reg1, Reg2, Width};
 
-fn numbers(operation: u32, reg1: u32, reg2: u32, condition: u32, immediate: u32) -> Fields
-    ensures { result ≡ numbers operation reg1 reg2 condition immediate }
-{
-    Fields {
-        operation,
-        reg1,
-        reg2,
-        condition,
-        immediate,
+impl Fields {
+    // An operation with no fields.
+    fn of(operation: u32) -> Fields
+        ensures { result ≡ numbers operation 0 0 0 0 }
+    {
+        Fields {
+            operation,
+            ..Fields::default()
+        }
+    }
+
+    fn reg1(self, reg1: u32) -> Fields
+        ensures { result ≡ numbers self.operation reg1 self.reg2 self.condition self.immediate }
+    {
+        Fields { reg1, ..self }
+    }
+
+    fn reg2(self, reg2: u32) -> Fields
+        ensures { result ≡ numbers self.operation self.reg1 reg2 self.condition self.immediate }
+    {
+        Fields { reg2, ..self }
+    }
+
+    fn condition(self, condition: u32) -> Fields
+        ensures { result ≡ numbers self.operation self.reg1 self.reg2 condition self.immediate }
+    {
+        Fields { condition, ..self }
+    }
+
+    fn immediate(self, immediate: u32) -> Fields
+        ensures { result ≡ numbers self.operation self.reg1 self.reg2 self.condition immediate }
+    {
+        Fields { immediate, ..self }
     }
 }
 
-fn register_number(op: RegisterOperation) -> u32
-    ensures { result ≡ register_number op }
-{
-    match op {
-        RegisterOperation::Mov => 0,
-        RegisterOperation::Add => 1,
-        RegisterOperation::Sub => 2,
-        RegisterOperation::Cmp => 3,
-        RegisterOperation::Shl => 4,
-        RegisterOperation::Shr => 5,
-        RegisterOperation::Sar => 7,
-        RegisterOperation::Or => 12,
-        RegisterOperation::And => 13,
-        RegisterOperation::Xor => 14,
-        RegisterOperation::Not => 15,
-    }
-}
-
-fn immediate_number(op: ImmediateOperation) -> u32
-    ensures { result ≡ immediate_number op }
-{
-    match op {
-        ImmediateOperation::Mov => 16,
-        ImmediateOperation::Add => 17,
-        ImmediateOperation::Cmp => 19,
-        ImmediateOperation::Shl => 20,
-        ImmediateOperation::Shr => 21,
-        ImmediateOperation::Sar => 23,
-    }
-}
-
-fn long_number(op: LongOperation) -> u32
-    ensures { result ≡ long_number op }
-{
-    match op {
-        LongOperation::Movea => 40,
-        LongOperation::Addi => 41,
-        LongOperation::Ori => 44,
-        LongOperation::Andi => 45,
-        LongOperation::Xori => 46,
-        LongOperation::Movhi => 47,
-    }
-}
-
-// The number of a load, store, input or output whose byte operation is `byte`.
-fn width_number(byte: u32, width: Width) -> u32
+// A load, store, input or output whose byte operation is `byte`.
+fn transfer(byte: u32, width: Width, disp: Disp, reg1: Reg1, reg2: Reg2) -> Fields
     requires { byte < 64 }
-    ensures { result ≡ width_number byte width }
+    ensures { result ≡ numbers (width_number byte width) reg1 reg2 0 disp }
 {
-    match width {
+    let operation = match width {
         Width::Byte => byte,
         Width::Half => byte + 1,
         Width::Word => byte + 3,
-    }
+    };
+    Fields::of(operation).reg1(reg1).reg2(reg2).immediate(disp)
 }
 
-fn floating_number(op: FloatingOperation) -> u32
-    ensures { result ≡ floating_number op }
-{
-    match op {
-        FloatingOperation::CvtWs => 66,
-        FloatingOperation::CvtSw => 67,
-        FloatingOperation::Addf => 68,
-        FloatingOperation::Subf => 69,
-        FloatingOperation::Mulf => 70,
-        FloatingOperation::Divf => 71,
-        FloatingOperation::TrncSw => 75,
-    }
-}
+impl From<Instruction> for Fields {
+    ghost from_gives = { λ i fields. fields ≡ fields_of i };
 
-fn nintendo_number(op: NintendoOperation) -> u32
-    ensures { result ≡ nintendo_number op }
-{
-    match op {
-        NintendoOperation::Xb => 72,
-        NintendoOperation::Xh => 73,
-        NintendoOperation::Rev => 74,
-        NintendoOperation::Mpyhw => 76,
-    }
-}
-
-// The operation and fields of an instruction.
-pub fn fields(i: Instruction) -> Fields
-    ensures { result ≡ fields_of i }
-{
-    match i {
-        Instruction::Register(op, reg1, reg2) => numbers(register_number(op), reg1, reg2, 0, 0),
-        Instruction::Mul(reg1, reg2) => numbers(8, reg1, reg2, 0, 0),
-        Instruction::Div(reg1, reg2) => numbers(9, reg1, reg2, 0, 0),
-        Instruction::Mulu(reg1, reg2) => numbers(10, reg1, reg2, 0, 0),
-        Instruction::Divu(reg1, reg2) => numbers(11, reg1, reg2, 0, 0),
-        Instruction::Jmp(reg1) => numbers(6, reg1, 0, 0, 0),
-        Instruction::Immediate(op, imm, reg2) => numbers(immediate_number(op), 0, reg2, 0, imm),
-        Instruction::Setf(cond, reg2) => numbers(18, 0, reg2, cond, 0),
-        Instruction::Cli => numbers(22, 0, 0, 0, 0),
-        Instruction::Sei => numbers(30, 0, 0, 0, 0),
-        Instruction::Trap(vector) => numbers(24, 0, 0, 0, vector),
-        Instruction::Reti => numbers(25, 0, 0, 0, 0),
-        Instruction::Halt => numbers(26, 0, 0, 0, 0),
-        Instruction::Ldsr(reg2, id) => numbers(28, 0, reg2, 0, id),
-        Instruction::Stsr(id, reg2) => numbers(29, 0, reg2, 0, id),
-        Instruction::Bcond(cond, disp) => numbers(32, 0, 0, cond, disp),
-        Instruction::Jr(disp) => numbers(42, 0, 0, 0, disp),
-        Instruction::Jal(disp) => numbers(43, 0, 0, 0, disp),
-        Instruction::Long(op, imm, reg1, reg2) => numbers(long_number(op), reg1, reg2, 0, imm),
-        Instruction::Load(width, disp, reg1, reg2) => numbers(
-            width_number(48, width),
-            reg1,
-            reg2,
-            0,
-            disp,
-        ),
-        Instruction::In(width, disp, reg1, reg2) => numbers(
-            width_number(56, width),
-            reg1,
-            reg2,
-            0,
-            disp,
-        ),
-        Instruction::Store(width, disp, reg1, reg2) => numbers(
-            width_number(52, width),
-            reg1,
-            reg2,
-            0,
-            disp,
-        ),
-        Instruction::Out(width, disp, reg1, reg2) => numbers(
-            width_number(60, width),
-            reg1,
-            reg2,
-            0,
-            disp,
-        ),
-        Instruction::Illegal => numbers(255, 0, 0, 0, 0),
-        Instruction::Cmpf(reg1, reg2) => numbers(64, reg1, reg2, 0, 0),
-        Instruction::Floating(op, reg1, reg2) => numbers(floating_number(op), reg1, reg2, 0, 0),
-        Instruction::Nintendo(op, reg1, reg2) => numbers(nintendo_number(op), reg1, reg2, 0, 0),
+    fn from(i: Instruction) -> Fields {
+        match i {
+            Instruction::Register(op, reg1, reg2) => Fields::of(op as u32).reg1(reg1).reg2(reg2),
+            Instruction::Mul(reg1, reg2) => Fields::of(8).reg1(reg1).reg2(reg2),
+            Instruction::Div(reg1, reg2) => Fields::of(9).reg1(reg1).reg2(reg2),
+            Instruction::Mulu(reg1, reg2) => Fields::of(10).reg1(reg1).reg2(reg2),
+            Instruction::Divu(reg1, reg2) => Fields::of(11).reg1(reg1).reg2(reg2),
+            Instruction::Jmp(reg1) => Fields::of(6).reg1(reg1),
+            Instruction::Immediate(op, imm, reg2) => Fields::of(op as u32)
+                .reg2(reg2)
+                .immediate(imm),
+            Instruction::Setf(cond, reg2) => Fields::of(18).reg2(reg2).condition(cond),
+            Instruction::Cli => Fields::of(22),
+            Instruction::Sei => Fields::of(30),
+            Instruction::Trap(vector) => Fields::of(24).immediate(vector),
+            Instruction::Reti => Fields::of(25),
+            Instruction::Halt => Fields::of(26),
+            Instruction::Ldsr(reg2, id) => Fields::of(28).reg2(reg2).immediate(id),
+            Instruction::Stsr(id, reg2) => Fields::of(29).reg2(reg2).immediate(id),
+            Instruction::Bcond(cond, disp) => Fields::of(32).condition(cond).immediate(disp),
+            Instruction::Jr(disp) => Fields::of(42).immediate(disp),
+            Instruction::Jal(disp) => Fields::of(43).immediate(disp),
+            Instruction::Long(op, imm, reg1, reg2) => {
+                Fields::of(op as u32).reg1(reg1).reg2(reg2).immediate(imm)
+            }
+            Instruction::Load(width, disp, reg1, reg2) => transfer(48, width, disp, reg1, reg2),
+            Instruction::Store(width, disp, reg1, reg2) => transfer(52, width, disp, reg1, reg2),
+            Instruction::In(width, disp, reg1, reg2) => transfer(56, width, disp, reg1, reg2),
+            Instruction::Out(width, disp, reg1, reg2) => transfer(60, width, disp, reg1, reg2),
+            Instruction::Illegal => Fields::of(255),
+            Instruction::Cmpf(reg1, reg2) => Fields::of(64).reg1(reg1).reg2(reg2),
+            Instruction::Floating(op, reg1, reg2) => {
+                Fields::of(64 + op as u32).reg1(reg1).reg2(reg2)
+            }
+            Instruction::Nintendo(op, reg1, reg2) => {
+                Fields::of(64 + op as u32).reg1(reg1).reg2(reg2)
+            }
+        }
     }
 }

@@ -4,7 +4,7 @@ ghost use Rattle.std.specs.Prelude.{◌≡◌};
 ghost use Rattle.processor_encode.specs.Place.{placed, branch_placed, jump_placed, low_half, sub_opcode, halfwords_of};
 
 use crate::format::Format;
-use crate::{Encoded, Fields};
+use crate::{Fields, Halfwords};
 use refusal::Refusal;
 
 // The opcode in bits 15-10, reg2 in bits 9-5, reg1 or another field in bits 4-0.
@@ -42,31 +42,32 @@ fn sub_opcode(operation: u32) -> u16
     (operation % 64 * 1024) as u16
 }
 
-// The fields in their places.
-pub fn halfwords(format: Format, x: Fields) -> Encoded
-    ensures { result ≡ halfwords_of format x }
-{
-    match format {
-        Format::Registers => Encoded::One(placed(x.operation, x.reg2, x.reg1)),
-        Format::Target => Encoded::One(placed(x.operation, 0, x.reg1)),
-        Format::SignedImmediate => Encoded::One(placed(x.operation, x.reg2, x.immediate)),
-        Format::UnsignedImmediate => Encoded::One(placed(x.operation, x.reg2, x.immediate)),
-        Format::Condition => Encoded::One(placed(x.operation, x.reg2, x.condition)),
-        Format::Vector => Encoded::One(placed(x.operation, 0, x.immediate)),
-        Format::Bare => Encoded::One(placed(x.operation, 0, 0)),
-        Format::SystemRegister => Encoded::One(placed(x.operation, x.reg2, x.immediate)),
-        Format::Branch => Encoded::One(branch_placed(x.condition, x.immediate)),
-        Format::Jump => Encoded::Two(jump_placed(x.operation, x.immediate), low_half(x.immediate)),
-        Format::SignedLong => Encoded::Two(
-            placed(x.operation, x.reg2, x.reg1),
-            low_half(x.immediate),
-        ),
-        Format::UnsignedLong => Encoded::Two(
-            placed(x.operation, x.reg2, x.reg1),
-            low_half(x.immediate),
-        ),
-        Format::Extended => Encoded::Two(placed(62, x.reg2, x.reg1), sub_opcode(x.operation)),
-        Format::Exchange => Encoded::Two(placed(62, x.reg2, 0), sub_opcode(x.operation)),
-        Format::Unlisted => Encoded::Refused(Refusal::Encoding),
+impl Format {
+    // The fields in their places.
+    pub fn halfwords(self, x: Fields) -> Result<Halfwords, Refusal>
+        ensures { result ≡ halfwords_of self x }
+    {
+        Ok(match self {
+            Format::Registers => Halfwords::One(placed(x.operation, x.reg2, x.reg1)),
+            Format::Target => Halfwords::One(placed(x.operation, 0, x.reg1)),
+            Format::SignedImmediate | Format::UnsignedImmediate | Format::SystemRegister => {
+                Halfwords::One(placed(x.operation, x.reg2, x.immediate))
+            }
+            Format::Condition => Halfwords::One(placed(x.operation, x.reg2, x.condition)),
+            Format::Vector => Halfwords::One(placed(x.operation, 0, x.immediate)),
+            Format::Bare => Halfwords::One(placed(x.operation, 0, 0)),
+            Format::Branch => Halfwords::One(branch_placed(x.condition, x.immediate)),
+            Format::Jump => Halfwords::Two(
+                jump_placed(x.operation, x.immediate),
+                low_half(x.immediate),
+            ),
+            Format::SignedLong | Format::UnsignedLong => Halfwords::Two(
+                placed(x.operation, x.reg2, x.reg1),
+                low_half(x.immediate),
+            ),
+            Format::Extended => Halfwords::Two(placed(62, x.reg2, x.reg1), sub_opcode(x.operation)),
+            Format::Exchange => Halfwords::Two(placed(62, x.reg2, 0), sub_opcode(x.operation)),
+            Format::Unlisted => return Err(Refusal::Encoding),
+        })
     }
 }

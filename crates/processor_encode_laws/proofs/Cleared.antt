@@ -1,5 +1,6 @@
 -- Clearing keeps the opcode and the sub-opcode, so the operation and its format, and clears once for all:
 -- `cleared-twice`. What clearing gives for each kind of opcode. Assumes nothing.
+use Rattle.std.specs.Prelude.{Ok}
 use Prim.Native.Nat.{ℕ, ◌+◌, ◌/◌, ◌≤◌, ◌<◌}
 use mathlib.Core.Bool.{true, false}
 use mathlib.Core.Path.{◌≡◌, refl, sym, ◌∙◌, ap}
@@ -9,7 +10,7 @@ use borrow.Author.Tests.{lt-ltb, le-ltb, eq-eqb, ne_eqb}
 use Rattle.processor_decode.specs.Format.{two_of}
 use Rattle.processor_encode.specs.Format.{format_of, long_formats}
 use Rattle.processor_encode.specs.Unused.{operation_at, first_without, second_without, cleared_first, cleared_second, cleared_of}
-use Rattle.processor_encode.specs.declared.Encoded.TheVariants.{One, Two}
+use Rattle.processor_encode.specs.declared.Halfwords.TheVariants.{One, Two}
 use Rattle.processor_encode.specs.declared.format.Format as format
 use Rattle.processor_encode.specs.declared.format.Format.TheVariants.{Registers, Target, SignedImmediate}
 use Rattle.processor_encode.specs.declared.format.Format.TheVariants.{UnsignedImmediate, Condition, Vector, Bare}
@@ -161,29 +162,29 @@ module _ (t : format.Format) (n f s : ℕ) (known : format_of n ≡ t) (at : ope
   unfolding cleared_second
   cleared-second = rw (at, known)
 
-  cleared-one : two_of f ≡ false → cleared_of f s ≡ One (first_without t f)
+  cleared-one : two_of f ≡ false → cleared_of f s ≡ Ok (One (first_without t f))
   unfolding cleared_of
   cleared-one two = rw (two, cleared-first)
 
-  cleared-two : two_of f ≡ true → cleared_of f s ≡ Two (first_without t f) (second_without t s)
+  cleared-two : two_of f ≡ true → cleared_of f s ≡ Ok (Two (first_without t f) (second_without t s))
   unfolding cleared_of
   cleared-two two = rw (two, cleared-first, cleared-second)
 
-pub cleared-short : (t : format.Format) (n f s : ℕ) → format_of n ≡ t → f / 1024 ≡ n → n < 32 → cleared_of f s ≡ One (first_without t f)
+pub cleared-short : (t : format.Format) (n f s : ℕ) → format_of n ≡ t → f / 1024 ≡ n → n < 32 → cleared_of f s ≡ Ok (One (first_without t f))
 cleared-short t n f s known e h = cleared-one t n f s known (operation-short n f s e h) (two-short f (omega arith))
 
 branch-format : format_of 32 ≡ Branch
 unfolding format_of long_formats
 branch-format = refl
 
-pub cleared-branch : (f s : ℕ) → 32 ≤ f / 1024 → f / 1024 < 40 → cleared_of f s ≡ One (first_without Branch f)
+pub cleared-branch : (f s : ℕ) → 32 ≤ f / 1024 → f / 1024 < 40 → cleared_of f s ≡ Ok (One (first_without Branch f))
 cleared-branch f s h k = cleared-one Branch 32 f s branch-format (operation-branch f s h k) (two-short f k)
 
 pub cleared-long : (t : format.Format) (n f s : ℕ) → format_of n ≡ t → f / 1024 ≡ n → 40 ≤ n → (n ≡ 50 → ⊥) →
-    (n ≡ 54 → ⊥) → (n ≡ 62 → ⊥) → cleared_of f s ≡ Two (first_without t f) (second_without t s)
+    (n ≡ 54 → ⊥) → (n ≡ 62 → ⊥) → cleared_of f s ≡ Ok (Two (first_without t f) (second_without t s))
 cleared-long t n f s known e h a b d = cleared-two t n f s known (operation-long n f s e h d) (two-long n f e h a b)
 
 pub cleared-extended : (t : format.Format) (m f s : ℕ) → format_of
-    (64 + m) ≡ t → f / 1024 ≡ 62 → s / 1024 ≡ m → cleared_of f s ≡ Two (first_without t f) (second_without t s)
+    (64 + m) ≡ t → f / 1024 ≡ 62 → s / 1024 ≡ m → cleared_of f s ≡ Ok (Two (first_without t f) (second_without t s))
 cleared-extended t m f s known e h =
     cleared-two t (64 + m) f s known (operation-extended m f s e h) (two-long 62 f e (omega arith) (λ q. absurd (omega arith)) (λ q. absurd (omega arith)))

@@ -1,10 +1,9 @@
 -- What is to be shown of each row of the decoder's list: `Facts`, and the two ways to show it, for a legal instruction and
 -- for a row that is invalid or not modelled. Assumes nothing.
-use Rattle.std.specs.Prelude.{Option, Some, None}
+use Rattle.std.specs.Prelude.{Option, Some, None, Ok}
 use Prim.Native.Nat.{ℕ}
 use mathlib.Core.Bool.{Bool, true, false}
 use mathlib.Core.Path.{◌≡◌, sym}
-use native.Mathlib.Omega.{arith}
 use Rattle.word.specs.Choose.{pick}
 use Rattle.processor_decode.specs.Format.{two_of}
 use Rattle.processor_decode.specs.Opcode.{decode_of}
@@ -16,7 +15,7 @@ use Rattle.processor_encode.specs.Place.{halfwords_of}
 use Rattle.processor_encode.specs.Encode.{encode_of, encoded_of}
 use Rattle.processor_encode.specs.Unused.{cleared_of, cleared_first, cleared_second}
 use Rattle.processor_encode.specs.declared.Fields.{Fields}
-use Rattle.processor_encode.specs.declared.Encoded.TheVariants.{One, Two}
+use Rattle.processor_encode.specs.declared.Halfwords.TheVariants.{One, Two}
 use Rattle.processor_encode_laws.specs.RoundTrip.{DecodesTo, Legal}
 
 -- of a row d that the halfwords decode to: a legal instruction is encoded as the cleared halfwords, and they decode to d
@@ -24,7 +23,7 @@ pub record Facts (f s : ℕ) (d : Option Instruction) : Type 0 where
   pub legal : (i : Instruction) → d ≡ Some i → Legal i → encode_of i ≡ cleared_of f s
   pub decodes : decode_of (cleared_first f s) (cleared_second f s) ≡ d
 
-decodes-either : (i : Instruction) (t : Bool) (a b : ℕ) → DecodesTo i (pick t (Two a b) (One a)) → decode_of a b ≡ Some i
+decodes-either : (i : Instruction) (t : Bool) (a b : ℕ) → DecodesTo i (pick t (Ok (Two a b)) (Ok (One a))) → decode_of a b ≡ Some i
 decodes-either i true a b h = h.3
 decodes-either i false a b h = h.2 b
 
@@ -41,7 +40,7 @@ legal-row f s j h e =
 
 module _ (f s : ℕ) (first : cleared_first f s ≡ f) (second : cleared_second f s ≡ s) where
   not-modelled : (i : Instruction) → None ≡ Some i → ⊥
-  not-modelled i e = let z : ◌≡◌ {A = ℕ} 0 1 = cc in omega arith
+  not-modelled i e = cc
 
   pub absent-row : decode_of f s ≡ None → Facts f s None
   absent-row h = record { legal = λ i e l. absurd (not-modelled i e); decodes = rw (first, second) h }

@@ -1,6 +1,6 @@
 -- The law of the formats. Fields in the ranges of their format, put in their places, are read from there: `decodes-placed`. Fields that are read from
 -- halfwords are in range, `read_fits`, and in their places give the halfwords without unused bits, `placed-read`. Assumes nothing.
-use Rattle.std.specs.Prelude.{Some}
+use Rattle.std.specs.Prelude.{Some, Ok}
 use Prim.Native.Nat.{ℕ, ◌+◌, ◌*◌, ◌/◌, ◌%◌, ◌≤◌, ◌<◌}
 use mathlib.Core.Bool.{Bool, true, false, true≢false}
 use mathlib.Core.Path.{◌≡◌, refl, sym, ◌∙◌, ap}
@@ -17,7 +17,7 @@ use Rattle.processor_encode.specs.Range.{within, even_in, fits_of}
 use Rattle.processor_encode.specs.Place.{placed, branch_placed, jump_placed, low_half, sub_opcode, halfwords_of}
 use Rattle.processor_encode.specs.Unused.{without, operation_at, first_without, second_without, cleared_of}
 use Rattle.processor_encode.specs.declared.Fields.{Fields}
-use Rattle.processor_encode.specs.declared.Encoded.TheVariants.{One, Two}
+use Rattle.processor_encode.specs.declared.Halfwords.TheVariants.{One, Two}
 use Rattle.processor_encode.specs.declared.format.Format as format
 use Rattle.processor_encode.specs.declared.format.Format.TheVariants.{Registers, Target, SignedImmediate}
 use Rattle.processor_encode.specs.declared.format.Format.TheVariants.{UnsignedImmediate, Condition, Vector, Bare}
@@ -123,15 +123,15 @@ extended-number n h = pick_second (ltb n 64) (ltb n 128) h (λ a b. (ltb-false n
 -- fields that are read, in their places, are the halfwords without unused bits
 module _ (n f s : ℕ) (hf : f < 65536) (hs : s < 65536) (at : operation_at f s ≡ n) where
   short-read : (t : format.Format) (b a : ℕ) → format_of n ≡ t → ltb n 32 ≡ true → (f / 1024 ≡ n → n < 64 → placed n b a ≡ first_without t f) →
-      One (placed n b a) ≡ cleared_of f s
+      Ok (One (placed n b a)) ≡ cleared_of f s
   short-read t b a known fits same =
       let small = ltb-true n 32 fits in
       let e = opcode-short n f s at small in
-      ap One (same e (omega arith)) ∙ sym (cleared-short t n f s known e small)
+      ap (λ (g : ℕ). Ok (One g)) (same e (omega arith)) ∙ sym (cleared-short t n f s known e small)
 
   long-read : (t : format.Format) (g u : ℕ) → format_of n ≡ t → long_number n ≡ true
       → (f / 1024 ≡ n → n < 64 → (g ≡ first_without t f) × (u ≡ second_without t s)) →
-      Two g u ≡ cleared_of f s
+      Ok (Two g u) ≡ cleared_of f s
   long-read t g u known fits same =
       let l = long-number n fits in
       let e = opcode-long n f s at l.from l.to in
@@ -139,7 +139,7 @@ module _ (n f s : ℕ) (hf : f < 65536) (hs : s < 65536) (at : operation_at f s 
       rw (q.0, q.1) (sym (cleared-long t n f s known e l.from l.not-50 l.not-54 l.not-62))
 
   extended-read : (t : format.Format) (b a : ℕ) → format_of n ≡ t → pick (ltb n 64) false (ltb n 128) ≡ true → second_without t s ≡ without 0 10 s →
-      (f / 1024 ≡ 62 → placed 62 b a ≡ first_without t f) → Two (placed 62 b a) (sub_opcode n) ≡ cleared_of f s
+      (f / 1024 ≡ 62 → placed 62 b a ≡ first_without t f) → Ok (Two (placed 62 b a) (sub_opcode n)) ≡ cleared_of f s
   extended-read t b a known fits second same =
       let r = extended-number n fits in
       let from = r.0 in
@@ -148,11 +148,11 @@ module _ (n f s : ℕ) (hf : f < 65536) (hs : s < 65536) (at : operation_at f s 
       let low : sub_opcode n ≡ without 0 10 s = ap sub_opcode (sym q) ∙ sub-again (s / 1024) s (omega arith) refl in
       rw (same e.0, low, sym second) (sym (cleared-extended t (s / 1024) f s (ap format_of q ∙ known) e.0 refl))
 
-  branch_read : format_of n ≡ Branch → eqb n 32 ≡ true → One (branch_placed (f / 512 % 16) (extend_of 256 (f % 512 / 2 * 2))) ≡ cleared_of f s
+  branch_read : format_of n ≡ Branch → eqb n 32 ≡ true → Ok (One (branch_placed (f / 512 % 16) (extend_of 256 (f % 512 / 2 * 2)))) ≡ cleared_of f s
   branch_read known fits =
       let r = opcode-branch f s (at ∙ eqb-true n 32 fits) in
       let back = extended-low 256 nine (f % 512 / 2 * 2) (omega arith) in
-      ap One (branch-again f (extend_of 256 (f % 512 / 2 * 2)) r.0 r.1 back) ∙ sym (cleared-branch f s r.0 r.1)
+      ap (λ (g : ℕ). Ok (One g)) (branch-again f (extend_of 256 (f % 512 / 2 * 2)) r.0 r.1 back) ∙ sym (cleared-branch f s r.0 r.1)
 
   jump-read : f / 1024 ≡ n → n < 64 → (jump_placed n (extend_of 33554432 (f % 1024 * 65536 + s / 2 * 2)) ≡ f)
       × (low_half (extend_of 33554432 (f % 1024 * 65536 + s / 2 * 2)) ≡ without 0 1 s)
@@ -248,7 +248,7 @@ module _ (x : Fields) (t : format.Format) (known : format_of x.operation ≡ t) 
 
   short-placed : (b a : ℕ) → ltb x.operation 32 ≡ true → b < 32 → absent t (placed x.operation b a) ≡ false →
       ((f s : ℕ) → f % 32 ≡ a % 32 → f / 32 % 32 ≡ b → fields_at t x.operation f s ≡ having t x.operation x) →
-      DecodesTo (instruction_of x) (One (placed x.operation b a))
+      DecodesTo (instruction_of x) (Ok (One (placed x.operation b a)))
   short-placed b a fit hb present e =
       let n = x.operation in
       let g = placed n b a in
@@ -263,7 +263,7 @@ module _ (x : Fields) (t : format.Format) (known : format_of x.operation ≡ t) 
 
   long-placed : (b a u : ℕ) → long_number x.operation ≡ true → b < 32 → u < 65536 → ((f : ℕ) → absent t f ≡ false) →
       ((f : ℕ) → f % 32 ≡ a % 32 → f / 32 % 32 ≡ b → fields_at t x.operation f u ≡ having t x.operation x) →
-      DecodesTo (instruction_of x) (Two (placed x.operation b a) u)
+      DecodesTo (instruction_of x) (Ok (Two (placed x.operation b a) u))
   long-placed b a u fit hb hu present e =
       let n = x.operation in
       let g = placed n b a in
@@ -279,7 +279,7 @@ module _ (x : Fields) (t : format.Format) (known : format_of x.operation ≡ t) 
 
   extended-placed : (b a : ℕ) → pick (ltb x.operation 64) false (ltb x.operation 128) ≡ true → b < 32 → ((f : ℕ) → absent t f ≡ false) →
       ((f s : ℕ) → f % 32 ≡ a % 32 → f / 32 % 32 ≡ b → fields_at t x.operation f s ≡ having t x.operation x) →
-      DecodesTo (instruction_of x) (Two (placed 62 b a) (sub_opcode x.operation))
+      DecodesTo (instruction_of x) (Ok (Two (placed 62 b a) (sub_opcode x.operation)))
   extended-placed b a fit hb present e =
       let n = x.operation in
       let g = placed 62 b a in
@@ -299,7 +299,7 @@ module _ (x : Fields) (t : format.Format) (known : format_of x.operation ≡ t) 
 
   branch-placed : eqb x.operation 32 ≡ true → x.condition < 16 → even_in 256 x.immediate ≡ true → ((f : ℕ) → absent t f ≡ false) →
       ((f s : ℕ) → f / 512 % 16 ≡ x.condition → extend_of 256 (f % 512 / 2 * 2) ≡ x.immediate → fields_at t x.operation f s ≡ having t x.operation x) →
-      DecodesTo (instruction_of x) (One (branch_placed x.condition x.immediate))
+      DecodesTo (instruction_of x) (Ok (One (branch_placed x.condition x.immediate)))
   branch-placed fit hc even present e =
       let c = x.condition in
       let d = x.immediate in
@@ -316,7 +316,7 @@ module _ (x : Fields) (t : format.Format) (known : format_of x.operation ≡ t) 
 
   jump-placed : long_number x.operation ≡ true → even_in 33554432 x.immediate ≡ true → ((f : ℕ) → absent t f ≡ false) →
       ((f s : ℕ) → extend_of 33554432 (f % 1024 * 65536 + s / 2 * 2) ≡ x.immediate → fields_at t x.operation f s ≡ having t x.operation x) →
-      DecodesTo (instruction_of x) (Two (jump_placed x.operation x.immediate) (low_half x.immediate))
+      DecodesTo (instruction_of x) (Ok (Two (jump_placed x.operation x.immediate) (low_half x.immediate)))
   jump-placed fit even present e =
       let n = x.operation in
       let d = x.immediate in

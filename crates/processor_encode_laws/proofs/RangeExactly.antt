@@ -1,5 +1,6 @@
 -- Refusal 12 exactly where a field is out of its range: `refused-exactly`; and the ranges hold exactly the instructions that
 -- decoding gives: `range-exactly`, by the two round trips. Assumes nothing.
+use Rattle.std.specs.Prelude.{Ok, Err}
 use Prim.Native.Nat.{ℕ}
 use mathlib.Core.Bool.{Bool, true, false, true≢false}
 use mathlib.Core.Path.{◌≡◌, refl, sym, ◌∙◌}
@@ -13,12 +14,11 @@ use Rattle.processor_decode.specs.declared.Instruction.TheVariants.{Illegal}
 use Rattle.processor_encode.specs.Format.{format_of, extended_formats}
 use Rattle.processor_encode.specs.Fields.{fields_of}
 use Rattle.processor_encode.specs.Range.{fits_of, in_range_of}
-use Rattle.processor_encode.specs.Place.{halfwords_of}
+use Rattle.processor_encode.specs.Place.{Encoded, halfwords_of}
 use Rattle.processor_encode.specs.Encode.{encode_of, encoded_of}
 use Rattle.processor_encode.specs.Unused.{cleared_of, cleared_first, cleared_second}
 use Rattle.processor_encode.specs.declared.Fields.{Fields}
-use Rattle.processor_encode.specs.declared.Encoded.{Encoded}
-use Rattle.processor_encode.specs.declared.Encoded.TheVariants.{One, Two, Refused}
+use Rattle.processor_encode.specs.declared.Halfwords.TheVariants.{One, Two}
 use Rattle.processor_encode.specs.declared.format.Format as format
 use Rattle.processor_encode.specs.declared.format.Format.TheVariants.{Registers, Target, SignedImmediate}
 use Rattle.processor_encode.specs.declared.format.Format.TheVariants.{UnsignedImmediate, Condition, Vector, Bare}
@@ -28,23 +28,23 @@ use Rattle.processor_encode_laws.specs.RoundTrip.{DecodesTo, Legal, RefusedExact
 use Rattle.processor_encode_laws.proofs.RoundTrip.{decode-encode, encode-decode}
 
 -- halfwords are not a refusal
-one-refused : (f : ℕ) (n : Refusal) → One f ≡ Refused n → ⊥
-one-refused f n e = let z : ◌≡◌ {A = ℕ} 0 1 = cc in omega arith
+one-refused : (f : ℕ) (n : Refusal) → ◌≡◌ {A = Encoded} (Ok (One f)) (Err n) → ⊥
+one-refused f n e = cc
 
-two-refused : (f s : ℕ) (n : Refusal) → Two f s ≡ Refused n → ⊥
-two-refused f s n e = let z : ◌≡◌ {A = ℕ} 0 1 = cc in omega arith
+two-refused : (f s : ℕ) (n : Refusal) → ◌≡◌ {A = Encoded} (Ok (Two f s)) (Err n) → ⊥
+two-refused f s n e = cc
 
-two-apart : (t : Bool) (f s : ℕ) (n : Refusal) → pick t (Two f s) (One f) ≡ Refused n → ⊥
+two-apart : (t : Bool) (f s : ℕ) (n : Refusal) → ◌≡◌ {A = Encoded} (pick t (Ok (Two f s)) (Ok (One f))) (Err n) → ⊥
 two-apart true f s n e = two-refused f s n e
 two-apart false f s n e = one-refused f n e
 
 -- a choice that is refused was not in range
-refused-choice : (t : Bool) (h : Encoded) (n : Refusal) → (t ≡ true → (m : Refusal) → h ≡ Refused m → ⊥) → pick t h (Refused Encoding) ≡ Refused n → t ≡ false
+refused-choice : (t : Bool) (h : Encoded) (n : Refusal) → (t ≡ true → (m : Refusal) → h ≡ Err m → ⊥) → pick t h (Err Encoding) ≡ Err n → t ≡ false
 refused-choice true h n apart e = absurd (apart refl n e)
 refused-choice false h n apart e = refl
 
 -- fields in range are not refused
-placed-apart : (t : format.Format) (x : Fields) → fits_of t x ≡ true → (n : Refusal) → halfwords_of t x ≡ Refused n → ⊥
+placed-apart : (t : format.Format) (x : Fields) → fits_of t x ≡ true → (n : Refusal) → halfwords_of t x ≡ Err n → ⊥
 placed-apart Registers x h n e = one-refused _ n e
 placed-apart Target x h n e = one-refused _ n e
 placed-apart SignedImmediate x h n e = one-refused _ n e
@@ -69,19 +69,19 @@ refused-exactly i =
     (λ h. rw h, λ n e. refused-choice (fits_of t x) (halfwords_of t x) n (λ h. placed-apart t x h) e)
 
 -- an instruction that is encoded is decodable
-decodable : (i : Instruction) (r : Encoded) → DecodesTo i r → ((n : Refusal) → r ≡ Refused n → ⊥) → Legal i → Decodable i
-decodable i (One f) d apart l =
+decodable : (i : Instruction) (r : Encoded) → DecodesTo i r → ((n : Refusal) → r ≡ Err n → ⊥) → Legal i → Decodable i
+decodable i (Ok (One f)) d apart l =
     record { first = f; second = 0; first_half = d.0; second_half = omega arith; decodes = d.2 0; legal = l }
-decodable i (Two f s) d apart l =
+decodable i (Ok (Two f s)) d apart l =
     record { first = f; second = s; first_half = d.0; second_half = d.1; decodes = d.3; legal = l }
-decodable i (Refused n) d apart l = absurd (apart n refl)
+decodable i (Err n) d apart l = absurd (apart n refl)
 
 illegal-refused : in_range_of Illegal ≡ false
 unfolding format_of extended_formats
 illegal-refused = refl
 
 -- what clearing gives is not a refusal
-cleared-apart : (f s : ℕ) (n : Refusal) → cleared_of f s ≡ Refused n → ⊥
+cleared-apart : (f s : ℕ) (n : Refusal) → cleared_of f s ≡ Err n → ⊥
 unfolding cleared_of
 cleared-apart f s n e = two-apart (two_of f) (cleared_first f s) (cleared_second f s) n e
 

@@ -1,5 +1,5 @@
 -- Encoding and decoding undo each other: `decode-encode`, `encode-decode` and `cleared-decodes`, by the law of the formats. Assumes nothing.
-use Rattle.std.specs.Prelude.{Option, Some, None}
+use Rattle.std.specs.Prelude.{Option, Some, None, Err}
 use Prim.Native.Nat.{ℕ, ◌<◌}
 use mathlib.Core.Bool.{true, false}
 use mathlib.Core.Path.{◌≡◌, refl, ◌∙◌, ap}
@@ -14,7 +14,6 @@ use Rattle.processor_encode.specs.Place.{halfwords_of}
 use Rattle.processor_encode.specs.Encode.{encoded_of}
 use Rattle.processor_encode.specs.Unused.{operation_at, cleared_first, cleared_second}
 use Rattle.processor_encode.specs.declared.Fields.{Fields}
-use Rattle.processor_encode.specs.declared.Encoded.TheVariants.{Refused}
 use Rattle.processor_encode.specs.declared.format.Format as format
 use Rattle.processor_encode_laws.specs.RoundTrip.{DecodesTo, DecodeEncode, EncodeDecode, FieldsExactly}
 use Rattle.processor_encode_laws.specs.Clearing.{ClearedDecodes}
@@ -30,7 +29,7 @@ fields-decode : (x : Fields) → DecodesTo (instruction_of x) (encoded_of x)
 unfolding encoded_of
 fields-decode x =
     let t = format_of x.operation in
-    pick-cases (DecodesTo (instruction_of x)) (fits_of t x) (halfwords_of t x) (Refused Encoding)
+    pick-cases (DecodesTo (instruction_of x)) (fits_of t x) (halfwords_of t x) (Err Encoding)
     (λ h. decodes-placed x t refl (number-fits x.operation) h) (λ h. tt)
 
 pub decode-encode : DecodeEncode

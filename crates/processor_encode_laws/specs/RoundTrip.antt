@@ -1,7 +1,7 @@
 -- Paper 02, W8: "Decoding that gives the same instruction. Encoding what was decoded, unless illegal, gives its
 -- halfwords with unused bits cleared". The statements, over every instruction and every pair of halfwords; the proofs
 -- of the same names are in proofs/.
-use Rattle.std.specs.Prelude.{ℕ, ◌<◌, true, false, ◌≡◌, Some}
+use Rattle.std.specs.Prelude.{ℕ, ◌<◌, true, false, ◌≡◌, Some, Ok, Err}
 use Rattle.refusal.specs.declared.Refusal.{Refusal}
 use Rattle.refusal.specs.declared.Refusal.TheVariants.{Encoding}
 use Rattle.processor_decode.specs.Format.{two_of}
@@ -13,14 +13,14 @@ use Rattle.processor_encode.specs.Range.{in_range, in_range_of}
 use Rattle.processor_encode.specs.Encode.{encode_of, encoded_of}
 use Rattle.processor_encode.specs.Unused.{cleared_of}
 use Rattle.processor_encode.specs.declared.Fields.{Fields}
-use Rattle.processor_encode.specs.declared.Encoded.{Encoded}
-use Rattle.processor_encode.specs.declared.Encoded.TheVariants.{One, Two, Refused}
+use Rattle.processor_encode.specs.Place.{Encoded}
+use Rattle.processor_encode.specs.declared.Halfwords.TheVariants.{One, Two}
 
 -- these are halfwords, as many as decoding takes, that decode to the instruction: one with any second halfword
 abbrev pub DecodesTo : Instruction → Encoded → Type 0
-DecodesTo i (One f) = (f < 65536) × (two_of f ≡ false) × ((s : ℕ) → decode_of f s ≡ Some i)
-DecodesTo i (Two f s) = (f < 65536) × (s < 65536) × (two_of f ≡ true) × (decode_of f s ≡ Some i)
-DecodesTo i (Refused n) = Unit {0}
+DecodesTo i (Ok (One f)) = (f < 65536) × (two_of f ≡ false) × ((s : ℕ) → decode_of f s ≡ Some i)
+DecodesTo i (Ok (Two f s)) = (f < 65536) × (s < 65536) × (two_of f ≡ true) × (decode_of f s ≡ Some i)
+DecodesTo i (Err n) = Unit {0}
 
 -- what is encoded decodes to the instruction
 abbrev pub DecodeEncode : Type 0
@@ -39,8 +39,8 @@ EncodeDecode =
 abbrev pub RefusedExactly : Type 0
 RefusedExactly =
     (i : Instruction)
-    → (in_range_of i ≡ false → encode_of i ≡ Refused Encoding)
-    × ((n : Refusal) → encode_of i ≡ Refused n → in_range_of i ≡ false)
+    → (in_range_of i ≡ false → encode_of i ≡ Err Encoding)
+    × ((n : Refusal) → encode_of i ≡ Err n → in_range_of i ≡ false)
 
 -- some halfwords decode to the instruction, and it is legal
 pub record Decodable (i : Instruction) : Type 0 where
