@@ -3,6 +3,7 @@ pub mod Registers
 pub mod TimerLines
 pub mod Place
 pub mod Memory
+pub mod Memories
 pub mod Lent
 pub mod Stores
 pub mod Mapped

@@ -7,6 +7,7 @@ pub mod code;
 pub mod device;
 pub mod load;
 pub mod map;
+pub mod memories;
 pub mod number;
 mod pak;
 pub mod refusals;
