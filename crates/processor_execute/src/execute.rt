@@ -1,22 +1,17 @@
 // What each instruction does: `next` is the address of the following one.
-ghost use Rattle.std.specs.Prelude.{◌≡◌, length};
-ghost use Rattle.bus.specs.Memory.{Lengths};
-ghost use Rattle.bus.specs.Lent.{entering, leaving};
+ghost use Rattle.std.specs.Prelude.{◌≡◌};
+ghost use Rattle.bus.specs.Memories.{held_by, SameLoans};
 ghost use Rattle.processor_machine.specs.State.{state_of, leaves};
 ghost use Rattle.processor_execute.specs.Execute.{execute_of};
 
 use crate::memory::Access;
 use crate::{compute, control, floating, jump, memory};
-use bus::Device;
+use bus::memories::Memories;
 use processor_decode::Instruction;
 use processor_machine::{Control, Mode};
 
 pub fn execute(
-    rom: &[u8],
-    wram: &mut [u8],
-    vram: &mut [u8],
-    pak: &mut [u8],
-    device: &mut Device,
+    memories: &mut Memories<'_>,
     regs: &mut [u32; 32],
     sys: &mut [u32; 8],
     i: Instruction,
@@ -24,10 +19,10 @@ pub fn execute(
     next: u32,
     psw: u32,
 ) -> Control
-    requires { Lengths (length rom.now) (length wram.old) (length vram.old) (length pak.old) }
-    ensures { leaves regs.new sys.new result (leaving rom.now wram.new vram.new pak.new device.new)
+    ensures done { leaves regs.new sys.new result (held_by memories.new)
         ≡ execute_of i next (state_of regs.old sys.old pc psw Mode.Running)
-        (entering rom.now wram.old vram.old pak.old device.old) }
+        (held_by memories.old) }
+    ensures same { SameLoans memories.old memories.new }
 {
     match i {
         Instruction::Register(op, reg1, reg2) => compute::register(regs, op, reg1, reg2, next, psw),
@@ -58,7 +53,7 @@ pub fn execute(
                 reg1,
                 reg2,
             };
-            memory::load(rom, wram, vram, pak, device, regs, access, next, psw)
+            memory::load(memories, regs, access, next, psw)
         }
         Instruction::In(width, disp, reg1, reg2) => {
             let access = Access {
@@ -67,7 +62,7 @@ pub fn execute(
                 reg1,
                 reg2,
             };
-            memory::input(rom, wram, vram, pak, device, regs, access, next, psw)
+            memory::input(memories, regs, access, next, psw)
         }
         Instruction::Store(width, disp, reg1, reg2) => {
             let access = Access {
@@ -76,7 +71,7 @@ pub fn execute(
                 reg1,
                 reg2,
             };
-            memory::store(rom, wram, vram, pak, device, regs, access, next, psw)
+            memory::store(memories, regs, access, next, psw)
         }
         Instruction::Out(width, disp, reg1, reg2) => {
             let access = Access {
@@ -85,7 +80,7 @@ pub fn execute(
                 reg1,
                 reg2,
             };
-            memory::output(rom, wram, vram, pak, device, regs, access, next, psw)
+            memory::output(memories, regs, access, next, psw)
         }
         Instruction::Illegal => control::illegal(sys, pc, next, psw),
         Instruction::Cmpf(reg1, reg2) => floating::cmpf(regs, sys, reg1, reg2, pc, next, psw),

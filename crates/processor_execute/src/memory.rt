@@ -1,13 +1,12 @@
 // Load and Input, Store and Output. Each says what it does by its own case of execute_of, for every value of what it
 // does not touch.
-ghost use Rattle.std.specs.Prelude.{◌≡◌, ℕ, List, length};
-ghost use Rattle.bus.specs.Memory.{Lengths};
-ghost use Rattle.bus.specs.Lent.{entering, leaving};
+ghost use Rattle.std.specs.Prelude.{◌≡◌, ℕ, List};
+ghost use Rattle.bus.specs.Memories.{held_by, SameLoans};
 ghost use Rattle.processor_machine.specs.State.{state_of, leaves};
 ghost use Rattle.processor_execute.specs.Execute.{execute_of};
 
 use crate::transfer;
-use bus::Device;
+use bus::memories::Memories;
 use processor_decode::{Instruction, Width};
 use processor_machine::register::{get, put};
 use processor_machine::{Control, Mode, ended};
@@ -22,101 +21,83 @@ pub struct Access {
 }
 
 pub fn load(
-    rom: &[u8],
-    wram: &[u8],
-    vram: &[u8],
-    pak: &[u8],
-    device: &Device,
+    memories: &Memories<'_>,
     regs: &mut [u32; 32],
     access: Access,
     next: u32,
     psw: u32,
 ) -> Control
-    requires { Lengths (length rom.now) (length wram.now) (length vram.now) (length pak.now) }
     ensures { (pc : ℕ) (sys : List ℕ)
-        → leaves regs.new sys result (entering rom.now wram.now vram.now pak.now device.now)
+        → leaves regs.new sys result (held_by memories.now)
         ≡ execute_of (Instruction.Load access.width access.disp access.reg1 access.reg2) next
-        (state_of regs.old sys pc psw Mode.Running) (entering rom.now wram.now vram.now pak.now device.now) }
+        (state_of regs.old sys pc psw Mode.Running) (held_by memories.now) }
 {
     let width = access.width;
     let base = get(regs, access.reg1);
     let address = std::num::wrapping_add_u32(base, access.disp);
-    let v = transfer::load(rom, wram, vram, pak, device, width, address);
+    let v = transfer::load(memories, width, address);
     put(regs, access.reg2, v);
     ended(next, psw)
 }
 
 pub fn input(
-    rom: &[u8],
-    wram: &[u8],
-    vram: &[u8],
-    pak: &[u8],
-    device: &Device,
+    memories: &Memories<'_>,
     regs: &mut [u32; 32],
     access: Access,
     next: u32,
     psw: u32,
 ) -> Control
-    requires { Lengths (length rom.now) (length wram.now) (length vram.now) (length pak.now) }
     ensures { (pc : ℕ) (sys : List ℕ)
-        → leaves regs.new sys result (entering rom.now wram.now vram.now pak.now device.now)
+        → leaves regs.new sys result (held_by memories.now)
         ≡ execute_of (Instruction.In access.width access.disp access.reg1 access.reg2) next
-        (state_of regs.old sys pc psw Mode.Running) (entering rom.now wram.now vram.now pak.now device.now) }
+        (state_of regs.old sys pc psw Mode.Running) (held_by memories.now) }
 {
     let width = access.width;
     let base = get(regs, access.reg1);
     let address = std::num::wrapping_add_u32(base, access.disp);
-    let v = transfer::input(rom, wram, vram, pak, device, width, address);
+    let v = transfer::input(memories, width, address);
     put(regs, access.reg2, v);
     ended(next, psw)
 }
 
 pub fn store(
-    rom: &[u8],
-    wram: &mut [u8],
-    vram: &mut [u8],
-    pak: &mut [u8],
-    device: &mut Device,
+    memories: &mut Memories<'_>,
     regs: &[u32; 32],
     access: Access,
     next: u32,
     psw: u32,
 ) -> Control
-    requires { Lengths (length rom.now) (length wram.old) (length vram.old) (length pak.old) }
-    ensures { (pc : ℕ) (sys : List ℕ)
-        → leaves regs.now sys result (leaving rom.now wram.new vram.new pak.new device.new)
+    ensures done { (pc : ℕ) (sys : List ℕ)
+        → leaves regs.now sys result (held_by memories.new)
         ≡ execute_of (Instruction.Store access.width access.disp access.reg1 access.reg2) next
-        (state_of regs.now sys pc psw Mode.Running) (entering rom.now wram.old vram.old pak.old device.old) }
+        (state_of regs.now sys pc psw Mode.Running) (held_by memories.old) }
+    ensures same { SameLoans memories.old memories.new }
 {
     let width = access.width;
     let base = get(regs, access.reg1);
     let address = std::num::wrapping_add_u32(base, access.disp);
     let v = get(regs, access.reg2);
-    transfer::store(rom, wram, vram, pak, device, width, address, v);
+    transfer::store(memories, width, address, v);
     ended(next, psw)
 }
 
 pub fn output(
-    rom: &[u8],
-    wram: &mut [u8],
-    vram: &mut [u8],
-    pak: &mut [u8],
-    device: &mut Device,
+    memories: &mut Memories<'_>,
     regs: &[u32; 32],
     access: Access,
     next: u32,
     psw: u32,
 ) -> Control
-    requires { Lengths (length rom.now) (length wram.old) (length vram.old) (length pak.old) }
-    ensures { (pc : ℕ) (sys : List ℕ)
-        → leaves regs.now sys result (leaving rom.now wram.new vram.new pak.new device.new)
+    ensures done { (pc : ℕ) (sys : List ℕ)
+        → leaves regs.now sys result (held_by memories.new)
         ≡ execute_of (Instruction.Out access.width access.disp access.reg1 access.reg2) next
-        (state_of regs.now sys pc psw Mode.Running) (entering rom.now wram.old vram.old pak.old device.old) }
+        (state_of regs.now sys pc psw Mode.Running) (held_by memories.old) }
+    ensures same { SameLoans memories.old memories.new }
 {
     let width = access.width;
     let base = get(regs, access.reg1);
     let address = std::num::wrapping_add_u32(base, access.disp);
     let v = get(regs, access.reg2);
-    transfer::store(rom, wram, vram, pak, device, width, address, v);
+    transfer::store(memories, width, address, v);
     ended(next, psw)
 }

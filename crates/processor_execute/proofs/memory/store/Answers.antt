@@ -2,11 +2,11 @@
 use Rattle.processor_execute.specs.Execute.{execute_of}
 use Rattle.processor_execute.proofs.memory.store.Goals as goal
 
-pub returns : goal.returns
+pub returns-clause-done : goal.returns-clause-done
 unfolding execute_of
-returns c = λ pc sys. rw (
+returns-clause-done c = λ pc sys. rw (
   c.ended.ensures,
-  c.store.ensures,
+  c.store.ensures.done,
   c.get-v.ensures,
   c.wrapping_add_u32-address.ensures.value,
   c.get-base.ensures,
