@@ -1,14 +1,15 @@
 // A step: an interrupt is accepted, or the instruction at PC is fetched once, decoded and executed.
-ghost use Rattle.std.specs.Prelude.{◌≡◌, ℕ, List, length};
-ghost use Rattle.bus.specs.Memory.{Memory, Lengths};
-ghost use Rattle.bus.specs.Lent.{entering, leaving};
+ghost use Rattle.std.specs.Prelude.{◌≡◌, ℕ, List};
+ghost use Rattle.bus.specs.Memory.{Memory};
+ghost use Rattle.bus.specs.Memories.{held_by, SameLoans};
 ghost use Rattle.processor_machine.specs.State.{state_of, stepped_of, leaves};
 ghost use Rattle.processor_machine.specs.declared.Mode.{Mode};
 ghost use Rattle.processor_interrupt.specs.Interrupt.{level_of, interrupted_of};
 ghost use Rattle.processor_step.specs.Step.{first_of, second_of, next_of, running_step_of, instruction_step_of, step_of};
 ghost use Rattle.processor_step.specs.Step.{fetched_at, not_fetched, fetched_in_of, fetched_of};
 
-use bus::{Device, LINES_PLACE};
+use bus::LINES_PLACE;
+use bus::memories::Memories;
 use processor_execute::execute::execute;
 use processor_interrupt::acceptance::{accepts, level};
 use processor_interrupt::entry::enter;
@@ -23,6 +24,12 @@ pub struct Fetched {
     pub second: u16,
 }
 
+// A step that fetches nothing.
+const NOT_FETCHED: Fetched = Fetched {
+    first: 0,
+    second: 0,
+};
+
 // What a step leaves next to the caller's registers and memories, and what it fetched. Which bytes of that are
 // undefined is computed separately (the crate processor_undefined): a run skips it.
 #[derive(Clone, Copy)]
@@ -32,83 +39,58 @@ pub struct Performed {
 }
 
 // The halfword at an address.
-fn half(
-    rom: &[u8],
-    wram: &mut [u8],
-    vram: &mut [u8],
-    pak: &mut [u8],
-    device: &mut Device,
-    pc: u32,
-) -> u16
-    requires { Lengths (length rom.now) (length wram.old) (length vram.old) (length pak.old) }
-    ensures value { result ≡ first_of pc (entering rom.now wram.old vram.old pak.old device.old) }
-    ensures kept { leaving rom.now wram.new vram.new pak.new device.new ≡ entering rom.now wram.old vram.old pak.old device.old }
+fn half(memories: &Memories<'_>, pc: u32) -> u16
+    ensures { result ≡ first_of pc (held_by memories.now) }
 {
-    bus::load::load(rom, wram, vram, pak, device, Width::Half, pc) as u16
+    memories.load(Width::Half, pc) as u16
 }
 
 // The second halfword, where the first asks for it.
-fn second(
-    rom: &[u8],
-    wram: &mut [u8],
-    vram: &mut [u8],
-    pak: &mut [u8],
-    device: &mut Device,
-    pc: u32,
-    two: bool,
-) -> u16
-    requires { Lengths (length rom.now) (length wram.old) (length vram.old) (length pak.old) }
-    ensures value { result ≡ second_of two pc (entering rom.now wram.old vram.old pak.old device.old) }
-    ensures kept { leaving rom.now wram.new vram.new pak.new device.new ≡ entering rom.now wram.old vram.old pak.old device.old }
+#[tactic(auto, unfolding(crate::specs::Step::second_of))]
+fn second(memories: &Memories<'_>, pc: u32, two: bool) -> u16
+    ensures { result ≡ second_of two pc (held_by memories.now) }
 {
-    if !two {
-        return 0;
+    if two {
+        half(memories, pc.wrapping_add(2))
+    } else {
+        0
     }
-    half(
-        rom,
-        wram,
-        vram,
-        pak,
-        device,
-        std::num::wrapping_add_u32(pc, 2),
-    )
 }
 
 // The address of the following instruction.
+#[tactic(auto, unfolding(crate::specs::Step::next_of))]
 fn following(pc: u32, two: bool) -> u32
     ensures { result ≡ next_of two pc }
 {
     if two {
-        return std::num::wrapping_add_u32(pc, 4);
+        pc.wrapping_add(4)
+    } else {
+        pc.wrapping_add(2)
     }
-    std::num::wrapping_add_u32(pc, 2)
 }
 
 // A step in running mode.
+#[tactic(auto, unfolding(crate::specs::Step::running_step_of))]
 fn running(
-    rom: &[u8],
-    wram: &mut [u8],
-    vram: &mut [u8],
-    pak: &mut [u8],
-    device: &mut Device,
+    memories: &mut Memories<'_>,
     regs: &mut [u32; 32],
     sys: &mut [u32; 8],
     pc: u32,
     psw: u32,
 ) -> Performed
-    requires { Lengths (length rom.now) (length wram.old) (length vram.old) (length pak.old) }
-    ensures done { leaves regs.new sys.new result.control (leaving rom.now wram.new vram.new pak.new device.new)
+    ensures done { leaves regs.new sys.new result.control (held_by memories.new)
         ≡ running_step_of (state_of regs.old sys.old pc psw Mode.Running)
-        (entering rom.now wram.old vram.old pak.old device.old) }
-    ensures fetched { result.fetched ≡ fetched_at pc (entering rom.now wram.old vram.old pak.old device.old) }
+        (held_by memories.old) }
+    ensures fetched { result.fetched ≡ fetched_at pc (held_by memories.old) }
+    ensures same { SameLoans memories.old memories.new }
 {
-    let first = half(rom, wram, vram, pak, device, pc);
+    let first = half(memories, pc);
     let two = processor_decode::two(first);
-    let second = second(rom, wram, vram, pak, device, pc, two);
+    let second = second(memories, pc, two);
     let next = following(pc, two);
     match processor_decode::decode(first, second) {
         Some(i) => {
-            let control = execute(rom, wram, vram, pak, device, regs, sys, i, pc, next, psw);
+            let control = execute(memories, regs, sys, i, pc, next, psw);
             Performed {
                 control,
                 fetched: Fetched { first, second },
@@ -127,26 +109,23 @@ fn running(
 }
 
 // A step with no interrupt accepted, in any mode.
+#[tactic(auto, unfolding(crate::specs::Step::instruction_step_of))]
 fn instruction(
-    rom: &[u8],
-    wram: &mut [u8],
-    vram: &mut [u8],
-    pak: &mut [u8],
-    device: &mut Device,
+    memories: &mut Memories<'_>,
     regs: &mut [u32; 32],
     sys: &mut [u32; 8],
     pc: u32,
     psw: u32,
     mode: Mode,
 ) -> Performed
-    requires { Lengths (length rom.now) (length wram.old) (length vram.old) (length pak.old) }
-    ensures done { leaves regs.new sys.new result.control (leaving rom.now wram.new vram.new pak.new device.new)
+    ensures done { leaves regs.new sys.new result.control (held_by memories.new)
         ≡ instruction_step_of (state_of regs.old sys.old pc psw mode)
-        (entering rom.now wram.old vram.old pak.old device.old) }
-    ensures fetched { result.fetched ≡ fetched_in_of mode pc (entering rom.now wram.old vram.old pak.old device.old) }
+        (held_by memories.old) }
+    ensures fetched { result.fetched ≡ fetched_in_of mode pc (held_by memories.old) }
+    ensures same { SameLoans memories.old memories.new }
 {
     match mode {
-        Mode::Running => running(rom, wram, vram, pak, device, regs, sys, pc, psw),
+        Mode::Running => running(memories, regs, sys, pc, psw),
         Mode::Halted => Performed {
             control: Control {
                 pc,
@@ -154,10 +133,7 @@ fn instruction(
                 mode: Mode::Halted,
                 answer: Answer::WasHalted,
             },
-            fetched: Fetched {
-                first: 0,
-                second: 0,
-            },
+            fetched: NOT_FETCHED,
         },
         Mode::Fatal => Performed {
             control: Control {
@@ -166,10 +142,7 @@ fn instruction(
                 mode: Mode::Fatal,
                 answer: Answer::WasFatal,
             },
-            fetched: Fetched {
-                first: 0,
-                second: 0,
-            },
+            fetched: NOT_FETCHED,
         },
     }
 }
@@ -191,35 +164,28 @@ fn interrupt(sys: &mut [u32; 8], lines: u16, pc: u32, psw: u32) -> Performed
             mode: Mode::Running,
             answer: Answer::Interrupted(level),
         },
-        fetched: Fetched {
-            first: 0,
-            second: 0,
-        },
+        fetched: NOT_FETCHED,
     }
 }
 
 // A step in any mode. The lines stand first: with none raised nothing else is tested.
 pub fn step(
-    rom: &[u8],
-    wram: &mut [u8],
-    vram: &mut [u8],
-    pak: &mut [u8],
-    device: &mut Device,
+    memories: &mut Memories<'_>,
     regs: &mut [u32; 32],
     sys: &mut [u32; 8],
     pc: u32,
     psw: u32,
     mode: Mode,
 ) -> Performed
-    requires { Lengths (length rom.now) (length wram.old) (length vram.old) (length pak.old) }
-    ensures done { leaves regs.new sys.new result.control (leaving rom.now wram.new vram.new pak.new device.new)
-        ≡ step_of (state_of regs.old sys.old pc psw mode) (entering rom.now wram.old vram.old pak.old device.old) }
+    ensures done { leaves regs.new sys.new result.control (held_by memories.new)
+        ≡ step_of (state_of regs.old sys.old pc psw mode) (held_by memories.old) }
     ensures fetched { result.fetched ≡ fetched_of (state_of regs.old sys.old pc psw mode)
-        (entering rom.now wram.old vram.old pak.old device.old) }
+        (held_by memories.old) }
+    ensures same { SameLoans memories.old memories.new }
 {
-    let lines = device[LINES_PLACE];
+    let lines = memories.device[LINES_PLACE];
     if accepts(lines, psw, mode) {
         return interrupt(sys, lines, pc, psw);
     }
-    instruction(rom, wram, vram, pak, device, regs, sys, pc, psw, mode)
+    instruction(memories, regs, sys, pc, psw, mode)
 }
