@@ -29,9 +29,7 @@ asks : (f : ℕ) → 40 ≤ f / 1024 → (f / 1024 ≡ 50 → ⊥) → (f / 1024
 asks f h n m = simp (le-ltb (f / 1024) 40 h, ne_eqb (f / 1024) 50 n, ne_eqb (f / 1024) 54 m)
 
 never : (f : ℕ) → two_of f ≡ true → two_of f ≡ false → ⊥
-never f p q =
-    let z : ◌≡◌ {A = ℕ} 0 1 = cc in
-    omega arith
+never f p q = cc
 
 pub second-ignored : SecondIgnored
 second-ignored f s t one =
