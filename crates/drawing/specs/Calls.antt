@@ -8,6 +8,13 @@ use Rattle.refusal.specs.declared.Refusal.TheVariants.{VramLength, State, Frame,
 use Rattle.drawing_pixel.specs.Character.{character_address_of}
 use Rattle.drawing_pixel.specs.Strip.{strip_of, frame_of}
 
+-- the tests that calls share, by themselves: 3, and 3 before 5
+abbrev pub length_verdict_of : List ℕ → Verdict
+length_verdict_of vram = unless (vram_ok (length vram)) VramLength (Ok tt)
+
+abbrev pub state_verdict_of : List ℕ → List ℕ → Verdict
+state_verdict_of vram regs = unless (vram_ok (length vram)) VramLength (unless (drawing_ok regs) State (Ok tt))
+
 -- the strip call's verdict: 3, 5, 7, 8
 unfoldable pub strip_verdict_of : List ℕ → List ℕ → ℕ → ℕ → Verdict
 strip_verdict_of vram regs frame strip =
