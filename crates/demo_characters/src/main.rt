@@ -19,11 +19,7 @@ fn put(vram: &mut [u8], at: usize, line: &[u8])
     requires { (at + length line.now ≤ length vram.old) × (length vram.old ≤ 262144) }
     ensures { length vram.new ≡ length vram.old }
 {
-    let mut i = 0;
-    while i < line.len() {
-        vram[at + i] = line[i];
-        i += 1;
-    }
+    vram[at..at + line.len()].copy_from_slice(line);
 }
 
 fn main(rt: HostRuntime) -> io::Result<()> {
@@ -31,8 +27,8 @@ fn main(rt: HostRuntime) -> io::Result<()> {
     let vram: &mut [u8] = &mut space;
     let mut out = rt.stdout();
     put(vram, 57360, b"character 0x201\n");
-    out.write_all(drawing::character(vram, 513))?;
-    out.write_all(drawing::character(vram, 2048))?;
+    out.write_all(drawing::character(vram, 513).unwrap_or(&[]))?;
+    out.write_all(drawing::character(vram, 2048).unwrap_or(&[]))?;
     put(vram, 131056, b"character 0x7FF\n");
-    out.write_all(drawing::character(vram, 2047))
+    out.write_all(drawing::character(vram, 2047).unwrap_or(&[]))
 }
