@@ -6,17 +6,18 @@ use mathlib.Core.List.{List}
 use mathlib.Core.Path.{◌≡◌, sym, ◌∙◌}
 use lib.ListN.{length, get_or, get_or-eq_default}
 use native.Mathlib.Decide.{dec_lt}
+use borrow.Author.Tests.{eq-eqb}
+use Rattle.bus.specs.Refusal.{vram_ok}
 use Rattle.word.specs.LittleEndian.{half_at}
 use Rattle.drawing_pixel.proofs.Lists.{length-list, get_or-list}
 use Rattle.drawing_display.specs.Brightness.{table_entry_of, repeats_of, lamp_level_of, column_entry_of, brightness_of}
 use Rattle.drawing_display.specs.ColumnTable.{column_table, table_byte_of, in_tables_of, loaded_byte_of, table_loaded_of}
-use Rattle.drawing_display.specs.Calls.{shown_of, display_of, load_table_of}
+use Rattle.drawing_display.specs.Calls.{shown_of, display_of, load_table_verdict_of, load_table_of}
 use Rattle.drawing_display.specs.Shown.{BrightnessAt, TableLoaded}
 use Rattle.drawing_display.specs.declared.View.{View}
 use Rattle.drawing_display.specs.declared.Durations.{Durations}
 use Rattle.drawing_display.proofs.Table.{high-bytes-clear}
 use Rattle.drawing_display.proofs.Loading.{in_tables}
-use Rattle.drawing_display.proofs.Verdicts.{load-accepted}
 
 -- byte 384y + x of what is shown
 shown-at : (vram : List ℕ) (view : View) (d : Durations) (x y : ℕ) → x < 384 → y < 224
@@ -42,7 +43,8 @@ brightness-at vram output view d x y e b h l =
 -- a byte of VRAM after loading
 module _ (vram : List ℕ) (l : length vram ≡ 262144) where
   loaded-is : load_table_of vram ≡ table_loaded_of vram
-  loaded-is = sym (load-accepted vram l).1
+  unfolding load_table_of load_table_verdict_of vram_ok
+  loaded-is = simp (eq-eqb _ _ l)
 
   size : length (table_loaded_of vram) ≡ length vram
   unfolding table_loaded_of

@@ -2,10 +2,10 @@
 use Prim.Native.Nat.{ℕ, ◌+◌, ◌-◌, ◌*◌, ◌/◌, ◌%◌, ◌<◌, ◌≤◌}
 use native.Mathlib.Omega.{arith}
 use native.Mathlib.Decide.{dec_lt, ℕ_discrete}
-use mathlib.Core.Path.{◌≡◌, refl, sym, ◌∙◌}
+use mathlib.Core.Path.{◌≡◌, sym, ◌∙◌}
 use mathlib.Core.List.{List}
-use lib.ListN.{length, get_or, set, length-set}
-use lib.Seq.{get_or-set_same, get_or-set_other, ext_get_or}
+use lib.ListN.{get_or}
+use lib.Seq.{ext_get_or}
 use Rattle.word.specs.LittleEndian.{half_at}
 use Rattle.drawing_pixel.specs.Character.{two_bits_of}
 use Rattle.drawing_pixel.specs.Strip.{image_of, stored_pixel_of}
@@ -17,33 +17,7 @@ use Rattle.drawing_display.specs.inner.Output.{Levels, Column, Columns, Strips, 
 use Rattle.drawing_display.specs.declared.View.{View}
 use Rattle.drawing_display.specs.declared.Durations.{Durations}
 
--- no pixel of a column yet, and one more
-pub column-none : (at : ℕ) (f : ℕ → ℕ) (a : List ℕ) → Column at 0 f a a
-column-none at f a = record { size = refl; inside = λ r h. absurd (omega arith); others = λ i n. refl }
-
-module _ (at n : ℕ) (f : ℕ → ℕ) (a b : List ℕ) (v : ℕ) where
-  pub column-more : Column at n f a b → at + 384 * n < length b → v ≡ f n → Column at (n + 1) f a (set b (at + 384 * n) v)
-  column-more c h e =
-      record {
-        size = length-set b (at + 384 * n) v ∙ c.size;
-        inside = inside;
-        others = λ i p. get_or-set_other b (at + 384 * n) i v 0 (p n (omega arith)) ∙ c.others i (λ r l. p r (omega arith));
-      }
-    where
-      last : (r : ℕ) → r ≡ n → get_or (set b (at + 384 * n) v) (at + 384 * r) 0 ≡ f r
-      last r q = rw q (get_or-set_same b (at + 384 * n) v 0 h ∙ e)
-
-      inside : (r : ℕ) → r < n + 1 → get_or (set b (at + 384 * n) v) (at + 384 * r) 0 ≡ f r
-      inside r l =
-          elim (ℕ_discrete r n) [
-            | yes q ↦ last r q
-            | no q ↦ get_or-set_other b (at + 384 * n) (at + 384 * r) v 0 (λ s. q (omega arith)) ∙ c.inside r (omega arith)
-          ]
-
--- no column of a strip yet, and one more
-pub columns-none : (strip : ℕ) (f : ℕ → ℕ → ℕ) (a : List ℕ) → Columns strip 0 f a a
-columns-none strip f a = record { size = refl; inside = λ x r h. absurd (omega arith); before_kept = λ i h. refl }
-
+-- one column of a strip more
 module _ (strip n : ℕ) (f : ℕ → ℕ → ℕ) (g : ℕ → ℕ) (a b c : List ℕ) where
   pub columns-more : Columns strip n f a b → Column (3072 * strip + n) 8 g b c → n < 384
       → ((r : ℕ) → r < 8 → g r ≡ f n (8 * strip + r))
@@ -77,10 +51,7 @@ module _ (vram levels : List ℕ) (base strip x h group : ℕ) where
       let q : (8 * strip + r) % 8 ≡ r = omega arith in
       rw (p, q, e, g)
 
--- no strip yet, and one more
-pub strips-none : (f : ℕ → ℕ → ℕ) (a : List ℕ) → length a ≡ 86016 → Strips 0 f a
-strips-none f a e = record { size = e; inside = λ x y h l. absurd (omega arith) }
-
+-- one strip more
 module _ (n : ℕ) (f : ℕ → ℕ → ℕ) (a b : List ℕ) where
   pub strips-more : Strips n f a → Columns n 384 f a b → Strips (n + 1) f b
   strips-more s t = record { size = t.size ∙ s.size; inside = inside }

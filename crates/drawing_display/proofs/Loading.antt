@@ -1,16 +1,19 @@
--- VRAM while the column table is loaded, byte by byte, and then all of it. Assumes nothing.
-use Prim.Native.Nat.{ℕ, ◌+◌, ◌-◌, ◌/◌, ◌%◌, ◌<◌, ◌≤◌}
+-- The bytes of an entry, and VRAM after the column table was loaded. Assumes nothing.
+use Prim.Native.Nat.{ℕ, zero, suc, ◌+◌, ◌-◌, ◌/◌, ◌%◌, ◌<◌, ◌≤◌}
 use native.Mathlib.Omega.{arith}
-use native.Mathlib.Decide.{dec_lt, ℕ_discrete}
+use native.Mathlib.Decide.{dec_lt}
 use mathlib.Core.Path.{◌≡◌, refl, sym, ◌∙◌}
 use mathlib.Core.Bool.{true, false, and-false}
 use mathlib.Core.List.{List}
-use lib.ListN.{length, get_or, set, length-set}
-use lib.Seq.{get_or-set_same, get_or-set_other, ext_get_or}
+use lib.ListN.{length, get_or}
+use lib.Seq.{ext_get_or}
 use borrow.Author.Tests.{lt-ltb, le-ltb, le-leb, lt-leb}
+use Rattle.std.specs.Int.{w16, to_le_bytes}
+use borrow.Author.Rules.{rules}
+use borrow.Rule.Slice.PartMut.{put_mid}
+use Rattle.std.proofs.lemmas.List.{places}
 use Rattle.drawing_pixel.proofs.Lists.{length-list, get_or-list}
 use Rattle.drawing_display.specs.ColumnTable.{column_table, table_byte_of, in_tables_of, loaded_byte_of, table_loaded_of}
-use Rattle.drawing_display.specs.inner.Output.{Loaded}
 
 -- which addresses lie in the tables
 pub in_tables : (a : ℕ) → 252928 ≤ a → a < 253952 → in_tables_of a ≡ true
@@ -25,63 +28,52 @@ pub above-tables : (a : ℕ) → 253952 ≤ a → in_tables_of a ≡ false
 unfolding in_tables_of
 above-tables a h = simp (le-ltb _ _ h, and-false)
 
--- a byte of an entry, by whether its place is even
-module _ (e b h w : ℕ) (entry : h ≡ get_or column_table e 0) (same : w ≡ h) where
-  pub byte_low : b ≡ 0 → w % 256 ≡ table_byte_of e b
-  unfolding table_byte_of
-  byte_low z = let o : w / 1 % 256 ≡ w % 256 = omega arith in rw (z, ← entry, ← same) (sym o)
+-- a byte of an entry as a halfword's bytes, the low one first
+pub entry-byte : (e b h : ℕ) → h ≡ get_or column_table e 0 → b < 2 → get_or (to_le_bytes w16 h) b 0 ≡ table_byte_of e b
+unfolding table_byte_of
+entry-byte e zero h p l = let o : h % 256 ≡ h / 1 % 256 = omega arith in rw (← p) o
+entry-byte e (suc zero) h p l = rw (← p) refl
+entry-byte e (suc (suc b)) h p l = absurd (omega arith)
 
-  pub byte_high : b ≡ 1 → w / 256 % 256 ≡ table_byte_of e b
-  unfolding table_byte_of
-  byte_high z = rw (z, ← entry, ← same) refl
+-- a list whose k elements from n on were replaced
+module _ (n k : ℕ) (a t : List ℕ) (within : n + k ≤ length a) (many : length t ≡ k) where
+  replaced-length : length (put_mid n k a t) ≡ length a
+  replaced-length = search (rules, places)
 
--- no byte yet, and one more
-pub loaded-none : (a : List ℕ) → Loaded 0 a a
-loaded-none a = record { size = refl; inside = λ k h. absurd (omega arith); below = λ i h. refl; above = λ i h. refl }
+  replaced-below : (i : ℕ) → i < n → get_or (put_mid n k a t) i 0 ≡ get_or a i 0
+  replaced-below i h = grind (arith, places)
 
-module _ (n : ℕ) (a b : List ℕ) (v : ℕ) where
-  pub loaded-more : Loaded n a b → 252928 + n < length b → v ≡ table_byte_of (n % 512 / 2) (n % 2) → Loaded (n + 1) a (set b (252928 + n) v)
-  loaded-more l h e =
-      record {
-        size = length-set b (252928 + n) v ∙ l.size;
-        inside = inside;
-        below = λ i u. get_or-set_other b (252928 + n) i v 0 (λ q. omega arith) ∙ l.below i u;
-        above = λ i u. get_or-set_other b (252928 + n) i v 0 (λ q. omega arith) ∙ l.above i (omega arith);
-      }
-    where
-      last : (k : ℕ) → k ≡ n → get_or (set b (252928 + n) v) (252928 + k) 0 ≡ table_byte_of (k % 512 / 2) (k % 2)
-      last k q = rw q (get_or-set_same b (252928 + n) v 0 h ∙ e)
+  replaced-inside : (i : ℕ) → n ≤ i → i < n + k → get_or (put_mid n k a t) i 0 ≡ get_or t (i - n) 0
+  replaced-inside i l h = grind (arith, places)
 
-      inside : (k : ℕ) → k < n + 1 → get_or (set b (252928 + n) v) (252928 + k) 0 ≡ table_byte_of (k % 512 / 2) (k % 2)
-      inside k u =
-          elim (ℕ_discrete k n) [
-            | yes q ↦ last k q
-            | no q ↦ get_or-set_other b (252928 + n) (252928 + k) v 0 (λ s. q (omega arith)) ∙ l.inside k (omega arith)
+  replaced-above : (i : ℕ) → n + k ≤ i → i < length a → get_or (put_mid n k a t) i 0 ≡ get_or a i 0
+  replaced-above i l h = grind (arith, places)
+
+-- VRAM whose two tables were replaced by the recommended one
+module _ (a t : List ℕ) (within : 252928 + 1024 ≤ length a) (many : length t ≡ 1024) where
+  module _ (inside : (j : ℕ) → j < 1024 → get_or t j 0 ≡ table_byte_of (j % 512 / 2) (j % 2)) where
+    in_table : (i : ℕ) → 252928 ≤ i → i < 253952 → get_or t (i - 252928) 0 ≡ table_byte_of (i % 512 / 2) (i % 2)
+    in_table i u h =
+        let p : (i - 252928) % 512 ≡ i % 512 = omega arith in
+        let q : (i - 252928) % 2 ≡ i % 2 = omega arith in
+        rw (p, q) at (inside (i - 252928) (omega arith))
+
+    each : (i : ℕ) → i < length a → get_or (put_mid 252928 1024 a t) i 0 ≡ loaded_byte_of a i
+    unfolding loaded_byte_of
+    each i l =
+        elim (dec_lt i 252928) [
+          | yes u ↦ rw (below-tables i u) (replaced-below 252928 1024 a t within many i u)
+          | no u ↦ elim (dec_lt i 253952) [
+            | yes h ↦ rw (in_tables i (omega arith) h)
+                (replaced-inside 252928 1024 a t within many i (omega arith) h ∙ in_table i (omega arith) h)
+            | no h ↦ rw (above-tables i (omega arith)) (replaced-above 252928 1024 a t within many i (omega arith) l)
           ]
-
--- all 1,024 bytes
-module _ (a b : List ℕ) (l : Loaded 1024 a b) where
-  in_table : (i : ℕ) → 252928 ≤ i → i < 253952 → get_or b i 0 ≡ table_byte_of (i % 512 / 2) (i % 2)
-  in_table i u h =
-      let e : 252928 + (i - 252928) ≡ i = omega arith in
-      let p : (i - 252928) % 512 ≡ i % 512 = omega arith in
-      let q : (i - 252928) % 2 ≡ i % 2 = omega arith in
-      rw (e, p, q) at (l.inside (i - 252928) (omega arith))
-
-  each : (i : ℕ) → get_or b i 0 ≡ loaded_byte_of a i
-  unfolding loaded_byte_of
-  each i =
-      elim (dec_lt i 252928) [
-        | yes u ↦ rw (below-tables i u) (l.below i u)
-        | no u ↦ elim (dec_lt i 253952) [
-          | yes h ↦ rw (in_tables i (omega arith) h) (in_table i (omega arith) h)
-          | no h ↦ rw (above-tables i (omega arith)) (l.above i (omega arith))
         ]
-      ]
 
-  pub all-loaded : b ≡ table_loaded_of a
-  unfolding table_loaded_of
-  all-loaded =
-      ext_get_or 0 b (table_loaded_of a)
-      (l.size ∙ sym (length-list (length a) 0 (loaded_byte_of a)))
-      (λ i h. each i ∙ sym (get_or-list (length a) 0 (loaded_byte_of a) i (omega (arith, l.size))))
+    pub all-loaded : put_mid 252928 1024 a t ≡ table_loaded_of a
+    unfolding table_loaded_of
+    all-loaded =
+        let size = replaced-length 252928 1024 a t within many in
+        ext_get_or 0 (put_mid 252928 1024 a t) (table_loaded_of a)
+        (size ∙ sym (length-list (length a) 0 (loaded_byte_of a)))
+        (λ i h. each i (omega arith) ∙ sym (get_or-list (length a) 0 (loaded_byte_of a) i (omega arith)))

@@ -7,49 +7,42 @@ ghost use Rattle.drawing_display.specs.Calls.{shown_of};
 ghost use Rattle.drawing_display.specs.inner.Output.{Levels, Column, Columns, pixel_in};
 
 use crate::{Durations, View};
-use drawing_pixel::field::{half, pair, wide};
+use drawing_pixel::field::{half, pair};
 
-// How long a shade is lit.
-fn time(durations: Durations, shade: usize) -> usize
-    ensures { (result ≡ time_of durations shade) × (result ≤ 765) }
-{
-    if shade == 0 {
-        return 0;
+impl Durations {
+    // How long a shade is lit.
+    #[tactic(auto, unfolding(crate::specs::Brightness::time_of))]
+    fn time(self, shade: usize) -> usize
+        ensures { (result ≡ time_of self shade) × (result ≤ 765) }
+    {
+        match shade {
+            0 => 0,
+            1 => usize::from(self.brta),
+            2 => usize::from(self.brtb),
+            _ => usize::from(self.brta) + usize::from(self.brtb) + usize::from(self.brtc),
+        }
     }
-    if shade == 1 {
-        return durations.brta as usize;
-    }
-    if shade == 2 {
-        return durations.brtb as usize;
-    }
-    durations.brta as usize + durations.brtb as usize + durations.brtc as usize
-}
 
-// What a shade looks like in the columns that use an entry of the column table.
-fn level(durations: Durations, shade: usize, entry: u16) -> u8
-    ensures { result ≡ lamp_level_of durations shade (repeats_of entry) }
-{
-    let light = time(durations, shade) * (wide(entry) / 256 + 1);
-    if 128 < light {
-        return 128;
+    // What a shade looks like in the columns that use an entry of the column table.
+    #[tactic(auto, unfolding(crate::specs::Brightness::lamp_level_of, crate::specs::Brightness::repeats_of))]
+    fn level(self, shade: usize, entry: u16) -> u8
+        ensures { result ≡ lamp_level_of self shade (repeats_of entry) }
+    {
+        (self.time(shade) * (usize::from(entry) / 256 + 1)).min(128) as u8
     }
-    light as u8
-}
 
-// The levels of the four shades for each group of four columns: that of shade v in columns 4g to 4g + 3 at 4g + v.
-// The eye's column table begins at `table`.
-fn levels(vram: &[u8], durations: Durations, table: usize, start: usize) -> [u8; 384]
-    requires { (length vram.now ≡ vram_bytes) × ((table ≤ 253440) × ((95 ≤ start) × (start < 256))) }
-    ensures { Levels vram.now durations table start 384 result }
-{
-    let mut levels = [0u8; 384];
-    let mut k = 0;
-    while k < 384 {
-        let entry = half(vram, table + 2 * (start - k / 4));
-        levels[k] = level(durations, k % 4, entry);
-        k += 1;
+    // The levels of the four shades for each group of four columns: that of shade v in columns 4g to 4g + 3 at 4g + v.
+    // The eye's column table begins at `table`.
+    fn levels(self, vram: &[u8], table: usize, start: usize) -> [u8; 384]
+        requires { (length vram.now ≡ vram_bytes) × ((table ≤ 253440) × ((95 ≤ start) × (start < 256))) }
+        ensures { Levels vram.now self table start 384 result }
+    {
+        let mut levels = [0; 384];
+        for (k, level) in levels.iter_mut().enumerate() {
+            *level = self.level(k % 4, half(vram, table + 2 * (start - k / 4)));
+        }
+        levels
     }
-    levels
 }
 
 // Eight pixels of a column, whose levels are the four from `group` on, into the output buffer from byte `at` on.
@@ -58,10 +51,8 @@ fn show_column(output: &mut [u8], levels: &[u8; 384], at: usize, group: usize, c
     ensures { Column at 8 (λ r. get_or levels.now (group + two_bits_of column r) 0)
         output.old output.new }
 {
-    let mut r = 0;
-    while r < 8 {
+    for r in 0..8 {
         output[at + 384 * r] = levels[group + pair(column, r)];
-        r += 1;
     }
 }
 
@@ -71,11 +62,9 @@ fn show_strip(vram: &[u8], output: &mut [u8], levels: &[u8; 384], base: usize, s
     ensures { Columns strip 384 (pixel_in vram.now levels.now base)
         output.old output.new }
 {
-    let mut x = 0;
-    while x < 384 {
-        let column = wide(half(vram, base + 64 * x + 2 * strip));
+    for x in 0..384 {
+        let column = usize::from(half(vram, base + 64 * x + 2 * strip));
         show_column(output, levels, 3072 * strip + x, x - x % 4, column);
-        x += 1;
     }
 }
 
@@ -87,11 +76,9 @@ pub fn show(vram: &[u8], output: &mut [u8], view: View, durations: Durations)
     ensures { output.new ≡ shown_of vram.now view durations }
 {
     let eye = view.eye as usize;
-    let levels = levels(vram, durations, 252928 + 512 * eye, view.start as usize);
-    let base = 32768 * (view.frame as usize) + 65536 * eye;
-    let mut strip = 0;
-    while strip < 28 {
+    let levels = durations.levels(vram, 252928 + 512 * eye, view.start as usize);
+    let base = 32768 * view.frame as usize + 65536 * eye;
+    for strip in 0..28 {
         show_strip(vram, output, &levels, base, strip);
-        strip += 1;
     }
 }

@@ -3,8 +3,6 @@ ghost use Rattle.std.specs.Prelude.{◌≡◌, ◌/◌, ◌%◌, ◌<◌, length
 ghost use Rattle.bus.specs.Refusal.{vram_bytes};
 ghost use Rattle.drawing_display.specs.ColumnTable.{column_table, table_byte_of, table_loaded_of};
 
-use drawing_pixel::field::wide;
-
 const COLUMN_TABLE: [u16; 256] = [
     0xFE, 0xFE, 0xFE, 0xFE, 0xFE, 0xFE, 0xFE, 0xFE, 0xFE, 0xFE, 0xFE, 0xFE, 0xFE, 0xFE, 0xFE, 0xFE,
     0xFE, 0xFE, 0xFE, 0xFE, 0xFE, 0xFE, 0xFE, 0xFE, 0xFE, 0xFE, 0xFE, 0xFE, 0xFE, 0xFE, 0xFE, 0xFE,
@@ -36,11 +34,7 @@ fn entry(e: usize) -> u16
 fn byte(k: usize) -> u8
     ensures { result ≡ table_byte_of (k % 512 / 2) (k % 2) }
 {
-    let h = wide(entry(k % 512 / 2));
-    if k % 2 == 0 {
-        return (h % 256) as u8;
-    }
-    (h / 256 % 256) as u8
+    entry(k % 512 / 2).to_le_bytes()[k % 2]
 }
 
 // The table into VRAM, for both eyes.
@@ -48,9 +42,7 @@ pub fn load(vram: &mut [u8])
     requires { length vram.old ≡ vram_bytes }
     ensures { vram.new ≡ table_loaded_of vram.old }
 {
-    let mut k = 0;
-    while k < 1024 {
-        vram[252928 + k] = byte(k);
-        k += 1;
+    for (k, place) in vram[252928..253952].iter_mut().enumerate() {
+        *place = byte(k);
     }
 }

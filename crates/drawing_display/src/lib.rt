@@ -25,27 +25,33 @@ pub struct Durations {
     pub brtc: u8,
 }
 
-// The apparent brightness of pixel (x, y), 0 to 128, to byte 384y + x of the output buffer (paper 02: "room").
-pub fn display(vram: &[u8], view: View, durations: Durations, output: &mut [u8]) -> Result<(), Refusal>
-    ensures verdict { result ≡ display_verdict_of vram.now view output.old }
-    ensures output { output.new ≡ display_of vram.now view durations output.old }
+// Refusal 3: VRAM has 262,144 bytes.
+#[tactic(auto, unfolding(bus::specs::Refusal::vram_ok, crate::specs::Calls::load_table_verdict_of))]
+fn vram_length(vram: &[u8]) -> Result<(), Refusal>
+    ensures { result ≡ load_table_verdict_of vram.now }
 {
     if vram.len() != 262144 {
         return Err(Refusal::VramLength);
     }
-    if 1 < view.frame {
+    Ok(())
+}
+
+// The apparent brightness of pixel (x, y), 0 to 128, to byte 384y + x of the output buffer (paper 02: "room").
+#[tactic(auto, unfolding(bus::specs::Refusal::vram_ok, crate::specs::Calls::display_ok, crate::specs::Calls::display_verdict_of, crate::specs::Calls::display_of, crate::specs::Calls::load_table_verdict_of))]
+pub fn display(
+    vram: &[u8],
+    view: View,
+    durations: Durations,
+    output: &mut [u8],
+) -> Result<(), Refusal>
+    ensures verdict { result ≡ display_verdict_of vram.now view output.old }
+    ensures output { output.new ≡ display_of vram.now view durations output.old }
+{
+    vram_length(vram)?;
+    if view.frame > 1 {
         return Err(Refusal::Frame);
     }
-    if 1 < view.eye {
-        return Err(Refusal::Display);
-    }
-    if view.start < 95 {
-        return Err(Refusal::Display);
-    }
-    if 255 < view.start {
-        return Err(Refusal::Display);
-    }
-    if output.len() != 86016 {
+    if view.eye > 1 || !(95..256).contains(&view.start) || output.len() != 86016 {
         return Err(Refusal::Display);
     }
     brightness::show(vram, output, view, durations);
@@ -53,13 +59,12 @@ pub fn display(vram: &[u8], view: View, durations: Durations, output: &mut [u8])
 }
 
 // The recommended column table into VRAM, for both eyes.
+#[tactic(auto, unfolding(bus::specs::Refusal::vram_ok, crate::specs::Calls::load_table_verdict_of, crate::specs::Calls::load_table_of))]
 pub fn load_column_table(vram: &mut [u8]) -> Result<(), Refusal>
     ensures verdict { result ≡ load_table_verdict_of vram.old }
     ensures memory { vram.new ≡ load_table_of vram.old }
 {
-    if vram.len() != 262144 {
-        return Err(Refusal::VramLength);
-    }
+    vram_length(vram)?;
     column_table::load(vram);
     Ok(())
 }

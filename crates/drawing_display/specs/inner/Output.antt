@@ -1,9 +1,8 @@
 -- Inner: the output buffer while it is filled, strip by strip and in a strip column by column.
-use Rattle.std.specs.Prelude.{ℕ, ◌+◌, ◌-◌, ◌*◌, ◌/◌, ◌%◌, ◌<◌, ◌≤◌, ◌≡◌, List, length, get_or}
+use Rattle.std.specs.Prelude.{ℕ, ◌+◌, ◌-◌, ◌*◌, ◌/◌, ◌%◌, ◌<◌, ◌≡◌, List, length, get_or}
 use Rattle.word.specs.LittleEndian.{half_at}
 use Rattle.drawing_pixel.specs.Character.{two_bits_of}
 use Rattle.drawing_display.specs.Brightness.{repeats_of, lamp_level_of}
-use Rattle.drawing_display.specs.ColumnTable.{table_byte_of}
 use Rattle.drawing_display.specs.declared.Durations.{Durations}
 
 -- the first n levels: that of shade v in columns 4g to 4g + 3 stands at 4g + v
@@ -32,10 +31,3 @@ pub record Columns (strip n : ℕ) (f : ℕ → ℕ → ℕ) (before after : Lis
 pub record Strips (n : ℕ) (f : ℕ → ℕ → ℕ) (output : List ℕ) : Type 0 where
   pub size : length output ≡ 86016
   pub inside : (x y : ℕ) → x < 384 → y < 8 * n → get_or output (384 * y + x) 0 ≡ f x y
-
--- the first n bytes of the two column tables are those of the recommended one, and nothing else changed
-pub record Loaded (n : ℕ) (before after : List ℕ) : Type 0 where
-  pub size : length after ≡ length before
-  pub inside : (k : ℕ) → k < n → get_or after (0x3DC00 + k) 0 ≡ table_byte_of (k % 512 / 2) (k % 2)
-  pub below : (a : ℕ) → a < 0x3DC00 → get_or after a 0 ≡ get_or before a 0
-  pub above : (a : ℕ) → 0x3DC00 + n ≤ a → get_or after a 0 ≡ get_or before a 0

@@ -1,9 +1,6 @@
-use Prim.Native.Nat.{◌-◌, ◌≤◌}
-use Rattle.drawing_display.specs.inner.Output.{Loaded}
+use Rattle.std.proofs.Common.{◌≡◌, ℕ, ◌/◌, ◌%◌, ◌<◌, get_or}
+use Rattle.drawing_display.specs.ColumnTable.{table_byte_of}
 use Rattle.drawing_display.proofs.column_table.load.Given as goal
 
 abbrev pub invariant-loop-k : goal.invariant-loop-k
-invariant-loop-k l = (l.k ≤ 1024) × Loaded l.k l.initial.vram l.vram
-
-abbrev pub decreases-loop-k : goal.decreases-loop-k
-decreases-loop-k l = 1024 - l.k
+invariant-loop-k l = (j : ℕ) → j < l.k → get_or l.place-items j 0 ≡ table_byte_of (j % 512 / 2) (j % 2)
