@@ -7,7 +7,8 @@ ghost use Rattle.capi_drawing.specs.Pictures.{part_offset};
 
 use bus::Drawing;
 use capi_bus::accesses::VbDrawing;
-use refusal::{Refusal, verdict_number};
+use drawing_pixel::character::character_address;
+use refusal::verdict_number;
 
 // Where a character's bytes lie in VRAM.
 #[repr(C)]
@@ -39,19 +40,16 @@ pub fn character(vram: &[u8], character: u32) -> VbPart
     ensures offset { result.offset ≡ part_offset (character_verdict_of vram.now character) character }
     ensures length { result.length ≡ length (character_of vram.now character) }
 {
-    let part = drawing::character(vram, character);
-    let length = part.len() as u64;
-    let verdict = drawing::character_refusal(vram, character);
-    match verdict {
-        Ok(()) => VbPart {
+    match drawing::character(vram, character) {
+        Ok(part) => VbPart {
             refusal: 0,
-            offset: drawing_pixel::character::character_address(character as usize) as u64,
-            length,
+            offset: character_address(character as usize) as u64,
+            length: part.len() as u64,
         },
         Err(refusal) => VbPart {
             refusal: u32::from(refusal),
             offset: 0,
-            length,
+            length: 0,
         },
     }
 }
