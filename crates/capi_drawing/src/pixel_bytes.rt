@@ -5,7 +5,6 @@ ghost use Rattle.capi_drawing.specs.PixelBytes.{listed_at};
 
 use bus::Drawing;
 use capi_bus::accesses::VbDrawing;
-use drawing_bytes::Listed;
 
 // How many addresses the list has.
 #[repr(C)]
@@ -27,18 +26,18 @@ pub fn pixel_bytes(
     ensures room { room.new ≡ output_of vram.now drawing.regs eye x y room.old }
 {
     let regs = drawing.regs;
-    let listed = drawing_bytes::pixel_bytes(vram, Drawing { regs }, eye, x, y, room);
-    match listed {
-        Listed::Count(count) => VbListed {
+    match drawing_bytes::pixel_bytes(vram, Drawing { regs }, eye, x, y, room) {
+        Ok(Some(count)) => VbListed {
             refusal: 0,
             count: count as u64,
         },
-        Listed::Refused(refusal) => VbListed {
-            refusal: u32::from(refusal),
+        // VB_MISUSE.
+        Ok(None) => VbListed {
+            refusal: 255,
             count: 0,
         },
-        Listed::Outside => VbListed {
-            refusal: 255,
+        Err(refusal) => VbListed {
+            refusal: u32::from(refusal),
             count: 0,
         },
     }

@@ -181,13 +181,11 @@ pub fn list_worlds(vram: &[u8], output: &mut [u32], eye: usize, x: usize, y: usi
     ensures upper_bound { result ≤ 448 }
 {
     let mut n = 0;
-    let mut k = 32;
-    while 0 < k {
-        if wide(half(vram, 251904 + 32 * (k - 1))) / 64 % 2 == 1 {
+    for k in (0..32).rev() {
+        if wide(half(vram, 251904 + 32 * k)) / 64 % 2 == 1 {
             return n;
         }
-        n = list_world(vram, output, n, k - 1, eye, x, y);
-        k -= 1;
+        n = list_world(vram, output, n, k, eye, x, y);
     }
     n
 }

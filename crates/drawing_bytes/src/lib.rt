@@ -13,17 +13,8 @@ ghost use Rattle.drawing_bytes.specs.inner.Output.{Lists};
 ghost use Rattle.drawing_bytes.specs.Calls.{listed_of, output_of};
 
 use crate::objects::Pixel;
-use bus::{Drawing, DrawingRegisters, refusals};
+use bus::{Drawing, DrawingRegisters};
 use refusal::Refusal;
-
-// How many addresses the list has, why it was refused, or that no image has the pixel, for which the specification has
-// no number.
-#[derive(Clone, Copy)]
-pub enum Listed {
-    Count(usize),
-    Refused(Refusal),
-    Outside,
-}
 
 // The list of a pixel of an image, the worlds' bytes first.
 fn list(
@@ -45,7 +36,9 @@ fn list(
 }
 
 // The bytes that pixel (x, y) of an eye's image answers to: how many there are, and their addresses in VRAM in the
-// first words of the output buffer (paper 02: "room"), as far as it reaches.
+// first words of the output buffer (paper 02: "room"), as far as it reaches. `None` is for a pixel that no image has,
+// for which the specification has no number.
+#[tactic(auto, unfolding(bus::specs::Refusal::vram_ok, crate::specs::Calls::in_image_of, crate::specs::Calls::bytes_verdict_of, crate::specs::Calls::listed_of, crate::specs::Calls::output_of))]
 pub fn pixel_bytes(
     vram: &[u8],
     drawing: Drawing,
@@ -53,25 +46,14 @@ pub fn pixel_bytes(
     x: u32,
     y: u32,
     output: &mut [u32],
-) -> Listed
+) -> Result<Option<usize>, Refusal>
     ensures answer { result ≡ listed_of vram.now drawing.regs eye x y }
     ensures output { output.new ≡ output_of vram.now drawing.regs eye x y output.old }
 {
     let regs = drawing.regs;
-    if vram.len() != 262144 {
-        return Listed::Refused(Refusal::VramLength);
+    drawing::refusals::state(vram, &regs)?;
+    if eye > 1 || x > 383 || y > 223 {
+        return Ok(None);
     }
-    if !refusals::drawing_ok(&regs) {
-        return Listed::Refused(Refusal::State);
-    }
-    if 1 < eye {
-        return Listed::Outside;
-    }
-    if 383 < x {
-        return Listed::Outside;
-    }
-    if 223 < y {
-        return Listed::Outside;
-    }
-    Listed::Count(list(vram, &regs, output, eye as usize, x as usize, y as usize))
+    Ok(Some(list(vram, &regs, output, eye as usize, x as usize, y as usize)))
 }

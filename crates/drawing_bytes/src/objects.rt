@@ -37,14 +37,12 @@ pub fn object_worlds(vram: &[u8]) -> usize
     ensures { (result ≡ reached_object_worlds_of vram.now 32) × (result ≤ 32) }
 {
     let mut found = 0;
-    let mut k = 32;
-    while 0 < k {
-        let flags = wide(half(vram, 251904 + 32 * (k - 1)));
+    for k in (0..32).rev() {
+        let flags = wide(half(vram, 251904 + 32 * k));
         if flags / 64 % 2 == 1 {
             return found;
         }
         found += draws_objects(flags);
-        k -= 1;
     }
     found
 }
@@ -62,14 +60,10 @@ pub fn in_groups(registers: &DrawingRegisters, worlds: usize, k: usize) -> bool
     requires { (worlds ≤ 32) × ((k < 1024) × ((g : ℕ) → g < 4 → spt_of registers.now g < 1024)) }
     ensures { result ≡ in_groups_of registers.now worlds 3 k }
 {
-    let mut left = worlds;
-    let mut group = 3;
-    while 0 < left {
-        if in_group(registers, group, k) {
+    for world in 0..worlds {
+        if in_group(registers, 3 - world % 4, k) {
             return true;
         }
-        group = (group + 3) % 4;
-        left -= 1;
     }
     false
 }
@@ -147,10 +141,8 @@ pub fn list_objects(
         (objects_bytes_biased vram.now registers.now pixel.eye pixel.x pixel.y 1024) result }
 {
     let mut n = start;
-    let mut k = 1024;
-    while 0 < k {
-        n = list_object(vram, registers, output, n, k - 1, worlds, pixel);
-        k -= 1;
+    for k in (0..1024).rev() {
+        n = list_object(vram, registers, output, n, k, worlds, pixel);
     }
     n
 }

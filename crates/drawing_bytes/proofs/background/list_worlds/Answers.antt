@@ -1,6 +1,5 @@
 -- `drawing_bytes::background::list_worlds` meets its contract: what is left of the list, written into the buffer now, is the whole
 -- list written into the buffer at first. Assumes nothing.
-use borrow.Author.Rules.{rules}
 use native.Mathlib.Omega.{arith}
 use Prim.Native.Nat.{◌-◌, ◌/◌, ◌%◌}
 use mathlib.Core.Path.{◌≡◌, ◌∙◌}
@@ -13,25 +12,10 @@ use Rattle.drawing_bytes.proofs.Worlds.{worlds-step, worlds-ended, worlds-none}
 use Rattle.drawing_bytes.proofs.background.list_worlds.Goals as goal
 
 pub loop-k-init : goal.loop-k-init
-loop-k-init c = (omega arith, (omega arith, left-begun 0 _ _))
-
-pub overflow_sub-k : goal.overflow_sub-k
-overflow_sub-k c = omega arith
-
-pub overflow_mul-k : goal.overflow_mul-k
-overflow_mul-k c = omega arith
-
-pub overflow_add-k : goal.overflow_add-k
-overflow_add-k c = omega arith
-
-pub half-requires : goal.half-requires
-half-requires c = search rules
-
-pub wide-requires : goal.wide-requires
-wide-requires c = search rules
+loop-k-init c = (omega arith, left-begun 0 _ _)
 
 pub shape_of-output-then-wide-eq1 : goal.shape_of-output-then-wide-eq1
-shape_of-output-then-wide-eq1 c = left-size _ _ _ _ _ _ c.loop-k.invariant.1.1
+shape_of-output-then-wide-eq1 c = left-size _ _ _ _ _ _ c.loop-k.invariant.1
 
 pub returns-then-wide-eq1 : goal.returns-then-wide-eq1
 returns-then-wide-eq1 c =
@@ -41,21 +25,9 @@ returns-then-wide-eq1 c =
     (c.half.ensures ∙ world-flags a.vram.now (k - 1)) in record {
       lists = left-done _ _ _ _ _ _ (worlds-ended a.vram.now a.eye a.x a.y k
           c.loop-k-test.true (eq-eqb (get_or (world_of a.vram.now (k - 1)) 0 0 / 64 % 2) 1
-          (omega arith))) c.loop-k.invariant.1.1;
+          (omega arith))) c.loop-k.invariant.1;
       upper_bound = omega arith;
     }
-
-pub overflow_sub-k-in-loop-k : goal.overflow_sub-k-in-loop-k
-overflow_sub-k-in-loop-k c = omega arith
-
-pub list_world-n-requires : goal.list_world-n-requires
-list_world-n-requires c = search rules
-
-pub overflow_sub-k-in-loop-k-2 : goal.overflow_sub-k-in-loop-k-2
-overflow_sub-k-in-loop-k-2 c = omega arith
-
-pub loop-k-smaller : goal.loop-k-smaller
-loop-k-smaller c = omega arith
 
 pub loop-k-preserved : goal.loop-k-preserved
 loop-k-preserved c =
@@ -64,26 +36,23 @@ loop-k-preserved c =
     let f : c.wide.result ≡ get_or (world_of a.vram.now
     (k - 1)) 0 0 = c.wide.ensures.0 ∙
     (c.half.ensures ∙ world-flags a.vram.now (k - 1)) in (
-      omega arith,
-      (
-        omega (arith, c.list_world-n.ensures.upper_bound),
-        left-more _ _ _ _ _ _ _ _ _ _
-            (worlds-step a.vram.now a.eye a.x a.y k
-            c.loop-k-test.true (ne_eqb (get_or (world_of
-            a.vram.now (k - 1)) 0 0 / 64 % 2) 1 (λ e. c.if-wide-eq1.false
-            (omega arith))))
-            c.loop-k.invariant.1.1 c.list_world-n.ensures.lists,
-      ),
+      omega (arith, c.list_world-n.ensures.upper_bound),
+      left-more _ _ _ _ _ _ _ _ _ _
+          (worlds-step a.vram.now a.eye a.x a.y k
+          c.loop-k-test.true (ne_eqb (get_or (world_of
+          a.vram.now (k - 1)) 0 0 / 64 % 2) 1 (λ e. c.if-wide-eq1.false
+          (omega arith))))
+          c.loop-k.invariant.1 c.list_world-n.ensures.lists,
     )
 
 pub shape_of-output : goal.shape_of-output
-shape_of-output c = left-size _ _ _ _ _ _ c.loop-k.invariant.1.1
+shape_of-output c = left-size _ _ _ _ _ _ c.loop-k.invariant.1
 
 pub returns : goal.returns
 returns c = record {
   lists = left-done _ _ _ _ _ _ (worlds-none c.args.vram.now
       c.args.eye c.args.x
       c.args.y c.loop-k.k (omega arith))
-      c.loop-k.invariant.1.1;
+      c.loop-k.invariant.1;
   upper_bound = omega arith;
 }

@@ -5,7 +5,4 @@ use Rattle.drawing_bytes.proofs.background.list_worlds.Given as goal
 
 abbrev pub invariant-loop-k : goal.invariant-loop-k
 invariant-loop-k l =
-    (l.k ≤ 32) × ((l.n ≤ 14 * (32 - l.k)) × Left 0 (worlds_bytes_biased l.vram l.eye l.x l.y 32) l.n (worlds_bytes_biased l.vram l.eye l.x l.y l.k) l.initial.output l.output)
-
-abbrev pub decreases-loop-k : goal.decreases-loop-k
-decreases-loop-k l = l.k
+    (l.n ≤ 14 * (32 - l.k)) × Left 0 (worlds_bytes_biased l.vram l.eye l.x l.y 32) l.n (worlds_bytes_biased l.vram l.eye l.x l.y l.k) l.initial.output l.output

@@ -1,5 +1,4 @@
 -- `drawing_bytes::objects::object_worlds` meets its contract: those found and those left are all. Assumes nothing.
-use borrow.Author.Rules.{rules}
 use native.Mathlib.Omega.{arith}
 use Prim.Native.Nat.{◌-◌, ◌/◌, ◌%◌}
 use mathlib.Core.Path.{◌≡◌, ◌∙◌}
@@ -10,24 +9,6 @@ use Rattle.drawing_strip.proofs.Worlds.{world-flags}
 use Rattle.drawing_bytes.proofs.Worlds.{reached-step, reached-ended, reached-none}
 use Rattle.drawing_bytes.proofs.objects.object_worlds.Goals as goal
 
-pub loop-k-init : goal.loop-k-init
-loop-k-init c = omega arith
-
-pub overflow_sub-k : goal.overflow_sub-k
-overflow_sub-k c = omega arith
-
-pub overflow_mul-k : goal.overflow_mul-k
-overflow_mul-k c = omega arith
-
-pub overflow_add-k : goal.overflow_add-k
-overflow_add-k c = omega arith
-
-pub half-requires : goal.half-requires
-half-requires c = search rules
-
-pub wide-flags-requires : goal.wide-flags-requires
-wide-flags-requires c = search rules
-
 pub returns-then-flags-eq1 : goal.returns-then-flags-eq1
 returns-then-flags-eq1 c =
     let v = c.args.vram.now in
@@ -35,18 +16,6 @@ returns-then-flags-eq1 c =
     let f : c.wide-flags.result ≡ get_or (world_of v (k - 1)) 0 0 = c.wide-flags.ensures.0 ∙ (c.half.ensures ∙ world-flags v (k - 1)) in
     let none = reached-ended v k c.loop-k-test.true (eq-eqb (get_or (world_of v (k - 1)) 0 0 / 64 % 2) 1 (omega arith)) in
     (omega arith, omega arith)
-
-pub draws_objects-found-requires : goal.draws_objects-found-requires
-draws_objects-found-requires c = search rules
-
-pub overflow_add-found : goal.overflow_add-found
-overflow_add-found c = omega arith
-
-pub overflow_sub-k-in-loop-k : goal.overflow_sub-k-in-loop-k
-overflow_sub-k-in-loop-k c = omega arith
-
-pub loop-k-smaller : goal.loop-k-smaller
-loop-k-smaller c = omega arith
 
 pub loop-k-preserved : goal.loop-k-preserved
 loop-k-preserved c =
@@ -57,7 +26,7 @@ loop-k-preserved c =
     let step = reached-step v k c.loop-k-test.true (ne_eqb (get_or (world_of v
     (k - 1)) 0 0 / 64 % 2) 1 (λ e. c.if-flags-eq1.false (omega arith))) in
     let more = c.draws_objects-found.ensures.0 (world_of v (k - 1)) f in
-    (omega arith, (omega (arith, c.draws_objects-found.ensures.1), omega arith))
+    (omega (arith, c.draws_objects-found.ensures.1), omega arith)
 
 pub returns : goal.returns
 returns c =

@@ -4,7 +4,4 @@ use Rattle.drawing_bytes.specs.inner.Groups.{reached_object_worlds_of}
 use Rattle.drawing_bytes.proofs.objects.object_worlds.Given as goal
 
 abbrev pub invariant-loop-k : goal.invariant-loop-k
-invariant-loop-k l = (l.k ≤ 32) × ((l.found + l.k ≤ 32) × (l.found + reached_object_worlds_of l.vram l.k ≡ reached_object_worlds_of l.vram 32))
-
-abbrev pub decreases-loop-k : goal.decreases-loop-k
-decreases-loop-k l = l.k
+invariant-loop-k l = (l.found + l.k ≤ 32) × (l.found + reached_object_worlds_of l.vram l.k ≡ reached_object_worlds_of l.vram 32)
