@@ -11,6 +11,7 @@ use crate::{Device, Place, map, number, pak, registers};
 use word::Width;
 
 // The fast path: it needs neither pak RAM nor the device registers.
+#[inline(always)]
 pub fn direct(rom: &[u8], wram: &[u8], vram: &[u8], width: Width, address: u32) -> Option<u32>
     requires { (rom_ok (length rom.now) ≡ true) × (length wram.now ≡ 65536) × (length vram.now ≡ vram_bytes) }
     ensures { (pak regs : List ℕ)

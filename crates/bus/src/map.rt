@@ -29,6 +29,7 @@ fn vip_place(v: u32) -> Place
 
 // The place of an address, by its region: bits 24 to 26.
 #[tactic(auto, using(crate::proofs::Led::places), unfolding(bus_timer::specs::Ports::hardware_offset_of))]
+#[inline(always)]
 pub fn place_of(address: u32) -> Place
     ensures { LeadsTo address result }
 {
@@ -43,6 +44,7 @@ pub fn place_of(address: u32) -> Place
 }
 
 // An access drops the address bits below its size.
+#[inline(always)]
 pub fn aligned(width: Width, address: u32) -> u32
     ensures { result ≡ aligned_of (bytes_of width) address }
 {

@@ -8,6 +8,7 @@ use word::Width;
 
 // The number of a width from byte i on.
 #[tactic(auto, using(crate::proofs::Numbers::numbers))]
+#[inline(always)]
 pub fn number_at(s: &[u8], width: Width, i: usize) -> u32
     requires { i + bytes_of width ≤ length s.now }
     ensures { (result ≡ number_at s.now (bytes_of width) i) × (result < 256 ^ bytes_of width) }
@@ -21,6 +22,7 @@ pub fn number_at(s: &[u8], width: Width, i: usize) -> u32
 
 // The low bytes of a value, as many as the width has, stored from byte i on.
 #[tactic(auto, using(crate::proofs::Numbers::numbers))]
+#[inline(always)]
 pub fn put_number(s: &mut [u8], width: Width, i: usize, value: u32)
     requires { i + bytes_of width ≤ length s.old }
     ensures { s.new ≡ put_bytes (bytes_of width) s.old i value }

@@ -12,6 +12,7 @@ use crate::{Device, Place, map, number, pak, registers};
 use word::Width;
 
 // The fast path: whether it was stored in WRAM or VRAM; nothing changes where it was not.
+#[inline(always)]
 pub fn direct(wram: &mut [u8], vram: &mut [u8], width: Width, address: u32, value: u32) -> bool
     requires { (length wram.old ≡ 65536) × (length vram.old ≡ vram_bytes) }
     ensures { (rom pak regs : List ℕ)

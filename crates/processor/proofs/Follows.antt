@@ -1,5 +1,5 @@
 -- The turns of a run: each law is what follows a stretch of common instructions, or one step.
-use Rattle.std.specs.Prelude.{Ok}
+use Rattle.std.specs.Prelude.{Ok, None, Some}
 use Rattle.refusal.specs.Number.{Verdict}
 use Prim.Native.Nat.{ℕ, suc, ◌+◌, ◌-◌, ◌≤◌, ◌<◌}
 use mathlib.Core.Path.{◌≡◌, sym, ap, ◌∙◌}
@@ -10,7 +10,6 @@ use Rattle.processor_machine.specs.State.{State, Stepped}
 use Rattle.processor_step.specs.Step.{step_of}
 use Rattle.processor.specs.Run.{Run, run_with, after_of, after_step, one_more, run_of}
 use Rattle.processor.specs.inner.Follows.{later, Follows}
-use Rattle.processor.specs.declared.After.TheVariants.{Counted, Stopped}
 
 later-none : (r : Run) → r ≡ later 0 r
 later-none r = rw zero-add
@@ -35,7 +34,7 @@ module _ (budget : ℕ) (s₀ : State) (m₀ : Memory) (n : ℕ) (s : State) (m 
   unfolding run_of
   turn h t e k f = rw e (before.rest (suc k) f)
 
-  pub follows-counted : n < budget → (t : Stepped) → t ≡ step_of s m → after_of t.answer ≡ Counted → Follows budget s₀ m₀ (n + 1) t.state t.memory
+  pub follows-counted : n < budget → (t : Stepped) → t ≡ step_of s m → after_of t.answer ≡ None → Follows budget s₀ m₀ (n + 1) t.state t.memory
   follows-counted h t e a =
       record {
         within = omega arith;
@@ -58,7 +57,7 @@ module _ (budget : ℕ) (s₀ : State) (m₀ : Memory) (n : ℕ) (s : State) (m 
       }
 
   pub follows-stopped : n < budget → (t : Stepped) (v : Verdict) → t ≡ step_of s m → after_of
-      t.answer ≡ Stopped v → run_with v n t.state t.memory ≡ run_of budget s₀ m₀
+      t.answer ≡ Some v → run_with v n t.state t.memory ≡ run_of budget s₀ m₀
   follows-stopped h t v e a =
       let g : suc (budget - suc n) + n ≡ budget = omega arith in
       let z : n + 0 ≡ n = omega arith in

@@ -1,27 +1,28 @@
 -- A run (paper 01): at most the given number of instructions, and how many ended. It goes by what each step answers:
 -- counted, or stop and why.
 use Rattle.refusal.specs.Number.{Verdict}
-use Rattle.std.specs.Prelude.{ℕ, zero, suc, List, Ok, Err}
+use Rattle.std.specs.Prelude.{ℕ, zero, suc, List, Ok, Err, None, Some, Option}
 use Rattle.bus.specs.Memory.{Memory}
 use Rattle.processor_machine.specs.State.{State, state_of, Stepped}
 use Rattle.processor_step.specs.Step.{step_of}
 use Rattle.processor_machine.specs.declared.Answer.{Answer}
 use Rattle.processor_machine.specs.declared.Answer.TheVariants.{Ended, Trapped, Interrupted, TurnedFatal, WasHalted}
 use Rattle.processor_machine.specs.declared.Answer.TheVariants.{WasFatal, Refused}
-use Rattle.processor.specs.declared.After.{After}
-use Rattle.processor.specs.declared.After.TheVariants.{Counted, Stopped}
 use Rattle.processor.specs.declared.Finished.{Finished}
 
 -- "HALT itself and a trapped instruction count; a refused one and the step that turns fatal don't"; an accepted
 -- interrupt "counts in a run" (paper 02, W6)
+abbrev pub After : Type 0
+After = Option Verdict
+
 abbrev pub after_of : Answer → After
-after_of Ended = Counted
-after_of (Trapped cause) = Counted
-after_of (Interrupted level) = Counted
-after_of (TurnedFatal cause) = Stopped (Ok tt)
-after_of WasHalted = Stopped (Ok tt)
-after_of WasFatal = Stopped (Ok tt)
-after_of (Refused n) = Stopped (Err n)
+after_of Ended = None
+after_of (Trapped cause) = None
+after_of (Interrupted level) = None
+after_of (TurnedFatal cause) = Some (Ok tt)
+after_of WasHalted = Some (Ok tt)
+after_of WasFatal = Some (Ok tt)
+after_of (Refused n) = Some (Err n)
 
 -- what a run gives: whether it was refused, the count, and the machine afterwards
 pub record Run : Type 0 where
@@ -39,8 +40,8 @@ one_more r = run_with r.verdict (suc r.count) r.state r.memory
 
 -- after a step: one more than what the rest of the budget gives, or stop
 abbrev pub after_step : After → Stepped → Run → Run
-after_step Counted t rest = one_more rest
-after_step (Stopped v) t rest = run_with v 0 t.state t.memory
+after_step None t rest = one_more rest
+after_step (Some v) t rest = run_with v 0 t.state t.memory
 
 -- a run of a budget
 unfoldable pub run_of : ℕ → State → Memory → Run

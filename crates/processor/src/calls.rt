@@ -9,6 +9,7 @@ use crate::record::{joined, system};
 use crate::{Machine, Processor, Ran, Stepped, run};
 use bus::Drawing;
 use bus::device::{device_of, drawing_in};
+use bus::memories::Memories;
 use bus_timer::TimerLines;
 use processor_machine::{Answer, Mode};
 use processor_step::step;
@@ -84,18 +85,14 @@ pub fn step(
             drawing,
         },
         Ok(()) => {
-            let t = step::step(
+            let mut memories = Memories {
                 rom,
                 wram,
                 vram,
                 pak,
-                &mut device,
-                &mut regs,
-                &mut sys,
-                pc,
-                psw,
-                mode,
-            );
+                device: &mut device,
+            };
+            let t = step::step(&mut memories, &mut regs, &mut sys, pc, psw, mode);
             let c = t.control;
             let fetched = t.fetched;
             let answer = c.answer;
@@ -153,19 +150,14 @@ pub fn run(
             drawing,
         },
         Ok(()) => {
-            let f = run::run(
+            let mut memories = Memories {
                 rom,
                 wram,
                 vram,
                 pak,
-                &mut device,
-                &mut regs,
-                &mut sys,
-                pc,
-                psw,
-                mode,
-                budget,
-            );
+                device: &mut device,
+            };
+            let f = run::run(&mut memories, &mut regs, &mut sys, pc, psw, mode, budget);
             let verdict = f.verdict;
             let mode = f.mode;
             let processor = joined(regs, sys, f.pc, f.psw, mode, &device);

@@ -56,13 +56,6 @@ pub struct Machine {
     pub drawing: Drawing,
 }
 
-// What an answer means to a run.
-#[derive(Clone, Copy)]
-pub enum After {
-    Counted,
-    Stopped(Result<(), Refusal>),
-}
-
 // What a run leaves next to the borrowed registers and memories.
 #[derive(Clone, Copy)]
 pub struct Finished {

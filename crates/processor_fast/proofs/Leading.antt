@@ -1,7 +1,7 @@
 -- One instruction more of a stretch: what the dispatch did is the step of the definition.
 use Rattle.std.proofs.Common.{◌≡◌, ℕ, zero, suc, ◌+◌, ◌-◌, ◌/◌, ◌%◌, ◌^◌, ◌<◌, ◌≤◌, Bool, List, get_or, sym, refl, ap, ◌∙◌, subst, arith}
 use Rattle.word.specs.Choose.{pick}
-use Rattle.bus.specs.Memory.{Memory, memory_of, load_of}
+use Rattle.bus.specs.Memory.{Memory, load_of}
 use Rattle.bus.specs.TimerLines.{lines_place}
 use Rattle.processor_decode.specs.Format.{two_of}
 use Rattle.processor_decode.specs.Opcode.{decode_of}
@@ -18,11 +18,13 @@ use Rattle.processor_fast.specs.inner.Turns.{Quiet, Turns}
 use Rattle.processor_fast.proofs.Acceptance.{accepts-packed}
 
 -- what stays in the middle of a stretch
-pub stays_here : (regs₀ regs sys₀ sys rom wram₀ wram vram₀ vram pak device : List ℕ) (pc psw₀ psw base x : ℕ)
-    (g : Flags) → Quiet (get_or device lines_place 0) psw₀ psw
-    → Stays (state_of regs₀ sys₀ pc psw₀ Running) (memory_of rom wram₀ vram₀ pak device) (machine_of regs sys base x psw g) (memory_of rom wram vram pak device)
-stays_here regs₀ regs sys₀ sys rom wram₀ wram vram₀ vram pak device pc psw₀ psw base x g quiet =
-    record { mode = refl; unaccepted = λ u. accepts-packed (get_or device lines_place 0) psw g Running ∙ quiet u }
+pub stays_here : (regs₀ regs sys₀ sys : List ℕ) (m₀ m : Memory) (pc psw₀ psw base x : ℕ) (g : Flags) → m.regs ≡ m₀.regs
+    → Quiet (get_or m₀.regs lines_place 0) psw₀ psw
+    → Stays (state_of regs₀ sys₀ pc psw₀ Running) m₀ (machine_of regs sys base x psw g) m
+stays_here regs₀ regs sys₀ sys m₀ m pc psw₀ psw base x g same quiet = record {
+  mode = refl;
+  unaccepted = λ u. rw same (accepts-packed (get_or m₀.regs lines_place 0) psw g Running ∙ quiet u);
+}
 
 -- the step at an index, from the halfwords there
 step-at : (regs sys : List ℕ) (base x psw f s : ℕ) (g : Flags) (m : Memory) → load_of m 2
@@ -73,18 +75,16 @@ pub start-even : (pc base x : ℕ) → x < 2 ^ 32 → pc % 2 ≡ 0 → base % 2 
 start-even pc base x h p b e = omega arith
 
 -- where a stretch ends
-pub ends : (budget left : ℕ) (regs₀ regs sys₀ sys rom wram₀ wram vram₀ vram pak device : List ℕ) (pc psw₀ psw base x to status : ℕ) (g : Flags)
-    → Quiet (get_or device lines_place 0) psw₀ psw → to ≡ address_of base x → status ≡ packed_of psw g
-    → Leads (state_of regs₀ sys₀ pc psw₀ Running) (memory_of rom wram₀ vram₀ pak device) (budget - left)
-    (machine_of regs sys base x psw g) (memory_of rom wram vram pak device)
-    → Stretched budget (state_of regs₀ sys₀ pc psw₀ Running) (memory_of rom wram₀ vram₀ pak device) (budget - left)
-    (state_of regs sys to status Running) (memory_of rom wram vram pak device)
-ends budget left regs₀ regs sys₀ sys rom wram₀ wram vram₀ vram pak device pc psw₀ psw base x to status g quiet e h l =
+pub ends : (budget left : ℕ) (regs₀ regs sys₀ sys : List ℕ) (m₀ m : Memory) (pc psw₀ psw base x to status : ℕ) (g : Flags)
+    → m.regs ≡ m₀.regs → Quiet (get_or m₀.regs lines_place 0) psw₀ psw → to ≡ address_of base x → status ≡ packed_of psw g
+    → Leads (state_of regs₀ sys₀ pc psw₀ Running) m₀ (budget - left) (machine_of regs sys base x psw g) m
+    → Stretched budget (state_of regs₀ sys₀ pc psw₀ Running) m₀ (budget - left) (state_of regs sys to status Running) m
+ends budget left regs₀ regs sys₀ sys m₀ m pc psw₀ psw base x to status g same quiet e h l =
     rw (e, h)
     (record {
       within = omega arith;
       leads = l;
-      stays = stays_here regs₀ regs sys₀ sys rom wram₀ wram vram₀ vram pak device pc psw₀ psw base x g quiet;
+      stays = stays_here regs₀ regs sys₀ sys m₀ m pc psw₀ psw base x g same quiet;
     })
 
 -- none at all

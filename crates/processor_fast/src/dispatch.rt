@@ -1,24 +1,20 @@
 // One instruction, by its opcode: a common one, or one on the system registers.
-ghost use Rattle.std.specs.Prelude.{◌/◌, ◌<◌, length, slice_index};
-ghost use Rattle.bus.specs.Memory.{Lengths};
-ghost use Rattle.bus.specs.Lent.{entering, leaving_ram};
+ghost use Rattle.std.specs.Prelude.{◌≡◌, ◌/◌, ◌<◌, slice_index};
+ghost use Rattle.bus.specs.Memories.{held_by, SameLoans};
 ghost use Rattle.bus.specs.TimerLines.{lines_place};
 ghost use Rattle.processor_fast.specs.inner.Turns.{Turns};
 
 use crate::{Cursor, Fetched, system};
-use bus::Device;
+use bus::memories::Memories;
 use processor_fast_compute::{Fast, arithmetic, floating};
 use processor_fast_move::{branch, transfer};
 use processor_lazy_flags::Flags;
+use word::Width;
 
 // The instruction at the cursor. Its second halfword is taken out of the word where it is used: the loop's head stays
 // short (docs/SPEED.md).
 pub fn dispatch(
-    rom: &[u8],
-    wram: &mut [u8],
-    vram: &mut [u8],
-    pak: &[u8],
-    device: &Device,
+    memories: &mut Memories<'_>,
     regs: &mut [u32; 32],
     sys: &mut [u32; 8],
     at: Cursor,
@@ -26,10 +22,11 @@ pub fn dispatch(
     psw: u32,
     flags: Flags,
 ) -> Fast
-    requires { Lengths (length rom.now) (length wram.old) (length vram.old) (length pak.now) × (code.first < 65536) }
-    ensures { Turns (slice_index device.now lines_place) at.base code.first (code.word / 65536) result at.x psw
-        flags regs.old sys.old (entering rom.now wram.old vram.old pak.now device.now)
-        regs.new sys.new (leaving_ram rom.now wram.new vram.new pak.now device.now) }
+    requires { code.first < 65536 }
+    ensures turns { Turns (slice_index memories.old.device.now lines_place) at.base code.first (code.word / 65536) result at.x psw
+        flags regs.old sys.old (held_by memories.old) regs.new sys.new (held_by memories.new) }
+    ensures devices { memories.new.device.now ≡ memories.old.device.now }
+    ensures same { SameLoans memories.old memories.new }
 {
     let base = at.base;
     let x = at.x;
@@ -58,7 +55,7 @@ pub fn dispatch(
         19 => arithmetic::cmp_immediate(regs, f, x, flags),
         20 => arithmetic::shl_immediate(regs, f, x, flags),
         21 => arithmetic::shr_immediate(regs, f, x, flags),
-        22 => system::cli(device, x, psw, flags),
+        22 => system::cli(memories.device, x, psw, flags),
         23 => arithmetic::sar_immediate(regs, f, x, flags),
         24 => Fast::NotHere,
         25 => Fast::NotHere,
@@ -84,22 +81,22 @@ pub fn dispatch(
         45 => arithmetic::andi(regs, f, w / 65536, x, flags),
         46 => arithmetic::xori(regs, f, w / 65536, x, flags),
         47 => arithmetic::movhi(regs, f, w / 65536, x, flags),
-        48 => transfer::load_byte(rom, wram, vram, pak, device, regs, f, w / 65536, x, flags),
-        49 => transfer::load_half(rom, wram, vram, pak, device, regs, f, w / 65536, x, flags),
+        48 => transfer::load(memories, Width::Byte, regs, f, w / 65536, x, flags),
+        49 => transfer::load(memories, Width::Half, regs, f, w / 65536, x, flags),
         50 => Fast::NotHere,
-        51 => transfer::load_word(rom, wram, vram, pak, device, regs, f, w / 65536, x, flags),
-        52 => transfer::store_byte(wram, vram, regs, f, w / 65536, x, flags),
-        53 => transfer::store_half(wram, vram, regs, f, w / 65536, x, flags),
+        51 => transfer::load(memories, Width::Word, regs, f, w / 65536, x, flags),
+        52 => transfer::store(memories, Width::Byte, regs, f, w / 65536, x, flags),
+        53 => transfer::store(memories, Width::Half, regs, f, w / 65536, x, flags),
         54 => Fast::NotHere,
-        55 => transfer::store_word(wram, vram, regs, f, w / 65536, x, flags),
-        56 => transfer::input_byte(rom, wram, vram, pak, device, regs, f, w / 65536, x, flags),
-        57 => transfer::input_half(rom, wram, vram, pak, device, regs, f, w / 65536, x, flags),
+        55 => transfer::store(memories, Width::Word, regs, f, w / 65536, x, flags),
+        56 => transfer::input(memories, Width::Byte, regs, f, w / 65536, x, flags),
+        57 => transfer::input(memories, Width::Half, regs, f, w / 65536, x, flags),
         58 => Fast::NotHere,
-        59 => transfer::load_word(rom, wram, vram, pak, device, regs, f, w / 65536, x, flags),
-        60 => transfer::store_byte(wram, vram, regs, f, w / 65536, x, flags),
-        61 => transfer::store_half(wram, vram, regs, f, w / 65536, x, flags),
+        59 => transfer::input(memories, Width::Word, regs, f, w / 65536, x, flags),
+        60 => transfer::store(memories, Width::Byte, regs, f, w / 65536, x, flags),
+        61 => transfer::store(memories, Width::Half, regs, f, w / 65536, x, flags),
         62 => floating::extended(regs, f, w / 65536, x, flags),
-        63 => transfer::store_word(wram, vram, regs, f, w / 65536, x, flags),
+        63 => transfer::store(memories, Width::Word, regs, f, w / 65536, x, flags),
         _ => Fast::NotHere,
     }
 }

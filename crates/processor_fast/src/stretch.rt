@@ -1,7 +1,8 @@
 // At most `budget` of the instructions that the dispatch does.
 ghost use Rattle.std.specs.Prelude.{◌≡◌, ◌%◌, length, ◌≢◌};
 ghost use Rattle.bus.specs.Memory.{Lengths};
-ghost use Rattle.bus.specs.Lent.{entering, leaving_ram};
+ghost use Rattle.bus.specs.Lent.{entering, leaving};
+ghost use Rattle.bus.specs.Memories.{held_by, SameLoans};
 ghost use Rattle.bus.specs.inner.Code.{Stands};
 ghost use Rattle.processor_machine.specs.State.{state_of};
 ghost use Rattle.processor_machine.specs.declared.Mode.{Mode};
@@ -10,18 +11,20 @@ ghost use Rattle.processor_fast.specs.inner.Leads.{StretchedBy, Stretched};
 use crate::dispatch::dispatch;
 use crate::{Cursor, Fetched, Progress, Rest};
 use bus::Device;
-use bus::code::{Code, code_at, fetch};
+use bus::code::{Code, code_at};
+use bus::memories::Memories;
 use processor_fast_compute::Fast;
 use processor_fast_compute::field::after_one;
 use processor_lazy_flags::{Flags, status};
 
-// Code that stands from `base` on, as long as the index stays below `last`.
+// Code that stands from `base` on, as long as the index stays below `last`. It borrows the memories one by one, so that they
+// stay in registers of the processor that runs this (docs/SPEED.md), and lends them on together.
 fn inside(
     rom: &[u8],
     wram: &mut [u8],
     vram: &mut [u8],
-    pak: &[u8],
-    device: &Device,
+    pak: &mut [u8],
+    device: &mut Device,
     regs: &mut [u32; 32],
     sys: &mut [u32; 8],
     pc: u32,
@@ -31,13 +34,20 @@ fn inside(
     base: u32,
     last: u32,
 ) -> Rest
-    requires { Lengths (length rom.now) (length wram.old) (length vram.old) (length pak.now)
+    requires { Lengths (length rom.now) (length wram.old) (length vram.old) (length pak.old)
         × Stands (length rom.now) in_rom base last × (pc % 2 ≡ 0) × (psw % 4 ≢ 3) }
     ensures { StretchedBy budget (state_of regs.old sys.old pc psw Mode.Running)
-        (entering rom.now wram.old vram.old pak.now device.now) regs.new sys.new result
-        (leaving_ram rom.now wram.new vram.new pak.now device.now) }
+        (entering rom.now wram.old vram.old pak.old device.old) regs.new sys.new result
+        (leaving rom.now wram.new vram.new pak.new device.new) }
 {
-    let mut x = std::num::wrapping_sub_u32(pc, base);
+    let mut memories = Memories {
+        rom,
+        wram,
+        vram,
+        pak,
+        device,
+    };
+    let mut x = pc.wrapping_sub(base);
     let mut flags = status::unpacked(psw);
     let mut high = psw;
     let mut left = budget;
@@ -45,17 +55,13 @@ fn inside(
         if last <= x {
             return Rest {
                 left,
-                pc: std::num::wrapping_add_u32(base, x),
+                pc: base.wrapping_add(x),
                 psw: status::packed(high, flags),
             };
         }
-        let w = fetch(rom, wram, in_rom, x as usize);
+        let w = memories.fetch(in_rom, x as usize);
         match dispatch(
-            rom,
-            wram,
-            vram,
-            pak,
-            device,
+            &mut memories,
             regs,
             sys,
             Cursor { base, x },
@@ -83,7 +89,7 @@ fn inside(
             Fast::NotHere => {
                 return Rest {
                     left,
-                    pc: std::num::wrapping_add_u32(base, x),
+                    pc: base.wrapping_add(x),
                     psw: status::packed(high, flags),
                 };
             }
@@ -91,59 +97,52 @@ fn inside(
     }
     Rest {
         left,
-        pc: std::num::wrapping_add_u32(base, x),
+        pc: base.wrapping_add(x),
         psw: status::packed(high, flags),
     }
 }
 
 // The instructions at PC, as long as the dispatch does them.
 pub fn stretch(
-    rom: &[u8],
-    wram: &mut [u8],
-    vram: &mut [u8],
-    pak: &[u8],
-    device: &Device,
+    memories: &mut Memories<'_>,
     regs: &mut [u32; 32],
     sys: &mut [u32; 8],
     pc: u32,
     psw: u32,
     budget: u64,
 ) -> Progress
-    requires { Lengths (length rom.now) (length wram.old) (length vram.old) (length pak.now) }
-    ensures { Stretched budget (state_of regs.old sys.old pc psw Mode.Running)
-        (entering rom.now wram.old vram.old pak.now device.now) result.count
+    ensures stretched { Stretched budget (state_of regs.old sys.old pc psw Mode.Running)
+        (held_by memories.old) result.count
         (state_of regs.new sys.new result.pc result.psw Mode.Running)
-        (leaving_ram rom.now wram.new vram.new pak.now device.now) }
+        (held_by memories.new) }
+    ensures same { SameLoans memories.old memories.new }
 {
-    if pc % 2 != 0 {
+    if pc % 2 != 0 || psw % 4 == 3 {
         return Progress { count: 0, pc, psw };
     }
-    if psw % 4 == 3 {
-        return Progress { count: 0, pc, psw };
-    }
-    match code_at(rom.len(), pc) {
-        Code::Rom { base, last } => {
-            let q = inside(
-                rom, wram, vram, pak, device, regs, sys, pc, psw, budget, true, base, last,
-            );
-            let count = budget - q.left;
-            Progress {
-                count,
-                pc: q.pc,
-                psw: q.psw,
-            }
-        }
-        Code::Wram { base, last } => {
-            let q = inside(
-                rom, wram, vram, pak, device, regs, sys, pc, psw, budget, false, base, last,
-            );
-            let count = budget - q.left;
-            Progress {
-                count,
-                pc: q.pc,
-                psw: q.psw,
-            }
-        }
-        Code::Elsewhere => Progress { count: 0, pc, psw },
+    let (in_rom, base, last) = match code_at(memories.rom.len(), pc) {
+        Code::Rom { base, last } => (true, base, last),
+        Code::Wram { base, last } => (false, base, last),
+        Code::Elsewhere => return Progress { count: 0, pc, psw },
+    };
+    let rest = inside(
+        memories.rom,
+        memories.wram,
+        memories.vram,
+        memories.pak,
+        memories.device,
+        regs,
+        sys,
+        pc,
+        psw,
+        budget,
+        in_rom,
+        base,
+        last,
+    );
+    Progress {
+        count: budget - rest.left,
+        pc: rest.pc,
+        psw: rest.psw,
     }
 }

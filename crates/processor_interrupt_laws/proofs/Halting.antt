@@ -15,9 +15,7 @@ use Rattle.processor_interrupt.specs.Interrupt.{accepts_of, level_of, interrupte
 use Rattle.processor_step.specs.Step.{first_of, second_of, next_of, perform_of, running_step_of, step_in_of, instruction_step_of}
 use Rattle.processor_step.specs.Interrupted.{lines_in, accepts_in, interrupt_step_of}
 use Rattle.processor_step.specs.Step.{step_of}
-use Rattle.processor.specs.Run.{Run, after_of, after_step, run_of}
-use Rattle.processor.specs.declared.After.{After}
-use Rattle.processor.specs.declared.After.TheVariants.{Counted, Stopped}
+use Rattle.processor.specs.Run.{Run, after_of, after_step, run_of, After}
 use Rattle.processor_execute.proofs.Every as every
 use Rattle.word.proofs.Choices.{pick-cases}
 use Rattle.processor_interrupt_laws.specs.Interrupts.{RunHalted}
@@ -106,8 +104,8 @@ step-rests s m =
 
 after-rests : (a : After) (t : Stepped) (rest : Run) → Rests t.state t.memory → Rests rest.state rest.memory
     → Rests (after_step a t rest).state (after_step a t rest).memory
-after-rests Counted t rest h k = k
-after-rests (Stopped v) t rest h k = h
+after-rests None t rest h k = k
+after-rests (Some v) t rest h k = h
 
 -- from a machine that rests, or by one step more
 rests-run : (budget : ℕ) (s : State) (m : Memory) → Rests s m → Rests (run_of budget s m).state (run_of budget s m).memory

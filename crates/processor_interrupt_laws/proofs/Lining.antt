@@ -1,4 +1,5 @@
 -- `step_lines` and `run-lines`: the statements of specs/Lines. Assumes nothing.
+use Rattle.std.specs.Prelude.{None, Some}
 use Prim.Native.Nat.{ℕ, zero, suc}
 use mathlib.Core.Path.{◌≡◌, refl, ◌∙◌}
 use native.Mathlib.Omega.{arith}
@@ -11,9 +12,7 @@ use Rattle.word.specs.declared.width.Width.{Width}
 use Rattle.processor_machine.specs.State.{State, Stepped}
 use Rattle.processor_execute.specs.Transfer.{size_of, stored_of}
 use Rattle.processor_step.specs.Step.{step_of}
-use Rattle.processor.specs.Run.{Run, after_of, after_step, run_of}
-use Rattle.processor.specs.declared.After.{After}
-use Rattle.processor.specs.declared.After.TheVariants.{Counted, Stopped}
+use Rattle.processor.specs.Run.{Run, after_of, after_step, run_of, After}
 use Rattle.processor_interrupt_laws.specs.Lines.{KeepsLines, StepLines, RunLines}
 use Rattle.processor_interrupt_laws.proofs.Storing.{step-leaves}
 
@@ -51,8 +50,8 @@ step_lines s m whole = (step_kept m whole s).0
 
 after-lines : (m : Memory) (a : After) (t : Stepped) (rest : Run) → KeepsLines m t.memory → KeepsLines t.memory rest.memory
     → KeepsLines m (after_step a t rest).memory
-after-lines m Counted t rest p q = both m t.memory rest.memory p q
-after-lines m (Stopped v) t rest p q = p
+after-lines m None t rest p q = both m t.memory rest.memory p q
+after-lines m (Some v) t rest p q = p
 
 pub run-lines : RunLines
 unfolding run_of

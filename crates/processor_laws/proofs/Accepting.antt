@@ -22,9 +22,7 @@ use Rattle.processor_interrupt.proofs.Exactly.{accepts-taken}
 use Rattle.processor_machine.specs.System.{psw_bits_of}
 use Rattle.processor_machine.specs.declared.Mode.{Mode}
 use Rattle.processor_machine.specs.declared.Mode.TheVariants.{Running, Halted, Fatal}
-use Rattle.processor.specs.Run.{Run, after_of, after_step, run_of}
-use Rattle.processor.specs.declared.After.{After}
-use Rattle.processor.specs.declared.After.TheVariants.{Counted, Stopped}
+use Rattle.processor.specs.Run.{Run, after_of, after_step, run_of, After}
 use Rattle.processor_laws.specs.Accepted.{Machine, StepAccepted, RunAccepted, RunCount, MachineAcceptedMeans, MachineMeansAccepted}
 use Rattle.processor_laws.proofs.Invariant.{Address, Good, told, tells, machine-good, good-machine}
 use Rattle.processor_laws.proofs.Immediates.{Found, decoded-found}
@@ -82,8 +80,8 @@ abbrev AfterRun : Run → Type 0
 AfterRun r = Machine r.state r.memory
 
 after-accepted : (a : After) (t : Stepped) (rest : Run) → Machine t.state t.memory → AfterRun rest → AfterRun (after_step a t rest)
-after-accepted Counted t rest h k = k
-after-accepted (Stopped v) t rest h k = h
+after-accepted None t rest h k = k
+after-accepted (Some v) t rest h k = h
 
 -- a run leaves an accepted machine
 pub run-accepted : RunAccepted
@@ -95,8 +93,8 @@ run-accepted (suc budget) s m h =
     after-accepted (after_of t.answer) t (run_of budget t.state t.memory) k (run-accepted budget t.state t.memory k)
 
 after-count : (a : After) (t : Stepped) (rest : Run) (budget : ℕ) → rest.count ≤ budget → (after_step a t rest).count ≤ suc budget
-after-count Counted t rest budget h = omega arith
-after-count (Stopped v) t rest budget h = omega arith
+after-count None t rest budget h = omega arith
+after-count (Some v) t rest budget h = omega arith
 
 -- a run counts at most its budget
 pub run-count : RunCount

@@ -18,9 +18,7 @@ use Rattle.processor_machine.specs.declared.Mode.{Mode}
 use Rattle.processor_machine.specs.declared.Mode.TheVariants.{Running, Halted, Fatal}
 use Rattle.processor_machine.specs.declared.Answer.{Answer}
 use Rattle.processor_machine.specs.declared.Answer.TheVariants.{Ended, Trapped, Interrupted, TurnedFatal, WasHalted, WasFatal, Refused}
-use Rattle.processor.specs.Run.{Run, one_more, after_of, after_step, run_of}
-use Rattle.processor.specs.declared.After.{After}
-use Rattle.processor.specs.declared.After.TheVariants.{Counted, Stopped}
+use Rattle.processor.specs.Run.{Run, one_more, after_of, after_step, run_of, After}
 use Rattle.processor_laws.specs.Steps.{steps_of, RunSteps, Counts, RunCounted, step_end_of, Ends, RunEnds}
 use Rattle.processor_execute.proofs.Every as every
 use Rattle.word.proofs.Choices.{pick-each}
@@ -183,9 +181,9 @@ run-counted (suc budget) s m =
 
 module _ (budget : ℕ) (s : State) (m : Memory) where
   -- the first step is counted, and the others are those of the rest
-  counted-again : (n : ℕ) → step_end_of 0 s m ≡ Counted
-      → ((i : ℕ) → i < n → step_end_of i (step_of s m).state (step_of s m).memory ≡ Counted)
-      → (i : ℕ) → i < suc n → step_end_of i s m ≡ Counted
+  counted-again : (n : ℕ) → step_end_of 0 s m ≡ None
+      → ((i : ℕ) → i < n → step_end_of i (step_of s m).state (step_of s m).memory ≡ None)
+      → (i : ℕ) → i < suc n → step_end_of i s m ≡ None
   unfolding steps_of
   counted-again n e k zero h = e
   counted-again n e k (suc i) h = k i (omega arith)
@@ -193,13 +191,13 @@ module _ (budget : ℕ) (s : State) (m : Memory) where
   after-ends : (a : After) → step_end_of 0 s m ≡ a → (rest : Run) → Ends budget (step_of s m).state (step_of s m).memory rest
       → Ends (suc budget) s m (after_step a (step_of s m) rest)
   unfolding steps_of
-  after-ends Counted e rest k =
+  after-ends None e rest k =
       record {
         counted = counted-again rest.count e k.counted;
         stopped = λ h. k.stopped (omega arith);
         spent = λ h. k.spent (omega arith);
       }
-  after-ends (Stopped v) e rest k =
+  after-ends (Some v) e rest k =
       record { counted = λ i h. absurd (omega arith); stopped = λ h. e; spent = λ h. absurd (omega arith) }
 
 pub run_ends : RunEnds

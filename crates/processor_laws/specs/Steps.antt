@@ -1,15 +1,13 @@
 -- What a run comes to in steps (paper 01: "A run does at most the given number of instructions and reports how many
 -- ended: the number of the definition's steps up to the budget, a non-running mode, or a refusal"): the statements.
 -- Their proofs are `run-steps`, `run-counted` and `run_ends` in proofs/Runs.
-use Rattle.std.specs.Prelude.{ℕ, zero, suc, ◌<◌, ◌≡◌, Ok, Err}
+use Rattle.std.specs.Prelude.{ℕ, zero, suc, ◌<◌, ◌≡◌, Ok, Err, None, Some}
 use Rattle.bus.specs.Memory.{Memory}
 use Rattle.refusal.specs.declared.Refusal.{Refusal}
 use Rattle.processor_machine.specs.State.{State}
 use Rattle.processor_step.specs.Step.{step_of}
 use Rattle.processor_machine.specs.declared.Mode.TheVariants.{Fatal}
-use Rattle.processor.specs.Run.{Run, after_of, run_of}
-use Rattle.processor.specs.declared.After.{After}
-use Rattle.processor.specs.declared.After.TheVariants.{Counted, Stopped}
+use Rattle.processor.specs.Run.{Run, after_of, run_of, After}
 
 -- the state and memory after n steps
 unfoldable pub steps_of : ℕ → State → Memory → State × Memory
@@ -42,8 +40,8 @@ step_end_of i s m = after_of (step_of (steps_of i s m).0 (steps_of i s m).1).ans
 
 -- which count a run has: each step before it is counted; below the budget the next step stops the run, with its verdict
 pub record Ends (budget : ℕ) (s : State) (m : Memory) (r : Run) : Type 0 where
-  pub counted : (i : ℕ) → i < r.count → step_end_of i s m ≡ Counted
-  pub stopped : r.count < budget → step_end_of r.count s m ≡ Stopped r.verdict
+  pub counted : (i : ℕ) → i < r.count → step_end_of i s m ≡ None
+  pub stopped : r.count < budget → step_end_of r.count s m ≡ Some r.verdict
   pub spent : r.count ≡ budget → r.verdict ≡ (Ok tt)
 
 abbrev pub RunEnds : Type 0

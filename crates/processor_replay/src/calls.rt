@@ -6,6 +6,7 @@ ghost use Rattle.processor_replay.specs.Calls.{replayed_of, checked_replay_of};
 use crate::{End, Replayed, records};
 use bus::Drawing;
 use bus::device::{device_of, drawing_in};
+use bus::memories::Memories;
 use processor::Processor;
 use processor::record::{joined, system};
 use refusal::Refusal;
@@ -45,12 +46,15 @@ pub fn replay(
             let hardware = processor.hardware;
             let mut device = device_of(registers, hardware);
             let mode = processor.mode;
-            let f = records::replay(
+            let mut memories = Memories {
                 rom,
                 wram,
                 vram,
                 pak,
-                &mut device,
+                device: &mut device,
+            };
+            let f = records::replay(
+                &mut memories,
                 &mut regs,
                 &mut sys,
                 processor.pc,

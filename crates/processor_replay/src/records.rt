@@ -1,14 +1,13 @@
 // The records of a trace, replayed over registers and memories that were accepted.
 ghost use Rattle.std.specs.Prelude.{◌≡◌, ◌+◌, ◌*◌, ◌<◌, length};
-ghost use Rattle.bus.specs.Memory.{Lengths};
-ghost use Rattle.bus.specs.Lent.{entering, leaving};
+ghost use Rattle.bus.specs.Memories.{held_by, SameLoans};
 ghost use Rattle.processor_machine.specs.State.{state_of};
 ghost use Rattle.processor_replay.specs.Replay.{record_with, records_of, record_at, register_sum_of};
 ghost use Rattle.processor_replay.specs.Replay.{first_difference_of};
 ghost use Rattle.processor_replay.specs.Replay.{progress_of, replay_of, replayed_by};
 
 use crate::{End, FinishedReplay, Progress};
-use bus::Device;
+use bus::memories::Memories;
 use processor_machine::{Answer, Mode};
 use processor_step::step;
 
@@ -64,11 +63,7 @@ fn difference(trace: &[u8], k: usize, before: u32, after: u32, psw: u32, sum: u3
 
 // Every record of the trace, or as many as agree.
 pub fn replay(
-    rom: &[u8],
-    wram: &mut [u8],
-    vram: &mut [u8],
-    pak: &mut [u8],
-    device: &mut Device,
+    memories: &mut Memories<'_>,
     regs: &mut [u32; 32],
     sys: &mut [u32; 8],
     pc: u32,
@@ -76,10 +71,10 @@ pub fn replay(
     mode: Mode,
     trace: &[u8],
 ) -> FinishedReplay
-    requires { Lengths (length rom.now) (length wram.old) (length vram.old) (length pak.old) }
-    ensures { replayed_by regs.new sys.new result (leaving rom.now wram.new vram.new pak.new device.new)
+    ensures done { replayed_by regs.new sys.new result (held_by memories.new)
         ≡ replay_of (records_of trace.now) 0 trace.now
-        (state_of regs.old sys.old pc psw mode) (entering rom.now wram.old vram.old pak.old device.old) }
+        (state_of regs.old sys.old pc psw mode) (held_by memories.old) }
+    ensures same { SameLoans memories.old memories.new }
 {
     let n = trace.len() / 16;
     let mut pc = pc;
@@ -88,7 +83,7 @@ pub fn replay(
     let mut k: usize = 0;
     while k < n {
         let before = pc;
-        let t = step::step(rom, wram, vram, pak, device, regs, sys, pc, psw, mode);
+        let t = step::step(memories, regs, sys, pc, psw, mode);
         let c = t.control;
         pc = c.pc;
         psw = c.psw;

@@ -1,16 +1,12 @@
--- `processor_fast_move::transfer::load_half`: its own case.
-use Rattle.std.proofs.Common.{true, rules}
+-- `processor_fast_move::transfer::input`: its own case.
+use Rattle.std.proofs.Common.{true}
 use Rattle.processor_execute.specs.Execute.{execute_of}
 use Rattle.processor_fast_compute.proofs.Results.{value-does}
-use Rattle.processor_fast_move.proofs.transfer.load_half.Goals as goal
+use Rattle.processor_fast_move.proofs.transfer.input.Goals as goal
 
 pub returns : goal.returns
 unfolding execute_of
 returns c = λ base psw sys even aligned.
     let a = c.args in
     value-does true base a.x psw _ _ _ sys a.flags _ _ _ aligned c.after_two.ensures _
-    (rw (
-      c.extend16-value.ensures,
-      c.load-v.ensures.means,
-      c.address-a.ensures,
-    ) at c.loaded.ensures)
+    (rw (c.load-v.ensures.means, c.address-a.ensures) at c.loaded.ensures)
