@@ -1,15 +1,14 @@
 -- `processor::calls::step`: refused as the definition says, else what a step promises, and the masks of what it
 -- fetched.
-use mathlib.Core.Path.{sym, ◌∙◌}
+use mathlib.Core.Path.{◌≡◌, sym, ◌∙◌}
+use Rattle.std.proofs.Common.{rules}
 use Rattle.processor.proofs.Checked.{step-accepted}
 use Rattle.processor.proofs.Lengths.{lengths-of-accepted}
 use Rattle.processor.specs.Calls.{checked_step_of}
 use Rattle.processor.proofs.calls.step.Goals as goal
 
-pub step-t-requires : goal.step-t-requires
-step-t-requires c = lengths-of-accepted _ _ _ _ _ _ _ _ _ (sym
-    c.acceptance.ensures
-    ∙ c.in-Ok.is)
+pub invariant_of-memories : goal.invariant_of-memories
+invariant_of-memories c = record { lengths = lengths-of-accepted _ _ _ _ _ _ _ _ _ (sym c.acceptance.ensures ∙ c.in-Ok.is) }
 
 pub returns-in-Err : goal.returns-in-Err
 unfolding checked_step_of
@@ -26,8 +25,13 @@ returns-in-Ok c =
     let a = c.args in
     let system = c.system-sys in
     let step = c.step-t.ensures in
-    rw (c.drawing_in-registers.ensures, c.joined-processor.ensures)
-    (step-accepted a.processor _ _ _ _ system.ensures
+    let m = c.step-t.new.memories in
+    let w : c.wram-1.given.0 ≡ m.wram.now = search rules in
+    let v : c.vram-1.given.0 ≡ m.vram.now = search rules in
+    let k : c.pak-1.given.0 ≡ m.pak.now = search rules in
+    let d : c.device-in-Ok-2-1.given.0 ≡ m.device.now = search rules in
+    rw (c.drawing_in-registers.ensures, c.joined-processor.ensures, w, v, k, d)
+    (rw c.step-t.ensures.same.0 at (step-accepted a.processor _ _ _ _ system.ensures
     c.device_of-device.ensures c.acceptance.ensures c.in-Ok.is _
     step.done _ step.fetched _ (c.masks-undefined.ensures system.result a.processor.psw
-    a.processor.mode _))
+    a.processor.mode _)))
