@@ -1,5 +1,6 @@
 -- A replay in the middle: what is left of the trace, replayed from here, is what the whole trace gives from the start, with the
 -- records so far added. Each law is one turn of the loop. Assumes nothing.
+use Rattle.std.specs.Prelude.{None, Some}
 use Rattle.std.proofs.Common.{◌≡◌, ℕ, suc, ◌+◌, ◌-◌, ◌<◌, ◌≤◌, List, sym, zero-add, arith, le-ltb, lt-ltb}
 use Rattle.bus.specs.Memory.{Memory}
 use Rattle.processor_machine.specs.State.{State, Stepped}
@@ -8,7 +9,6 @@ use Rattle.processor_replay.specs.Replay.{record_with, record_at, record_of, reg
 use Rattle.processor_replay.specs.Replay.{Replay, replay_with, after_record, replay_of}
 use Rattle.processor_replay.specs.declared.End.{End}
 use Rattle.processor_replay.specs.declared.End.TheVariants.{Agreed, Differed}
-use Rattle.processor_replay.specs.declared.Progress.TheVariants.{Completed, Ends}
 
 -- a replay with k agreeing records before it
 abbrev pub later : ℕ → Replay → Replay
@@ -34,7 +34,7 @@ module _ (n : ℕ) (trace : List ℕ) (s₀ : State) (m₀ : Memory) (k : ℕ) (
       rw e (rw f at before.rest)
 
   -- the sum and the first wrong word as the code has them
-  module _ (h : k < n) (t : Stepped) (e : t ≡ step_of s m) (told : progress_of t.answer ≡ Completed) (sum : ℕ)
+  module _ (h : k < n) (t : Stepped) (e : t ≡ step_of s m) (told : progress_of t.answer ≡ None) (sum : ℕ)
       (added : sum ≡ register_sum_of t.state.regs) (word : ℕ) (found : word ≡ first_difference_of (record_at trace k)
       (record_with s.pc t.state.pc t.state.psw sum)) where
     same_word : word ≡ first_difference_of (record_at trace k) (record_of s t)
@@ -54,7 +54,7 @@ module _ (n : ℕ) (trace : List ℕ) (s₀ : State) (m₀ : Memory) (k : ℕ) (
         sym (rw z at (rw (lt-ltb word 4 w) at (rw (told, ← same_word) at (turn h t e))))
 
   pub along-ended : k < n → (t : Stepped) (end : End) → t ≡ step_of s m → progress_of
-      t.answer ≡ Ends end → replay_with end k t.state t.memory ≡ replay_of n 0 trace s₀ m₀
+      t.answer ≡ Some end → replay_with end k t.state t.memory ≡ replay_of n 0 trace s₀ m₀
   along-ended h t end e told =
       let z : k + 0 ≡ k = omega arith in
       sym (rw z at (rw told at (turn h t e)))

@@ -2,7 +2,7 @@
 -- after, and the sum of the 32 registers after, mod 2^32"), 16 bytes per record. Each record is compared with a step.
 -- At each record the model's own refusal, missing step or turn to fatal is reported first, and then the first word that
 -- differs.
-use Rattle.std.specs.Prelude.{ℕ, zero, suc, ◌+◌, ◌*◌, ◌/◌, ◌%◌, ◌^◌, List, length, ◌==◌, nat_lt, slice_index}
+use Rattle.std.specs.Prelude.{ℕ, zero, suc, ◌+◌, ◌*◌, ◌/◌, ◌%◌, ◌^◌, List, length, ◌==◌, nat_lt, slice_index, None, Some, Option}
 use Rattle.word.specs.Choose.{pick}
 use Rattle.word.specs.LittleEndian.{word_at}
 use Rattle.bus.specs.Memory.{Memory}
@@ -12,8 +12,6 @@ use Rattle.processor_machine.specs.declared.Answer.TheVariants as answer
 use Rattle.processor_step.specs.Step.{step_of}
 use Rattle.processor_replay.specs.declared.End.{End}
 use Rattle.processor_replay.specs.declared.End.TheVariants as end
-use Rattle.processor_replay.specs.declared.Progress.{Progress}
-use Rattle.processor_replay.specs.declared.Progress.TheVariants.{Completed, Ends}
 use Rattle.processor_replay.specs.declared.FinishedReplay.{FinishedReplay}
 
 -- a record of a trace
@@ -55,14 +53,17 @@ first_difference_of a b =
 
 -- what a step's answer means to a replay: what counts in a run, an accepted interrupt among it, is a completed step,
 -- which has a record; "the model refused, took no step because halted or fatal, or turned fatal there" ends it
+abbrev pub Progress : Type 0
+Progress = Option End
+
 abbrev pub progress_of : Answer → Progress
-progress_of answer.Ended = Completed
-progress_of (answer.Trapped cause) = Completed
-progress_of (answer.Interrupted level) = Completed
-progress_of (answer.TurnedFatal cause) = Ends end.TurnedFatal
-progress_of answer.WasHalted = Ends end.WasHalted
-progress_of answer.WasFatal = Ends end.WasFatal
-progress_of (answer.Refused n) = Ends (end.Refused n)
+progress_of answer.Ended = None
+progress_of (answer.Trapped cause) = None
+progress_of (answer.Interrupted level) = None
+progress_of (answer.TurnedFatal cause) = Some end.TurnedFatal
+progress_of answer.WasHalted = Some end.WasHalted
+progress_of answer.WasFatal = Some end.WasFatal
+progress_of (answer.Refused n) = Some (end.Refused n)
 
 -- what a replay gives: how it ended, the length of the longest agreeing prefix, and the machine afterwards
 pub record Replay : Type 0 where
@@ -80,9 +81,9 @@ one_record_more r = replay_with r.end (suc r.agreed) r.state r.memory
 
 -- after a step, whose record differs first in `word`: the replay ends, the step being made; or it goes on with the rest
 abbrev pub after_record : Progress → ℕ → Stepped → Replay → Replay
-after_record Completed word t rest =
+after_record None word t rest =
     pick (nat_lt word 4) (replay_with (end.Differed word) 0 t.state t.memory) (one_record_more rest)
-after_record (Ends e) word t rest = replay_with e 0 t.state t.memory
+after_record (Some e) word t rest = replay_with e 0 t.state t.memory
 
 -- a replay of n records, from record k on
 unfoldable pub replay_of : (n k : ℕ) (trace : List ℕ) → State → Memory → Replay

@@ -22,13 +22,6 @@ pub enum End {
     TurnedFatal,
 }
 
-// What a step's answer means to a replay: a record is due, or the replay ends.
-#[derive(Clone, Copy)]
-pub enum Progress {
-    Completed,
-    Ends(End),
-}
-
 // What the replay of a trace leaves next to the borrowed registers and memories.
 #[derive(Clone, Copy)]
 pub struct FinishedReplay {

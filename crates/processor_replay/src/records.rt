@@ -6,24 +6,24 @@ ghost use Rattle.processor_replay.specs.Replay.{record_with, records_of, record_
 ghost use Rattle.processor_replay.specs.Replay.{first_difference_of};
 ghost use Rattle.processor_replay.specs.Replay.{progress_of, replay_of, replayed_by};
 
-use crate::{End, FinishedReplay, Progress};
+use crate::{End, FinishedReplay};
 use bus::memories::Memories;
 use processor_machine::{Answer, Mode};
 use processor_step::step;
 
 // An ended or trapped instruction and an accepted interrupt are completed steps; anything else ends the replay,
 // whatever the record says.
-fn progress(answer: Answer) -> Progress
+fn ends(answer: Answer) -> Option<End>
     ensures { result ≡ progress_of answer }
 {
     match answer {
-        Answer::Ended => Progress::Completed,
-        Answer::Trapped(_) => Progress::Completed,
-        Answer::Interrupted(_) => Progress::Completed,
-        Answer::TurnedFatal(_) => Progress::Ends(End::TurnedFatal),
-        Answer::WasHalted => Progress::Ends(End::WasHalted),
-        Answer::WasFatal => Progress::Ends(End::WasFatal),
-        Answer::Refused(n) => Progress::Ends(End::Refused(n)),
+        Answer::Ended => None,
+        Answer::Trapped(_) => None,
+        Answer::Interrupted(_) => None,
+        Answer::TurnedFatal(_) => Some(End::TurnedFatal),
+        Answer::WasHalted => Some(End::WasHalted),
+        Answer::WasFatal => Some(End::WasFatal),
+        Answer::Refused(n) => Some(End::Refused(n)),
     }
 }
 
@@ -32,10 +32,8 @@ fn sum(regs: &[u32; 32]) -> u32
     ensures { result ≡ register_sum_of regs.now }
 {
     let mut s: u32 = 0;
-    let mut i = 0;
-    while i < 32 {
-        s = std::num::wrapping_add_u32(s, regs[i]);
-        i += 1;
+    for i in 0..32 {
+        s = s.wrapping_add(regs[i]);
     }
     s
 }
@@ -80,17 +78,23 @@ pub fn replay(
     let mut pc = pc;
     let mut psw = psw;
     let mut mode = mode;
-    let mut k: usize = 0;
-    while k < n {
+    for k in 0..n {
         let before = pc;
-        let t = step::step(memories, regs, sys, pc, psw, mode);
-        let c = t.control;
+        let c = step::step(memories, regs, sys, pc, psw, mode).control;
         pc = c.pc;
         psw = c.psw;
         mode = c.mode;
-        let answer = c.answer;
-        match progress(answer) {
-            Progress::Completed => {
+        match ends(c.answer) {
+            Some(end) => {
+                return FinishedReplay {
+                    pc,
+                    psw,
+                    mode,
+                    end,
+                    agreed: k as u64,
+                };
+            }
+            None => {
                 let s = sum(regs);
                 let word = difference(trace, k, before, pc, psw, s);
                 if word < 4 {
@@ -102,16 +106,6 @@ pub fn replay(
                         agreed: k as u64,
                     };
                 }
-                k += 1;
-            }
-            Progress::Ends(end) => {
-                return FinishedReplay {
-                    pc,
-                    psw,
-                    mode,
-                    end,
-                    agreed: k as u64,
-                };
             }
         }
     }
@@ -120,6 +114,6 @@ pub fn replay(
         psw,
         mode,
         end: End::Agreed,
-        agreed: k as u64,
+        agreed: n as u64,
     }
 }

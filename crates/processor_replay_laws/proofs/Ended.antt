@@ -1,4 +1,5 @@
 -- `replay-ends`: the statement of specs/Ending, by induction over the records left, from any record on. Assumes nothing.
+use Rattle.std.specs.Prelude.{None, Some}
 use Prim.Native.Nat.{ℕ, zero, suc, ◌+◌, ◌≤◌, ◌<◌}
 use mathlib.Core.List.{List}
 use mathlib.Core.Logic.{◌⊎◌, inl, inr}
@@ -11,10 +12,8 @@ use Rattle.bus.specs.Memory.{Memory}
 use Rattle.processor_machine.specs.State.{State}
 use Rattle.processor_step.specs.Step.{step_of}
 use Rattle.processor_laws.specs.Steps.{steps_of}
-use Rattle.processor_replay.specs.Replay.{record_at, record_of, first_difference_of, progress_of, Replay, after_record, replay_of}
+use Rattle.processor_replay.specs.Replay.{record_at, record_of, first_difference_of, progress_of, Replay, after_record, replay_of, Progress}
 use Rattle.processor_replay.specs.declared.End.TheVariants.{Agreed, Differed}
-use Rattle.processor_replay.specs.declared.Progress.{Progress}
-use Rattle.processor_replay.specs.declared.Progress.TheVariants.{Completed, Ends}
 use Rattle.processor_replay_laws.specs.Ending.{progress_at, step_record_at, Differs, Parts, ReplayEnds}
 use Rattle.processor_replay_laws.proofs.Records.{first_word, no_word}
 
@@ -22,20 +21,20 @@ use Rattle.processor_replay_laws.proofs.Records.{first_word, no_word}
 record PartsFrom (k : ℕ) (trace : List ℕ) (s : State) (m : Memory) (r : Replay) : Type 0 where
   word : ℕ
   reported : r.end ≡ Differed word
-  completed : progress_at r.agreed s m ≡ Completed
+  completed : progress_at r.agreed s m ≡ None
   differs : Differs word (record_at trace (k + r.agreed)) (step_record_at r.agreed s m)
 
 record EndsFrom (k n : ℕ) (trace : List ℕ) (s : State) (m : Memory) (r : Replay) : Type 0 where
   within : r.agreed ≤ n
-  completed : (i : ℕ) → i < r.agreed → progress_at i s m ≡ Completed
+  completed : (i : ℕ) → i < r.agreed → progress_at i s m ≡ None
   equal : (i : ℕ) → i < r.agreed → record_at trace (k + i) ≡ step_record_at i s m
   all : r.agreed ≡ n → r.end ≡ Agreed
-  next : r.agreed < n → (progress_at r.agreed s m ≡ Ends r.end) ⊎ PartsFrom k trace s m r
+  next : r.agreed < n → (progress_at r.agreed s m ≡ Some r.end) ⊎ PartsFrom k trace s m r
 
-module _ (k n : ℕ) (trace : List ℕ) (s : State) (m : Memory) (completed : progress_of (step_of s m).answer ≡ Completed)
+module _ (k n : ℕ) (trace : List ℕ) (s : State) (m : Memory) (completed : progress_of (step_of s m).answer ≡ None)
     (same : record_at trace k ≡ record_of s (step_of s m)) where
-  completed-again : (l : ℕ) → ((i : ℕ) → i < l → progress_at i (step_of s m).state (step_of s m).memory ≡ Completed)
-      → (i : ℕ) → i < suc l → progress_at i s m ≡ Completed
+  completed-again : (l : ℕ) → ((i : ℕ) → i < l → progress_at i (step_of s m).state (step_of s m).memory ≡ None)
+      → (i : ℕ) → i < suc l → progress_at i s m ≡ None
   unfolding steps_of
   completed-again l h zero less = completed
   completed-again l h (suc i) less = h i (omega arith)
@@ -50,9 +49,9 @@ module _ (k n : ℕ) (trace : List ℕ) (s : State) (m : Memory) (completed : pr
       let z : k + suc i ≡ k + 1 + i = omega arith in
       rw z (h i (omega arith))
 
-  next-again : (r : Replay) → (progress_at r.agreed (step_of s m).state (step_of s m).memory ≡ Ends r.end) ⊎ PartsFrom
+  next-again : (r : Replay) → (progress_at r.agreed (step_of s m).state (step_of s m).memory ≡ Some r.end) ⊎ PartsFrom
       (k + 1) trace (step_of s m).state (step_of s m).memory r
-      → (progress_at (suc r.agreed) s m ≡ Ends r.end) ⊎ PartsFrom k trace s m (record {
+      → (progress_at (suc r.agreed) s m ≡ Some r.end) ⊎ PartsFrom k trace s m (record {
         end = r.end;
         agreed = suc
             r.agreed;
@@ -82,7 +81,7 @@ module _ (k n : ℕ) (trace : List ℕ) (s : State) (m : Memory) (rest : Replay)
   by-progress : (u : Progress) (word : ℕ) → progress_of (step_of s m).answer ≡ u → word ≡ first_difference_of (record_at trace k) (record_of s (step_of s m))
       → EndsFrom k (suc n) trace s m (after_record u word (step_of s m) rest)
   unfolding steps_of
-  by-progress (Ends e) word t f =
+  by-progress (Some e) word t f =
       record {
         within = omega arith;
         completed = λ i l. absurd (omega arith);
@@ -90,7 +89,7 @@ module _ (k n : ℕ) (trace : List ℕ) (s : State) (m : Memory) (rest : Replay)
         all = λ z. absurd (omega arith);
         next = λ l. inl t;
       }
-  by-progress Completed word t f =
+  by-progress None word t f =
       elim (dec_lt word 4) [
         | yes h ↦
             let z : k + 0 ≡ k = omega arith in
@@ -130,8 +129,8 @@ parts_first trace s m r p =
     let z : 0 + r.agreed ≡ r.agreed = omega arith in
     record { word = p.word; reported = p.reported; completed = p.completed; differs = rw z at p.differs }
 
-next-first : (trace : List ℕ) (s : State) (m : Memory) (r : Replay) → (progress_at r.agreed s m ≡ Ends r.end) ⊎ PartsFrom 0 trace s m r
-    → (progress_at r.agreed s m ≡ Ends r.end) ⊎ Parts trace s m r
+next-first : (trace : List ℕ) (s : State) (m : Memory) (r : Replay) → (progress_at r.agreed s m ≡ Some r.end) ⊎ PartsFrom 0 trace s m r
+    → (progress_at r.agreed s m ≡ Some r.end) ⊎ Parts trace s m r
 next-first trace s m r (inl e) = inl e
 next-first trace s m r (inr p) = inr (parts_first trace s m r p)
 

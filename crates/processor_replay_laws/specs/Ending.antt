@@ -2,7 +2,7 @@
 -- first wrong word, both counted from 0; or that the model refused, took no step because halted or fatal, or turned
 -- fatal there"): the statements. Their proofs are `replay-ends`, `replay-steps` and `agreed-run` in proofs/Ended, Left
 -- and Counted.
-use Rattle.std.specs.Prelude.{ℕ, suc, ◌≤◌, ◌<◌, List, ◌⊎◌, ◌≡◌, eqb, Ok}
+use Rattle.std.specs.Prelude.{ℕ, suc, ◌≤◌, ◌<◌, List, ◌⊎◌, ◌≡◌, eqb, Ok, None, Some}
 use Rattle.word.specs.Choose.{pick}
 use Rattle.bus.specs.Memory.{Memory}
 use Rattle.processor_machine.specs.State.{State, Stepped, state_of}
@@ -10,12 +10,10 @@ use Rattle.processor_machine.specs.declared.Mode.TheVariants as mode
 use Rattle.processor_step.specs.Step.{step_of}
 use Rattle.processor.specs.Run.{run_of, run_with}
 use Rattle.processor_laws.specs.Steps.{steps_of}
-use Rattle.processor_replay.specs.Replay.{Record, record_at, record_of, progress_of, Replay, replay_of}
+use Rattle.processor_replay.specs.Replay.{Record, record_at, record_of, progress_of, Replay, replay_of, Progress}
 use Rattle.processor_replay.specs.declared.End.{End}
 use Rattle.processor_replay.specs.declared.End.TheVariants.{Refused, Agreed, Differed, WasHalted, WasFatal}
 use Rattle.processor_replay.specs.declared.End.TheVariants.{TurnedFatal}
-use Rattle.processor_replay.specs.declared.Progress.{Progress}
-use Rattle.processor_replay.specs.declared.Progress.TheVariants.{Completed, Ends}
 
 -- step number i of the definition, the first being 0, and its record
 abbrev pub nth_step : ℕ → State → Memory → Stepped
@@ -41,17 +39,17 @@ pub record Differs (word : ℕ) (a b : Record) : Type 0 where
 pub record Parts (trace : List ℕ) (s : State) (m : Memory) (r : Replay) : Type 0 where
   pub word : ℕ
   pub reported : r.end ≡ Differed word
-  pub completed : progress_at r.agreed s m ≡ Completed
+  pub completed : progress_at r.agreed s m ≡ None
   pub differs : Differs word (record_at trace r.agreed) (step_record_at r.agreed s m)
 
 -- a replay of n records: each one before the prefix's end is that of a completed step; below n the next step answers as
 -- reported, or its record differs
 pub record EndsSo (n : ℕ) (trace : List ℕ) (s : State) (m : Memory) (r : Replay) : Type 0 where
   pub within : r.agreed ≤ n
-  pub completed : (i : ℕ) → i < r.agreed → progress_at i s m ≡ Completed
+  pub completed : (i : ℕ) → i < r.agreed → progress_at i s m ≡ None
   pub equal : (i : ℕ) → i < r.agreed → record_at trace i ≡ step_record_at i s m
   pub all : r.agreed ≡ n → r.end ≡ Agreed
-  pub next : r.agreed < n → (progress_at r.agreed s m ≡ Ends r.end) ⊎ Parts trace s m r
+  pub next : r.agreed < n → (progress_at r.agreed s m ≡ Some r.end) ⊎ Parts trace s m r
 
 abbrev pub ReplayEnds : Type 0
 ReplayEnds = (n : ℕ) (trace : List ℕ) (s : State) (m : Memory) → EndsSo n trace s m (replay_of n 0 trace s m)
