@@ -11,9 +11,13 @@ use Rattle.processor_float.specs.Arithmetic.{is_tiny, settled_of}
 use Rattle.processor_float.specs.declared.FloatOutcome.{FloatOutcome}
 use Rattle.processor_float.specs.declared.FloatOutcome.TheVariants.{Number, Overflow}
 
-pub infinity : div binary32 (of_bits binary32 1065353216) (of_bits binary32 0) ≡ inf false
-unfolding div of_bits of_fields odd count_trailing_zeros
+pub infinity : of_bits binary32 0x7F800000 ≡ inf false
+unfolding of_bits of_fields odd count_trailing_zeros
 infinity = refl
+
+pub minus-infinity : of_bits binary32 0xFF800000 ≡ inf true
+unfolding of_bits of_fields odd count_trailing_zeros
+minus-infinity = refl
 
 nothing : of_bits binary32 0 ≡ fin false 0 (pos 0)
 unfolding of_bits of_fields odd count_trailing_zeros
@@ -24,11 +28,19 @@ least : of_bits binary32 8388608 ≡ fin false 1 (negsuc 125)
 unfolding of_bits of_fields odd count_trailing_zeros
 least = refl
 
-pub overflows : (exact : Bool) (v : Float) → (eq v (inf false) || eq v (neg (inf false))) ≡ true → Overflow ≡ settled_of exact v
-unfolding eq neg settled_of
-overflows exact nan e = absurd (subst T (sym e) tt)
-overflows exact (inf s) e = refl
-overflows exact (fin s m d) e = absurd (subst T (sym e) tt)
+pub overflows : (exact t : Bool) (v : Float) → eq v (inf t) ≡ true → Overflow ≡ settled_of exact v
+unfolding eq settled_of
+overflows exact t nan e = absurd (subst T (sym e) tt)
+overflows exact t (inf s) e = refl
+overflows exact t (fin s m d) e = absurd (subst T (sym e) tt)
+
+-- a test of two that fails at the first or at the second
+pub fails-first : (a b : Bool) → a ≡ false → (a && b) ≡ false
+fails-first a b e = rw e
+
+pub fails-second : (a b : Bool) → b ≡ false → (a && b) ≡ false
+fails-second true b e = e
+fails-second false b e = refl
 
 and_same : {a b c d : Bool} → a ≡ c → b ≡ d → (a && b) ≡ (c && d)
 and_same p q = cc
@@ -87,6 +99,12 @@ plain-zero s (pos zero) h = refl
 plain-zero s (pos (suc k)) h = absurd (omega (arith, eqb→eq (2 ^ suc k * 1) 1 h, pow-succ' 2 k, pow_pos k))
 plain-zero s (negsuc k) h = absurd (omega (arith, eqb→eq (1 * 2 ^ suc k) 1 h, pow-succ' 2 k, pow_pos k))
 
+abbrev pub above-zero : Float → Bool
+above-zero v = lt (of_bits binary32 0) v && lt v (of_bits binary32 8388608)
+
+abbrev pub below-zero : Float → Bool
+below-zero v = lt v (of_bits binary32 0) && lt (neg (of_bits binary32 8388608)) v
+
 module _ (exact : Bool) where
   flushed : (s : Bool) (m : ℕ) (e : ℤ) → is_tiny m e ≡ true → Number (fin s 0 (pos 0)) (not exact) ≡ settled_of exact (fin s m e)
   unfolding settled_of
@@ -95,12 +113,6 @@ module _ (exact : Bool) where
   whole : (s : Bool) (m : ℕ) (e : ℤ) → is_tiny m e ≡ false → Number (fin s m e) false ≡ settled_of exact (fin s m e)
   unfolding settled_of
   whole s m e h = pick-false (is_tiny m e) (Number (fin s 0 (pos 0)) (not exact)) (Number (fin s m e) false) h
-
-  abbrev above-zero : Float → Bool
-  above-zero v = lt (of_bits binary32 0) v && lt v (of_bits binary32 8388608)
-
-  abbrev below-zero : Float → Bool
-  below-zero v = lt v (of_bits binary32 0) && lt (neg (of_bits binary32 8388608)) v
 
   pub flushes-positive : (v : Float) → above-zero v ≡ true → Number (of_bits binary32 0) (not exact) ≡ settled_of exact v
   unfolding lt
@@ -135,10 +147,10 @@ module _ (exact : Bool) where
       go : (v : Float) → T (fits binary32 v) → eq v (fin false 0 (pos 0)) ≡ true → Number v (not exact) ≡ settled_of exact v
       go nan f h = never h
       go (inf s) f h = never h
-      go (fin s zero e) f h = ap (λ (d : ℤ). Number (fin s 0 d) (not exact)) (plain-zero s e f) ∙ flushed s 0 e (tiny e)
+      go (fin s zero e) f h = ap (λ (d : ℤ). (Number (fin s 0 d) (not exact))) (plain-zero s e f) ∙ flushed s 0 e (tiny e)
       go (fin s (suc m) e) f h = never (sym (ne_eqb (suc m) 0 (λ z. omega arith)) ∙ zero_test s (suc m) e true h)
 
-  pub stays : (v : Float) → (eq v (inf false) || eq v (neg (inf false))) ≡ false → above-zero v ≡ false → below-zero v ≡ false
+  pub stays : (v : Float) → eq v (inf false) ≡ false → eq v (inf true) ≡ false → above-zero v ≡ false → below-zero v ≡ false
       → eq v (of_bits binary32 0) ≡ false
       → Number v false ≡ settled_of exact v
   unfolding eq neg settled_of lt
@@ -148,13 +160,13 @@ module _ (exact : Bool) where
       size s zero e z h = never (sym (zero_test s zero e false z))
       size s (suc m) e z h = sym (simp (lt-ltb 0 (suc m) (omega arith))) ∙ h
 
-      go : (v : Float) → (eq v (inf false) || eq v (neg (inf false))) ≡ false
+      go : (v : Float) → eq v (inf false) ≡ false → eq v (inf true) ≡ false
           → (lt (fin false 0 (pos 0)) v && lt v (fin false 1 (negsuc 125))) ≡ false
           → (lt v (fin false 0 (pos 0)) && lt (neg (fin false 1 (negsuc 125))) v) ≡ false
           → eq v (fin false 0 (pos 0)) ≡ false
           → Number v false ≡ settled_of exact v
-      go nan o p n z = refl
-      go (inf true) o p n z = never (sym o)
-      go (inf false) o p n z = never (sym o)
-      go (fin false m e) o p n z = whole false m e (size false m e z (sym (positive-tests m e) ∙ p))
-      go (fin true m e) o p n z = whole true m e (size true m e z (sym (negative-tests m e) ∙ n))
+      go nan o t p n z = refl
+      go (inf true) o t p n z = never (sym t)
+      go (inf false) o t p n z = never (sym o)
+      go (fin false m e) o t p n z = whole false m e (size false m e z (sym (positive-tests m e) ∙ p))
+      go (fin true m e) o t p n z = whole true m e (size true m e z (sym (negative-tests m e) ∙ n))

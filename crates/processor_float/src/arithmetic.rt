@@ -11,8 +11,7 @@ use crate::{FloatOutcome, Operation};
 pub fn reserved(w: u32) -> bool
     ensures { result ≡ reserved_of w }
 {
-    let m = w % 2147483648;
-    (0x7F800000 <= m) | ((0 < m) & (m < 0x800000))
+    !matches!(w % 2147483648, 0 | 0x800000..=0x7F7FFFFF)
 }
 
 // A zero of either sign.
@@ -25,12 +24,7 @@ fn zero(w: u32) -> bool
 fn divides(op: Operation) -> bool
     ensures { result ≡ is_divide op }
 {
-    match op {
-        Operation::Add => false,
-        Operation::Subtract => false,
-        Operation::Multiply => false,
-        Operation::Divide => true,
-    }
+    op == Operation::Divide
 }
 
 // The operation itself, rounded once.
@@ -52,24 +46,22 @@ fn vanishes(op: Operation, x: u32, y: u32, a: f32, b: f32) -> bool
     match op {
         Operation::Add => a == -b,
         Operation::Subtract => a == b,
-        Operation::Multiply => zero(x) | zero(y),
+        Operation::Multiply => zero(x) || zero(y),
         Operation::Divide => zero(x),
     }
 }
 
-// What a rounded result comes to. The literal is 2^-126, the least normal number; a zero has its sign already.
+// What a rounded result comes to. The least normal number is 2^-126; a zero has its sign already.
 fn settle(v: f32, exact: bool) -> FloatOutcome
     ensures { result ≡ settled_of exact v }
 {
-    let infinity: f32 = 1.0 / 0.0;
-    if (v == infinity) | (v == -infinity) {
+    if v == f32::INFINITY || v == f32::NEG_INFINITY {
         return FloatOutcome::Overflow;
     }
-    let least: f32 = 1.1754943508222875e-38;
-    if (0.0 < v) & (v < least) {
+    if 0.0 < v && v < f32::MIN_POSITIVE {
         return FloatOutcome::Number(0.0, !exact);
     }
-    if (v < 0.0) & (-least < v) {
+    if v < 0.0 && -f32::MIN_POSITIVE < v {
         return FloatOutcome::Number(-0.0, !exact);
     }
     if v == 0.0 {
@@ -82,10 +74,10 @@ fn settle(v: f32, exact: bool) -> FloatOutcome
 pub fn operate(op: Operation, x: u32, y: u32) -> FloatOutcome
     ensures { result ≡ outcome_of op x y }
 {
-    if reserved(x) | reserved(y) {
+    if reserved(x) || reserved(y) {
         return FloatOutcome::Reserved;
     }
-    if divides(op) & zero(y) {
+    if divides(op) && zero(y) {
         if zero(x) {
             return FloatOutcome::Invalid;
         }
@@ -101,8 +93,5 @@ pub fn operate(op: Operation, x: u32, y: u32) -> FloatOutcome
 pub fn word_of(v: f32) -> u32
     ensures { result ≡ to_bits binary32 v }
 {
-    if v != v {
-        return 0x7FC00000;
-    }
-    f32::to_bits(v)
+    if v.is_nan() { 0x7FC00000 } else { v.to_bits() }
 }

@@ -9,7 +9,7 @@ use crate::arithmetic::reserved;
 pub fn compare(x: u32, y: u32) -> Compared
     ensures { result ≡ comparison_of x y }
 {
-    if reserved(x) | reserved(y) {
+    if reserved(x) || reserved(y) {
         return Compared::Reserved;
     }
     let a = f32::from_bits(x);

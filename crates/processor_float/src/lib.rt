@@ -10,7 +10,7 @@ pub mod flag;
 pub mod nintendo;
 
 // The four operations on two numbers.
-#[derive(Clone, Copy)]
+#[derive(Clone, Copy, Debug, PartialEq, Eq)]
 pub enum Operation {
     Add,
     Subtract,

@@ -1,11 +1,15 @@
--- `processor_float::conversion::float_of`: by the sign.
-use Rattle.std.proofs.Common.{ap, ◌∙◌, arith, rules}
-use lib.Ieee.{neg}
-use Rattle.processor_float.proofs.Opposite.{float-low, float-high}
+-- `processor_float::conversion::float_of`: the signed reading.
+use Rattle.std.proofs.Common.{◌≡◌, ◌^◌, ◌<◌, ◌≤◌, ◌-ℤ◌, pos, ap, ◌∙◌, arith, rules, le-ltb, lt-ltb}
+use Rattle.std.proofs.lemmas.Int.{to_z-of_z, ints}
+use Rattle.std.specs.Float.{binary32}
+use Rattle.std.specs.Float.Ieee.{of_int}
+use Rattle.std.specs.Int.{w32}
+use Rattle.std.specs.Int.RustNames.{FitsSigned}
+use Rattle.processor_float.proofs.Cast.{cast-signed}
 use Rattle.processor_float.proofs.conversion.float_of.Goals as goal
 
-pub returns-then-w-lt2147483648 : goal.returns-then-w-lt2147483648
-returns-then-w-lt2147483648 c = c.nearest_u32_to_f32.ensures ∙ float-low c.args.w c.if-w-lt2147483648.true
-
 pub returns : goal.returns
-returns c = ap neg c.nearest_u32_to_f32-2.ensures ∙ float-high c.args.w _ (omega arith) c.if-w-lt2147483648.false (omega arith)
+returns c =
+    let fits : FitsSigned w32 c.cast_signed.result = search rules in
+    c.nearest_i32_to_f32.ensures
+    ∙ ap (of_int binary32) (to_z-of_z w32 c.cast_signed.result fits ∙ c.cast_signed.ensures ∙ cast-signed c.args.w (omega arith))

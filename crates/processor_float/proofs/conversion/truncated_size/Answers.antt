@@ -4,11 +4,11 @@ use Rattle.processor_float.proofs.Sizing.{truncated-none, truncated-part}
 use Rattle.processor_float.proofs.Fraction.{truncated-shifted}
 use Rattle.processor_float.proofs.conversion.truncated_size.Goals as goal
 
-pub returns-then-e-lt127 : goal.returns-then-e-lt127
-returns-then-e-lt127 c = sym (truncated-none c.args.w c.if-e-lt127.true)
+pub returns-in-0-to-126 : goal.returns-in-0-to-126
+returns-in-0-to-126 c = sym (truncated-none c.args.w (omega arith))
 
-pub returns-then-e-ge150 : goal.returns-then-e-ge150
-returns-then-e-ge150 c = truncated-shifted c.args.w c.requires c.if-e-ge150.true
+pub returns-in-127-to-149 : goal.returns-in-127-to-149
+returns-in-127-to-149 c = sym (truncated-part c.args.w (omega arith) (omega arith))
 
-pub returns : goal.returns
-returns c = sym (truncated-part c.args.w (omega arith) (omega arith))
+pub returns-in_default : goal.returns-in_default
+returns-in_default c = truncated-shifted c.args.w c.requires (omega arith)
