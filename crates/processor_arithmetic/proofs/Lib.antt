@@ -1,6 +1,6 @@
 pub mod Bias
 mod Finite
-mod Carry
+pub mod Casts
 pub mod Overflow
 mod Magnitude
 mod Table

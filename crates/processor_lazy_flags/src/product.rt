@@ -1,10 +1,11 @@
 // MUL and MULU.
 ghost use Rattle.std.specs.Prelude.{◌≡◌, ℕ, ◌+◌, ◌*◌, ◌^◌, ◌<◌};
-ghost use Rattle.processor_arithmetic.specs.Product.{overflows_of, words_of, product_of, multiply_of, multiply_unsigned_of};
+ghost use Rattle.processor_arithmetic.specs.Product.{overflows_of, words_of, multiply_of, multiply_unsigned_of};
 ghost use Rattle.processor_lazy_flags.specs.inner.Packed.{packed_of, GivesPair};
 
 use crate::status::{carry, cleared, made};
 use crate::{Flags, Pair};
+use processor_arithmetic::product::signed;
 
 // 1 where a 64-bit product is not its low word read signed.
 fn overflow(high: u32, low: u32) -> u32
@@ -34,22 +35,7 @@ fn words(w: u64, flags: Flags) -> Pair
 pub fn mulu(a: u32, b: u32, flags: Flags) -> Pair
     ensures { (psw : ℕ) → GivesPair psw result (multiply_unsigned_of a b (packed_of psw flags)) }
 {
-    words(a as u64 * b as u64, flags)
-}
-
-// The signed product at 64 bits: the unsigned one less each word, 32 bits up, where the other is negative. Two words
-// that are not negative are multiplied as they are.
-fn signed(a: u32, b: u32) -> u64
-    ensures { result ≡ product_of a b }
-{
-    let u = a as u64 * b as u64;
-    if a < 2147483648 {
-        if b < 2147483648 {
-            return u;
-        }
-    }
-    let over = (a / 2147483648) as u64 * b as u64 + (b / 2147483648) as u64 * a as u64;
-    std::num::wrapping_sub_u64(u, over % 4294967296 * 4294967296)
+    words(u64::from(a) * u64::from(b), flags)
 }
 
 pub fn mul(a: u32, b: u32, flags: Flags) -> Pair

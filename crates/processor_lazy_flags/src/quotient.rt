@@ -20,10 +20,8 @@ pub fn div(a: u32, b: u32, flags: Flags) -> Pair
     requires { 0 < b }
     ensures { (psw : ℕ) → GivesPair psw result (divide_of a b (packed_of psw flags)) }
 {
-    if a < 2147483648 {
-        if b < 2147483648 {
-            return divu(a, b, flags);
-        }
+    if a < 2147483648 && b < 2147483648 {
+        return divu(a, b, flags);
     }
     let p = processor_arithmetic::quotient::div(a, b, packed(0, flags));
     let r30 = p.r30;

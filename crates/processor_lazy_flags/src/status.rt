@@ -9,7 +9,7 @@ use crate::Flags;
 pub fn joined(sum: u32, part: u32) -> u64
     ensures { result ≡ sum * 2 ^ 32 + part }
 {
-    sum as u64 * 4294967296 + part as u64
+    u64::from(sum) * 4294967296 + u64::from(part)
 }
 
 // A value with this CY and OV clear. 1 and 0xFFFFFFFF have the sum 0: they carry and, as 1 and -1, do not overflow.
@@ -18,7 +18,7 @@ pub fn carried(value: u32, cy: u32) -> Flags
     ensures { Holds result value cy 0 }
 {
     Flags {
-        addition: cy as u64,
+        addition: u64::from(cy),
         value,
     }
 }
@@ -42,10 +42,7 @@ pub fn made(value: u32, cy: u32, ov: u32) -> Flags
 pub fn cleared(value: u32, flags: Flags) -> Flags
     ensures { Holds result value (carry_of flags) 0 }
 {
-    let difference = std::num::wrapping_sub_u64(
-        flags.addition / 4294967296,
-        flags.addition % 4294967296,
-    );
+    let difference = (flags.addition / 4294967296).wrapping_sub(flags.addition % 4294967296);
     Flags {
         addition: difference / 4294967296,
         value,
@@ -65,7 +62,7 @@ pub fn overflow(flags: Flags) -> u32
 {
     let sum = (flags.addition / 4294967296) as u32;
     let part = (flags.addition % 4294967296) as u32;
-    let other = std::num::wrapping_sub_u32(sum, part);
+    let other = sum.wrapping_sub(part);
     (part ^ sum) & (other ^ sum)
 }
 

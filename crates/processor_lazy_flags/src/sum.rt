@@ -10,7 +10,7 @@ use crate::status::joined;
 pub fn add(a: u32, b: u32) -> Flags
     ensures { (psw : ℕ) (g : Flags) → Gives psw result (sum_of a b (packed_of psw g)) }
 {
-    let value = std::num::wrapping_add_u32(a, b);
+    let value = a.wrapping_add(b);
     Flags {
         addition: joined(value, a),
         value,
@@ -21,7 +21,7 @@ pub fn add(a: u32, b: u32) -> Flags
 pub fn sub(a: u32, b: u32) -> Flags
     ensures { (psw : ℕ) (g : Flags) → Gives psw result (difference_of a b (packed_of psw g)) }
 {
-    let value = std::num::wrapping_sub_u32(a, b);
+    let value = a.wrapping_sub(b);
     Flags {
         addition: joined(a, value),
         value,

@@ -5,4 +5,4 @@ use Rattle.processor_arithmetic.proofs.bitwise.and.Goals as goal
 
 pub returns : goal.returns
 unfolding and_of
-returns c = rw c.keep_carry-psw.ensures
+returns c = c.value.ensures

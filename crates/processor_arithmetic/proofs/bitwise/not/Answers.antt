@@ -5,4 +5,4 @@ use Rattle.processor_arithmetic.proofs.bitwise.not.Goals as goal
 
 pub returns : goal.returns
 unfolding not_of
-returns c = rw c.keep_carry-psw.ensures
+returns c = c.value.ensures

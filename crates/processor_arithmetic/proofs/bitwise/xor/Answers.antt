@@ -5,4 +5,4 @@ use Rattle.processor_arithmetic.proofs.bitwise.xor.Goals as goal
 
 pub returns : goal.returns
 unfolding xor_of
-returns c = rw c.keep_carry-psw.ensures
+returns c = c.value.ensures

@@ -1,12 +1,17 @@
--- `processor_arithmetic::product::extend64`: one test.
-use Rattle.std.proofs.Common.{rules, le-ltb, lt-ltb}
-use Rattle.processor_arithmetic.specs.Product.{extend64_of}
+-- `processor_arithmetic::product::extend64`: the signed reading, at 64 bits.
+use Rattle.std.proofs.Common.{◌≡◌, ap, ◌∙◌, arith, rules}
+use Rattle.std.proofs.lemmas.Int.{to_z-of_z}
+use Rattle.std.specs.Int.{w32, w64, cast_unsigned}
+use Rattle.std.specs.Int.RustNames.{FitsSigned}
+use Rattle.processor_arithmetic.proofs.Casts.{cast-signed, cast-extended}
 use Rattle.processor_arithmetic.proofs.product.extend64.Goals as goal
 
-pub returns-then-x-lt2147483648 : goal.returns-then-x-lt2147483648
-unfolding extend64_of
-returns-then-x-lt2147483648 c = simp (lt-ltb _ _ c.if-x-lt2147483648.true)
-
 pub returns : goal.returns
-unfolding extend64_of
-returns c = simp (le-ltb _ _ c.if-x-lt2147483648.false)
+returns c =
+    let x = c.args.x in
+    let narrow : FitsSigned w32 c.cast_signed.result = search rules in
+    let wide : FitsSigned w64 c.from.result = search rules in
+    c.cast_unsigned.ensures
+    ∙ ap (cast_unsigned w64) (to_z-of_z w64 c.from.result wide ∙ c.from.ensures
+    ∙ to_z-of_z w32 c.cast_signed.result narrow ∙ c.cast_signed.ensures ∙ cast-signed x (omega arith))
+    ∙ cast-extended x (omega arith)

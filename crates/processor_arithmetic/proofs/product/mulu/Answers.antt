@@ -1,12 +1,8 @@
--- `processor_arithmetic::product::mulu`: the product of two words fits 64 bits.
-use Rattle.std.proofs.Common.{arith, rules}
-use Rattle.processor_arithmetic.proofs.Magnitude.{product-below}
+-- `processor_arithmetic::product::mulu`: the words of the product.
+use Rattle.std.proofs.Common.{rules}
 use Rattle.processor_arithmetic.specs.Product.{multiply_unsigned_of}
 use Rattle.processor_arithmetic.proofs.product.mulu.Goals as goal
 
-pub overflow_mul-a : goal.overflow_mul-a
-overflow_mul-a c = record { fits = product-below 32 (omega arith) (omega arith) }
-
 pub returns : goal.returns
 unfolding multiply_unsigned_of
-returns c = c.words.ensures
+returns c = search rules

@@ -5,4 +5,4 @@ use Rattle.processor_arithmetic.proofs.quotient.divu.Goals as goal
 
 pub returns : goal.returns
 unfolding divide_unsigned_of
-returns c = rw c.keep_carry-psw.ensures
+returns c = search rules

@@ -1,9 +1,8 @@
--- `processor_arithmetic::shift::sar`: the flags are those of the value.
+-- `processor_arithmetic::shift::sar`: the last bit out is CY.
 use Rattle.std.proofs.Common.{rules}
 use Rattle.processor_arithmetic.specs.Shift.{shift_arithmetic_of}
-use Rattle.processor_arithmetic.proofs.Floor.{right-out}
 use Rattle.processor_arithmetic.proofs.shift.sar.Goals as goal
 
 pub returns : goal.returns
 unfolding shift_arithmetic_of
-returns c = rw (right-out, c.flags-psw.ensures, c.arithmetic_right-value.ensures)
+returns c = rw (← c.right_out.ensures.0, ← c.arithmetic_right.ensures) c.shifted.ensures

@@ -8,6 +8,5 @@ pub returns : goal.returns
 unfolding shift_left_of
 returns c =
     let a = c.args in
-    let n = a.b % 32 in
     let e : a.a * 2 ^ (a.b % 32) % 2 ^ 64 ≡ a.a * 2 ^ (a.b % 32) = shl_exact 32 (a.b % 32) 64 (omega arith) (omega arith) in
-    rw (c.flags-psw.ensures, e, left_out a.a n (omega arith) (omega arith))
+    rw (left_out a.a (a.b % 32) (omega arith) (omega arith)) (rw (c.from.ensures, e) at c.shifted.ensures)

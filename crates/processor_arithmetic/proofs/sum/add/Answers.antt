@@ -1,18 +1,23 @@
--- `processor_arithmetic::sum::add`: the parts of the result, each by its callee's promise.
-use Rattle.std.proofs.Common.{◌≡◌, ◌+◌, ◌%◌, ◌^◌, arith, rules}
-use Rattle.processor_arithmetic.proofs.Carry.{sum-carry}
+-- `processor_arithmetic::sum::add`: CY and OV as the library tells them.
+use Rattle.std.proofs.Common.{◌≡◌, ◌+◌, ◌-◌, ◌%◌, ◌^◌, ◌+ℤ◌, ltb, leb, ◌∙◌, arith, rules}
+use Rattle.std.proofs.lemmas.Int.{to_z-of_z}
+use Rattle.std.specs.Int.{w32}
+use Rattle.std.specs.Int.RustNames.{FitsSigned}
+use Rattle.processor_arithmetic.specs.Integer.{signed, outside}
 use Rattle.processor_arithmetic.specs.Sum.{sum_of}
+use Rattle.processor_arithmetic.proofs.Casts.{cast-signed, unless-less, unless-fits}
 use Rattle.processor_arithmetic.proofs.sum.add.Goals as goal
 
 pub returns : goal.returns
 unfolding sum_of
 returns c =
     let a = c.args in
-    let e : c.wrapping_add_u32-value.result ≡ (a.a + a.b) % 2 ^ 32 = omega arith in
-    rw (
-      c.flags-psw.ensures,
-      c.overflow-ov.ensures.0,
-      c.bit-cy.ensures.0,
-      e,
-      sum-carry a.a a.b (omega arith) (omega arith),
-    )
+    let fx : FitsSigned w32 c.cast_signed.result = search rules in
+    let fy : FitsSigned w32 c.cast_signed-2.result = search rules in
+    let sx : c.cast_signed.result ≡ signed a.a = c.cast_signed.ensures ∙ cast-signed a.a (omega arith) in
+    let sy : c.cast_signed-2.result ≡ signed a.b = c.cast_signed-2.ensures ∙ cast-signed a.b (omega arith) in
+    let value : c.overflowing_add-value.result.0 ≡ (a.a + a.b) % 2 ^ 32 = c.overflowing_add-value.ensures.value in
+    let cy : c.overflowing_add-value.result.1 ≡ leb (2 ^ 32) (a.a + a.b) = unless-less _ (a.a + a.b) (2 ^ 32) c.overflowing_add-value.ensures.overflow in
+    let ov : c.overflowing_add-ov.result.1 ≡ outside (signed a.a +ℤ signed a.b) =
+    unless-fits _ (signed a.a +ℤ signed a.b) (rw (sx, sy) at (simp to_z-of_z at c.overflowing_add-ov.ensures.overflow)) in
+    rw (c.flags.ensures, c.bit.ensures.0, c.bit-2.ensures.0, value, cy, ov)

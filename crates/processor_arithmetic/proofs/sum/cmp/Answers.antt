@@ -5,4 +5,4 @@ use Rattle.processor_arithmetic.proofs.sum.cmp.Goals as goal
 
 pub returns : goal.returns
 unfolding compare_of
-returns c = rw c.sub-d.ensures
+returns c = rw c.sub.ensures

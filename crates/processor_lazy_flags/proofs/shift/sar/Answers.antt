@@ -7,4 +7,4 @@ use Rattle.processor_lazy_flags.proofs.shift.sar.Goals as goal
 pub returns : goal.returns
 unfolding shift_arithmetic_of
 returns c = λ psw g. gives_flags psw g _ _ _ _
-    (rw (c.out.ensures.0, c.arithmetic_right.ensures) at c.carried.ensures)
+    (rw (c.right_out.ensures.0, c.arithmetic_right.ensures) at c.carried.ensures)

@@ -10,4 +10,4 @@ unfolding shift_left_of
 returns c = λ psw g.
     let a = c.args in
     let e : a.a * 2 ^ (a.b % 32) % 2 ^ 64 ≡ a.a * 2 ^ (a.b % 32) = shl_exact 32 (a.b % 32) 64 (omega arith) (omega arith) in
-    gives_flags psw g _ _ _ _ (rw (e, ← left_out a.a (a.b % 32) (omega arith) (omega arith)) at c.carried.ensures)
+    gives_flags psw g _ _ _ _ (rw (c.from.ensures, e, ← left_out a.a (a.b % 32) (omega arith) (omega arith)) at c.carried.ensures)

@@ -6,4 +6,4 @@ use Rattle.processor_lazy_flags.proofs.shift.shr.Goals as goal
 
 pub returns : goal.returns
 unfolding shift_right_of
-returns c = λ psw g. gives_flags psw g _ _ _ _ (rw c.out.ensures.0 at c.carried.ensures)
+returns c = λ psw g. gives_flags psw g _ _ _ _ (rw c.right_out.ensures.0 at c.carried.ensures)

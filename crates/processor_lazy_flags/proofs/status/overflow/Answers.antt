@@ -6,5 +6,4 @@ use Rattle.processor_lazy_flags.proofs.status.overflow.Goals as goal
 pub returns : goal.returns
 returns c =
     let g = c.args.flags.addition in
-    let o : c.wrapping_sub_u32-other.result ≡ (g / 2 ^ 32 + (2 ^ 32 - g % 2 ^ 32)) % 2 ^ 32 = omega arith in
-    rw (← o) (sum-overflow-signs (g % 2 ^ 32) _ (g / 2 ^ 32) (omega arith) (omega arith) (omega arith))
+    sum-overflow-signs (g % 2 ^ 32) _ (g / 2 ^ 32) (omega arith) (omega arith) (omega arith)

@@ -9,5 +9,4 @@ pub returns : goal.returns
 unfolding sum_of
 returns c = λ psw g.
     let a = c.args in
-    let v = c.wrapping_add_u32-value.ensures.value in
-    gives_flags psw g _ _ _ _ (sum-holds a.a a.b _ (omega arith) (omega arith) v (rw (← v) c.joined.ensures))
+    gives_flags psw g _ _ _ _ (sum-holds a.a a.b _ (omega arith) (omega arith) refl c.joined.ensures)

@@ -9,5 +9,4 @@ pub returns : goal.returns
 unfolding difference_of
 returns c = λ psw g.
     let a = c.args in
-    let v : c.wrapping_sub_u32-value.result ≡ (a.a + (2 ^ 32 - a.b)) % 2 ^ 32 = omega arith in
-    gives_flags psw g _ _ _ _ (difference-holds a.a a.b _ (omega arith) (omega arith) v (rw (← v) c.joined.ensures))
+    gives_flags psw g _ _ _ _ (difference-holds a.a a.b _ (omega arith) (omega arith) refl c.joined.ensures)
