@@ -1,4 +1,4 @@
-// The sixteen conditions of Bcond and SETF.
+// The sixteen conditions of Bcond and SETF. They stay numbers, as an instruction, the C interface and the table have them.
 ghost use Rattle.std.specs.Prelude.{◌≡◌, ℕ, ◌/◌, ◌%◌, ◌^◌, ◌<◌, ◌==◌};
 ghost use Rattle.processor_arithmetic.specs.Condition.{condition_of};
 

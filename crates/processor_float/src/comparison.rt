@@ -14,6 +14,7 @@ pub fn compare(x: u32, y: u32) -> Compared
     }
     let a = f32::from_bits(x);
     let b = f32::from_bits(y);
+    // by hand: partial_cmp tests for a NaN again, nine instructions more of a run's CMPF.S
     if a < b {
         return Compared::Lower;
     }
