@@ -4,11 +4,11 @@
 
 mod width;
 
-pub use width::{NoWidth, Width};
-
 ghost use Rattle.std.specs.Prelude.{◌≡◌, ◌+◌, ◌*◌, ◌<◌, ◌≤◌, ◌^◌, length, get_or};
 ghost use Rattle.word.specs.Extend.{extend_of};
 ghost use Rattle.word.specs.LittleEndian.{half_at, word_at, put_half, put_word};
+
+pub use width::{NoWidth, Width};
 
 // A number of a width whose half range is `half`, with its sign copied to all bits above.
 pub fn extend(half: u32, x: u32) -> u32
