@@ -3,76 +3,51 @@
 // bus and a run of instructions carry no masks. These functions are `pub` for the crates above.
 #![tactic(auto)]
 
-ghost use Rattle.std.specs.Prelude.{◌≡◌, ◌≤◌};
+ghost use Rattle.std.specs.Prelude.{◌≡◌, ◌-◌, ◌%◌, ◌^◌, ◌<◌};
 ghost use Rattle.word.specs.Choose.{member};
+ghost use Rattle.word.specs.Width.{bytes_of};
 ghost use Rattle.bus.specs.Memory.{Memory};
 ghost use Rattle.bus_defined.specs.Defined.{register_addresses, undefined_of};
 
 use bus::{Place, map};
+use word::Width;
 
-// Whether document 000 lists a register at an even address h of the VIP.
-fn listed(h: u32) -> bool
-    ensures { result ≡ member h register_addresses }
+// Whether byte v of the VIP is of a register that document 000 lists.
+fn listed(v: u32) -> bool
+    ensures { result ≡ member (v - v % 2) register_addresses }
 {
-    match h {
-        0x5F800
-        | 0x5F802
-        | 0x5F804
-        | 0x5F820
-        | 0x5F822
-        | 0x5F824
-        | 0x5F826
-        | 0x5F828
-        | 0x5F82A
-        | 0x5F82E
-        | 0x5F830
-        | 0x5F840
-        | 0x5F842
-        | 0x5F844
-        | 0x5F848
-        | 0x5F84A
-        | 0x5F84C
-        | 0x5F84E
-        | 0x5F860
-        | 0x5F862
-        | 0x5F864
-        | 0x5F866
-        | 0x5F868
-        | 0x5F86A
-        | 0x5F86C
-        | 0x5F86E
-        | 0x5F870 => true,
-        _ => false,
-    }
+    matches!(
+        v,
+        0x5F800..0x5F806
+            | 0x5F820..0x5F82C
+            | 0x5F82E..0x5F832
+            | 0x5F840..0x5F846
+            | 0x5F848..0x5F850
+            | 0x5F860..0x5F872
+    )
 }
 
 // The mask of a halfword. Both bytes are of one kind, because every range and register begins at an even address; and
 // no register is listed outside the register range, so that range needs no separate test.
-pub fn half(address: u32) -> u32
-    ensures { ((m : Memory) → result ≡ undefined_of m 2 address) × (result ≤ 3) }
+fn half(address: u32) -> u32
+    ensures { ((m : Memory) → result ≡ undefined_of m 2 address) × (result < 4) }
 {
     match map::place_of(address) {
-        Place::Register(v) => {
-            if listed(v - v % 2) {
-                return 0;
-            }
-            3
-        }
+        Place::Register(v) => if listed(v) { 0 } else { 3 },
         _ => 0,
     }
 }
 
-// The mask of a byte: the low bit of its halfword's.
-pub fn byte(address: u32) -> u32
-    ensures { (m : Memory) → result ≡ undefined_of m 1 address }
+// The mask of an access: a byte's is the low bit of its halfword's, and a word's has those of its halfwords.
+pub fn undefined(width: Width, address: u32) -> u32
+    ensures { ((m : Memory) → result ≡ undefined_of m (bytes_of width) address) × (result < 2 ^ bytes_of width) }
 {
-    half(address) % 2
-}
-
-// The mask of a word: those of its halfwords.
-pub fn word(address: u32) -> u32
-    ensures { (m : Memory) → result ≡ undefined_of m 4 address }
-{
-    let a = address - address % 4;
-    half(a) + 4 * half(a + 2)
+    match width {
+        Width::Byte => half(address) % 2,
+        Width::Half => half(address),
+        Width::Word => {
+            let first = address - address % 4;
+            half(first) + 4 * half(first + 2)
+        }
+    }
 }
