@@ -2,17 +2,18 @@
 use Prim.Native.Nat.{ℕ, ◌+◌, ◌%◌, ◌<◌}
 use mathlib.Core.Bool.{true}
 use mathlib.Core.Logic.{⊎_elim}
-use mathlib.Core.Path.{◌≡◌, refl, sym, ap, ◌∙◌}
+use mathlib.Core.Path.{◌≡◌, sym, ap, ◌∙◌}
 use native.Mathlib.Omega.{arith}
 use lib.ListN.{length}
 use Rattle.word.specs.LittleEndian.{put_bytes}
+use Rattle.word.specs.Width.{bytes_of}
 use Rattle.bus.specs.Place.{vram_at, place_of, vram_index_of}
 use Rattle.bus.specs.Memory.{Memory, with_vram, aligned_of, size_ok, store_of}
-use Rattle.bus.proofs.Sizes.{in_word}
+use Rattle.bus.proofs.Sizes.{in_word, width_ok}
 use Rattle.bus.proofs.Spans.{vram-stored}
 use Rattle.bus.proofs.VramIndex.{index-place, follows}
 use Rattle.bus_probe.specs.Probe.{in_ranges_of, target_of, probe_verdict_of, probed_of}
-use Rattle.bus_probe.specs.Kept.{Width, byte, half, word, probe_size_of, ProbeIsStore}
+use Rattle.bus_probe.specs.Kept.{ProbeIsStore}
 use Rattle.bus_probe.proofs.Ranges.{in-ranges}
 use Rattle.bus_probe.proofs.Verdicts.{allowed}
 
@@ -40,12 +41,7 @@ module _ (m : Memory) (a v : ℕ) where
       vram-stored m size a (target size) v
       (λ j h. place_at (length m.rom) (length m.pak) (aligned_of size a) j (omega (arith, near)) e)
 
-size-ok : (width : Width) → size_ok (probe_size_of width) ≡ true
-size-ok byte = refl
-size-ok half = refl
-size-ok word = refl
-
 pub probe-is-store : ProbeIsStore
 unfolding probed_of probe_verdict_of target
 probe-is-store m width a v e =
-    stored m a v (probe_size_of width) (size-ok width) (allowed _ _ _ _ _ e).target_ok ∙ ap (with_vram m) (sym (rw e))
+    stored m a v (bytes_of width) (width_ok width) (allowed _ _ _ _ _ e).target_ok ∙ ap (with_vram m) (sym (rw e))

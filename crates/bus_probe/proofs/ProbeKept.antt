@@ -8,9 +8,12 @@ use mathlib.Core.Path.{◌≡◌, refl, sym, ◌∙◌}
 use native.Mathlib.Omega.{arith}
 use lib.ListN.{length, get_or}
 use Rattle.word.specs.LittleEndian.{put_bytes}
+use Rattle.word.specs.Width.{bytes_of}
+use Rattle.word.specs.declared.width.Width.{Width}
+use Rattle.word.specs.declared.width.Width.TheVariants.{Byte, Half, Word}
 use Rattle.bus_probe.specs.Probe.{in_ranges_of, target_of, probe_verdict_of, probed_of}
 use Rattle.refusal.specs.Number.{when_accepted, Verdict}
-use Rattle.bus_probe.specs.Kept.{Width, byte, half, word, probe_size_of, Write, probe_written_of, all_written_of, ProbeKept, ProbeLength}
+use Rattle.bus_probe.specs.Kept.{Write, probe_written_of, all_written_of, ProbeKept, ProbeLength}
 use Rattle.bus_probe.proofs.Ranges.{in-ranges, same_word}
 use Rattle.bus.proofs.VramIndex.{follows}
 use Rattle.bus_probe.proofs.Verdicts.{allowed}
@@ -31,27 +34,27 @@ target-word rom pak size a e =
     (⊎_elim (λ c. omega arith) (λ c. omega arith) (in-ranges _ e))).in_word
 
 -- so the bytes of a write stand in one word
-one_word : (width : Width) (a t b : ℕ) → t % 4 ≡ (a - a % probe_size_of width) % 4 → t ≤ b → b < t + probe_size_of width → b / 4 ≡ t / 4
-one_word byte a t b e l h = omega arith
-one_word half a t b e l h = omega arith
-one_word word a t b e l h = omega arith
+one_word : (width : Width) (a t b : ℕ) → t % 4 ≡ (a - a % bytes_of width) % 4 → t ≤ b → b < t + bytes_of width → b / 4 ≡ t / 4
+one_word Byte a t b e l h = omega arith
+one_word Half a t b e l h = omega arith
+one_word Word a t b e l h = omega arith
 
 -- a call's target, its verdict, and VRAM with its bytes put there
 module _ (vram : List ℕ) (w : Write) where
   target : ℕ
-  target = target_of (length w.rom) (length w.pak) (probe_size_of w.width) w.address
+  target = target_of (length w.rom) (length w.pak) (bytes_of w.width) w.address
 
   verdict : Verdict
-  verdict = probe_verdict_of (probe_size_of w.width) w.rom w.wram vram w.pak w.address
+  verdict = probe_verdict_of (bytes_of w.width) w.rom w.wram vram w.pak w.address
 
   stored : List ℕ
-  stored = put_bytes (probe_size_of w.width) vram target w.value
+  stored = put_bytes (bytes_of w.width) vram target w.value
 
   stored-kept : (a : ℕ) → in_ranges_of a ≡ false → verdict ≡ (Ok tt) → get_or stored a 0 ≡ get_or vram a 0
   unfolding target verdict stored probe_verdict_of
   stored-kept a out e =
       let ok = (allowed _ _ _ _ _ e).target_ok in
-      put_other (probe_size_of w.width) vram target w.value a
+      put_other (bytes_of w.width) vram target w.value a
       (λ l h.
       true≢false
       (sym (same_word target a (one_word w.width w.address target a (target-word _ _ _ _ ok) l h) ok) ∙ out))
@@ -63,7 +66,7 @@ module _ (vram : List ℕ) (w : Write) where
   written-length : length (probe_written_of vram w) ≡ length vram
   unfolding probed_of target verdict stored
   written-length =
-      kept-when length verdict vram stored (λ _. put-length (probe_size_of w.width) vram target w.value)
+      kept-when length verdict vram stored (λ _. put-length (bytes_of w.width) vram target w.value)
 
 pub probe-kept : ProbeKept
 unfolding all_written_of

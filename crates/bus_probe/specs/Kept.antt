@@ -1,27 +1,18 @@
 -- What a write of the probe means, and what writes leave alone (paper 02, W9): the statements. Their proofs are
 -- `probe-is-store`, `probe-kept` and `probe-length` in proofs/.
 use Rattle.std.specs.Prelude.{ℕ, false, List, [], ◌∷◌, ◌≡◌, length, get_or, Ok}
+use Rattle.word.specs.Width.{bytes_of}
+use Rattle.word.specs.declared.width.Width.{Width}
 use Rattle.bus.specs.Memory.{Memory, with_vram, store_of}
 use Rattle.bus_probe.specs.Probe.{in_ranges_of, probe_verdict_of, probed_of}
-
--- the three calls, by what they write
-pub data Width : Type 0 where
-  byte : Width
-  half : Width
-  word : Width
-
-abbrev pub probe_size_of : Width → ℕ
-probe_size_of byte = 1
-probe_size_of half = 2
-probe_size_of word = 4
 
 -- an accepted write leaves in VRAM what the bus's store leaves there, and the store changes nothing else
 abbrev pub ProbeIsStore : Type 0
 ProbeIsStore =
     (m : Memory) (width : Width) (a v : ℕ)
-    → probe_verdict_of (probe_size_of width) m.rom m.wram m.vram m.pak a ≡ (Ok tt)
-    → store_of m (probe_size_of width) a v
-    ≡ with_vram m (probed_of (probe_size_of width) m.rom m.wram m.vram m.pak a v)
+    → probe_verdict_of (bytes_of width) m.rom m.wram m.vram m.pak a ≡ (Ok tt)
+    → store_of m (bytes_of width) a v
+    ≡ with_vram m (probed_of (bytes_of width) m.rom m.wram m.vram m.pak a v)
 
 -- a call of the probe: what it borrows besides VRAM, and what it is to write where
 pub record Write : Type 0 where
@@ -34,7 +25,7 @@ pub record Write : Type 0 where
 
 -- VRAM after a call, refused or not
 abbrev pub probe_written_of : List ℕ → Write → List ℕ
-probe_written_of vram w = probed_of (probe_size_of w.width) w.rom w.wram vram w.pak w.address w.value
+probe_written_of vram w = probed_of (bytes_of w.width) w.rom w.wram vram w.pak w.address w.value
 
 -- VRAM after a list of calls
 unfoldable pub all_written_of : List ℕ → List Write → List ℕ
