@@ -1,31 +1,16 @@
--- Accesses in order: one access by what its words say, and in the middle of a list what is left, made from here, is what all of
+-- Accesses in order: in the middle of a list what is left, made from here, is what all of
 -- them leave from the start. Assumes nothing.
 use Prim.Native.Nat.{ℕ, suc, ◌+◌, ◌-◌, ◌<◌, ◌≤◌}
 use mathlib.Core.Bool.{true}
 use mathlib.Core.List.{List}
-use mathlib.Core.Path.{◌≡◌, refl, sym, ◌∙◌}
+use mathlib.Core.Path.{◌≡◌, refl, sym}
 use native.Mathlib.Omega.{arith}
-use borrow.Author.Tests.{eq-eqb, ne_eqb}
 use lib.Dec.{eqb}
 use Rattle.word.proofs.Choices.{pick-each}
 use Rattle.bus.specs.Memory.{Memory, size_ok, load_of, store_of}
 use Rattle.bus_defined.specs.Defined.{undefined_of}
-use Rattle.bus_list.specs.List.{address_at, size_at, write_at, value_at, answered_of, Made, made_of, access_of, accesses_of}
+use Rattle.bus_list.specs.List.{address_at, size_at, write_at, value_at, Made, made_of, access_of, accesses_of}
 use Rattle.bus_list.proofs.Sizes.{answer-size}
-
-module _ (k : ℕ) (m : Memory) (xs : List ℕ) where
-  pub access-reads : (size a : ℕ) → size ≡ size_at xs k → a ≡ address_at xs k → (flag : ℕ) → flag ≡ write_at xs k → flag ≡ 0
-      → (v u : ℕ) → v ≡ load_of m size a → u ≡ undefined_of m size a
-      → (ys : List ℕ) → ys ≡ answered_of xs k v u → made_of m ys ≡ access_of k m xs
-  unfolding access_of
-  access-reads size a s t flag w z v u p q ys e =
-      simp (eq-eqb (write_at xs k) 0 (sym w ∙ z)) (rw (e, p, q, s, t))
-
-  pub access-writes : (size a : ℕ) → size ≡ size_at xs k → a ≡ address_at xs k → (flag : ℕ) → flag ≡ write_at xs k → (flag ≡ 0 → ⊥)
-      → (v : ℕ) → v ≡ value_at xs k → (n : Memory) → n ≡ store_of m size a v → made_of n xs ≡ access_of k m xs
-  unfolding access_of
-  access-writes size a s t flag w z v p n e =
-      simp (ne_eqb (write_at xs k) 0 (λ o. z (w ∙ o))) (rw (e, p, s, t))
 
 -- an access leaves every size as it is
 access-size : (k : ℕ) (m : Memory) (xs : List ℕ) (j : ℕ) → size_at (access_of k m xs).list j ≡ size_at xs j

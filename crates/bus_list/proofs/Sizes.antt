@@ -1,48 +1,48 @@
 -- The sizes of a list's accesses: what the tests of them tell, and that no answer in the list changes one. Assumes nothing.
 use Prim.Native.Nat.{ℕ, zero, suc, ◌+◌, ◌-◌, ◌*◌, ◌/◌, ◌%◌, ◌<◌, ◌≤◌}
-use mathlib.Core.Bool.{Bool, true, false}
+use mathlib.Core.Bool.{true, false, true≢false, false≢true}
 use mathlib.Core.List.{List}
-use mathlib.Core.Path.{◌≡◌, sym, ◌∙◌}
+use mathlib.Core.Path.{◌≡◌, ◌∙◌}
 use native.Mathlib.Decide.{ℕ_discrete}
 use native.Mathlib.Omega.{arith}
-use borrow.Author.Tests.{ne_eqb, le-leb, lt-leb}
-use lib.Dec.{eqb, leb}
+use borrow.Author.Tests.{ne_eqb}
+use lib.Dec.{leb}
 use lib.ListN.{length, get_or, set}
 use lib.Seq.{get_or-set_other}
+use Rattle.std.specs.Prelude.{Result, Ok, Err}
+use Rattle.std.specs.Result.{is_err}
+use Rattle.word.specs.Width.{Decodes}
+use Rattle.word.specs.declared.width.Width.{Width}
+use Rattle.word.specs.declared.width.Width.TheVariants.{Byte, Half, Word}
+use Rattle.word.specs.declared.width.NoWidth.{NoWidth}
 use Rattle.word.specs.LittleEndian.{put_half, put_word}
 use Rattle.bus.specs.Memory.{size_ok}
-use Rattle.word.proofs.Choices.{pick-both, pick-self}
+use Rattle.word.proofs.Choices.{pick-both}
 use Rattle.bus_list.specs.List.{count_of, size_at, answered_of, sizes_ok, list_ok}
 
-module _ (size : ℕ) where
-  pub one_ok : size ≡ 1 → true ≡ size_ok size
-  one_ok e = rw e
+-- a size by its width
+pub sized : (size : ℕ) (r : Result Width NoWidth) → Decodes size r → is_err r ≡ false → size_ok size ≡ true
+sized size (Ok Byte) d e = rw (← d)
+sized size (Ok Half) d e = rw (← d)
+sized size (Ok Word) d e = rw (← d)
+sized size (Err n) d e = absurd (true≢false e)
 
-  pub two_ok : size ≡ 2 → true ≡ size_ok size
-  two_ok e = rw e
-
-  pub four-test : (size ≡ 1 → ⊥) → (size ≡ 2 → ⊥) → eqb size 4 ≡ size_ok size
-  four-test a b = simp (ne_eqb size 1 a, ne_eqb size 2 b) (sym (pick-self (eqb size 4)))
+pub not_sized : (size : ℕ) (r : Result Width NoWidth) → Decodes size r → is_err r ≡ true → size_ok size ≡ false
+not_sized size (Ok width) d e = absurd (false≢true e)
+not_sized size (Err n) d e = simp (ne_eqb size 1 d.1.0, ne_eqb size 2 d.1.1.0, ne_eqb size 4 d.1.1.1)
 
 -- one size of those from access k on, and the rest
-pub sizes-start : (n : ℕ) (xs : List ℕ) → sizes_ok n 0 xs ≡ sizes_ok (n - 0) 0 xs
-sizes-start n xs =
-    let e : n - 0 ≡ n = omega arith in
-    rw e
-
-pub sizes-next : (n k : ℕ) (xs : List ℕ) → k < n → (w : ℕ) → w ≡ size_at xs k → (b : Bool) → b ≡ size_ok w → b ≡ true
-    → sizes_ok (n - k) k xs ≡ sizes_ok (n - (k + 1)) (k + 1) xs
+pub sizes-next : (n k : ℕ) (xs : List ℕ) → k < n → size_ok (size_at xs k) ≡ true → sizes_ok (n - k) k xs ≡ sizes_ok (n - (k + 1)) (k + 1) xs
 unfolding sizes_ok
-sizes-next n k xs h w f b t good =
+sizes-next n k xs h good =
     let e : n - k ≡ suc (n - (k + 1)) = omega arith in
-    rw (e, ← f, ← t, good)
+    rw (e, good)
 
-pub sizes-not : (n k : ℕ) (xs : List ℕ) → k < n → (w : ℕ) → w ≡ size_at xs k → (b : Bool) → b ≡ size_ok w → b ≡ false
-    → sizes_ok (n - k) k xs ≡ false
+pub sizes-not : (n k : ℕ) (xs : List ℕ) → k < n → size_ok (size_at xs k) ≡ false → sizes_ok (n - k) k xs ≡ false
 unfolding sizes_ok
-sizes-not n k xs h w f b t bad =
+sizes-not n k xs h bad =
     let e : n - k ≡ suc (n - (k + 1)) = omega arith in
-    rw (e, ← f, ← t, bad)
+    rw (e, bad)
 
 pub sizes-none : (n k : ℕ) (xs : List ℕ) → n ≤ k → sizes_ok (n - k) k xs ≡ true
 unfolding sizes_ok
@@ -65,15 +65,6 @@ pub list-sizes : (xs : List ℕ) → list_ok xs ≡ true → (j : ℕ) → j < l
 unfolding list_ok count_of
 list-sizes xs h j less =
     sizes-each (length xs / 20) 0 xs (pick-both (leb (length xs / 20) 256) (sizes_ok (length xs / 20) 0 xs) h).1 j (omega arith) (omega arith)
-
--- the test of a list, by the number of its accesses
-pub list-few : (xs : List ℕ) → length xs / 20 ≤ 256 → list_ok xs ≡ sizes_ok (length xs / 20) 0 xs
-unfolding list_ok count_of
-list-few xs h = simp (le-leb (length xs / 20) 256 h)
-
-pub list-many : (xs : List ℕ) → 256 < length xs / 20 → list_ok xs ≡ false
-unfolding list_ok count_of
-list-many xs h = simp (lt-leb (length xs / 20) 256 h)
 
 -- an answer changes no byte of an access's first three words
 other : (xs : List ℕ) (i v b : ℕ) → (b ≡ i → ⊥) → (b ≡ i + 1 → ⊥) → (b ≡ i + 2 → ⊥) → (b ≡ i + 2 + 1 → ⊥) → get_or (put_word xs i v) b 0 ≡ get_or xs b 0

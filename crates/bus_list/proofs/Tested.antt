@@ -1,13 +1,12 @@
 -- From the tests that a call made to its verdict, and from the verdict to what the call leaves. Assumes nothing.
 use Rattle.std.specs.Prelude.{Ok, Err}
 use Prim.Native.Nat.{ℕ}
-use mathlib.Core.Bool.{Bool, true, false}
+use mathlib.Core.Bool.{true}
 use mathlib.Core.List.{List}
 use mathlib.Core.Path.{◌≡◌, refl, sym, ap, ◌∙◌}
 use native.Mathlib.Omega.{arith}
 use lib.ListN.{length}
 use Rattle.refusal.specs.Number.{unless, then_of, Verdict}
-use Rattle.refusal.specs.declared.Refusal.{Refusal}
 use Rattle.refusal.specs.declared.Refusal.TheVariants.{AccessList}
 use Rattle.bus_timer.specs.declared.TimerLines.{TimerLines}
 use Rattle.bus.specs.Registers.{drawing_in}
@@ -37,20 +36,6 @@ module _ (rom wram vram pak : ℕ) (regs xs : List ℕ) where
   pub passed-list : list_verdict_at rom wram vram pak regs xs ≡ (Ok tt) → list_ok xs ≡ true
   passed-list e = (unless-passed (list_ok xs) AccessList (Ok tt) (passed e).1).0
 
-  module _ (found : Verdict) (e : found ≡ verdict_at rom wram vram pak regs) where
-    pub bus-refused : (n : Refusal) → found ≡ Err n → Err n ≡ list_verdict_at rom wram vram pak regs xs
-    unfolding list_verdict_at
-    bus-refused n h = rw (← e, h)
-
-    module _ (h : found ≡ (Ok tt)) (b : Bool) (t : b ≡ list_ok xs) where
-      pub list-refused : b ≡ false → Err AccessList ≡ list_verdict_at rom wram vram pak regs xs
-      unfolding list_verdict_at
-      list-refused f = rw (← e, h, ← t, f)
-
-      pub list-accepted : b ≡ true → (Ok tt) ≡ list_verdict_at rom wram vram pak regs xs
-      unfolding list_verdict_at
-      list-accepted f = rw (← e, h, ← t, f)
-
 module _ (m : Memory) (xs : List ℕ) (v : Verdict) (e : v ≡ list_verdict_of m xs) where
   pub bus-passed : v ≡ (Ok tt) → verdict_of m ≡ (Ok tt)
   bus-passed h =
@@ -70,7 +55,3 @@ module _ (m : Memory) (xs : List ℕ) (v : Verdict) (e : v ≡ list_verdict_of m
       let whole : length t.memory.regs ≡ device_length = ap (λ (u : Made). length u.memory.regs) same ∙ (accesses-registers (count_of xs) 0 m xs ∙ l) in
       let parts : device_of drawn timer ≡ t.memory.regs = rw (p, q) (device-whole t.memory.regs whole) in
       ap (λ (d : List ℕ). made_of (with_regs t.memory d) t.list) parts ∙ list_left h t same
-
-  pub list-kept : (n : Refusal) → v ≡ Err n → made_of m xs ≡ access_list_of m xs
-  unfolding access_list_of
-  list-kept n h = rw (← e, h)

@@ -1,19 +1,19 @@
 -- A list against single calls (paper 02, W7: "One call over the list leaves the same memory, registers and answers as
 -- the accesses made one by one, in order"): the statements. Their proofs are `one_by_one` and `none-refused` in
 -- proofs/Singles.
-use Rattle.std.specs.Prelude.{ℕ, zero, suc, ◌+◌, List, ◌≡◌, eqb, Ok}
+use Rattle.std.specs.Prelude.{ℕ, zero, suc, ◌+◌, List, ◌≡◌, eqb, Result, Ok, Err}
 use Rattle.word.specs.Choose.{pick}
 use Rattle.bus.specs.Memory.{Memory, verdict_of, store_of}
 use Rattle.bus_calls.specs.Access.{checked_load_of, checked_store_of}
-use Rattle.bus_calls.specs.declared.Load.{Load}
-use Rattle.bus_calls.specs.declared.Load.TheVariants.{Value, Refused}
+use Rattle.bus_calls.specs.declared.Reading.{Reading}
+use Rattle.refusal.specs.declared.Refusal.{Refusal}
 use Rattle.bus_list.specs.List.{count_of, address_at, size_at, write_at, value_at, answered_of, Made, made_of}
 use Rattle.bus_list.specs.Calls.{list_verdict_of, access_list_of}
 
 -- the list with the answer of a load of the bus in access k; a refused load would answer nothing
-abbrev pub answered_by : Load → List ℕ → ℕ → List ℕ
-answered_by (Value r) xs k = answered_of xs k r.value r.undefined
-answered_by (Refused n) xs k = xs
+abbrev pub answered_by : Result Reading Refusal → List ℕ → ℕ → List ℕ
+answered_by (Ok r) xs k = answered_of xs k r.value r.undefined
+answered_by (Err n) xs k = xs
 
 -- access k, made by the bus's call for its size, which tests refusals 1 to 5 by itself
 unfoldable pub single_of : ℕ → Memory → List ℕ → Made

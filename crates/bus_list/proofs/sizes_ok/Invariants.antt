@@ -1,10 +1,7 @@
-use Prim.Native.Nat.{◌≤◌, ◌-◌}
+use Prim.Native.Nat.{◌-◌}
 use mathlib.Core.Path.{◌≡◌}
 use Rattle.bus_list.specs.List.{sizes_ok}
 use Rattle.bus_list.proofs.sizes_ok.Given as goal
 
 abbrev pub invariant-loop-k : goal.invariant-loop-k
-invariant-loop-k l = (l.k ≤ l.n) × (sizes_ok l.n 0 l.list ≡ sizes_ok (l.n - l.k) l.k l.list)
-
-abbrev pub decreases-loop-k : goal.decreases-loop-k
-decreases-loop-k l = l.n - l.k
+invariant-loop-k l = sizes_ok l.n 0 l.list ≡ sizes_ok (l.n - l.k) l.k l.list
