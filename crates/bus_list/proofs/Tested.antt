@@ -1,7 +1,6 @@
 -- From the tests that a call made to its verdict, and from the verdict to what the call leaves. Assumes nothing.
 use Rattle.std.specs.Prelude.{Ok, Err}
 use Prim.Native.Nat.{ℕ}
-use mathlib.Core.Bool.{true}
 use mathlib.Core.List.{List}
 use mathlib.Core.Path.{◌≡◌, refl, sym, ap, ◌∙◌}
 use native.Mathlib.Omega.{arith}
@@ -11,9 +10,8 @@ use Rattle.refusal.specs.declared.Refusal.TheVariants.{AccessList}
 use Rattle.bus_timer.specs.declared.TimerLines.{TimerLines}
 use Rattle.bus.specs.Registers.{drawing_in}
 use Rattle.bus.specs.TimerLines.{device_length, hardware_in, device_of}
-use Rattle.bus.specs.Memory.{Memory, Lengths, with_regs, verdict_at, verdict_of}
+use Rattle.bus.specs.Memory.{Memory, with_regs, verdict_at, verdict_of}
 use Rattle.bus.proofs.Devices.{device-whole}
-use Rattle.bus.proofs.Accepted.{unless-passed, accepted-lengths}
 use Rattle.bus_list.specs.List.{count_of, Made, made_of, accesses_of, list_ok}
 use Rattle.bus_list.proofs.Registers.{accesses-registers}
 use Rattle.bus_list.specs.Calls.{list_verdict_at, list_verdict_of, access_list_of}
@@ -29,12 +27,6 @@ module _ (rom wram vram pak : ℕ) (regs xs : List ℕ) where
       (list_ok xs) AccessList (Ok tt) ≡ (Ok tt))
   unfolding list_verdict_at
   passed e = then-passed (verdict_at rom wram vram pak regs) (unless (list_ok xs) AccessList (Ok tt)) e
-
-  pub passed-lengths : list_verdict_at rom wram vram pak regs xs ≡ (Ok tt) → Lengths rom wram vram pak
-  passed-lengths e = accepted-lengths rom wram vram pak regs (passed e).0
-
-  pub passed-list : list_verdict_at rom wram vram pak regs xs ≡ (Ok tt) → list_ok xs ≡ true
-  passed-list e = (unless-passed (list_ok xs) AccessList (Ok tt) (passed e).1).0
 
 module _ (m : Memory) (xs : List ℕ) (v : Verdict) (e : v ≡ list_verdict_of m xs) where
   pub bus-passed : v ≡ (Ok tt) → verdict_of m ≡ (Ok tt)

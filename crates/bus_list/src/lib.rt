@@ -9,9 +9,9 @@ ghost use Rattle.bus.specs.Lent.{entering, leaving, entering_with, leaving_with}
 ghost use Rattle.bus_calls.specs.Access.{verdict_in, left_by};
 ghost use Rattle.bus_list.specs.List.{count_of, size_at, answered_of, made_of, access_of, accesses_of};
 ghost use Rattle.bus_list.specs.List.{sizes_ok, list_ok};
-ghost use Rattle.bus_list.specs.Calls.{list_verdict_at, list_verdict_of, access_list_of};
+ghost use Rattle.bus_list.specs.Calls.{list_verdict_of, access_list_of};
 
-use bus::{Device, Drawing, DrawingRegisters, device, load, refusals, store};
+use bus::{Device, Drawing, device, load, refusals, store};
 use bus_calls::Stored;
 use bus_timer::TimerLines;
 use refusal::Refusal;
@@ -37,26 +37,6 @@ fn list_ok(list: &[u8]) -> bool
 {
     let n = list.len() / 20;
     n <= 256 && sizes_ok(list, n)
-}
-
-// The lowest of refusals 1 to 5 and 11 whose condition holds.
-#[tactic(auto, unfolding(crate::specs::Calls::list_verdict_at))]
-fn verdict(
-    rom: usize,
-    wram: usize,
-    vram: usize,
-    pak: usize,
-    drawing: &DrawingRegisters,
-    hardware: TimerLines,
-    list: &[u8],
-) -> Result<(), Refusal>
-    ensures { result ≡ list_verdict_at rom wram vram pak (device_of drawing.now hardware) list.now }
-{
-    refusals::call_verdict(rom, wram, vram, pak, drawing, hardware)?;
-    if !list_ok(list) {
-        return Err(Refusal::AccessList);
-    }
-    Ok(())
 }
 
 // What a read gave, into the last two words of access k.
@@ -118,7 +98,7 @@ fn accesses(
 }
 
 // The accesses of a list, in order: reads are answered in it.
-#[tactic(auto, unfolding(crate::specs::Calls::access_list_of))]
+#[tactic(auto, unfolding(crate::specs::Calls::access_list_of, crate::specs::Calls::list_verdict_at))]
 pub fn access_list(
     rom: &[u8],
     wram: &mut [u8],
@@ -133,15 +113,17 @@ pub fn access_list(
         made_of (leaving_with rom.now wram.new vram.new pak.new (device_of after.drawing.regs after.hardware)) list.new
         ≡ access_list_of (entering_with rom.now wram.old vram.old pak.old (device_of drawing.regs hardware)) list.old }
 {
-    verdict(
+    refusals::call_verdict(
         rom.len(),
         wram.len(),
         vram.len(),
         pak.len(),
         &drawing.regs,
         hardware,
-        list,
     )?;
+    if !list_ok(list) {
+        return Err(Refusal::AccessList);
+    }
     let mut lent = device::device_of(drawing.regs, hardware);
     accesses(rom, wram, vram, pak, &mut lent, list);
     let regs = device::drawing_in(&lent);
