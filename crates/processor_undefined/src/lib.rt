@@ -14,6 +14,7 @@ ghost use Rattle.processor_undefined.specs.Reads.{read_of, undefined_when, none_
 use crate::load::load;
 use processor_machine::Answer;
 use processor_step::step::Fetched;
+use word::Width;
 
 // The masks of a step: bit k of one is set where byte k was read and is undefined.
 #[derive(Clone, Copy)]
@@ -41,7 +42,7 @@ fn second(pc: u32, first: u16) -> u32
     if !processor_decode::two(first) {
         return 0;
     }
-    bus_defined::half(std::num::wrapping_add_u32(pc, 2))
+    bus_defined::undefined(Width::Half, std::num::wrapping_add_u32(pc, 2))
 }
 
 // Those of a step that fetched these halfwords.
@@ -50,7 +51,7 @@ fn read(pc: u32, fetched: Fetched, regs: &[u32; 32]) -> Undefined
         → result ≡ read_of fetched (state_of regs.now sys pc psw mode) m }
 {
     Undefined {
-        first: bus_defined::half(pc),
+        first: bus_defined::undefined(Width::Half, pc),
         second: second(pc, fetched.first),
         load: load(fetched.first, fetched.second, regs),
     }

@@ -8,6 +8,7 @@ ghost use Rattle.processor_machine.specs.declared.Mode.{Mode};
 ghost use Rattle.processor_undefined.specs.Reads.{decoded_load_of};
 
 use processor_machine::register::get;
+use word::Width;
 
 // Its mask: LD.B, LD.H, LD.W and IN.B, IN.H, IN.W at the effective address.
 pub fn load(first: u16, second: u16, regs: &[u32; 32]) -> u32
@@ -19,12 +20,12 @@ pub fn load(first: u16, second: u16, regs: &[u32; 32]) -> u32
     let disp = word::extend(32768, second as u32);
     let address = std::num::wrapping_add_u32(base, disp);
     match f / 1024 {
-        48 => bus_defined::byte(address),
-        49 => bus_defined::half(address),
-        51 => bus_defined::word(address),
-        56 => bus_defined::byte(address),
-        57 => bus_defined::half(address),
-        59 => bus_defined::word(address),
+        48 => bus_defined::undefined(Width::Byte, address),
+        49 => bus_defined::undefined(Width::Half, address),
+        51 => bus_defined::undefined(Width::Word, address),
+        56 => bus_defined::undefined(Width::Byte, address),
+        57 => bus_defined::undefined(Width::Half, address),
+        59 => bus_defined::undefined(Width::Word, address),
         _ => 0,
     }
 }

@@ -5,4 +5,4 @@ pub returns : goal.returns
 returns c =
     let a = c.args in
     λ sys psw mode m.
-    rw (c.half.ensures.0 m, c.second.ensures m, c.load.ensures sys a.pc psw mode m)
+    rw (c.undefined.ensures.0 m, c.second.ensures m, c.load.ensures sys a.pc psw mode m)

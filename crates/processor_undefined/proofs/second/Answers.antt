@@ -15,4 +15,4 @@ returns c =
       c.if-not-two.false,
       ← c.wrapping_add_u32.ensures.value,
     )
-    (c.half.ensures.0 m)
+    (c.undefined.ensures.0 m)

@@ -13,7 +13,7 @@ returns-in-48 c =
       ← c.get-base.ensures,
       ← c.wrapping_add_u32-address.ensures.value,
     )
-    (c.byte.ensures m)
+    (c.undefined.ensures.0 m)
 
 pub returns-in-49 : goal.returns-in-49
 returns-in-49 c =
@@ -25,7 +25,7 @@ returns-in-49 c =
       ← c.get-base.ensures,
       ← c.wrapping_add_u32-address.ensures.value,
     )
-    (c.half.ensures.0 m)
+    (c.undefined-in-49.ensures.0 m)
 
 pub returns-in-51 : goal.returns-in-51
 returns-in-51 c =
@@ -37,7 +37,7 @@ returns-in-51 c =
       ← c.get-base.ensures,
       ← c.wrapping_add_u32-address.ensures.value,
     )
-    (c.word.ensures m)
+    (c.undefined-in-51.ensures.0 m)
 
 pub returns-in-56 : goal.returns-in-56
 returns-in-56 c =
@@ -49,7 +49,7 @@ returns-in-56 c =
       ← c.get-base.ensures,
       ← c.wrapping_add_u32-address.ensures.value,
     )
-    (c.byte-in-56.ensures m)
+    (c.undefined-in-56.ensures.0 m)
 
 pub returns-in-57 : goal.returns-in-57
 returns-in-57 c =
@@ -61,7 +61,7 @@ returns-in-57 c =
       ← c.get-base.ensures,
       ← c.wrapping_add_u32-address.ensures.value,
     )
-    (c.half-in-57.ensures.0 m)
+    (c.undefined-in-57.ensures.0 m)
 
 pub returns-in-59 : goal.returns-in-59
 returns-in-59 c =
@@ -73,7 +73,7 @@ returns-in-59 c =
       ← c.get-base.ensures,
       ← c.wrapping_add_u32-address.ensures.value,
     )
-    (c.word-in-59.ensures m)
+    (c.undefined-in-59.ensures.0 m)
 
 pub returns-in_default : goal.returns-in_default
 returns-in_default c =
