@@ -5,7 +5,7 @@ ghost use Rattle.processor_machine.specs.State.{state_of, leaves};
 ghost use Rattle.processor_machine.specs.Exception.{code_of, handler_of, restore_of, enter_of, raise_of};
 ghost use Rattle.processor_machine.specs.FloatCause.{saved_of};
 
-use crate::{Answer, Cause, Control, Mode, floating};
+use crate::{Answer, Cause, Control, Mode};
 
 // What an exception stores, and where it goes on: `saved` is the PSW to save.
 #[derive(Clone, Copy)]
@@ -16,74 +16,64 @@ pub struct Entry {
     pub saved: u32,
 }
 
-// The code of a cause.
-pub fn code(cause: Cause) -> u32
-    ensures { (result ≡ code_of cause) × (result < 65536) }
-{
-    match cause {
-        Cause::ZeroDivision => 0xFF80,
-        Cause::Illegal => 0xFF90,
-        Cause::Trap(vector) => 0xFFA0 + vector % 32,
-        Cause::Float(float) => floating::code(float),
+impl Cause {
+    pub fn code(self) -> u32
+        ensures { (result ≡ code_of self) × (result < 65536) }
+    {
+        match self {
+            Cause::ZeroDivision => 0xFF80,
+            Cause::Illegal => 0xFF90,
+            Cause::Trap(vector) => 0xFFA0 + vector % 32,
+            Cause::Float(cause) => cause.code(),
+        }
     }
-}
 
-// Where a regular exception goes on.
-fn handler(cause: Cause) -> u32
-    ensures { result ≡ handler_of cause }
-{
-    match cause {
-        Cause::ZeroDivision => 0xFFFFFF80,
-        Cause::Illegal => 0xFFFFFF90,
-        Cause::Trap(vector) => trap_handler(vector),
-        Cause::Float(_) => 0xFFFFFF60,
+    // Where a regular exception goes on.
+    fn handler(self) -> u32
+        ensures { result ≡ handler_of self }
+    {
+        match self {
+            Cause::ZeroDivision => 0xFFFFFF80,
+            Cause::Illegal => 0xFFFFFF90,
+            Cause::Trap(vector) if vector % 32 < 16 => 0xFFFFFFA0,
+            Cause::Trap(_) => 0xFFFFFFB0,
+            Cause::Float(_) => 0xFFFFFF60,
+        }
     }
-}
 
-fn trap_handler(vector: u32) -> u32
-    ensures { result ≡ handler_of (Cause.Trap vector) }
-{
-    if vector % 32 < 16 {
-        return 0xFFFFFFA0;
+    // The restore PC: TRAP's is the next instruction's, the others' their own.
+    fn restore(self, pc: u32, next: u32) -> u32
+        ensures { result ≡ restore_of self pc next }
+    {
+        match self {
+            Cause::Trap(_) => next,
+            _ => pc,
+        }
     }
-    0xFFFFFFB0
-}
 
-// The restore PC: TRAP's is the next instruction's, the others' their own.
-fn restore(cause: Cause, pc: u32, next: u32) -> u32
-    ensures { result ≡ restore_of cause pc next }
-{
-    match cause {
-        Cause::ZeroDivision => pc,
-        Cause::Illegal => pc,
-        Cause::Trap(_) => next,
-        Cause::Float(_) => pc,
-    }
-}
-
-// The PSW to save: a floating trap sets its flag.
-fn saved(cause: Cause, psw: u32) -> u32
-    ensures { result ≡ saved_of cause psw }
-{
-    match cause {
-        Cause::ZeroDivision => psw,
-        Cause::Illegal => psw,
-        Cause::Trap(_) => psw,
-        Cause::Float(float) => floating::flagged(float, psw),
+    // The PSW to save: a floating trap sets its flag.
+    fn saved(self, psw: u32) -> u32
+        ensures { result ≡ saved_of self psw }
+    {
+        match self {
+            Cause::Float(cause) => cause.flagged(psw),
+            _ => psw,
+        }
     }
 }
 
 // An exception of an instruction at pc.
+#[tactic(auto, unfolding(crate::specs::Exception::raise_of))]
 pub fn raise(sys: &mut [u32; 8], cause: Cause, pc: u32, next: u32, psw: u32) -> Control
     ensures { (regs : List ℕ) (m : Memory)
         → leaves regs sys.new result m
         ≡ raise_of cause next (state_of regs sys.old pc psw Mode.Running) m }
 {
     let into = Entry {
-        code: code(cause),
-        handler: handler(cause),
-        restore: restore(cause, pc, next),
-        saved: saved(cause, psw),
+        code: cause.code(),
+        handler: cause.handler(),
+        restore: cause.restore(pc, next),
+        saved: cause.saved(psw),
     };
     enter(sys, cause, into, pc, psw)
 }
@@ -105,6 +95,7 @@ fn exception_cause(ecr: u32, code: u32) -> u32
 }
 
 // The entry that every exception takes.
+#[tactic(auto, unfolding(crate::specs::Exception::enter_of))]
 fn enter(sys: &mut [u32; 8], cause: Cause, into: Entry, pc: u32, psw: u32) -> Control
     requires { into.code < 65536 }
     ensures { (regs : List ℕ) (m : Memory)
@@ -123,8 +114,7 @@ fn enter(sys: &mut [u32; 8], cause: Cause, into: Entry, pc: u32, psw: u32) -> Co
     if psw / 16384 % 2 == 1 {
         sys[2] = into.restore;
         sys[3] = into.saved;
-        let ecr = sys[4];
-        sys[4] = fatal_cause(ecr, into.code);
+        sys[4] = fatal_cause(sys[4], into.code);
         return Control {
             pc: 0xFFFFFFD0,
             psw: processor_arithmetic::flag::duplexed(into.saved),
@@ -134,8 +124,7 @@ fn enter(sys: &mut [u32; 8], cause: Cause, into: Entry, pc: u32, psw: u32) -> Co
     }
     sys[0] = into.restore;
     sys[1] = into.saved;
-    let ecr = sys[4];
-    sys[4] = exception_cause(ecr, into.code);
+    sys[4] = exception_cause(sys[4], into.code);
     Control {
         pc: into.handler,
         psw: processor_arithmetic::flag::regular(into.saved),

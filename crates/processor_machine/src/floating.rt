@@ -12,25 +12,27 @@ pub enum FloatCause {
     Overflow,
 }
 
-pub fn code(cause: FloatCause) -> u32
-    ensures { (result ≡ float_code_of cause) × (result < 65536) }
-{
-    match cause {
-        FloatCause::Reserved => 0xFF60,
-        FloatCause::Invalid => 0xFF70,
-        FloatCause::ZeroDivide => 0xFF68,
-        FloatCause::Overflow => 0xFF64,
+impl FloatCause {
+    pub fn code(self) -> u32
+        ensures { (result ≡ float_code_of self) × (result < 65536) }
+    {
+        match self {
+            FloatCause::Reserved => 0xFF60,
+            FloatCause::Invalid => 0xFF70,
+            FloatCause::ZeroDivide => 0xFF68,
+            FloatCause::Overflow => 0xFF64,
+        }
     }
-}
 
-// PSW with the flag of a cause set: FRO, FIV, FZD or FOV, in bits 9 to 6.
-pub fn flagged(cause: FloatCause, psw: u32) -> u32
-    ensures { result ≡ with_bit (float_flag_of cause) psw }
-{
-    match cause {
-        FloatCause::Reserved => psw - psw / 512 % 2 * 512 + 512,
-        FloatCause::Invalid => psw - psw / 256 % 2 * 256 + 256,
-        FloatCause::ZeroDivide => psw - psw / 128 % 2 * 128 + 128,
-        FloatCause::Overflow => psw - psw / 64 % 2 * 64 + 64,
+    // PSW with the cause's flag set: FRO, FIV, FZD or FOV, in bits 9 to 6.
+    pub fn flagged(self, psw: u32) -> u32
+        ensures { result ≡ with_bit (float_flag_of self) psw }
+    {
+        match self {
+            FloatCause::Reserved => psw - psw / 512 % 2 * 512 + 512,
+            FloatCause::Invalid => psw - psw / 256 % 2 * 256 + 256,
+            FloatCause::ZeroDivide => psw - psw / 128 % 2 * 128 + 128,
+            FloatCause::Overflow => psw - psw / 64 % 2 * 64 + 64,
+        }
     }
 }

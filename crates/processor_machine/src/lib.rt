@@ -52,14 +52,16 @@ pub struct Control {
     pub answer: Answer,
 }
 
-// An instruction that ended, going on at pc.
-pub fn ended(pc: u32, psw: u32) -> Control
-    ensures { result ≡ ended_at pc psw }
-{
-    Control {
-        pc,
-        psw,
-        mode: Mode::Running,
-        answer: Answer::Ended,
+impl Control {
+    // An instruction that ended, going on at pc.
+    pub fn ended(pc: u32, psw: u32) -> Control
+        ensures { result ≡ ended_at pc psw }
+    {
+        Control {
+            pc,
+            psw,
+            mode: Mode::Running,
+            answer: Answer::Ended,
+        }
     }
 }

@@ -5,16 +5,15 @@ ghost use Rattle.processor_machine.specs.State.{put_of};
 pub fn get(regs: &[u32; 32], n: u32) -> u32
     ensures { result ≡ get_or regs.now (n % 32) 0 }
 {
-    let i = (n % 32) as usize;
-    regs[i]
+    regs[(n % 32) as usize]
 }
 
+#[tactic(auto, unfolding(crate::specs::State::put_of))]
 pub fn put(regs: &mut [u32; 32], n: u32, value: u32)
     ensures { regs.new ≡ put_of regs.old n value }
 {
     let i = (n % 32) as usize;
-    if i == 0 {
-        return;
+    if i != 0 {
+        regs[i] = value;
     }
-    regs[i] = value;
 }

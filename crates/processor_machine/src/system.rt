@@ -4,13 +4,15 @@ ghost use Rattle.std.specs.Prelude.{◌≡◌};
 ghost use Rattle.processor_machine.specs.System.{psw_bits_of, system_of, written_of, status_of};
 
 // The bits of a PSW format.
+#[tactic(auto, unfolding(crate::specs::System::psw_bits_of))]
 pub fn psw_bits(v: u32) -> u32
     ensures { result ≡ psw_bits_of v }
 {
-    v % 1024 + v / 4096 % 256 * 4096
+    v & 0x000FF3FF
 }
 
 // What STSR reads.
+#[tactic(auto, unfolding(crate::specs::System::system_of))]
 pub fn read(sys: &[u32; 8], psw: u32, id: u32) -> u32
     ensures { result ≡ system_of sys.now psw id }
 {
@@ -32,39 +34,20 @@ pub fn read(sys: &[u32; 8], psw: u32, id: u32) -> u32
 }
 
 // What LDSR writes: the caller's registers change, and PSW afterwards is the answer.
+#[tactic(auto, unfolding(crate::specs::System::written_of))]
 pub fn write(sys: &mut [u32; 8], psw: u32, id: u32, v: u32) -> u32
     ensures { status_of sys.new result ≡ written_of sys.old psw id v }
 {
     match id {
-        0 => {
-            sys[0] = v - v % 2;
-            psw
-        }
-        1 => {
-            sys[1] = psw_bits(v);
-            psw
-        }
-        2 => {
-            sys[2] = v - v % 2;
-            psw
-        }
-        3 => {
-            sys[3] = psw_bits(v);
-            psw
-        }
-        5 => psw_bits(v),
-        25 => {
-            sys[5] = v - v % 2;
-            psw
-        }
-        29 => {
-            sys[6] = v;
-            psw
-        }
-        31 => {
-            sys[7] = processor_arithmetic::product::magnitude(v);
-            psw
-        }
-        _ => psw,
+        0 => sys[0] = v - v % 2,
+        1 => sys[1] = psw_bits(v),
+        2 => sys[2] = v - v % 2,
+        3 => sys[3] = psw_bits(v),
+        5 => return psw_bits(v),
+        25 => sys[5] = v - v % 2,
+        29 => sys[6] = v,
+        31 => sys[7] = processor_arithmetic::product::magnitude(v),
+        _ => {}
     }
+    psw
 }
