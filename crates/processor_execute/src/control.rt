@@ -1,14 +1,17 @@
 // CPU control: exceptions, HALT, the system registers and the interrupt disable bit. Each says what it does by its own
 // case of execute_of, for every value of what it does not touch.
+#![tactic(auto, unfolding(crate::specs::Execute::execute_of))]
+
 ghost use Rattle.std.specs.Prelude.{◌≡◌, ℕ, List};
 ghost use Rattle.bus.specs.Memory.{Memory};
 ghost use Rattle.processor_machine.specs.State.{state_of, leaves};
 ghost use Rattle.processor_execute.specs.Execute.{execute_of};
 
+use processor_arithmetic::flag;
 use processor_decode::Instruction;
 use processor_machine::exception::raise;
 use processor_machine::register::{get, put};
-use processor_machine::{Answer, Cause, Control, Mode, ended, system};
+use processor_machine::{Answer, Cause, Control, Mode, system};
 
 pub fn trap(sys: &mut [u32; 8], vector: u32, pc: u32, next: u32, psw: u32) -> Control
     ensures { (regs : List ℕ) (m : Memory)
@@ -32,9 +35,10 @@ pub fn reti(sys: &[u32; 8], psw: u32) -> Control
         ≡ execute_of Instruction.Reti next (state_of regs sys.now pc psw Mode.Running) m }
 {
     if psw / 32768 % 2 == 1 {
-        return ended(sys[2], sys[3]);
+        Control::ended(sys[2], sys[3])
+    } else {
+        Control::ended(sys[0], sys[1])
     }
-    ended(sys[0], sys[1])
 }
 
 pub fn halt(next: u32, psw: u32) -> Control
@@ -62,9 +66,8 @@ pub fn ldsr(
         ≡ execute_of (Instruction.Ldsr reg2 id) next
         (state_of regs.now sys.old pc psw Mode.Running) m }
 {
-    let v = get(regs, reg2);
-    let p = system::write(sys, psw, id, v);
-    ended(next, p)
+    let psw = system::write(sys, psw, id, get(regs, reg2));
+    Control::ended(next, psw)
 }
 
 pub fn stsr(
@@ -80,21 +83,20 @@ pub fn stsr(
         ≡ execute_of (Instruction.Stsr id reg2) next
         (state_of regs.old sys.now pc psw Mode.Running) m }
 {
-    let v = system::read(sys, psw, id);
-    put(regs, reg2, v);
-    ended(next, psw)
+    put(regs, reg2, system::read(sys, psw, id));
+    Control::ended(next, psw)
 }
 
 pub fn cli(next: u32, psw: u32) -> Control
     ensures { (pc : ℕ) (regs sys : List ℕ) (m : Memory)
         → leaves regs sys result m ≡ execute_of Instruction.Cli next (state_of regs sys pc psw Mode.Running) m }
 {
-    ended(next, processor_arithmetic::flag::clear_id(psw))
+    Control::ended(next, flag::clear_id(psw))
 }
 
 pub fn sei(next: u32, psw: u32) -> Control
     ensures { (pc : ℕ) (regs sys : List ℕ) (m : Memory)
         → leaves regs sys result m ≡ execute_of Instruction.Sei next (state_of regs sys pc psw Mode.Running) m }
 {
-    ended(next, processor_arithmetic::flag::set_id(psw))
+    Control::ended(next, flag::set_id(psw))
 }

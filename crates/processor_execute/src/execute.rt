@@ -46,42 +46,54 @@ pub fn execute(
         Instruction::Long(op, imm, reg1, reg2) => compute::long(
             regs, op, imm, reg1, reg2, next, psw,
         ),
-        Instruction::Load(width, disp, reg1, reg2) => {
-            let access = Access {
+        Instruction::Load(width, disp, reg1, reg2) => memory::load(
+            memories,
+            regs,
+            Access {
                 width,
                 disp,
                 reg1,
                 reg2,
-            };
-            memory::load(memories, regs, access, next, psw)
-        }
-        Instruction::In(width, disp, reg1, reg2) => {
-            let access = Access {
+            },
+            next,
+            psw,
+        ),
+        Instruction::In(width, disp, reg1, reg2) => memory::input(
+            memories,
+            regs,
+            Access {
                 width,
                 disp,
                 reg1,
                 reg2,
-            };
-            memory::input(memories, regs, access, next, psw)
-        }
-        Instruction::Store(width, disp, reg1, reg2) => {
-            let access = Access {
+            },
+            next,
+            psw,
+        ),
+        Instruction::Store(width, disp, reg1, reg2) => memory::store(
+            memories,
+            regs,
+            Access {
                 width,
                 disp,
                 reg1,
                 reg2,
-            };
-            memory::store(memories, regs, access, next, psw)
-        }
-        Instruction::Out(width, disp, reg1, reg2) => {
-            let access = Access {
+            },
+            next,
+            psw,
+        ),
+        Instruction::Out(width, disp, reg1, reg2) => memory::store(
+            memories,
+            regs,
+            Access {
                 width,
                 disp,
                 reg1,
                 reg2,
-            };
-            memory::output(memories, regs, access, next, psw)
-        }
+            },
+            next,
+            psw,
+        ),
         Instruction::Illegal => control::illegal(sys, pc, next, psw),
         Instruction::Cmpf(reg1, reg2) => floating::cmpf(regs, sys, reg1, reg2, pc, next, psw),
         Instruction::Floating(op, reg1, reg2) => floating::floating(

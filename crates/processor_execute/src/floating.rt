@@ -1,5 +1,7 @@
 // The instructions of 000's groups "Floating-Point" and "Nintendo". Each says what it does by its own case of
 // execute_of, for every value of what it does not touch. A trap leaves the general registers as they were.
+#![tactic(auto, unfolding(crate::specs::Execute::execute_of))]
+
 ghost use Rattle.std.specs.Prelude.{◌≡◌, ℕ, List};
 ghost use Rattle.bus.specs.Memory.{Memory};
 ghost use Rattle.processor_machine.specs.State.{state_of, leaves};
@@ -9,12 +11,12 @@ ghost use Rattle.processor_execute.specs.Execute.{execute_of};
 use processor_decode::Instruction;
 use processor_decode::sub_opcode::{FloatingOperation, NintendoOperation};
 use processor_float::{
-    Compared, FloatOutcome, Operation, arithmetic, comparison, conversion, flag,
+    Compared, FloatOutcome, Operation, arithmetic, comparison, conversion, flag, nintendo,
 };
 use processor_machine::exception::raise;
 use processor_machine::floating::FloatCause;
 use processor_machine::register::{get, put};
-use processor_machine::{Cause, Control, Mode, ended};
+use processor_machine::{Cause, Control, Mode};
 
 // What an operation comes to: a is reg2 and b is reg1.
 fn outcome(op: FloatingOperation, a: u32, b: u32) -> FloatOutcome
@@ -39,7 +41,7 @@ fn number(regs: &mut [u32; 32], n: u32, v: f32, underflowed: bool, next: u32, ps
 {
     let w = arithmetic::word_of(v);
     put(regs, n, w);
-    ended(next, flag::number_flags(psw, w, underflowed))
+    Control::ended(next, flag::number_flags(psw, w, underflowed))
 }
 
 // A whole number goes to register n, with its flags.
@@ -49,7 +51,7 @@ fn whole(regs: &mut [u32; 32], n: u32, w: u32, next: u32, psw: u32) -> Control
         ≡ settles_of n (FloatOutcome.Word w) next (state_of regs.old sys pc psw Mode.Running) m }
 {
     put(regs, n, w);
-    ended(next, flag::conversion_flags(psw, w))
+    Control::ended(next, flag::conversion_flags(psw, w))
 }
 
 // What an outcome leaves.
@@ -91,9 +93,7 @@ pub fn floating(
         ≡ execute_of (Instruction.Floating op reg1 reg2) next
         (state_of regs.old sys.old pc psw Mode.Running) m }
 {
-    let a = get(regs, reg2);
-    let b = get(regs, reg1);
-    let o = outcome(op, a, b);
+    let o = outcome(op, get(regs, reg2), get(regs, reg1));
     settle(regs, sys, reg2, o, pc, next, psw)
 }
 
@@ -103,10 +103,8 @@ fn compares(sys: &mut [u32; 8], c: Compared, pc: u32, next: u32, psw: u32) -> Co
         → leaves regs sys.new result m ≡ compares_of c next (state_of regs sys.old pc psw Mode.Running) m }
 {
     match c {
-        Compared::Lower => ended(next, flag::comparison_flags(psw, c)),
-        Compared::Equal => ended(next, flag::comparison_flags(psw, c)),
-        Compared::Higher => ended(next, flag::comparison_flags(psw, c)),
         Compared::Reserved => raise(sys, Cause::Float(FloatCause::Reserved), pc, next, psw),
+        _ => Control::ended(next, flag::comparison_flags(psw, c)),
     }
 }
 
@@ -124,9 +122,7 @@ pub fn cmpf(
         ≡ execute_of (Instruction.Cmpf reg1 reg2) next
         (state_of regs.now sys.old pc psw Mode.Running) m }
 {
-    let a = get(regs, reg2);
-    let b = get(regs, reg1);
-    let c = comparison::compare(a, b);
+    let c = comparison::compare(get(regs, reg2), get(regs, reg1));
     compares(sys, c, pc, next, psw)
 }
 
@@ -135,10 +131,10 @@ fn rearranged(op: NintendoOperation, a: u32, b: u32) -> u32
     ensures { result ≡ nintendo_of op a b }
 {
     match op {
-        NintendoOperation::Xb => processor_float::nintendo::xb(a),
-        NintendoOperation::Xh => processor_float::nintendo::xh(a),
-        NintendoOperation::Rev => processor_float::nintendo::rev(b),
-        NintendoOperation::Mpyhw => processor_float::nintendo::mpyhw(a, b),
+        NintendoOperation::Xb => nintendo::xb(a),
+        NintendoOperation::Xh => nintendo::xh(a),
+        NintendoOperation::Rev => nintendo::rev(b),
+        NintendoOperation::Mpyhw => nintendo::mpyhw(a, b),
     }
 }
 
@@ -154,8 +150,7 @@ pub fn nintendo(
         → leaves regs.new sys result m
         ≡ execute_of (Instruction.Nintendo op reg1 reg2) next (state_of regs.old sys pc psw Mode.Running) m }
 {
-    let a = get(regs, reg2);
-    let b = get(regs, reg1);
-    put(regs, reg2, rearranged(op, a, b));
-    ended(next, psw)
+    let v = rearranged(op, get(regs, reg2), get(regs, reg1));
+    put(regs, reg2, v);
+    Control::ended(next, psw)
 }

@@ -9,4 +9,3 @@ mod floating;
 mod jump;
 mod memory;
 mod operation;
-mod transfer;

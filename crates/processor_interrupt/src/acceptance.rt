@@ -1,55 +1,48 @@
 // Whether an interrupt is accepted before the next instruction, and of which level.
-ghost use Rattle.std.specs.Prelude.{◌≡◌, ◌<◌};
+ghost use Rattle.std.specs.Prelude.{◌≡◌, ◌≢◌, ◌%◌, ◌<◌, true, false, MatchOption};
 ghost use Rattle.processor_interrupt.specs.Interrupt.{level_of, allows_of, accepts_of};
 
 use processor_machine::Mode;
 
-// The highest raised level, where a line is raised.
-pub fn level(lines: u16) -> u32
-    ensures { (result ≡ level_of lines) × (result < 5) }
+// The highest raised level; none where no line is raised.
+#[tactic(auto, unfolding(crate::specs::Interrupt::level_of))]
+fn level(lines: u16) -> Option<u32>
+    ensures { MatchOption result (lines % 32 ≡ 0) (λ n. (lines % 32 ≢ 0) × (n ≡ level_of lines) × (n < 5)) }
 {
-    if lines / 16 % 2 == 1 {
-        return 4;
+    match lines % 32 {
+        0 => None,
+        1 => Some(0),
+        2..=3 => Some(1),
+        4..=7 => Some(2),
+        8..=15 => Some(3),
+        _ => Some(4),
     }
-    if lines / 8 % 2 == 1 {
-        return 3;
-    }
-    if lines / 4 % 2 == 1 {
-        return 2;
-    }
-    if lines / 2 % 2 == 1 {
-        return 1;
-    }
-    0
 }
 
-// Whether PSW lets an interrupt of a level through.
+// Whether PSW lets an interrupt of a level through: NP, EP and ID are clear, and I is at most the level.
+#[tactic(auto, unfolding(crate::specs::Interrupt::allows_of))]
 fn allows(psw: u32, level: u32) -> bool
     ensures { result ≡ allows_of psw level }
 {
-    if psw / 32768 % 2 == 1 {
-        return false;
-    }
-    if psw / 16384 % 2 == 1 {
-        return false;
-    }
-    if psw / 4096 % 2 == 1 {
-        return false;
-    }
-    psw / 65536 % 16 <= level
+    psw / 32768 % 2 == 0 && psw / 16384 % 2 == 0 && psw / 4096 % 2 == 0 && psw / 65536 % 16 <= level
 }
 
-// Whether an interrupt is accepted. The lines come first: with none raised nothing else is looked at.
+// The level of the interrupt that is accepted. The lines come first: with none raised nothing else is looked at.
+#[tactic(auto, unfolding(crate::specs::Interrupt::accepts_of))]
+pub fn accepted(lines: u16, psw: u32, mode: Mode) -> Option<u32>
+    ensures { MatchOption result (accepts_of lines psw mode ≡ false)
+        (λ n. (accepts_of lines psw mode ≡ true) × (n ≡ level_of lines) × (n < 5)) }
+{
+    let level = level(lines)?;
+    if matches!(mode, Mode::Fatal) || !allows(psw, level) {
+        return None;
+    }
+    Some(level)
+}
+
+// Whether an interrupt is accepted.
 pub fn accepts(lines: u16, psw: u32, mode: Mode) -> bool
     ensures { result ≡ accepts_of lines psw mode }
 {
-    if lines % 32 == 0 {
-        return false;
-    }
-    let level = level(lines);
-    match mode {
-        Mode::Running => allows(psw, level),
-        Mode::Halted => allows(psw, level),
-        Mode::Fatal => false,
-    }
+    accepted(lines, psw, mode).is_some()
 }

@@ -8,6 +8,7 @@ use crate::Entered;
 use processor_machine::Mode;
 
 // PSW with its interrupt level replaced.
+#[tactic(auto, unfolding(crate::specs::Interrupt::with_level_of))]
 fn with_level(psw: u32, level: u32) -> u32
     requires { level < 16 }
     ensures { result ≡ with_level_of level psw }
@@ -24,6 +25,7 @@ fn cause(ecr: u32, level: u32) -> u32
 }
 
 // An interrupt of a level, at pc: EIPC, EIPSW and the low half of ECR are filled.
+#[tactic(auto, unfolding(crate::specs::Interrupt::interrupted_of))]
 pub fn enter(sys: &mut [u32; 8], level: u32, pc: u32, psw: u32) -> Entered
     requires { level < 5 }
     ensures { (regs : List ℕ) (mode : Mode)
@@ -32,8 +34,7 @@ pub fn enter(sys: &mut [u32; 8], level: u32, pc: u32, psw: u32) -> Entered
 {
     sys[0] = pc;
     sys[1] = psw;
-    let ecr = sys[4];
-    sys[4] = cause(ecr, level);
+    sys[4] = cause(sys[4], level);
     Entered {
         pc: 0xFFFFFE00 + 16 * level,
         psw: with_level(processor_arithmetic::flag::regular(psw), level + 1),

@@ -1,17 +1,17 @@
 // A step: an interrupt is accepted, or the instruction at PC is fetched once, decoded and executed.
-ghost use Rattle.std.specs.Prelude.{◌≡◌, ℕ, List};
+ghost use Rattle.std.specs.Prelude.{◌≡◌, ◌<◌, ℕ, List};
 ghost use Rattle.bus.specs.Memory.{Memory};
 ghost use Rattle.bus.specs.Memories.{held_by, SameLoans};
 ghost use Rattle.processor_machine.specs.State.{state_of, stepped_of, leaves};
 ghost use Rattle.processor_machine.specs.declared.Mode.{Mode};
-ghost use Rattle.processor_interrupt.specs.Interrupt.{level_of, interrupted_of};
+ghost use Rattle.processor_interrupt.specs.Interrupt.{interrupted_of};
 ghost use Rattle.processor_step.specs.Step.{first_of, second_of, next_of, running_step_of, instruction_step_of, step_of};
 ghost use Rattle.processor_step.specs.Step.{fetched_at, not_fetched, fetched_in_of, fetched_of};
 
 use bus::LINES_PLACE;
 use bus::memories::Memories;
 use processor_execute::execute::execute;
-use processor_interrupt::acceptance::{accepts, level};
+use processor_interrupt::acceptance::accepted;
 use processor_interrupt::entry::enter;
 use processor_machine::{Answer, Control, Mode};
 use refusal::Refusal;
@@ -62,11 +62,7 @@ fn second(memories: &Memories<'_>, pc: u32, two: bool) -> u16
 fn following(pc: u32, two: bool) -> u32
     ensures { result ≡ next_of two pc }
 {
-    if two {
-        pc.wrapping_add(4)
-    } else {
-        pc.wrapping_add(2)
-    }
+    pc.wrapping_add(if two { 4 } else { 2 })
 }
 
 // A step in running mode.
@@ -88,23 +84,18 @@ fn running(
     let two = processor_decode::two(first);
     let second = second(memories, pc, two);
     let next = following(pc, two);
-    match processor_decode::decode(first, second) {
-        Some(i) => {
-            let control = execute(memories, regs, sys, i, pc, next, psw);
-            Performed {
-                control,
-                fetched: Fetched { first, second },
-            }
-        }
-        None => Performed {
-            control: Control {
-                pc,
-                psw,
-                mode: Mode::Running,
-                answer: Answer::Refused(Refusal::NotModelled),
-            },
-            fetched: Fetched { first, second },
+    let control = match processor_decode::decode(first, second) {
+        Some(i) => execute(memories, regs, sys, i, pc, next, psw),
+        None => Control {
+            pc,
+            psw,
+            mode: Mode::Running,
+            answer: Answer::Refused(Refusal::NotModelled),
         },
+    };
+    Performed {
+        control,
+        fetched: Fetched { first, second },
     }
 }
 
@@ -124,38 +115,30 @@ fn instruction(
     ensures fetched { result.fetched ≡ fetched_in_of mode pc (held_by memories.old) }
     ensures same { SameLoans memories.old memories.new }
 {
-    match mode {
-        Mode::Running => running(memories, regs, sys, pc, psw),
-        Mode::Halted => Performed {
-            control: Control {
-                pc,
-                psw,
-                mode: Mode::Halted,
-                answer: Answer::WasHalted,
-            },
-            fetched: NOT_FETCHED,
+    let answer = match mode {
+        Mode::Running => return running(memories, regs, sys, pc, psw),
+        Mode::Halted => Answer::WasHalted,
+        Mode::Fatal => Answer::WasFatal,
+    };
+    Performed {
+        control: Control {
+            pc,
+            psw,
+            mode,
+            answer,
         },
-        Mode::Fatal => Performed {
-            control: Control {
-                pc,
-                psw,
-                mode: Mode::Fatal,
-                answer: Answer::WasFatal,
-            },
-            fetched: NOT_FETCHED,
-        },
+        fetched: NOT_FETCHED,
     }
 }
 
-// The step that accepts an interrupt: nothing is fetched.
-fn interrupt(sys: &mut [u32; 8], lines: u16, pc: u32, psw: u32) -> Performed
+// The step that accepts an interrupt of a level: nothing is fetched.
+fn interrupt(sys: &mut [u32; 8], level: u32, pc: u32, psw: u32) -> Performed
+    requires { level < 5 }
     ensures done { (regs : List ℕ) (mode : Mode) (m : Memory)
         → leaves regs sys.new result.control m
-        ≡ stepped_of (Answer.Interrupted (level_of lines))
-        (interrupted_of (level_of lines) (state_of regs sys.old pc psw mode)) m }
+        ≡ stepped_of (Answer.Interrupted level) (interrupted_of level (state_of regs sys.old pc psw mode)) m }
     ensures fetched { result.fetched ≡ not_fetched }
 {
-    let level = level(lines);
     let entered = enter(sys, level, pc, psw);
     Performed {
         control: Control {
@@ -169,6 +152,7 @@ fn interrupt(sys: &mut [u32; 8], lines: u16, pc: u32, psw: u32) -> Performed
 }
 
 // A step in any mode. The lines stand first: with none raised nothing else is tested.
+#[tactic(auto, unfolding(crate::specs::Step::step_of, crate::specs::Step::fetched_of))]
 pub fn step(
     memories: &mut Memories<'_>,
     regs: &mut [u32; 32],
@@ -183,9 +167,8 @@ pub fn step(
         (held_by memories.old) }
     ensures same { SameLoans memories.old memories.new }
 {
-    let lines = memories.device[LINES_PLACE];
-    if accepts(lines, psw, mode) {
-        return interrupt(sys, lines, pc, psw);
+    match accepted(memories.device[LINES_PLACE], psw, mode) {
+        Some(level) => interrupt(sys, level, pc, psw),
+        None => instruction(memories, regs, sys, pc, psw, mode),
     }
-    instruction(memories, regs, sys, pc, psw, mode)
 }
