@@ -68,8 +68,8 @@ fn answered(answer: Answer) -> StepNumbers
 {
     match answer {
         Answer::Ended => numbers(0, 0, 0),
-        Answer::Trapped(cause) => numbers(0, 1, processor_machine::exception::code(cause)),
-        Answer::TurnedFatal(cause) => numbers(0, 2, processor_machine::exception::code(cause)),
+        Answer::Trapped(cause) => numbers(0, 1, cause.code()),
+        Answer::TurnedFatal(cause) => numbers(0, 2, cause.code()),
         Answer::WasHalted => numbers(0, 3, 0),
         Answer::WasFatal => numbers(0, 4, 0),
         Answer::Interrupted(level) => numbers(0, 5, 0xFE00 + 16 * level),
