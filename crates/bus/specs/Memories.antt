@@ -15,7 +15,3 @@ SameLoans a b =
     × ((b.wram.ghost_name ≡ a.wram.ghost_name)
     × ((b.vram.ghost_name ≡ a.vram.ghost_name)
     × ((b.pak.ghost_name ≡ a.pak.ghost_name) × (b.device.ghost_name ≡ a.device.ghost_name))))
-
--- the same memories, which hold this afterwards
-abbrev pub Leaves : Memories → Memory → Memories → Type 0
-Leaves before m after = (held_by after ≡ m) × SameLoans before after

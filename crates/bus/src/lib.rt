@@ -18,8 +18,8 @@ pub mod store;
 pub type DrawingRegisters = [u16; 13];
 
 // What stands behind bus addresses and is not memory: the drawing registers, then the request lines and the timer's
-// count, reload and control bits. It is borrowed as an array, because a reference to a struct is not walked by the
-// prover and a struct by value costs a run its speed.
+// count, reload and control bits. It is borrowed as an array: the contracts name it as the list of the
+// definitions, and a struct by value costs a run its speed.
 pub type Device = [u16; 17];
 
 // Where the lines and the timer stand there.

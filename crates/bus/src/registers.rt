@@ -1,5 +1,5 @@
 // The VIP's registers by their address there, and the timer's by their offset in region 2.
-ghost use Rattle.std.specs.Prelude.{◌≡◌, List, ℕ, ◌<◌, ◌≤◌, ◌%◌, ◌^◌, EachIndex, MatchOption, slice_index};
+ghost use Rattle.std.specs.Prelude.{◌≡◌, List, ℕ, ◌<◌, ◌≤◌, ◌%◌, MatchOption};
 ghost use Rattle.word.specs.Choose.{index_of};
 ghost use Rattle.word.specs.Width.{bytes_of};
 ghost use Rattle.bus_timer.specs.Ports.{port_byte_of, port_written_of};

@@ -1,5 +1,5 @@
 // The tests that the calls share: refusals 3, 5 and 7, lowest number first.
-ghost use Rattle.std.specs.Prelude.{◌≡◌, length};
+ghost use Rattle.std.specs.Prelude.{◌≡◌};
 ghost use Rattle.drawing.specs.Calls.{length_verdict_of, state_verdict_of, frame_verdict_of};
 
 use bus::DrawingRegisters;
