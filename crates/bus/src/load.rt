@@ -26,7 +26,7 @@ pub fn direct(rom: &[u8], wram: &[u8], vram: &[u8], width: Width, address: u32) 
 }
 
 // What stands in none of ROM, WRAM and VRAM. It stands apart from the fast path: inside `load` it would be too long to be
-// inlined there (docs/DECISIONS.md, "The design pass").
+// inlined there (docs/DECISIONS.md).
 #[inline(never)]
 pub fn elsewhere(pak: &[u8], regs: &Device, width: Width, address: u32) -> u32
     requires { (pak_ok (length pak.now) ≡ true) × Outside (aligned_of (bytes_of width) address) }
