@@ -8,8 +8,10 @@ ghost use Rattle.bus_calls.specs.Access.{checked_load_of, checked_store_of};
 ghost use Rattle.capi_bus.specs.TimerLines.{hardware_given};
 ghost use Rattle.capi_bus.specs.Answers.{load_out};
 
+use capi_bus::accesses;
 use capi_bus::accesses::{VbDrawing, VbLoaded, VbStored};
 use capi_bus::hardware::VbHardware;
+use word::Width;
 
 #[unsafe(no_mangle)]
 pub extern "C" fn vb_load_byte(
@@ -24,7 +26,16 @@ pub extern "C" fn vb_load_byte(
     ensures { result ≡ load_out
         (checked_load_of (entering_with rom.now wram.now vram.now pak.now (device_of drawing.regs (hardware_given hardware))) 1 address) }
 {
-    capi_bus::accesses::load_byte(rom, wram, vram, pak, drawing, hardware, address)
+    accesses::load(
+        rom,
+        wram,
+        vram,
+        pak,
+        drawing,
+        hardware,
+        Width::Byte,
+        address,
+    )
 }
 
 #[unsafe(no_mangle)]
@@ -40,7 +51,16 @@ pub extern "C" fn vb_load_half(
     ensures { result ≡ load_out
         (checked_load_of (entering_with rom.now wram.now vram.now pak.now (device_of drawing.regs (hardware_given hardware))) 2 address) }
 {
-    capi_bus::accesses::load_half(rom, wram, vram, pak, drawing, hardware, address)
+    accesses::load(
+        rom,
+        wram,
+        vram,
+        pak,
+        drawing,
+        hardware,
+        Width::Half,
+        address,
+    )
 }
 
 #[unsafe(no_mangle)]
@@ -56,7 +76,16 @@ pub extern "C" fn vb_load_word(
     ensures { result ≡ load_out
         (checked_load_of (entering_with rom.now wram.now vram.now pak.now (device_of drawing.regs (hardware_given hardware))) 4 address) }
 {
-    capi_bus::accesses::load_word(rom, wram, vram, pak, drawing, hardware, address)
+    accesses::load(
+        rom,
+        wram,
+        vram,
+        pak,
+        drawing,
+        hardware,
+        Width::Word,
+        address,
+    )
 }
 
 #[unsafe(no_mangle)]
@@ -76,7 +105,17 @@ pub extern "C" fn vb_store_byte(
         leaving_with rom.now wram.new vram.new pak.new (device_of result.drawing.regs (hardware_given result.hardware))
         ≡ checked_store_of m (store_of m 1 address value) }
 {
-    capi_bus::accesses::store_byte(rom, wram, vram, pak, drawing, hardware, address, value)
+    accesses::store(
+        rom,
+        wram,
+        vram,
+        pak,
+        drawing,
+        hardware,
+        Width::Byte,
+        address,
+        value,
+    )
 }
 
 #[unsafe(no_mangle)]
@@ -96,7 +135,17 @@ pub extern "C" fn vb_store_half(
         leaving_with rom.now wram.new vram.new pak.new (device_of result.drawing.regs (hardware_given result.hardware))
         ≡ checked_store_of m (store_of m 2 address value) }
 {
-    capi_bus::accesses::store_half(rom, wram, vram, pak, drawing, hardware, address, value)
+    accesses::store(
+        rom,
+        wram,
+        vram,
+        pak,
+        drawing,
+        hardware,
+        Width::Half,
+        address,
+        value,
+    )
 }
 
 #[unsafe(no_mangle)]
@@ -116,5 +165,15 @@ pub extern "C" fn vb_store_word(
         leaving_with rom.now wram.new vram.new pak.new (device_of result.drawing.regs (hardware_given result.hardware))
         ≡ checked_store_of m (store_of m 4 address value) }
 {
-    capi_bus::accesses::store_word(rom, wram, vram, pak, drawing, hardware, address, value)
+    accesses::store(
+        rom,
+        wram,
+        vram,
+        pak,
+        drawing,
+        hardware,
+        Width::Word,
+        address,
+        value,
+    )
 }

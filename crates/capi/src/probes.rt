@@ -3,6 +3,9 @@ ghost use Rattle.std.specs.Prelude.{◌≡◌};
 ghost use Rattle.refusal.specs.Number.{verdict_number};
 ghost use Rattle.bus_probe.specs.Lent.{lent_verdict_of, vram_of};
 
+use capi_bus::probes;
+use word::Width;
+
 #[unsafe(no_mangle)]
 pub extern "C" fn vb_probe_byte(
     rom: &[u8],
@@ -15,7 +18,7 @@ pub extern "C" fn vb_probe_byte(
     ensures refusal { result ≡ verdict_number (lent_verdict_of 1 rom.now wram.now vram.old pak.now address) }
     ensures memory { vram.new ≡ vram_of 1 rom.now wram.now vram.old pak.now address value }
 {
-    capi_bus::probes::probe_byte(rom, wram, vram, pak, address, value)
+    probes::probe(rom, wram, vram, pak, Width::Byte, address, value)
 }
 
 #[unsafe(no_mangle)]
@@ -30,7 +33,7 @@ pub extern "C" fn vb_probe_half(
     ensures refusal { result ≡ verdict_number (lent_verdict_of 2 rom.now wram.now vram.old pak.now address) }
     ensures memory { vram.new ≡ vram_of 2 rom.now wram.now vram.old pak.now address value }
 {
-    capi_bus::probes::probe_half(rom, wram, vram, pak, address, value)
+    probes::probe(rom, wram, vram, pak, Width::Half, address, value)
 }
 
 #[unsafe(no_mangle)]
@@ -45,5 +48,5 @@ pub extern "C" fn vb_probe_word(
     ensures refusal { result ≡ verdict_number (lent_verdict_of 4 rom.now wram.now vram.old pak.now address) }
     ensures memory { vram.new ≡ vram_of 4 rom.now wram.now vram.old pak.now address value }
 {
-    capi_bus::probes::probe_word(rom, wram, vram, pak, address, value)
+    probes::probe(rom, wram, vram, pak, Width::Word, address, value)
 }

@@ -14,24 +14,28 @@ pub struct VbHardware {
     pub control: u16,
 }
 
-pub fn hardware_given(h: VbHardware) -> TimerLines
-    ensures { result ≡ hardware_given h }
-{
-    TimerLines {
-        lines: h.lines,
-        count: h.count,
-        reload: h.reload,
-        control: h.control,
+impl From<VbHardware> for TimerLines {
+    ghost from_gives = { λ h lines. lines ≡ hardware_given h };
+
+    fn from(h: VbHardware) -> TimerLines {
+        TimerLines {
+            lines: h.lines,
+            count: h.count,
+            reload: h.reload,
+            control: h.control,
+        }
     }
 }
 
-pub fn hardware_out(h: TimerLines) -> VbHardware
-    ensures { result ≡ hardware_out h }
-{
-    VbHardware {
-        lines: h.lines,
-        count: h.count,
-        reload: h.reload,
-        control: h.control,
+impl From<TimerLines> for VbHardware {
+    ghost from_gives = { λ lines h. h ≡ hardware_out lines };
+
+    fn from(h: TimerLines) -> VbHardware {
+        VbHardware {
+            lines: h.lines,
+            count: h.count,
+            reload: h.reload,
+            control: h.control,
+        }
     }
 }

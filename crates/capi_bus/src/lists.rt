@@ -6,12 +6,13 @@ ghost use Rattle.capi_bus.specs.Lists.{list_number_at, list_left_at};
 ghost use Rattle.bus.specs.Lent.{entering_with, leaving_with};
 ghost use Rattle.bus.specs.TimerLines.{device_of};
 
-use crate::accesses::{VbDrawing, VbStored};
-use crate::hardware::{VbHardware, hardware_given, hardware_out};
+use crate::accesses::{VbDrawing, VbStored, stored};
+use crate::hardware::VbHardware;
 use crate::misuse::misuse_number;
 use bus::{Drawing, refusals};
-use refusal::verdict_number;
+use bus_timer::TimerLines;
 
+#[tactic(auto, unfolding(crate::specs::Lists::list_number_at, crate::specs::Lists::list_left_at))]
 pub fn access_list(
     rom: &[u8],
     wram: &mut [u8],
@@ -28,23 +29,23 @@ pub fn access_list(
         ≡ list_left_at (entering_with rom.now wram.old vram.old pak.old (device_of drawing.regs (hardware_given hardware)))
         list.old }
 {
-    let regs = drawing.regs;
-    let given = hardware_given(hardware);
+    let regs = Drawing::from(drawing);
+    let timer = TimerLines::from(hardware);
     if list.len() % 20 != 0 {
-        let v = refusals::call_verdict(rom.len(), wram.len(), vram.len(), pak.len(), &regs, given);
+        let v = refusals::call_verdict(
+            rom.len(),
+            wram.len(),
+            vram.len(),
+            pak.len(),
+            &regs.regs,
+            timer,
+        );
         return VbStored {
             refusal: misuse_number(v),
             drawing,
             hardware,
         };
     }
-    let stored = bus_list::access_list(rom, wram, vram, pak, Drawing { regs }, given, list);
-    let verdict = stored.verdict;
-    let after = stored.drawing.regs;
-    let timer = stored.hardware;
-    VbStored {
-        refusal: verdict_number(verdict),
-        drawing: VbDrawing { regs: after },
-        hardware: hardware_out(timer),
-    }
+    let answer = bus_list::access_list(rom, wram, vram, pak, regs, timer, list);
+    stored(drawing, hardware, answer)
 }

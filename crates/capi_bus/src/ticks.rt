@@ -4,8 +4,8 @@ ghost use Rattle.bus_tick.specs.Tick.{checked_tick_of};
 ghost use Rattle.capi_bus.specs.TimerLines.{hardware_given};
 ghost use Rattle.capi_bus.specs.Answers.{tick_out};
 
-use crate::hardware::{VbHardware, hardware_given, hardware_out};
-use refusal::verdict_number;
+use crate::hardware::VbHardware;
+use bus_timer::TimerLines;
 
 #[repr(C)]
 #[derive(Clone, Copy)]
@@ -17,11 +17,14 @@ pub struct VbTicked {
 pub fn tick(hardware: VbHardware) -> VbTicked
     ensures { result ≡ tick_out (checked_tick_of (hardware_given hardware)) }
 {
-    let ticked = bus_tick::tick(hardware_given(hardware));
-    let verdict = ticked.verdict;
-    let after = ticked.hardware;
-    VbTicked {
-        refusal: verdict_number(verdict),
-        hardware: hardware_out(after),
+    match bus_tick::tick(TimerLines::from(hardware)) {
+        Ok(after) => VbTicked {
+            refusal: 0,
+            hardware: VbHardware::from(after),
+        },
+        Err(refusal) => VbTicked {
+            refusal: u32::from(refusal),
+            hardware,
+        },
     }
 }

@@ -2,7 +2,8 @@
 ghost use Rattle.std.specs.Prelude.{◌≡◌};
 ghost use Rattle.capi_processor.specs.Record.{processor_in, processor_out};
 
-use capi_bus::hardware::{VbHardware, hardware_given, hardware_out};
+use bus_timer::TimerLines;
+use capi_bus::hardware::VbHardware;
 use processor::Processor;
 use saved_kinds::words;
 
@@ -30,8 +31,7 @@ pub fn processor_in(p: VbProcessor) -> Processor
 {
     let regs = p.regs;
     let mode = words::mode_of(p.mode);
-    let given = p.hardware;
-    let hardware = hardware_given(given);
+    let hardware = TimerLines::from(p.hardware);
     Processor {
         regs,
         pc: p.pc,
@@ -55,8 +55,7 @@ pub fn processor_out(p: Processor) -> VbProcessor
     let regs = p.regs;
     let mode = p.mode;
     let mode = words::mode_number(mode);
-    let held = p.hardware;
-    let hardware = hardware_out(held);
+    let hardware = VbHardware::from(p.hardware);
     VbProcessor {
         regs,
         pc: p.pc,

@@ -4,4 +4,4 @@ use Rattle.capi_processor.proofs.record.processor_in.Goals as goal
 
 pub returns : goal.returns
 unfolding processor_in
-returns c = rw (c.mode_of-mode.ensures, c.hardware_given-hardware.ensures)
+returns c = rw (c.mode_of-mode.ensures, c.from-hardware.ensures)

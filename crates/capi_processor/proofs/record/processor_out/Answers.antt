@@ -4,4 +4,4 @@ use Rattle.capi_processor.proofs.record.processor_out.Goals as goal
 
 pub returns : goal.returns
 unfolding processor_out
-returns c = rw (c.mode_number-mode.ensures, c.hardware_out-hardware.ensures)
+returns c = rw (c.mode_number-mode.ensures, c.from-hardware.ensures)
