@@ -105,17 +105,8 @@ pub extern "C" fn vb_store_byte(
         leaving_with rom.now wram.new vram.new pak.new (device_of result.drawing.regs (hardware_given result.hardware))
         ≡ checked_store_of m (store_of m 1 address value) }
 {
-    accesses::store(
-        rom,
-        wram,
-        vram,
-        pak,
-        drawing,
-        hardware,
-        Width::Byte,
-        address,
-        value,
-    )
+    let b = Width::Byte;
+    accesses::store(rom, wram, vram, pak, drawing, hardware, b, address, value)
 }
 
 #[unsafe(no_mangle)]
@@ -135,17 +126,8 @@ pub extern "C" fn vb_store_half(
         leaving_with rom.now wram.new vram.new pak.new (device_of result.drawing.regs (hardware_given result.hardware))
         ≡ checked_store_of m (store_of m 2 address value) }
 {
-    accesses::store(
-        rom,
-        wram,
-        vram,
-        pak,
-        drawing,
-        hardware,
-        Width::Half,
-        address,
-        value,
-    )
+    let h = Width::Half;
+    accesses::store(rom, wram, vram, pak, drawing, hardware, h, address, value)
 }
 
 #[unsafe(no_mangle)]
@@ -165,15 +147,6 @@ pub extern "C" fn vb_store_word(
         leaving_with rom.now wram.new vram.new pak.new (device_of result.drawing.regs (hardware_given result.hardware))
         ≡ checked_store_of m (store_of m 4 address value) }
 {
-    accesses::store(
-        rom,
-        wram,
-        vram,
-        pak,
-        drawing,
-        hardware,
-        Width::Word,
-        address,
-        value,
-    )
+    let w = Width::Word;
+    accesses::store(rom, wram, vram, pak, drawing, hardware, w, address, value)
 }
