@@ -46,4 +46,4 @@ returns-in-Interrupted c =
 pub returns-in-Refused : goal.returns-in-Refused
 returns-in-Refused c =
     λ u p m. rw (c.numbers-in-Refused.ensures.0, c.numbers-in-Refused.ensures.1, c.numbers-in-Refused.ensures.2)
-    (rw (c.number.ensures, c.in-Refused.is))
+    (rw (c.from.ensures, c.in-Refused.is))

@@ -2,4 +2,4 @@
 use Rattle.capi_processor.proofs.replays.end_refusal.Goals as goal
 
 pub returns-in-Refused : goal.returns-in-Refused
-returns-in-Refused c = rw c.in-Refused.is c.number.ensures
+returns-in-Refused c = rw c.in-Refused.is c.from.ensures
