@@ -42,6 +42,8 @@ fn fast(
 ) -> Progress
     ensures follows { Follows budget (state_of regs.old sys.old pc psw mode) (held_by memories.old)
         result.count (state_of regs.new sys.new result.pc result.psw mode) (held_by memories.new) }
+    ensures pak { memories.new.pak.now ≡ memories.old.pak.now }
+    ensures devices { memories.new.device.now ≡ memories.old.device.now }
     ensures same { SameLoans memories.old memories.new }
 {
     match mode {

@@ -25,6 +25,7 @@ pub fn dispatch(
     requires { code.first < 65536 }
     ensures turns { Turns (slice_index memories.old.device.now lines_place) at.base code.first (code.word / 65536) result at.x psw
         flags regs.old sys.old (held_by memories.old) regs.new sys.new (held_by memories.new) }
+    ensures pak { memories.new.pak.now ≡ memories.old.pak.now }
     ensures devices { memories.new.device.now ≡ memories.old.device.now }
     ensures same { SameLoans memories.old memories.new }
 {

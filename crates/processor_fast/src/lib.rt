@@ -1,6 +1,6 @@
 // The fast path: a stretch of common instructions from ROM or WRAM, which a run does between steps. It does not change
-// the mode or the devices. If no interrupt is accepted before it, none is accepted after it. The functions here are for
-// the crate processor, which tests the arguments of its calls.
+// the mode, pak RAM or the device registers. If no interrupt is accepted before it, none is accepted after it. The
+// functions here are for the crate processor, which tests the arguments of its calls.
 #![tactic(auto)]
 
 mod dispatch;

@@ -36,9 +36,11 @@ fn inside(
 ) -> Rest
     requires { Lengths (length rom.now) (length wram.old) (length vram.old) (length pak.old)
         × Stands (length rom.now) in_rom base last × (pc % 2 ≡ 0) × (psw % 4 ≢ 3) }
-    ensures { StretchedBy budget (state_of regs.old sys.old pc psw Mode.Running)
+    ensures stretched { StretchedBy budget (state_of regs.old sys.old pc psw Mode.Running)
         (entering rom.now wram.old vram.old pak.old device.old) regs.new sys.new result
         (leaving rom.now wram.new vram.new pak.new device.new) }
+    ensures pak { pak.new ≡ pak.old }
+    ensures devices { device.new ≡ device.old }
 {
     let mut memories = Memories {
         rom,
@@ -115,6 +117,8 @@ pub fn stretch(
         (held_by memories.old) result.count
         (state_of regs.new sys.new result.pc result.psw Mode.Running)
         (held_by memories.new) }
+    ensures pak { memories.new.pak.now ≡ memories.old.pak.now }
+    ensures devices { memories.new.device.now ≡ memories.old.device.now }
     ensures same { SameLoans memories.old memories.new }
 {
     if pc % 2 != 0 || psw % 4 == 3 {

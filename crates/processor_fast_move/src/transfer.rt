@@ -106,6 +106,7 @@ pub fn store(
         regs.now (held_by memories.old) regs.now (held_by memories.new) }
     ensures outputs { Performs true (format.transfer instruction.Instruction.Out width f s) result x flags
         regs.now (held_by memories.old) regs.now (held_by memories.new) }
+    ensures pak { memories.new.pak.now ≡ memories.old.pak.now }
     ensures devices { memories.new.device.now ≡ memories.old.device.now }
     ensures same { SameLoans memories.old memories.new }
 {

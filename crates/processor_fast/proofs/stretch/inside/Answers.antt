@@ -20,10 +20,11 @@ loop-left-init c =
       search rules,
       refl,
       λ u. u,
+      refl,
     )
 
-pub returns-then-last-x : goal.returns-then-last-x
-returns-then-last-x c =
+pub returns-then-last-x-clause-stretched : goal.returns-then-last-x-clause-stretched
+returns-then-last-x-clause-stretched c =
     let a = c.args in
     let l = c.loop-left in
     let e : leaving a.rom.now c.wram-then-last-x-1.given.0 c.vram-then-last-x-1.given.0 c.pak-then-last-x-1.given.0 c.device-then-last-x-1.given.0
@@ -58,6 +59,7 @@ loop-left-preserved-in-Done c =
       search rules,
       d.ensures.devices ∙ l.invariant.4,
       l.invariant.5,
+      d.ensures.pak ∙ l.invariant.6,
     )
 
 pub loop-left-preserved : goal.loop-left-preserved
@@ -84,10 +86,11 @@ loop-left-preserved c =
       search rules,
       d.ensures.devices ∙ l.invariant.4,
       λ u. quiet (l.invariant.5 u),
+      d.ensures.pak ∙ l.invariant.6,
     )
 
-pub returns-in-NotHere : goal.returns-in-NotHere
-returns-in-NotHere c =
+pub returns-in-NotHere-clause-stretched : goal.returns-in-NotHere-clause-stretched
+returns-in-NotHere-clause-stretched c =
     let a = c.args in
     let even = stands-even (length a.rom.now) a.base a.last a.in_rom c.requires.0.rom-ok c.requires.1 in
     let l = c.loop-left in
@@ -107,8 +110,8 @@ returns-in-NotHere c =
           d.result l.invariant.0 at.first at.second even l.invariant.2 lines d.ensures.turns c.in-NotHere.is);
     })
 
-pub returns : goal.returns
-returns c =
+pub returns-clause-stretched : goal.returns-clause-stretched
+returns-clause-stretched c =
     let a = c.args in
     let l = c.loop-left in
     let e : leaving a.rom.now c.wram-1.given.0 c.vram-1.given.0 c.pak-1.given.0 c.device-1.given.0

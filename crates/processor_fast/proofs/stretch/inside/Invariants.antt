@@ -15,6 +15,7 @@ invariant-loop-left l =
     × (l.left ≤ l.budget) × (l.x % 2 ≡ 0) × SameLoans l.initial.memories l.memories
     × (l.memories.device.now ≡ l.initial.memories.device.now)
     × Quiet (get_or l.initial.memories.device.now lines_place 0) l.psw l.high
+    × (l.memories.pak.now ≡ l.initial.memories.pak.now)
 
 abbrev pub decreases-loop-left : goal.decreases-loop-left
 decreases-loop-left l = l.left
