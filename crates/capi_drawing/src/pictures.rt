@@ -40,7 +40,7 @@ pub fn character(vram: &[u8], character: u32) -> VbPart
     ensures offset { result.offset ≡ part_offset (character_verdict_of vram.now character) character }
     ensures length { result.length ≡ length (character_of vram.now character) }
 {
-    match drawing::character(vram, character) {
+    match drawing::character_part(vram, character) {
         Ok(part) => VbPart {
             refusal: 0,
             offset: character_address(character as usize) as u64,

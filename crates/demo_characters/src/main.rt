@@ -27,8 +27,8 @@ fn main(rt: HostRuntime) -> io::Result<()> {
     let vram: &mut [u8] = &mut space;
     let mut out = rt.stdout();
     put(vram, 57360, b"character 0x201\n");
-    out.write_all(drawing::character(vram, 513).unwrap_or(&[]))?;
-    out.write_all(drawing::character(vram, 2048).unwrap_or(&[]))?;
+    out.write_all(drawing::character(vram, 513))?;
+    out.write_all(drawing::character(vram, 2048))?;
     put(vram, 131056, b"character 0x7FF\n");
-    out.write_all(drawing::character(vram, 2047).unwrap_or(&[]))
+    out.write_all(drawing::character(vram, 2047))
 }

@@ -39,9 +39,9 @@ pub fn draw_frame(vram: &mut [u8], drawing: Drawing, frame: u32) -> Result<(), R
     Ok(())
 }
 
-// A character's 16 bytes, a part of the caller's VRAM that begins at the character's address.
+// A character's 16 bytes, a part of the caller's VRAM that begins at the character's address, or why the lookup is refused.
 #[tactic(auto, unfolding(bus::specs::Refusal::vram_ok, crate::specs::Calls::character_verdict_of, crate::specs::Calls::character_of))]
-pub fn character(vram: &[u8], c: u32) -> Result<&[u8], Refusal>
+pub fn character_part(vram: &[u8], c: u32) -> Result<&[u8], Refusal>
     ensures accepted { IfOk result (λ part. (character_verdict_of vram.now c ≡ Ok tt)
         × (part.now ≡ character_of vram.now c)) }
     ensures place { IfOk result (λ part. (part.ref_ptr.0 ≡ vram.entry.ref_ptr.0)
@@ -54,4 +54,26 @@ pub fn character(vram: &[u8], c: u32) -> Result<&[u8], Refusal>
     }
     let start = character_address(c as usize);
     Ok(&vram[start..start + 16])
+}
+
+// A character's 16 bytes, a part of the caller's VRAM that begins at the character's address; empty where
+// `character_refusal` refuses.
+#[tactic(auto, unfolding(crate::specs::Calls::character_of))]
+pub fn character(vram: &[u8], c: u32) -> &[u8]
+    ensures bytes { result.now ≡ character_of vram.now c }
+    ensures place { character_verdict_of vram.now c ≡ Ok tt
+        → (result.ref_ptr.0 ≡ vram.entry.ref_ptr.0) × (result.ref_ptr.1 ≡ vram.entry.ref_ptr.1 + character_address_of c) }
+{
+    match character_part(vram, c) {
+        Ok(part) => part,
+        Err(_) => &vram[..0],
+    }
+}
+
+// Why the lookup of a character is refused, if it is.
+pub fn character_refusal(vram: &[u8], c: u32) -> Result<(), Refusal>
+    ensures { result ≡ character_verdict_of vram.now c }
+{
+    character_part(vram, c)?;
+    Ok(())
 }
