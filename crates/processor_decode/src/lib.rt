@@ -161,7 +161,7 @@ pub fn decode(first: u16, second: u16) -> Option<Instruction>
         59 => Some(h.transfer(Instruction::In, Width::Word)),
         60 => Some(h.transfer(Instruction::Out, Width::Byte)),
         61 => Some(h.transfer(Instruction::Out, Width::Half)),
-        62 => Some(sub_opcode::extended(h)),
+        62 => sub_opcode::extended(u32::from(first), h.unsigned()),
         63 => Some(h.transfer(Instruction::Out, Width::Word)),
         27 | 50 | 54 => Some(Instruction::Illegal),
         // Bit strings and CAXI.

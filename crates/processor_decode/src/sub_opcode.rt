@@ -1,9 +1,8 @@
 // Opcode 111110, Format VII: the top six bits of the second halfword are the sub-opcode, its other bits are ignored.
-ghost use Rattle.std.specs.Prelude.{◌≡◌, Some};
+ghost use Rattle.std.specs.Prelude.{◌≡◌};
 ghost use Rattle.processor_decode.specs.SubOpcode.{extended_of};
 
 use crate::Instruction;
-use crate::format::Halfwords;
 
 // What Format VII's floating instructions do but for CMPF.S, by sub-opcode.
 #[derive(Clone, Copy, Debug, PartialEq, Eq)]
@@ -26,17 +25,17 @@ pub enum NintendoOperation {
     Mpyhw = 12,
 }
 
-// The row of the sub-opcode; one that 000 does not list is illegal.
+// The row of the sub-opcode, of the numbers of both halfwords; one that 000 does not list is illegal.
 #[tactic(auto, unfolding(crate::specs::SubOpcode::extended_of, crate::specs::SubOpcode::sub_rows))]
-pub(crate) fn extended(h: Halfwords) -> Instruction
-    ensures { Some result ≡ extended_of h.first h.second }
+pub fn extended(f: u32, s: u32) -> Option<Instruction>
+    ensures { result ≡ extended_of f s }
 {
-    let floating = |op| Instruction::Floating(op, h.low(), h.reg2());
-    let nintendo = |op| Instruction::Nintendo(op, h.low(), h.reg2());
+    let floating = |op| Instruction::Floating(op, f % 32, f / 32 % 32);
+    let nintendo = |op| Instruction::Nintendo(op, f % 32, f / 32 % 32);
     // XB and XH, of which the bits of reg1 are unused.
-    let exchange = |op| Instruction::Nintendo(op, 0, h.reg2());
-    match h.second / 1024 {
-        0 => Instruction::Cmpf(h.low(), h.reg2()),
+    let exchange = |op| Instruction::Nintendo(op, 0, f / 32 % 32);
+    Some(match s / 1024 {
+        0 => Instruction::Cmpf(f % 32, f / 32 % 32),
         2 => floating(FloatingOperation::CvtWs),
         3 => floating(FloatingOperation::CvtSw),
         4 => floating(FloatingOperation::Addf),
@@ -49,5 +48,5 @@ pub(crate) fn extended(h: Halfwords) -> Instruction
         11 => floating(FloatingOperation::TrncSw),
         12 => nintendo(NintendoOperation::Mpyhw),
         _ => Instruction::Illegal,
-    }
+    })
 }
