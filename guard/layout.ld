@@ -1,6 +1,6 @@
 /* All of libvb's code in one section, so that a program's link moves it as a whole and in steps of 64 bytes. First the
- * guard, then a run, with the fast path in it, at the start of a line. Of the four places that was the fastest, or within 7 %
- * of it, in every measured loop when the fast path was a function of its own (docs/SPEED.md; guard/places measures them again). */
+ * guard, then the fast path of a run, at the start of a line: of the four places it is the fastest, or within 7 % of it, in
+ * every measured loop (docs/SPEED.md; guard/places measures them again). */
 SECTIONS
 {
     .text :
@@ -8,7 +8,7 @@ SECTIONS
         *guard.o(.text)
         . = ALIGN(64);
         . += PLACE;
-        *(.text.vb_run)
+        *(.text.processor_fast::stretch::inside)
         *(.text .text.*)
     }
 }

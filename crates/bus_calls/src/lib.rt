@@ -32,6 +32,7 @@ pub struct Stored {
 }
 
 // What the bytes of a width hold, in memories whose lengths are accepted.
+#[inline(always)]
 fn read(
     rom: &[u8],
     wram: &[u8],
@@ -55,6 +56,7 @@ fn read(
 }
 
 // Stores the bytes of a width there.
+#[inline(always)]
 fn write(
     wram: &mut [u8],
     vram: &mut [u8],
@@ -86,6 +88,7 @@ fn write(
 
 // Loads a value of a width.
 #[tactic(auto, unfolding(crate::specs::Access::checked_load_of))]
+#[inline(always)]
 pub fn load(
     rom: &[u8],
     wram: &[u8],
@@ -113,6 +116,7 @@ pub fn load(
 
 // Stores a value of a width; `value` is the whole source register.
 #[tactic(auto, unfolding(crate::specs::Access::checked_store_of))]
+#[inline(always)]
 pub fn store(
     rom: &[u8],
     wram: &mut [u8],

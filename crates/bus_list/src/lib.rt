@@ -4,7 +4,9 @@
 
 ghost use Rattle.std.specs.Prelude.{◌≡◌, true, ◌+◌, ◌*◌, ◌<◌, ◌≤◌, length};
 ghost use Rattle.bus.specs.TimerLines.{device_of};
-ghost use Rattle.bus.specs.Memory.{Lengths, size_ok};
+ghost use Rattle.word.specs.Width.{bytes_of};
+ghost use Rattle.bus.specs.Memory.{Lengths, load_of, size_ok};
+ghost use Rattle.bus_defined.specs.Defined.{undefined_of};
 ghost use Rattle.bus.specs.Lent.{entering, leaving, entering_with, leaving_with};
 ghost use Rattle.bus_calls.specs.Access.{verdict_in, left_by};
 ghost use Rattle.bus_list.specs.List.{count_of, size_at, answered_of, made_of, access_of, accesses_of};
@@ -12,7 +14,7 @@ ghost use Rattle.bus_list.specs.List.{sizes_ok, list_ok};
 ghost use Rattle.bus_list.specs.Calls.{list_verdict_of, access_list_of};
 
 use bus::{Device, Drawing, device, load, refusals, store};
-use bus_calls::Stored;
+use bus_calls::{Reading, Stored};
 use bus_timer::TimerLines;
 use refusal::Refusal;
 use word::Width;
@@ -50,7 +52,28 @@ fn put_answer(list: &mut [u8], k: usize, value: u32, undefined: u32)
     word::put_word(list, i + 16, undefined);
 }
 
-// Access k of the list.
+// What a read of a width gives.
+#[inline(always)]
+fn read(
+    rom: &[u8],
+    wram: &[u8],
+    vram: &[u8],
+    pak: &[u8],
+    device: &Device,
+    width: Width,
+    address: u32,
+) -> Reading
+    requires { Lengths (length rom.now) (length wram.now) (length vram.now) (length pak.now) }
+    ensures value { result.value ≡ load_of (entering rom.now wram.now vram.now pak.now device.now) (bytes_of width) address }
+    ensures undefined { result.undefined ≡ undefined_of (entering rom.now wram.now vram.now pak.now device.now) (bytes_of width) address }
+{
+    Reading {
+        value: load::load(rom, wram, vram, pak, device, width, address),
+        undefined: bus_defined::undefined(width, address),
+    }
+}
+
+// Access k of the list. A read names its width, so that each is compiled by itself.
 #[tactic(auto, unfolding(crate::specs::List::access_of))]
 fn access(
     rom: &[u8],
@@ -70,8 +93,12 @@ fn access(
     let address = word::word_at(list, i);
     let width = Width::try_from(word::word_at(list, i + 4)).unwrap();
     if word::word_at(list, i + 8) == 0 {
-        let value = load::load(rom, wram, vram, pak, device, width, address);
-        put_answer(list, k, value, bus_defined::undefined(width, address));
+        let answer = match width {
+            Width::Byte => read(rom, wram, vram, pak, device, Width::Byte, address),
+            Width::Half => read(rom, wram, vram, pak, device, Width::Half, address),
+            Width::Word => read(rom, wram, vram, pak, device, Width::Word, address),
+        };
+        put_answer(list, k, answer.value, answer.undefined);
     } else {
         let value = word::word_at(list, i + 12);
         store::store(rom, wram, vram, pak, device, width, address, value);

@@ -100,6 +100,7 @@ pub(crate) fn stored(
     }
 }
 
+#[inline(always)]
 pub fn load(
     rom: &[u8],
     wram: &[u8],
@@ -118,6 +119,7 @@ pub fn load(
     VbLoaded::from(bus_calls::load(rom, wram, vram, pak, regs, timer, width, address))
 }
 
+#[inline(always)]
 pub fn store(
     rom: &[u8],
     wram: &mut [u8],

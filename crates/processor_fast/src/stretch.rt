@@ -19,6 +19,7 @@ use processor_lazy_flags::{Flags, status};
 
 // Code that stands from `base` on, as long as the index stays below `last`. It borrows the memories one by one, so that they
 // stay in registers of the processor that runs this (docs/DECISIONS.md), and lends them on together.
+#[inline(never)]
 fn inside(
     rom: &[u8],
     wram: &mut [u8],
