@@ -1,6 +1,7 @@
 // The bus's public calls: each tests refusals 1 to 5 and then loads or stores. They take the drawing registers and the
 // request lines with the timer by value, and a store gives both back. Only accesses that the bus's fast path does not
-// answer borrow a copy of them as device registers.
+// answer borrow a copy of them as device registers. The width is known where a call stands, so each is compiled there: with
+// a test of the width in it a call of the C interface took half as many machine instructions again (docs/DECISIONS.md).
 #![tactic(auto)]
 
 ghost use Rattle.std.specs.Prelude.{◌≡◌, true, List, ℕ, length};

@@ -100,6 +100,7 @@ pub(crate) fn stored(
     }
 }
 
+// A load, compiled in each export that calls it, where the width is known.
 #[inline(always)]
 pub fn load(
     rom: &[u8],
@@ -119,6 +120,7 @@ pub fn load(
     VbLoaded::from(bus_calls::load(rom, wram, vram, pak, regs, timer, width, address))
 }
 
+// A store, likewise.
 #[inline(always)]
 pub fn store(
     rom: &[u8],
