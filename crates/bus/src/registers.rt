@@ -55,6 +55,19 @@ pub fn read(regs: &Device, width: Width, v: u32) -> u32
     }
 }
 
+// A value modulo a limit. Each limit stands here as a number, so that it is a mask and no division.
+fn below(value: u32, limit: u16) -> u32
+    requires { 0 < limit }
+    ensures { (result ≡ value % limit) × (result < limit) }
+{
+    match limit {
+        1024 => value % 1024,
+        256 => value % 256,
+        4 => value % 4,
+        _ => value % u32::from(limit),
+    }
+}
+
 // The low 16 bits of a value written to the register that holds an address, where there is one.
 fn put_half(regs: &mut Device, v: u32, value: u32)
     requires { Between v }
@@ -63,7 +76,7 @@ fn put_half(regs: &mut Device, v: u32, value: u32)
         ≡ put_register (memory_of rom wram vram pak regs.old) v value }
 {
     if let Some(k) = index(v - v % 2) {
-        regs[k] = (value % u32::from(LIMITS[k])) as u16;
+        regs[k] = below(value, LIMITS[k]) as u16;
     }
 }
 

@@ -2,10 +2,11 @@
 -- Assumes nothing.
 use mathlib.Core.Path.{◌≡◌, sym, ◌∙◌}
 use Prim.Native.Nat.{◌-◌, ◌%◌, ◌^◌, ◌<◌}
+use lib.ListN.{get_or}
 use Rattle.word.specs.Choose.{index_of}
 use Rattle.bus.specs.Registers.{drawing_addresses, width_of}
 use Rattle.bus.specs.Memory.{memory_of}
-use Rattle.bus.proofs.Limits.{limit}
+use Rattle.bus.proofs.Limits.{limit, limits}
 use Rattle.bus.proofs.VipPlaces.{register-store, write-drawing, write-nothing, kept_low}
 use Rattle.bus.proofs.registers.put_half.Goals as goal
 
@@ -16,10 +17,10 @@ returns-in-Some c =
     let v = a.v in
     let k = c.in-Some.ensures in
     let inside : index_of (v - v % 2) drawing_addresses < 13 = rw k.0 at k.1 in
-    let wide : c.from.result ≡ 2 ^ width_of (index_of (v - v % 2) drawing_addresses) = c.from.ensures ∙ rw k.0 (limit _ inside) in
+    let wide : get_or limits c.in-Some.k 0 ≡ 2 ^ width_of (index_of (v - v % 2) drawing_addresses) = rw k.0 (limit _ inside) in
     λ rom wram vram pak.
     let m = memory_of rom wram vram pak a.regs.now in
-    rw (wide, k.0)
+    rw (c.below.ensures.0, wide, k.0)
     (sym (register-store m v b.requires a.value
     ∙ write-drawing m v (a.value % 65536) inside
     ∙ rw (kept_low (index_of (v - v % 2) drawing_addresses) a.value)))
