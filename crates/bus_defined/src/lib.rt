@@ -12,18 +12,18 @@ ghost use Rattle.bus_defined.specs.Defined.{register_addresses, undefined_of};
 use bus::{Place, map};
 use word::Width;
 
-// Whether byte v of the VIP is of a register that document 000 lists.
+// Whether byte v of the VIP is of a register that document 000 lists. The drawing registers are tested first.
 fn listed(v: u32) -> bool
     ensures { result ≡ member (v - v % 2) register_addresses }
 {
     matches!(
         v,
-        0x5F800..0x5F806
+        0x5F848..0x5F850
+            | 0x5F860..0x5F872
+            | 0x5F800..0x5F806
             | 0x5F820..0x5F82C
             | 0x5F82E..0x5F832
             | 0x5F840..0x5F846
-            | 0x5F848..0x5F850
-            | 0x5F860..0x5F872
     )
 }
 
