@@ -73,7 +73,7 @@ fn read(
     }
 }
 
-// Access k of the list. A read names its width, so that each is compiled by itself.
+// Access k of the list. Each width is named, so that its read and its write are compiled by themselves.
 #[tactic(auto, unfolding(crate::specs::List::access_of))]
 fn access(
     rom: &[u8],
@@ -91,9 +91,9 @@ fn access(
 {
     let i = 20 * k;
     let address = word::word_at(list, i);
-    let width = Width::try_from(word::word_at(list, i + 4)).unwrap();
+    let size = word::word_at(list, i + 4);
     if word::word_at(list, i + 8) == 0 {
-        let answer = match width {
+        let answer = match Width::try_from(size).unwrap() {
             Width::Byte => read(rom, wram, vram, pak, device, Width::Byte, address),
             Width::Half => read(rom, wram, vram, pak, device, Width::Half, address),
             Width::Word => read(rom, wram, vram, pak, device, Width::Word, address),
@@ -101,7 +101,11 @@ fn access(
         put_answer(list, k, answer.value, answer.undefined);
     } else {
         let value = word::word_at(list, i + 12);
-        store::store(rom, wram, vram, pak, device, width, address, value);
+        match Width::try_from(size).unwrap() {
+            Width::Byte => store::store(rom, wram, vram, pak, device, Width::Byte, address, value),
+            Width::Half => store::store(rom, wram, vram, pak, device, Width::Half, address, value),
+            Width::Word => store::store(rom, wram, vram, pak, device, Width::Word, address, value),
+        }
     }
 }
 
