@@ -19,7 +19,7 @@ use processor_lazy_flags::{Flags, status};
 
 // Code that stands from `base` on, as long as the index stays below `last`. It borrows the memories one by one, so that they
 // stay in registers of the processor that runs this, and lends them on together. Inlined into a run the loop took up to
-// a quarter more machine instructions, and its place in memory was left to the compiler (docs/DECISIONS.md).
+// 1.29 times the machine instructions, and its place in memory was left to the compiler (docs/DECISIONS.md).
 #[inline(never)]
 fn inside(
     rom: &[u8],
